@@ -1,0 +1,2 @@
+pub mod Cursor
+pub use Rattle.byteorder.specs.Endian

@@ -1,0 +1,97 @@
+//! Reading bytes from front to back, numbers big-endian (JVMS 4: "in big-endian order").
+
+ghost use Rattle.std.specs.Prelude.{◌≡◌, ◌+◌, ◌<◌, ◌↔◌, ◌≤◌, ◌^◌, length, take, drop, IsSome, IfSome, IfNone};
+ghost use Rattle.byteorder.specs.Endian.{big_number};
+ghost use Rattle.jc_base.specs.Cursor.{HasLeft, past};
+
+use byteorder::{BigEndian, ByteOrder};
+use std::marker::Model;
+
+/// A place in bytes, from which numbers and slices are read.
+///
+/// A read that wants more bytes than are left answers `None` and changes nothing.
+#[derive(Debug, Drop)]
+pub struct Cursor<'a> {
+    place: usize,
+    rest: &'a [u8],
+}
+
+impl<'a> Model for Cursor<'a> {
+    ghost use Rattle.std.specs.Prelude.{◌+◌, ◌<◌, ◌^◌, length};
+    ghost use Rattle.jc_base.specs.Cursor.{Reading};
+
+    ghost Value = { Reading };
+
+    ghost view = { λ c. record { place = c.place; rest = c.rest.now } };
+
+    ghost invariant = { λ c. c.place + length c.rest.now < 2 ^ 63 };
+}
+
+impl<'a> Cursor<'a> {
+    /// At the front of the bytes.
+    pub fn new(bytes: &'a [u8]) -> Cursor<'a>
+        ensures place { result.place ≡ 0 }
+        ensures rest { result.rest ≡ bytes.now }
+    {
+        Cursor {
+            place: 0,
+            rest: bytes,
+        }
+    }
+
+    /// How many bytes lie behind.
+    pub fn place(&self) -> usize
+        ensures { result ≡ self.now.place }
+    {
+        self.place
+    }
+
+    /// The next `count` bytes, as the slice of the input that they are.
+    pub fn take(&mut self, count: usize) -> Option<&'a [u8]>
+        ensures some { IsSome result ↔ HasLeft count self.old }
+        ensures slice { IfSome result (λ bytes. bytes.now ≡ take count self.old.rest) }
+        ensures moved { IfSome result (λ _. self.new ≡ past count self.old) }
+        ensures none { IfNone result (self.new ≡ self.old) }
+    {
+        if count > self.rest.len() {
+            return None;
+        }
+        let (front, rest) = self.rest.split_at(count);
+        self.place += count;
+        self.rest = rest;
+        Some(front)
+    }
+
+    /// The next byte.
+    pub fn u1(&mut self) -> Option<u8>
+        ensures some { IsSome result ↔ HasLeft 1 self.old }
+        ensures number { IfSome result (λ n. n ≡ big_number 1 self.old.rest) }
+        ensures moved { IfSome result (λ _. self.new ≡ past 1 self.old) }
+        ensures none { IfNone result (self.new ≡ self.old) }
+    {
+        let front = self.take(1)?;
+        Some(front[0])
+    }
+
+    /// The next two bytes as a number.
+    pub fn u2(&mut self) -> Option<u16>
+        ensures some { IsSome result ↔ HasLeft 2 self.old }
+        ensures number { IfSome result (λ n. n ≡ big_number 2 self.old.rest) }
+        ensures moved { IfSome result (λ _. self.new ≡ past 2 self.old) }
+        ensures none { IfNone result (self.new ≡ self.old) }
+    {
+        let front = self.take(2)?;
+        Some(BigEndian::read_u16(front))
+    }
+
+    /// The next four bytes as a number.
+    pub fn u4(&mut self) -> Option<u32>
+        ensures some { IsSome result ↔ HasLeft 4 self.old }
+        ensures number { IfSome result (λ n. n ≡ big_number 4 self.old.rest) }
+        ensures moved { IfSome result (λ _. self.new ≡ past 4 self.old) }
+        ensures none { IfNone result (self.new ≡ self.old) }
+    {
+        let front = self.take(4)?;
+        Some(BigEndian::read_u32(front))
+    }
+}
