@@ -1,0 +1,4 @@
+pub mod Tables
+pub mod Pool
+pub mod Numbers
+pub mod Constants

@@ -1,0 +1,6 @@
+pub mod ConstantPool
+pub mod ClassFile
+pub mod Reading
+pub mod Skip
+pub use Rattle.jc_base.specs.Cursor
+pub use Rattle.jc_base.specs.Endian

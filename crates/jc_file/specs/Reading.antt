@@ -1,0 +1,147 @@
+-- What the parts of `parse` take from the front of the bytes. Its theorem speaks of `layout` alone.
+use Rattle.std.specs.Prelude.{◌≡◌, ℕ, zero, suc, ◌+◌, ◌-◌, ◌*◌, Bool, true, false, ◌&&◌, List, [], ◌∷◌, ◌++◌, length, take, drop, slice_index, Option, Some, None, Result, Ok, Err, if◌then◌else◌, ◌==◌, nat_lt, unwrap_or, option_and_then}
+use Rattle.std.specs.Option.{option_map_or}
+use Rattle.jc_base.specs.Endian.{big_number}
+use Rattle.jc_base.specs.Cursor.{Reading}
+use Rattle.jc_file.specs.declared.constant_pool.ConstantIndex.{ConstantIndex}
+use Rattle.jc_file.specs.declared.constant_pool.ConstantKind.{ConstantKind}
+use Rattle.jc_file.specs.declared.constant_pool.ConstantKind.TheVariants as kinds
+use Rattle.jc_file.specs.declared.parse_error.ParseError.{ParseError}
+use Rattle.jc_file.specs.declared.parse_error.ParseError.TheVariants as errors
+use Rattle.jc_file.specs.ConstantPool as pool
+use Rattle.jc_file.specs.ConstantPool.{Constant, kind_of_tag, is_wide}
+use Rattle.jc_file.specs.ClassFile.{Attribute, Member, ClassFile, magic}
+
+-- ---- parts that can only be too short: what is left behind one, and its value
+
+-- what is left behind n bytes
+abbrev pub after : ℕ → List ℕ → Option (List ℕ)
+after n xs = if nat_lt (length xs) n then None else Some (drop n xs)
+
+unfoldable pub after_each : (List ℕ → Option (List ℕ)) → ℕ → List ℕ → Option (List ℕ)
+after_each after_one zero xs = Some xs
+after_each after_one (suc n) xs = option_and_then (after_each after_one n) (after_one xs)
+
+-- behind a table and its count
+abbrev pub after_table : (List ℕ → Option (List ℕ)) → List ℕ → Option (List ℕ)
+after_table after_one xs = option_and_then (after_each after_one (big_number 2 xs)) (after 2 xs)
+
+unfoldable pub after_attribute : List ℕ → Option (List ℕ)
+after_attribute xs = option_and_then (after (big_number 4 (drop 2 xs))) (after 6 xs)
+
+unfoldable pub after_member : List ℕ → Option (List ℕ)
+after_member xs = option_and_then (after_table after_attribute) (after 6 xs)
+
+-- behind a table of indexes and its count
+abbrev pub after_indexes : List ℕ → Option (List ℕ)
+after_indexes xs = option_and_then (after (2 * big_number 2 xs)) (after 2 xs)
+
+-- behind all that stands behind the constants
+unfoldable pub after_tail : List ℕ → Option (List ℕ)
+after_tail xs =
+    option_and_then (after_table after_attribute)
+    (option_and_then (after_table after_member)
+    (option_and_then (after_table after_member)
+    (option_and_then after_indexes
+    (after 6 xs))))
+
+abbrev pub index_value : List ℕ → ConstantIndex
+index_value xs = record { 0 = big_number 2 xs }
+
+-- ---- constants
+
+-- the length of a body that is not Utf8
+abbrev pub body_size : ConstantKind → ℕ
+body_size kinds.Utf8 = 0
+body_size kinds.Integer = 4
+body_size kinds.Float = 4
+body_size kinds.Long = 8
+body_size kinds.Double = 8
+body_size kinds.Class = 2
+body_size kinds.String = 2
+body_size kinds.Fieldref = 4
+body_size kinds.Methodref = 4
+body_size kinds.InterfaceMethodref = 4
+body_size kinds.NameAndType = 4
+body_size kinds.MethodHandle = 3
+body_size kinds.MethodType = 2
+body_size kinds.InvokeDynamic = 4
+
+abbrev pub after_body : ConstantKind → List ℕ → Option (List ℕ)
+after_body kinds.Utf8 xs = option_and_then (after (big_number 2 xs)) (after 2 xs)
+after_body kind xs = after (body_size kind) xs
+
+-- the constant whose kind and body these are
+abbrev pub body_value : ConstantKind → List ℕ → Constant
+body_value kinds.Utf8 xs = pool.Utf8 (take (big_number 2 xs) (drop 2 xs))
+body_value kinds.Integer xs = pool.Integer (big_number 4 xs)
+body_value kinds.Float xs = pool.Float (big_number 4 xs)
+body_value kinds.Long xs = pool.Long (big_number 8 xs)
+body_value kinds.Double xs = pool.Double (big_number 8 xs)
+body_value kinds.Class xs = pool.Class (index_value xs)
+body_value kinds.String xs = pool.String (index_value xs)
+body_value kinds.Fieldref xs = pool.Fieldref (index_value xs) (index_value (drop 2 xs))
+body_value kinds.Methodref xs = pool.Methodref (index_value xs) (index_value (drop 2 xs))
+body_value kinds.InterfaceMethodref xs = pool.InterfaceMethodref (index_value xs) (index_value (drop 2 xs))
+body_value kinds.NameAndType xs = pool.NameAndType (index_value xs) (index_value (drop 2 xs))
+body_value kinds.MethodHandle xs = pool.MethodHandle (big_number 1 xs) (index_value (drop 1 xs))
+body_value kinds.MethodType xs = pool.MethodType (index_value xs)
+body_value kinds.InvokeDynamic xs = pool.InvokeDynamic (big_number 2 xs) (index_value (drop 2 xs))
+
+-- the constant at the front
+abbrev pub constant_value : List ℕ → Constant
+constant_value xs = option_map_or (λ kind. body_value kind (drop 1 xs)) (kind_of_tag (big_number 1 xs)) (pool.Utf8 [])
+
+-- a reading that goes on where these bytes are left
+abbrev pub moved_to : Reading → List ℕ → Reading
+moved_to reading rest = record { place = reading.place + length reading.rest - length rest; rest = rest }
+
+infixl 10 ◌>>=◌
+abbrev pub ◌>>=◌ : {A B : Type 0} → Result A ParseError → (A → Result B ParseError) → Result B ParseError
+(Ok x) >>= f = f x
+(Err e) >>= f = Err e
+
+abbrev pub or_refusal : {A : Type 0} → Option A → ParseError → Result A ParseError
+or_refusal None e = Err e
+or_refusal (Some x) e = Ok x
+
+abbrev pub unless : Bool → ParseError → Result (Unit {0}) ParseError
+unless b e = if b then Err e else Ok tt
+
+-- the constant at the front, where its index is the last or not: its kind, and where reading goes on
+unfoldable pub first_constant : Bool → Reading → Result (ConstantKind × Reading) ParseError
+first_constant is_last reading = do
+  body ← or_refusal (after 1 reading.rest) errors.Short
+  kind ← or_refusal (kind_of_tag (big_number 1 reading.rest)) (errors.Tag reading.place)
+  room ← unless (is_last && is_wide kind) (errors.Wide reading.place)
+  rest ← or_refusal (after_body kind body) errors.Short
+  Ok (kind, moved_to reading rest)
+
+-- what stands at an index: where its constant begins, if one does, and whether it takes the next index too
+pub record Entry : Type 0 where
+  pub offset : Option ℕ
+  pub is_wide : Bool
+
+abbrev pub entry : Option ℕ × Bool → Entry
+entry found = record { offset = found.0; is_wide = found.1 }
+
+unfoldable pub entry_at : Bool → Bool → Reading → Result (Entry × Reading) ParseError
+entry_at true is_last reading = Ok (record { offset = None; is_wide = false }, reading)
+entry_at false is_last reading = do
+  first ← first_constant is_last reading
+  Ok (record { offset = Some reading.place; is_wide = is_wide first.0 }, first.1)
+
+-- for each of so many indexes where its constant begins; the first of them may be the second of a wide constant
+unfoldable pub entries_from : ℕ → Bool → Reading → Result (List (Option ℕ) × Reading) ParseError
+entries_from zero is_second reading = Ok ([], reading)
+entries_from (suc left) is_second reading = do
+  entry ← entry_at is_second (left == 0) reading
+  others ← entries_from left entry.0.is_wide entry.1
+  Ok (entry.0.offset ∷ others.0, others.1)
+
+abbrev pub with_front : List (Option ℕ) → Result (List (Option ℕ) × Reading) ParseError → Result (List (Option ℕ) × Reading) ParseError
+with_front front read = read >>= λ x. Ok (front ++ x.0, x.1)
+
+-- the places of a constant pool with this count, by index
+abbrev pub pool_at : ℕ → Reading → Result (List (Option ℕ) × Reading) ParseError
+pool_at count reading = with_front (None ∷ []) (entries_from (count - 1) false reading)

@@ -1,0 +1,10 @@
+//! Class files of versions 51 and 52 as borrowed views (JVMS 4.1, 4.4 to 4.7): which bytes are a
+//! readable class file, and why others are not.
+#![tactic(auto)]
+
+mod constant_pool;
+mod parse_error;
+mod skip;
+
+pub use constant_pool::{ConstantIndex, ConstantKind};
+pub use parse_error::ParseError;

@@ -1,0 +1,138 @@
+//! Moving past the parts of a class file, to see that they are whole.
+
+ghost use Rattle.std.specs.Prelude.{◌<◌};
+ghost use Rattle.jc_file.specs.Reading.{after_attribute, after_member, after_table, after_indexes, after_tail, after_body};
+ghost use Rattle.jc_file.specs.Reading.{first_constant, entry_at, entry, pool_at};
+ghost use Rattle.jc_file.specs.Skip.{MovesBehind, Takes};
+
+use crate::constant_pool::ConstantKind;
+use crate::parse_error::ParseError;
+use jc_base::Cursor;
+use std::alloc::Global;
+
+/// Past what stands behind the constants.
+#[tactic(auto, unfolding(crate::specs::Reading::after_tail))]
+pub(crate) fn skip_tail(cursor: &mut Cursor) -> Option<()>
+    ensures { MovesBehind after_tail cursor.old result cursor.new }
+{
+    cursor.take(6)?;
+    skip_indexes(cursor)?;
+    skip_members(cursor)?;
+    skip_members(cursor)?;
+    skip_attributes(cursor)
+}
+
+fn skip_indexes(cursor: &mut Cursor) -> Option<()>
+    ensures { MovesBehind after_indexes cursor.old result cursor.new }
+{
+    let count = cursor.u2()?;
+    cursor.take(2 * count as usize)?;
+    Some(())
+}
+
+fn skip_members(cursor: &mut Cursor) -> Option<()>
+    ensures { MovesBehind (after_table after_member) cursor.old result cursor.new }
+{
+    let count = cursor.u2()?;
+    for _ in 0..count {
+        skip_member(cursor)?;
+    }
+    Some(())
+}
+
+#[tactic(auto, unfolding(crate::specs::Reading::after_member))]
+fn skip_member(cursor: &mut Cursor) -> Option<()>
+    ensures { MovesBehind after_member cursor.old result cursor.new }
+{
+    cursor.take(6)?;
+    skip_attributes(cursor)
+}
+
+fn skip_attributes(cursor: &mut Cursor) -> Option<()>
+    ensures { MovesBehind (after_table after_attribute) cursor.old result cursor.new }
+{
+    let count = cursor.u2()?;
+    for _ in 0..count {
+        skip_attribute(cursor)?;
+    }
+    Some(())
+}
+
+#[tactic(auto, unfolding(crate::specs::Reading::after_attribute))]
+fn skip_attribute(cursor: &mut Cursor) -> Option<()>
+    ensures { MovesBehind after_attribute cursor.old result cursor.new }
+{
+    cursor.u2()?;
+    let length = cursor.u4()?;
+    cursor.take(length as usize)?;
+    Some(())
+}
+
+/// Past what stands behind a constant's tag.
+pub(crate) fn skip_body(kind: ConstantKind, cursor: &mut Cursor) -> Option<()>
+    ensures { MovesBehind (after_body kind) cursor.old result cursor.new }
+{
+    let size = match kind {
+        ConstantKind::Utf8 => cursor.u2()? as usize,
+        ConstantKind::Class | ConstantKind::String | ConstantKind::MethodType => 2,
+        ConstantKind::MethodHandle => 3,
+        ConstantKind::Integer
+        | ConstantKind::Float
+        | ConstantKind::Fieldref
+        | ConstantKind::Methodref
+        | ConstantKind::InterfaceMethodref
+        | ConstantKind::NameAndType
+        | ConstantKind::InvokeDynamic => 4,
+        ConstantKind::Long | ConstantKind::Double => 8,
+    };
+    cursor.take(size)?;
+    Some(())
+}
+
+/// Past the constant that begins here, where its index is the last of the pool or not.
+#[tactic(auto, unfolding(crate::specs::Reading::first_constant))]
+pub(crate) fn skip_constant(is_last: bool, cursor: &mut Cursor) -> Result<ConstantKind, ParseError>
+    ensures { Takes (λ kind. kind) (first_constant is_last) cursor.old result cursor.new }
+{
+    let place = cursor.place();
+    let tag = cursor.u1().ok_or(ParseError::Short)?;
+    let kind = ConstantKind::of_tag(tag).ok_or(ParseError::Tag(place))?;
+    if is_last && kind.is_wide() {
+        return Err(ParseError::Wide(place));
+    }
+    skip_body(kind, cursor).ok_or(ParseError::Short)?;
+    Ok(kind)
+}
+
+/// Where the constant of an index begins, if one does, and whether it takes the next index too.
+#[tactic(auto, unfolding(crate::specs::Reading::entry_at))]
+fn skip_entry(is_second: bool, is_last: bool, cursor: &mut Cursor) -> Result<(Option<usize>, bool), ParseError>
+    ensures { Takes entry (entry_at is_second is_last) cursor.old result cursor.new }
+{
+    if is_second {
+        return Ok((None, false));
+    }
+    let place = cursor.place();
+    let kind = skip_constant(is_last, cursor)?;
+    Ok((Some(place), kind.is_wide()))
+}
+
+/// Past the constants of a pool with this count: by index, where each begins.
+pub(crate) fn skip_pool(
+    alloc: Global,
+    count: u16,
+    cursor: &mut Cursor,
+) -> Result<Vec<Option<usize>>, ParseError>
+    requires { 0 < count }
+    ensures { Takes (λ offsets. offsets.items) (pool_at count) cursor.old result cursor.new }
+{
+    let mut offsets = Vec::new(alloc);
+    offsets.push(None)?;
+    let mut is_second = false;
+    for index in 1..count {
+        let (offset, is_wide) = skip_entry(is_second, count - index == 1, cursor)?;
+        offsets.push(offset)?;
+        is_second = is_wide;
+    }
+    Ok(offsets)
+}
