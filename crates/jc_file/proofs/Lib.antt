@@ -2,3 +2,4 @@ pub mod Tables
 pub mod Pool
 pub mod Numbers
 pub mod Constants
+pub mod PoolLaws

@@ -1,5 +1,5 @@
 -- A class file as plain data, and its bytes (JVMS 4.1, 4.4 to 4.7).
-use Rattle.std.specs.Prelude.{◌≡◌, ℕ, ◌+◌, ◌<◌, ◌^◌, ◌⊎◌, List, [], ◌∷◌, ◌++◌, length, Option, Some, None, if◌then◌else◌, ◌==◌, nat_lt, ◌-◌}
+use Rattle.std.specs.Prelude.{◌≡◌, ℕ, ◌+◌, ◌<◌, ◌^◌, ◌⊎◌, Bool, true, false, List, [], ◌∷◌, ◌++◌, length, Option, Some, None, if◌then◌else◌, ◌==◌, nat_lt, ◌-◌}
 use Rattle.std.specs.List.{flat_map, AllByRecursion}
 use Rattle.jc_base.specs.Endian.{big_bytes}
 use Rattle.jc_file.specs.declared.constant_pool.ConstantIndex.{ConstantIndex}
@@ -109,3 +109,14 @@ constant_from_first (constant ∷ constants) i =
 -- the usable entry at an index, if there is one
 abbrev pub constant_at : ClassFile → ConstantIndex → Option Constant
 constant_at c index = if index.0 == 0 then None else constant_from_first c.constants (index.0 - 1)
+
+-- the second index of a wide constant is unusable
+abbrev pub second_index : Bool → List (Option ℕ)
+second_index true = None ∷ []
+second_index false = []
+
+-- by index, where each of the constants begins that stand from a place on
+unfoldable pub places_of : ℕ → List Constant → List (Option ℕ)
+places_of place [] = []
+places_of place (constant ∷ constants) =
+    Some place ∷ (second_index (is_wide (kind_of constant)) ++ places_of (place + length (constant_bytes constant)) constants)
