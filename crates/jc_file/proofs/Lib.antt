@@ -3,3 +3,5 @@ pub mod Pool
 pub mod Numbers
 pub mod Constants
 pub mod PoolLaws
+pub mod Parts
+pub mod Tail

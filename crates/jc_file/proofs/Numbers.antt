@@ -6,7 +6,7 @@ use Rattle.std.proofs.lemmas.List.{take_at, drop_at, take-append-drop, length-ap
 use Rattle.std.proofs.lemmas.Nat.{be_bytes_2, be_bytes_4, be_bytes_8}
 use Rattle.jc_base.specs.Endian.{big_bytes, big_number}
 use Rattle.jc_base.specs.Numbers.{big_number-reads_back, big_from-append, big_from-lt, big_from-take, length-bytes_high_first}
-use Rattle.jc_file.specs.Reading.{after}
+use Rattle.jc_file.specs.Reading.{after, after_sized, sized_value}
 
 abbrev pub IsBytes : List ℕ → Type 0
 IsBytes bytes = (i : ℕ) → get_or bytes i 0 < 256
@@ -138,14 +138,8 @@ then_some (Some x) f y e = (x, refl, e)
 
 -- ---- a text behind its length
 
-abbrev pub after_sized : ℕ → List ℕ → Option (List ℕ)
-after_sized n xs = option_and_then (after (big_number n xs)) (after n xs)
-
 abbrev pub sized_bytes : ℕ → List ℕ → List ℕ
 sized_bytes n text = big_bytes n (length text) ++ text
-
-abbrev pub sized_value : ℕ → List ℕ → List ℕ
-sized_value n xs = take (big_number n xs) (drop n xs)
 
 pub takes_sized : (n : ℕ) → IsWidth n → (xs rest : List ℕ) → IsBytes xs → after_sized n xs ≡ Some rest → Takes xs (sized_bytes n (sized_value n xs)) rest × (length (sized_value n xs) < 256 ^ n)
 takes_sized n width xs rest fits e =
@@ -165,3 +159,39 @@ again_sized n text rest lt =
     let behind : drop n (sized_bytes n text ++ rest) ≡ text ++ rest = ap (drop n) regrouped ∙ drop_at (big_bytes n (length text)) (text ++ rest) n (length-big_bytes n (length text)) in
     let head : after n (sized_bytes n text ++ rest) ≡ Some (text ++ rest) = ap (after n) regrouped ∙ after_text (big_bytes n (length text)) (text ++ rest) n (length-big_bytes n (length text)) in
     (rw (head, size) (after_text text rest (length text) refl), rw (size, behind) (take_at text rest (length text) refl))
+
+-- ---- three numbers of two bytes
+
+abbrev pub three_bytes : ℕ → ℕ → ℕ → List ℕ
+three_bytes a b c = big_bytes 2 a ++ big_bytes 2 b ++ big_bytes 2 c
+
+pub takes_three : (xs rest : List ℕ) → IsBytes xs → after 6 xs ≡ Some rest
+    → Takes xs (three_bytes (big_number 2 xs) (big_number 2 (drop 2 xs)) (big_number 2 (drop 4 xs))) rest × (big_number 2 xs < 2 ^ 16) × (big_number 2 (drop 2 xs) < 2 ^ 16) × (big_number 2 (drop 4 xs) < 2 ^ 16)
+takes_three xs rest fits e =
+    let b = after_both 4 2 xs rest e in
+    let x = takes_two 2 2 width2 width2 xs (drop 4 xs) fits b.0 in
+    let y = takes_number 2 width2 (drop 4 xs) rest x.0.rest_fits b.1 in
+    (Takes-then xs (big_bytes 2 (big_number 2 xs) ++ big_bytes 2 (big_number 2 (drop 2 xs))) (drop 4 xs) (big_bytes 2 (big_number 2 (drop 4 xs))) rest x.0 y.0, x.1, x.2, y.1)
+
+pub record IsThree (a b c : ℕ) (rest : List ℕ) : Type 0 where
+  pub left : after 6 (three_bytes a b c ++ rest) ≡ Some rest
+  pub first : big_number 2 (three_bytes a b c ++ rest) ≡ a
+  pub second : big_number 2 (drop 2 (three_bytes a b c ++ rest)) ≡ b
+  pub third : big_number 2 (drop 4 (three_bytes a b c ++ rest)) ≡ c
+  pub behind : drop 6 (three_bytes a b c ++ rest) ≡ rest
+
+pub again_three : (a b c : ℕ) (rest : List ℕ) → a < 2 ^ 16 → b < 2 ^ 16 → c < 2 ^ 16 → IsThree a b c rest
+again_three a b c rest lt_a lt_b lt_c =
+    let two = big_bytes 2 a ++ big_bytes 2 b in
+    let behind = big_bytes 2 c ++ rest in
+    let regrouped : three_bytes a b c ++ rest ≡ two ++ behind = append_assoc two (big_bytes 2 c) rest in
+    let pair = again_two 2 2 a b behind lt_a lt_b in
+    let len : length (three_bytes a b c) ≡ 6 = omega (arith, length-append two (big_bytes 2 c), length-append (big_bytes 2 a) (big_bytes 2 b), length-big_bytes 2 a, length-big_bytes 2 b, length-big_bytes 2 c) in
+    let len_two : length two ≡ 4 = omega (arith, length-append (big_bytes 2 a) (big_bytes 2 b), length-big_bytes 2 a, length-big_bytes 2 b) in
+    record {
+      left = after_text (three_bytes a b c) rest 6 len;
+      first = ap (big_number 2) regrouped ∙ pair.1;
+      second = ap (λ (t : List ℕ). big_number 2 (drop 2 t)) regrouped ∙ pair.2;
+      third = ap (λ (t : List ℕ). big_number 2 (drop 4 t)) regrouped ∙ ap (big_number 2) (drop_at two behind 4 len_two) ∙ number_again 2 c rest lt_c;
+      behind = drop_at (three_bytes a b c) rest 6 len;
+    }

@@ -18,35 +18,74 @@ use Rattle.jc_file.specs.ClassFile.{Attribute, Member, ClassFile, magic}
 abbrev pub after : ℕ → List ℕ → Option (List ℕ)
 after n xs = if nat_lt (length xs) n then None else Some (drop n xs)
 
+-- behind a text and its length, a number of n bytes
+abbrev pub after_sized : ℕ → List ℕ → Option (List ℕ)
+after_sized n xs = option_and_then (after (big_number n xs)) (after n xs)
+
+abbrev pub sized_value : ℕ → List ℕ → List ℕ
+sized_value n xs = take (big_number n xs) (drop n xs)
+
+abbrev pub index_value : List ℕ → ConstantIndex
+index_value xs = record { 0 = big_number 2 xs }
+
+-- so many of one kind, one behind the other
 unfoldable pub after_each : (List ℕ → Option (List ℕ)) → ℕ → List ℕ → Option (List ℕ)
 after_each after_one zero xs = Some xs
 after_each after_one (suc n) xs = option_and_then (after_each after_one n) (after_one xs)
 
--- behind a table and its count
+unfoldable pub each_value : {X : Type 0} → (List ℕ → Option (List ℕ)) → (List ℕ → X) → ℕ → List ℕ → List X
+each_value after_one value zero xs = []
+each_value after_one value (suc n) xs = value xs ∷ each_value after_one value n (unwrap_or (after_one xs) [])
+
+-- a table behind its count
 abbrev pub after_table : (List ℕ → Option (List ℕ)) → List ℕ → Option (List ℕ)
 after_table after_one xs = option_and_then (after_each after_one (big_number 2 xs)) (after 2 xs)
 
+abbrev pub table_value : {X : Type 0} → (List ℕ → Option (List ℕ)) → (List ℕ → X) → List ℕ → List X
+table_value after_one value xs = each_value after_one value (big_number 2 xs) (drop 2 xs)
+
 unfoldable pub after_attribute : List ℕ → Option (List ℕ)
-after_attribute xs = option_and_then (after (big_number 4 (drop 2 xs))) (after 6 xs)
+after_attribute xs = option_and_then (after_sized 4) (after 2 xs)
+
+abbrev pub attribute_value : List ℕ → Attribute
+attribute_value xs = record { name = index_value xs; bytes = sized_value 4 (drop 2 xs) }
 
 unfoldable pub after_member : List ℕ → Option (List ℕ)
 after_member xs = option_and_then (after_table after_attribute) (after 6 xs)
+
+abbrev pub member_value : List ℕ → Member
+member_value xs = record {
+  flags = big_number 2 xs;
+  name = index_value (drop 2 xs);
+  descriptor = index_value (drop 4 xs);
+  attributes = table_value after_attribute attribute_value (drop 6 xs);
+}
 
 -- behind a table of indexes and its count
 abbrev pub after_indexes : List ℕ → Option (List ℕ)
 after_indexes xs = option_and_then (after (2 * big_number 2 xs)) (after 2 xs)
 
+abbrev pub after_members : List ℕ → Option (List ℕ)
+after_members xs = after_table after_member xs
+
 -- behind all that stands behind the constants
 unfoldable pub after_tail : List ℕ → Option (List ℕ)
 after_tail xs =
     option_and_then (after_table after_attribute)
-    (option_and_then (after_table after_member)
-    (option_and_then (after_table after_member)
+    (option_and_then after_members
+    (option_and_then after_members
     (option_and_then after_indexes
     (after 6 xs))))
 
-abbrev pub index_value : List ℕ → ConstantIndex
-index_value xs = record { 0 = big_number 2 xs }
+-- where the fields, the methods and the attributes of the class begin
+abbrev pub fields_at : List ℕ → List ℕ
+fields_at xs = unwrap_or (after_indexes (drop 6 xs)) []
+
+abbrev pub methods_at : List ℕ → List ℕ
+methods_at xs = unwrap_or (after_members (fields_at xs)) []
+
+abbrev pub attributes_at : List ℕ → List ℕ
+attributes_at xs = unwrap_or (after_members (methods_at xs)) []
 
 -- ---- constants
 
@@ -68,12 +107,12 @@ body_size kinds.MethodType = 2
 body_size kinds.InvokeDynamic = 4
 
 abbrev pub after_body : ConstantKind → List ℕ → Option (List ℕ)
-after_body kinds.Utf8 xs = option_and_then (after (big_number 2 xs)) (after 2 xs)
+after_body kinds.Utf8 xs = after_sized 2 xs
 after_body kind xs = after (body_size kind) xs
 
 -- the constant whose kind and body these are
 abbrev pub body_value : ConstantKind → List ℕ → Constant
-body_value kinds.Utf8 xs = pool.Utf8 (take (big_number 2 xs) (drop 2 xs))
+body_value kinds.Utf8 xs = pool.Utf8 (sized_value 2 xs)
 body_value kinds.Integer xs = pool.Integer (big_number 4 xs)
 body_value kinds.Float xs = pool.Float (big_number 4 xs)
 body_value kinds.Long xs = pool.Long (big_number 8 xs)
@@ -145,3 +184,30 @@ with_front front read = read >>= λ x. Ok (front ++ x.0, x.1)
 -- the places of a constant pool with this count, by index
 abbrev pub pool_at : ℕ → Reading → Result (List (Option ℕ) × Reading) ParseError
 pool_at count reading = with_front (None ∷ []) (entries_from (count - 1) false reading)
+
+-- ---- the whole
+
+-- the constants that begin at these places
+abbrev pub constants_at : List ℕ → List (Option ℕ) → List Constant
+constants_at bytes [] = []
+constants_at bytes (None ∷ places) = constants_at bytes places
+constants_at bytes (Some place ∷ places) = constant_value (drop place bytes) ∷ constants_at bytes places
+
+-- the class file with these numbers and constants, whose other parts stand at the front
+abbrev pub class_with : ℕ → ℕ → List Constant → List ℕ → ClassFile
+class_with minor major constants xs = record {
+  minor = minor;
+  major = major;
+  constants = constants;
+  flags = big_number 2 xs;
+  this_class = index_value (drop 2 xs);
+  super_class = index_value (drop 4 xs);
+  interfaces = table_value (after 2) index_value (drop 6 xs);
+  fields = table_value after_member member_value (fields_at xs);
+  methods = table_value after_member member_value (methods_at xs);
+  attributes = table_value after_attribute attribute_value (attributes_at xs);
+}
+
+-- the class file in these bytes whose constants begin at these places, and whose other parts at that place
+unfoldable pub class_value : List ℕ → List (Option ℕ) → ℕ → ClassFile
+class_value bytes places tail = class_with (big_number 2 (drop 4 bytes)) (big_number 2 (drop 6 bytes)) (constants_at bytes places) (drop tail bytes)
