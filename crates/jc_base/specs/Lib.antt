@@ -1,0 +1,2 @@
+pub mod FirstUnit
+pub mod ModifiedUtf8

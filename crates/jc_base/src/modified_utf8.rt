@@ -1,0 +1,76 @@
+//! Modified UTF-8, in which class files write their texts (JVMS 4.4.7).
+
+ghost use Rattle.std.specs.Prelude.{◌≡◌, ℕ, ◌+◌, ◌*◌, ◌<◌, ◌≤◌, ◌↔◌, length, take, IsOk, IfErr, IfSome};
+ghost use Rattle.jc_base.specs.ModifiedUtf8.{IsWellSpelled, IsLongestFront};
+ghost use Rattle.jc_base.specs.FirstUnit.{six_bits, two_byte_unit, three_byte_unit, first_unit};
+
+/// Whether `text` is modified UTF-8: the error is the length of its longest well spelled front.
+///
+/// Surrogates may stand alone, and each unit has one spelling: an overlong one is an error.
+pub fn check_units(text: &[u8]) -> Result<(), usize>
+    ensures ok { IsOk result ↔ IsWellSpelled text.now }
+    ensures place { IfErr result (IsLongestFront text.now) }
+{
+    let mut place = 0;
+    while place < text.len() {
+        match unit_at(&text[place..]) {
+            Some((_, size)) => place += size,
+            None => return Err(place),
+        }
+    }
+    Ok(())
+}
+
+// The unit at the front of `text`, and how many bytes spell it.
+#[tactic(auto, unfolding(crate::specs::FirstUnit::first_unit))]
+fn unit_at(text: &[u8]) -> Option<(u16, usize)>
+    ensures { result ≡ first_unit text.now }
+{
+    let first = *text.first()?;
+    match first {
+        0x01..=0x7f => Some((u16::from(first), 1)),
+        0xc0..=0xdf => Some((two_byte_unit(first, text)?, 2)),
+        0xe0..=0xef => Some((three_byte_unit(first, text)?, 3)),
+        _ => None,
+    }
+}
+
+// The unit that `110xxxxx 10xxxxxx` spells, unless it has a shorter spelling.
+#[tactic(auto, unfolding(crate::specs::FirstUnit::two_byte_unit))]
+fn two_byte_unit(first: u8, text: &[u8]) -> Option<u16>
+    ensures { result ≡ two_byte_unit first text.now }
+{
+    let unit = joined(u16::from(first & 0x1f), six_bits(text, 1)?);
+    if unit == 0 || unit >= 0x80 { Some(unit) } else { None }
+}
+
+// The unit that `1110xxxx 10xxxxxx 10xxxxxx` spells, unless it has a shorter spelling.
+#[tactic(auto, unfolding(crate::specs::FirstUnit::three_byte_unit))]
+fn three_byte_unit(first: u8, text: &[u8]) -> Option<u16>
+    ensures { result ≡ three_byte_unit first text.now }
+{
+    let high = joined(u16::from(first & 0x0f), six_bits(text, 1)?);
+    let unit = joined(high, six_bits(text, 2)?);
+    if unit >= 0x800 { Some(unit) } else { None }
+}
+
+// The bits that the byte `10xxxxxx` at `place` adds to a unit.
+#[tactic(auto, unfolding(crate::specs::FirstUnit::six_bits))]
+fn six_bits(text: &[u8], place: usize) -> Option<u16>
+    ensures value { result ≡ six_bits text.now place }
+    ensures small { IfSome result (λ bits. bits < 64) }
+{
+    match *text.get(place)? {
+        byte @ 0x80..=0xbf => Some(u16::from(byte & 0x3f)),
+        _ => None,
+    }
+}
+
+// `high` with six more bits below it.
+fn joined(high: u16, low: u16) -> u16
+    requires high { high < 1024 }
+    requires low { low < 64 }
+    ensures { result ≡ high * 64 + low }
+{
+    (high << 6) | low
+}
