@@ -1,1 +1,2 @@
 pub mod FirstUnitLemmas
+pub mod WellSpelledLemmas

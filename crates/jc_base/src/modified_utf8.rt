@@ -1,7 +1,7 @@
 //! Modified UTF-8, in which class files write their texts (JVMS 4.4.7).
 
-ghost use Rattle.std.specs.Prelude.{◌≡◌, ℕ, ◌+◌, ◌*◌, ◌<◌, ◌≤◌, ◌↔◌, length, take, IsOk, IfErr, IfSome};
-ghost use Rattle.jc_base.specs.ModifiedUtf8.{IsWellSpelled, IsLongestFront};
+ghost use Rattle.std.specs.Prelude.{◌≡◌, ℕ, ◌+◌, ◌*◌, ◌<◌, ◌≤◌, ◌↔◌, List, length, take, IsOk, IfErr, IfSome};
+ghost use Rattle.jc_base.specs.ModifiedUtf8.{Spells, IsWellSpelled, IsLongestFront};
 ghost use Rattle.jc_base.specs.FirstUnit.{six_bits, two_byte_unit, three_byte_unit, first_unit};
 
 /// Whether `text` is modified UTF-8: the error is the length of its longest well spelled front.
@@ -73,4 +73,10 @@ fn joined(high: u16, low: u16) -> u16
     ensures { result ≡ high * 64 + low }
 {
     (high << 6) | low
+}
+
+/// No bytes spell two lists of units.
+pub fn units_are_determined()
+    ensures { (us vs bytes : List ℕ) → Spells us bytes → Spells vs bytes → us ≡ vs }
+{
 }

@@ -1,0 +1,57 @@
+-- Fronts of a text: one more unit, and where no unit stands.
+use Rattle.std.proofs.Common.{◌≡◌, ℕ, ◌+◌, ◌-◌, ◌<◌, ◌≤◌, List, [], ◌∷◌, ◌++◌, length, take, drop, Option, Some, None, refl, sym, ap, ◌∙◌, subst, arith, append_assoc, length-append, length-drop, zero, suc, zero-add, suc-add}
+use Rattle.std.specs.List.{AllByRecursion, flat_map}
+use Rattle.std.proofs.lemmas.List.{append_cancel_left, append-nil, take-append-drop, length-take-le, take_all, take_at, take_rest}
+use Rattle.std.proofs.lemmas.Grind.{common_steps, flat_map-append}
+use Rattle.jc_base.specs.ModifiedUtf8.{IsUnit, spelling, spelled, Spells, IsWellSpelled, IsLongestFront}
+use Rattle.jc_base.specs.FirstUnit.{first_unit}
+use Rattle.jc_base.proofs.FirstUnitLemmas.{StandsFirst, first_found, found_first, same_units_after, spelling_takes_room}
+
+all_append : (P : ℕ → Type 0) (xs ys : List ℕ) → AllByRecursion P xs → AllByRecursion P ys → AllByRecursion P (xs ++ ys)
+all_append P [] ys p q = q
+all_append P (x ∷ xs) ys p q = (p.0, all_append P xs ys p.1 q)
+
+-- the first m bytes are the first n and some more
+take_split : (n k : ℕ) (b : List ℕ) → take (n + k) b ≡ take n b ++ take k (drop n b)
+take_split zero k b = ap (λ n. take n b) (zero-add k)
+take_split (suc n) k [] = rw suc-add (sym (take_all k [] (omega arith)))
+take_split (suc n) k (x ∷ b) = rw suc-add (ap (λ xs. x ∷ xs) (take_split n k b))
+
+-- `&text[place..]`
+abbrev from_place : List ℕ → ℕ → List ℕ
+from_place text place = take (length text - place) (drop place text)
+
+pub one_more : (text : List ℕ) (place u size : ℕ) → place ≤ length text → IsWellSpelled (take place text) → first_unit (from_place text place) ≡ Some (u, size)
+    → (0 < size) × (place + size ≤ length text) × IsWellSpelled (take (place + size) text)
+one_more text place u size within (us, (units, is)) found =
+    let first = first_found (drop place text) u size (ap first_unit (sym (take_rest text place)) ∙ found) in
+    let room : 0 < size = omega (arith, spelling_takes_room u, first.size) in
+    let here : take size (drop place text) ≡ spelling u = ap (take size) first.split ∙ take_at (spelling u) first.rest size (sym first.size) in
+    let all : take (place + size) text ≡ spelled (us ++ u ∷ []) =
+        take_split place size text ∙ ap (λ xs. xs ++ take size (drop place text)) is ∙ ap (λ xs. spelled us ++ xs) (here ∙ sym (append-nil (spelling u))) ∙ sym (flat_map-append spelling us (u ∷ [])) in
+    (room, omega (arith, length-drop {A = ℕ}, length-append {A = ℕ}, ap length first.split, first.size), (us ++ u ∷ [], (all_append IsUnit us (u ∷ []) units (first.unit, tt), all)))
+
+nothing_stands : (rest front more ws : List ℕ) → 0 < length front → rest ≡ front ++ more → front ≡ spelled ws → AllByRecursion IsUnit ws → first_unit rest ≡ None → ⊥
+nothing_stands rest front more [] room split is units none = omega (arith, ap length is)
+nothing_stands rest front more (w ∷ ws) room split is units none =
+    let here : rest ≡ spelling w ++ (spelled ws ++ more) = split ∙ ap (λ xs. xs ++ more) is ∙ append_assoc (spelling w) (spelled ws) more in
+    let found = sym none ∙ ap first_unit here ∙ found_first w (spelled ws ++ more) units.0 in
+    cc
+
+pub longest_front : (text : List ℕ) (place : ℕ) → place < length text → IsWellSpelled (take place text) → first_unit (from_place text place) ≡ None → IsLongestFront text place
+longest_front text place within (us, (units, is)) none = record {
+  within = within;
+  front = (us, (units, is));
+  longest = λ m more in_text (vs, (others, spells)).
+    let k : place + (m - place) ≡ m = omega arith in
+    let front : List ℕ = take (m - place) (drop place text) in
+    let split : spelled us ++ front ≡ spelled vs = ap (λ xs. xs ++ front) (sym is) ∙ sym (take_split place (m - place) text) ∙ ap (λ n. take n text) k ∙ spells in
+    let after = same_units_after us vs front units others split in
+    nothing_stands (drop place text) front (drop (m - place) (drop place text)) after.0
+        (omega (arith, length-take-le (m - place) (drop place text) (omega (arith, length-drop {A = ℕ}))))
+        (sym (take-append-drop (m - place) (drop place text))) after.3 after.2 (ap first_unit (sym (take_rest text place)) ∙ none);
+}
+
+pub whole_front : (text : List ℕ) (place : ℕ) → IsLongestFront text place → IsWellSpelled text → ⊥
+whole_front text place longest well =
+    longest.longest (length text) longest.within (omega arith) (subst IsWellSpelled (sym (take_all (length text) text (omega arith))) well)
