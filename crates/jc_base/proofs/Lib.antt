@@ -1,2 +1,3 @@
 pub mod FirstUnitLemmas
 pub mod WellSpelledLemmas
+pub mod NamesLemmas

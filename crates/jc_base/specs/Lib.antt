@@ -1,2 +1,3 @@
 pub mod FirstUnit
 pub mod ModifiedUtf8
+pub mod Names

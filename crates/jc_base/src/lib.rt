@@ -3,5 +3,7 @@
 #![tactic(auto)]
 
 mod modified_utf8;
+mod names;
 
-pub use modified_utf8::check_units;
+pub use modified_utf8::{check_units, units_are_determined};
+pub use names::{is_class_name, is_method_name, is_unqualified};
