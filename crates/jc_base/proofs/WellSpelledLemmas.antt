@@ -1,7 +1,8 @@
 -- Fronts of a text: one more unit, and where no unit stands.
-use Rattle.std.proofs.Common.{◌≡◌, ℕ, ◌+◌, ◌-◌, ◌<◌, ◌≤◌, List, [], ◌∷◌, ◌++◌, length, take, drop, Option, Some, None, refl, sym, ap, ◌∙◌, subst, arith, append_assoc, length-append, length-drop, zero, suc, zero-add, suc-add}
+use Rattle.std.proofs.Common.{◌≡◌, ℕ, ◌+◌, ◌-◌, ◌<◌, ◌≤◌, List, [], ◌∷◌, ◌++◌, length, take, drop, Option, Some, None, refl, sym, ap, ◌∙◌, subst, arith, append_assoc, length-append, length-drop, zero, suc, zero-add, suc-add, inl, inr}
 use Rattle.std.specs.List.{AllByRecursion, flat_map}
-use Rattle.std.proofs.lemmas.List.{append_cancel_left, append-nil, take-append-drop, length-take-le, take_all, take_at, take_rest}
+use Rattle.std.proofs.lemmas.List.{append_cancel_left, append-nil, take-append-drop, length-take-le, take_all, take_at, take_rest, drop_at}
+use Rattle.std.proofs.lemmas.Bool.{cases_order}
 use Rattle.std.proofs.lemmas.Grind.{common_steps, flat_map-append}
 use Rattle.jc_base.specs.ModifiedUtf8.{IsUnit, spelling, spelled, Spells, IsWellSpelled, IsLongestFront}
 use Rattle.jc_base.specs.FirstUnit.{first_unit}
@@ -55,3 +56,41 @@ longest_front text place within (us, (units, is)) none = record {
 pub whole_front : (text : List ℕ) (place : ℕ) → IsLongestFront text place → IsWellSpelled text → ⊥
 whole_front text place longest well =
     longest.longest (length text) longest.within (omega arith) (subst IsWellSpelled (sym (take_all (length text) text (omega arith))) well)
+
+-- the units us were read off the front of the text, and these bytes are left
+pub record HasRead (us text rest : List ℕ) : Type 0 where
+  pub all_units : AllByRecursion IsUnit us
+  pub split : text ≡ spelled us ++ rest
+
+pub next_read : (us more text rest : List ℕ) (u size : ℕ) → HasRead us text rest → first_unit rest ≡ Some (u, size) → more ≡ us ++ u ∷ []
+    → HasRead more text (from_place rest size)
+next_read us more text rest u size read found is =
+    let first = first_found rest u size found in
+    let left : from_place rest size ≡ first.rest =
+        take_rest rest size ∙ ap (drop size) first.split ∙ drop_at (spelling u) first.rest size (sym first.size) in
+    let all : spelled more ≡ spelled us ++ spelling u =
+        ap spelled is ∙ flat_map-append spelling us (u ∷ []) ∙ ap (λ xs. spelled us ++ xs) (append-nil (spelling u)) in
+    record {
+      all_units = subst (AllByRecursion IsUnit) (sym is) (all_append IsUnit us (u ∷ []) read.all_units (first.unit, tt));
+      split = read.split ∙ ap (λ xs. spelled us ++ xs) first.split ∙ sym (append_assoc (spelled us) (spelling u) first.rest)
+        ∙ ap (λ xs. xs ++ first.rest) (sym all) ∙ ap (λ xs. spelled more ++ xs) (sym left);
+    }
+
+nothing_left : (rest ws : List ℕ) → first_unit rest ≡ None → rest ≡ spelled ws → AllByRecursion IsUnit ws → rest ≡ []
+nothing_left rest [] none is units = is
+nothing_left rest (w ∷ ws) none is units =
+    let found = sym none ∙ ap first_unit is ∙ found_first w (spelled ws) units.0 in
+    absurd (cc)
+
+pub all_read : (us text rest : List ℕ) → IsWellSpelled text → HasRead us text rest → first_unit rest ≡ None → Spells us text
+all_read us text rest (vs, (others, spells)) read none =
+    let after = same_units_after us vs rest read.all_units others (sym read.split ∙ spells) in
+    let nothing : rest ≡ [] = nothing_left rest after.0 none after.3 after.2 in
+    (read.all_units, read.split ∙ ap (λ xs. spelled us ++ xs) nothing ∙ append-nil (spelled us))
+
+pub one_longest : (text : List ℕ) (m n : ℕ) → IsLongestFront text m → IsLongestFront text n → m ≡ n
+one_longest text m n p q =
+    elim (cases_order m n) [
+        inl e ↦ e
+      | inr (inl below) ↦ absurd (p.longest n below (omega (arith, q.within)) q.front)
+      | inr (inr above) ↦ absurd (q.longest m above (omega (arith, p.within)) p.front) ]

@@ -5,5 +5,5 @@
 mod modified_utf8;
 mod names;
 
-pub use modified_utf8::{check_units, units_are_determined};
+pub use modified_utf8::{UnitsError, check_units, units, units_are_determined};
 pub use names::{is_class_name, is_method_name, is_unqualified};

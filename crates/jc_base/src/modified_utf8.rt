@@ -1,8 +1,11 @@
 //! Modified UTF-8, in which class files write their texts (JVMS 4.4.7).
 
-ghost use Rattle.std.specs.Prelude.{◌≡◌, ℕ, ◌+◌, ◌*◌, ◌<◌, ◌≤◌, ◌↔◌, List, length, take, IsOk, IfErr, IfSome};
+ghost use Rattle.std.specs.Prelude.{◌≡◌, ℕ, ◌+◌, ◌*◌, ◌<◌, ◌≤◌, ◌↔◌, List, length, take, IsOk, IfOk, IfErr, IfSome, OnSome};
+ghost use Rattle.jc_base.specs.declared.modified_utf8.UnitsError.TheVariants.{NoMemory};
 ghost use Rattle.jc_base.specs.ModifiedUtf8.{Spells, IsWellSpelled, IsLongestFront};
 ghost use Rattle.jc_base.specs.FirstUnit.{six_bits, two_byte_unit, three_byte_unit, first_unit};
+
+use std::alloc::{AllocError, Global};
 
 /// Whether `text` is modified UTF-8: the error is the length of its longest well spelled front.
 ///
@@ -21,10 +24,54 @@ pub fn check_units(text: &[u8]) -> Result<(), usize>
     Ok(())
 }
 
+/// The UTF-16 code units that `text` spells. A text that is not modified UTF-8 is told first: the
+/// memory for the units is asked for only after the whole text was checked.
+pub fn units(alloc: Global, text: &[u8]) -> Result<Vec<u16>, UnitsError>
+    ensures ok { IfOk result (λ units. Spells units.items text.now) }
+    ensures bad { (place : ℕ) →
+        (result ≡ Err (UnitsError.Bad place)) ↔ IsLongestFront text.now place }
+{
+    if let Err(place) = check_units(text) {
+        return Err(UnitsError::Bad(place));
+    }
+    Ok(spelled_units(alloc, text)?)
+}
+
+fn spelled_units(alloc: Global, text: &[u8]) -> Result<Vec<u16>, AllocError>
+    requires { IsWellSpelled text.now }
+    ensures { IfOk result (λ units. Spells units.items text.now) }
+{
+    let mut units = Vec::new(alloc);
+    let mut rest = text;
+    while let Some((unit, size)) = unit_at(rest) {
+        units.push(unit)?;
+        rest = &rest[size..];
+    }
+    Ok(units)
+}
+
+/// Why the units of a text were not given.
+#[derive(Clone, Copy, Debug, PartialEq, Eq)]
+pub enum UnitsError {
+    /// The text is not modified UTF-8: its longest well spelled front has so many bytes.
+    Bad(usize),
+    /// Memory ran out.
+    NoMemory,
+}
+
+impl From<AllocError> for UnitsError {
+    ghost from_gives = { λ _ error. error ≡ NoMemory };
+
+    fn from(_refused: AllocError) -> UnitsError {
+        UnitsError::NoMemory
+    }
+}
+
 // The unit at the front of `text`, and how many bytes spell it.
 #[tactic(auto, unfolding(crate::specs::FirstUnit::first_unit))]
 fn unit_at(text: &[u8]) -> Option<(u16, usize)>
-    ensures { result ≡ first_unit text.now }
+    ensures value { result ≡ first_unit text.now }
+    ensures within { IfSome result (λ found. (0 < found.1) × (found.1 ≤ length text.now)) }
 {
     let first = *text.first()?;
     match first {
@@ -38,7 +85,8 @@ fn unit_at(text: &[u8]) -> Option<(u16, usize)>
 // The unit that `110xxxxx 10xxxxxx` spells, unless it has a shorter spelling.
 #[tactic(auto, unfolding(crate::specs::FirstUnit::two_byte_unit))]
 fn two_byte_unit(first: u8, text: &[u8]) -> Option<u16>
-    ensures { result ≡ two_byte_unit first text.now }
+    ensures value { result ≡ two_byte_unit first text.now }
+    ensures within { OnSome result (2 ≤ length text.now) }
 {
     let unit = joined(u16::from(first & 0x1f), six_bits(text, 1)?);
     if unit == 0 || unit >= 0x80 { Some(unit) } else { None }
@@ -47,7 +95,8 @@ fn two_byte_unit(first: u8, text: &[u8]) -> Option<u16>
 // The unit that `1110xxxx 10xxxxxx 10xxxxxx` spells, unless it has a shorter spelling.
 #[tactic(auto, unfolding(crate::specs::FirstUnit::three_byte_unit))]
 fn three_byte_unit(first: u8, text: &[u8]) -> Option<u16>
-    ensures { result ≡ three_byte_unit first text.now }
+    ensures value { result ≡ three_byte_unit first text.now }
+    ensures within { OnSome result (3 ≤ length text.now) }
 {
     let high = joined(u16::from(first & 0x0f), six_bits(text, 1)?);
     let unit = joined(high, six_bits(text, 2)?);
@@ -59,6 +108,7 @@ fn three_byte_unit(first: u8, text: &[u8]) -> Option<u16>
 fn six_bits(text: &[u8], place: usize) -> Option<u16>
     ensures value { result ≡ six_bits text.now place }
     ensures small { IfSome result (λ bits. bits < 64) }
+    ensures within { OnSome result (place < length text.now) }
 {
     match *text.get(place)? {
         byte @ 0x80..=0xbf => Some(u16::from(byte & 0x3f)),
