@@ -1,7 +1,6 @@
 -- `first_unit` finds exactly the unit whose spelling stands at the front.
-use Rattle.std.proofs.Common.{◌≡◌, ℕ, ◌+◌, ◌*◌, ◌/◌, ◌%◌, ◌^◌, ◌<◌, ◌≤◌, ◌⊎◌, Bool, true, false, List, [], ◌∷◌, ◌++◌, length, take, drop, get_or, Option, Some, None, refl, sym, ap, ◌∙◌, inl, inr, arith, rules, tests, lit<, lit≤, append_assoc, length-append}
+use Rattle.std.proofs.Common.{◌≡◌, ℕ, ◌+◌, ◌*◌, ◌/◌, ◌%◌, ◌<◌, ◌≤◌, ◌⊎◌, List, [], ◌∷◌, ◌++◌, length, drop, get_or, Some, refl, sym, ap, ◌∙◌, inl, inr, arith, lit<, lit≤, append_assoc, length-append}
 use Rattle.std.proofs.lemmas.Bool.Decides.{nat_tests}
-use Rattle.std.proofs.lemmas.Grind.{common_steps}
 use Rattle.jc_base.specs.ModifiedUtf8.{IsUnit, spelling, spelled, Spells}
 use Rattle.std.specs.List.{AllByRecursion}
 use Rattle.std.specs.Option.{unwrap_or, option_map}
@@ -38,16 +37,17 @@ found_in_three : (a b c u : ℕ) (rest : List ℕ) → 224 ≤ a → a < 240 →
 unfolding first_unit three_byte_unit six_bits
 found_in_three a b c u rest p q r s t w e h = grind (arith, nat_tests)
 
-cases_of_unit : (u : ℕ) → (u ≡ 0) ⊎ (((0 < u) × (u < 128)) ⊎ (((128 ≤ u) × (u < 2048)) ⊎ (2048 ≤ u)))
+pub cases_of_unit : (u : ℕ) → (u ≡ 0) ⊎ (((0 < u) × (u < 128)) ⊎ (((128 ≤ u) × (u < 2048)) ⊎ (2048 ≤ u)))
 cases_of_unit u = grind arith
 
 pub found_first : (u : ℕ) (rest : List ℕ) → IsUnit u → first_unit (spelling u ++ rest) ≡ Some (u, length (spelling u))
 found_first u rest h =
     elim (cases_of_unit u) [
-        inl z ↦ rw (z, spelling_of_zero) (found_in_two 192 128 0 rest (lit≤ tt) (lit< tt) (lit≤ tt) (lit< tt) refl (inl refl))
+      | inl z ↦ rw (z, spelling_of_zero) (found_in_two 192 128 0 rest (lit≤ tt) (lit< tt) (lit≤ tt) (lit< tt) refl (inl refl))
       | inr (inl p) ↦ rw (spelling_in_one u p.0 p.1) (found_in_one u rest p.0 p.1)
       | inr (inr (inl p)) ↦ rw (spelling_in_two u p.0 p.1) (found_in_two (192 + u / 64) (128 + u % 64) u rest (omega arith) (omega arith) (omega arith) (omega arith) (omega arith) (inr p.0))
-      | inr (inr (inr p)) ↦ rw (spelling_in_three u p) (found_in_three (224 + u / 4096) (128 + u / 64 % 64) (128 + u % 64) u rest (omega arith) (omega arith) (omega arith) (omega arith) (omega arith) (omega arith) (omega arith) p) ]
+      | inr (inr (inr p)) ↦ rw (spelling_in_three u p) (found_in_three (224 + u / 4096) (128 + u / 64 % 64) (128 + u % 64) u rest (omega arith) (omega arith) (omega arith) (omega arith) (omega arith) (omega arith) (omega arith) p)
+    ]
 
 -- ---- what is found is spelled
 
@@ -72,22 +72,23 @@ three_ways a bytes u e = grind (arith, nat_tests)
 
 first_ways : (bytes : List ℕ) (u n : ℕ) → first_unit bytes ≡ Some (u, n)
     → ((n ≡ 1) × (u ≡ get_or bytes 0 0) × (0 < u) × (u < 128))
-      ⊎ (((n ≡ 2) × (192 ≤ get_or bytes 0 0) × (get_or bytes 0 0 < 224) × (two_byte_unit (get_or bytes 0 0) bytes ≡ Some u))
-      ⊎ ((n ≡ 3) × (224 ≤ get_or bytes 0 0) × (get_or bytes 0 0 < 240) × (three_byte_unit (get_or bytes 0 0) bytes ≡ Some u)))
+    ⊎ (((n ≡ 2) × (192 ≤ get_or bytes 0 0) × (get_or bytes 0 0 < 224) × (two_byte_unit (get_or bytes 0 0) bytes ≡ Some u))
+    ⊎ ((n ≡ 3) × (224 ≤ get_or bytes 0 0) × (get_or bytes 0 0 < 240) × (three_byte_unit (get_or bytes 0 0) bytes ≡ Some u)))
 unfolding first_unit
 first_ways bytes u n e = grind (arith, nat_tests)
 
 spelled_in_two : (a b u : ℕ) → 192 ≤ a → a < 224 → 128 ≤ b → b < 192 → u ≡ a % 32 * 64 + b % 64 → (u ≡ 0) ⊎ (128 ≤ u) → spelling u ≡ a ∷ b ∷ []
 spelled_in_two a b u p q r s e h =
     elim h [
-        inl z ↦
-            let high : 192 ≡ a = omega arith in
-            let low : 128 ≡ b = omega arith in
-            ap spelling z ∙ spelling_of_zero ∙ cc
+      | inl z ↦
+          let high : 192 ≡ a = omega arith in
+          let low : 128 ≡ b = omega arith in
+          ap spelling z ∙ spelling_of_zero ∙ cc
       | inr large ↦
-            let high : 192 + u / 64 ≡ a = omega arith in
-            let low : 128 + u % 64 ≡ b = omega arith in
-            spelling_in_two u large (omega arith) ∙ cc ]
+          let high : 192 + u / 64 ≡ a = omega arith in
+          let low : 128 + u % 64 ≡ b = omega arith in
+          spelling_in_two u large (omega arith) ∙ cc
+    ]
 
 spelled_in_three : (a b c u : ℕ) → 224 ≤ a → a < 240 → 128 ≤ b → b < 192 → 128 ≤ c → c < 192 → u ≡ (a % 16 * 64 + b % 64) * 64 + c % 64 → 2048 ≤ u → spelling u ≡ a ∷ b ∷ c ∷ []
 spelled_in_three a b c u p q r s t w e large =
@@ -119,32 +120,34 @@ stands bytes u n front rest h size same split = record {
 pub first_found : (bytes : List ℕ) (u n : ℕ) → first_unit bytes ≡ Some (u, n) → StandsFirst bytes u n
 first_found bytes u n e =
     elim (first_ways bytes u n e) [
-        inl (one, is, low, high) ↦
-            stands bytes u n (u ∷ []) (drop 1 bytes) (omega arith) one (spelling_in_one u low high)
-                (rw (is) (cons_one bytes (omega arith)))
+      | inl (one, is, low, high) ↦
+          stands bytes u n (u ∷ []) (drop 1 bytes) (omega arith) one (spelling_in_one u low high)
+          (rw (is) (cons_one bytes (omega arith)))
       | inr (inl (two, low, high, found)) ↦
-            let ways = two_ways (get_or bytes 0 0) bytes u found in
-            let next = six_bits_ways bytes 1 ways.0.0 ways.0.1 in
-            stands bytes u n (get_or bytes 0 0 ∷ get_or bytes 1 0 ∷ []) (drop 2 bytes) (omega arith) two
-                (spelled_in_two (get_or bytes 0 0) (get_or bytes 1 0) u low high next.0 next.1 (omega arith) ways.1)
-                (cons_two bytes (omega arith) (omega arith))
+          let ways = two_ways (get_or bytes 0 0) bytes u found in
+          let next = six_bits_ways bytes 1 ways.0.0 ways.0.1 in
+          stands bytes u n (get_or bytes 0 0 ∷ get_or bytes 1 0 ∷ []) (drop 2 bytes) (omega arith) two
+          (spelled_in_two (get_or bytes 0 0) (get_or bytes 1 0) u low high next.0 next.1 (omega arith) ways.1)
+          (cons_two bytes (omega arith) (omega arith))
       | inr (inr (three, low, high, found)) ↦
-            let ways = three_ways (get_or bytes 0 0) bytes u found in
-            let next = six_bits_ways bytes 1 ways.0 ways.2 in
-            let last = six_bits_ways bytes 2 ways.1 ways.3 in
-            stands bytes u n (get_or bytes 0 0 ∷ get_or bytes 1 0 ∷ get_or bytes 2 0 ∷ []) (drop 3 bytes) (omega arith) three
-                (spelled_in_three (get_or bytes 0 0) (get_or bytes 1 0) (get_or bytes 2 0) u low high next.0 next.1 last.0 last.1 (omega arith) ways.5)
-                (cons_three bytes (omega arith) (omega arith) (omega arith)) ]
+          let ways = three_ways (get_or bytes 0 0) bytes u found in
+          let next = six_bits_ways bytes 1 ways.0 ways.2 in
+          let last = six_bits_ways bytes 2 ways.1 ways.3 in
+          stands bytes u n (get_or bytes 0 0 ∷ get_or bytes 1 0 ∷ get_or bytes 2 0 ∷ []) (drop 3 bytes) (omega arith) three
+          (spelled_in_three (get_or bytes 0 0) (get_or bytes 1 0) (get_or bytes 2 0) u low high next.0 next.1 last.0 last.1 (omega arith) ways.5)
+          (cons_three bytes (omega arith) (omega arith) (omega arith))
+    ]
 
 -- ---- one reading
 
 pub spelling_takes_room : (u : ℕ) → 0 < length (spelling u)
 spelling_takes_room u =
     elim (cases_of_unit u) [
-        inl z ↦ rw (z, spelling_of_zero) (omega arith)
+      | inl z ↦ rw (z, spelling_of_zero) (omega arith)
       | inr (inl p) ↦ rw (spelling_in_one u p.0 p.1) (omega arith)
       | inr (inr (inl p)) ↦ rw (spelling_in_two u p.0 p.1) (omega arith)
-      | inr (inr (inr p)) ↦ rw (spelling_in_three u p) (omega arith) ]
+      | inr (inr (inr p)) ↦ rw (spelling_in_three u p) (omega arith)
+    ]
 
 no_units : (us : List ℕ) → spelled us ≡ [] → us ≡ []
 no_units [] e = refl

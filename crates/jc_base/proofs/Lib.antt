@@ -1,3 +1,4 @@
 pub mod FirstUnitLemmas
 pub mod WellSpelledLemmas
 pub mod NamesLemmas
+pub mod SpelledBytes

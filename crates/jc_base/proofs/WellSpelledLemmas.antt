@@ -1,12 +1,12 @@
 -- Fronts of a text: one more unit, and where no unit stands.
-use Rattle.std.proofs.Common.{◌≡◌, ℕ, ◌+◌, ◌-◌, ◌<◌, ◌≤◌, List, [], ◌∷◌, ◌++◌, length, take, drop, Option, Some, None, refl, sym, ap, ◌∙◌, subst, arith, append_assoc, length-append, length-drop, zero, suc, zero-add, suc-add, inl, inr}
-use Rattle.std.specs.List.{AllByRecursion, flat_map}
-use Rattle.std.proofs.lemmas.List.{append_cancel_left, append-nil, take-append-drop, length-take-le, take_all, take_at, take_rest, drop_at}
-use Rattle.std.proofs.lemmas.Bool.{cases_order}
-use Rattle.std.proofs.lemmas.Grind.{common_steps, flat_map-append}
+use Rattle.std.proofs.Common.{◌≡◌, ℕ, ◌+◌, ◌-◌, ◌<◌, ◌≤◌, List, [], ◌∷◌, ◌++◌, length, take, drop, Some, None, refl, sym, ap, ◌∙◌, subst, arith, append_assoc, length-append, length-drop, zero, suc, zero-add, suc-add, Bool, true, nat_lt, ◌&&◌, inl, inr}
+use Rattle.std.specs.List.{AllByRecursion, list_all}
+use Rattle.std.proofs.lemmas.List.{append-nil, take-append-drop, length-take-le, take_all, take_at, take_rest, drop_at}
+use Rattle.std.proofs.lemmas.Bool.{cases_order, and_parts, ltb-true}
+use Rattle.std.proofs.lemmas.Grind.{flat_map-append}
 use Rattle.jc_base.specs.ModifiedUtf8.{IsUnit, spelling, spelled, Spells, IsWellSpelled, IsLongestFront}
 use Rattle.jc_base.specs.FirstUnit.{first_unit}
-use Rattle.jc_base.proofs.FirstUnitLemmas.{StandsFirst, first_found, found_first, same_units_after, spelling_takes_room}
+use Rattle.jc_base.proofs.FirstUnitLemmas.{first_found, found_first, same_units_after, spelling_takes_room, spelling_in_one}
 
 all_append : (P : ℕ → Type 0) (xs ys : List ℕ) → AllByRecursion P xs → AllByRecursion P ys → AllByRecursion P (xs ++ ys)
 all_append P [] ys p q = q
@@ -29,7 +29,7 @@ one_more text place u size within (us, (units, is)) found =
     let room : 0 < size = omega (arith, spelling_takes_room u, first.size) in
     let here : take size (drop place text) ≡ spelling u = ap (take size) first.split ∙ take_at (spelling u) first.rest size (sym first.size) in
     let all : take (place + size) text ≡ spelled (us ++ u ∷ []) =
-        take_split place size text ∙ ap (λ xs. xs ++ take size (drop place text)) is ∙ ap (λ xs. spelled us ++ xs) (here ∙ sym (append-nil (spelling u))) ∙ sym (flat_map-append spelling us (u ∷ [])) in
+    take_split place size text ∙ ap (λ xs. xs ++ take size (drop place text)) is ∙ ap (λ xs. spelled us ++ xs) (here ∙ sym (append-nil (spelling u))) ∙ sym (flat_map-append spelling us (u ∷ [])) in
     (room, omega (arith, length-drop {A = ℕ}, length-append {A = ℕ}, ap length first.split, first.size), (us ++ u ∷ [], (all_append IsUnit us (u ∷ []) units (first.unit, tt), all)))
 
 nothing_stands : (rest front more ws : List ℕ) → 0 < length front → rest ≡ front ++ more → front ≡ spelled ws → AllByRecursion IsUnit ws → first_unit rest ≡ None → ⊥
@@ -44,13 +44,13 @@ longest_front text place within (us, (units, is)) none = record {
   within = within;
   front = (us, (units, is));
   longest = λ m more in_text (vs, (others, spells)).
-    let k : place + (m - place) ≡ m = omega arith in
-    let front : List ℕ = take (m - place) (drop place text) in
-    let split : spelled us ++ front ≡ spelled vs = ap (λ xs. xs ++ front) (sym is) ∙ sym (take_split place (m - place) text) ∙ ap (λ n. take n text) k ∙ spells in
-    let after = same_units_after us vs front units others split in
-    nothing_stands (drop place text) front (drop (m - place) (drop place text)) after.0
-        (omega (arith, length-take-le (m - place) (drop place text) (omega (arith, length-drop {A = ℕ}))))
-        (sym (take-append-drop (m - place) (drop place text))) after.3 after.2 (ap first_unit (sym (take_rest text place)) ∙ none);
+      let k : place + (m - place) ≡ m = omega arith in
+      let front : List ℕ = take (m - place) (drop place text) in
+      let split : spelled us ++ front ≡ spelled vs = ap (λ xs. xs ++ front) (sym is) ∙ sym (take_split place (m - place) text) ∙ ap (λ n. take n text) k ∙ spells in
+      let after = same_units_after us vs front units others split in
+      nothing_stands (drop place text) front (drop (m - place) (drop place text)) after.0
+      (omega (arith, length-take-le (m - place) (drop place text) (omega (arith, length-drop {A = ℕ}))))
+      (sym (take-append-drop (m - place) (drop place text))) after.3 after.2 (ap first_unit (sym (take_rest text place)) ∙ none);
 }
 
 pub whole_front : (text : List ℕ) (place : ℕ) → IsLongestFront text place → IsWellSpelled text → ⊥
@@ -67,13 +67,13 @@ pub next_read : (us more text rest : List ℕ) (u size : ℕ) → HasRead us tex
 next_read us more text rest u size read found is =
     let first = first_found rest u size found in
     let left : from_place rest size ≡ first.rest =
-        take_rest rest size ∙ ap (drop size) first.split ∙ drop_at (spelling u) first.rest size (sym first.size) in
+    take_rest rest size ∙ ap (drop size) first.split ∙ drop_at (spelling u) first.rest size (sym first.size) in
     let all : spelled more ≡ spelled us ++ spelling u =
-        ap spelled is ∙ flat_map-append spelling us (u ∷ []) ∙ ap (λ xs. spelled us ++ xs) (append-nil (spelling u)) in
+    ap spelled is ∙ flat_map-append spelling us (u ∷ []) ∙ ap (λ xs. spelled us ++ xs) (append-nil (spelling u)) in
     record {
       all_units = subst (AllByRecursion IsUnit) (sym is) (all_append IsUnit us (u ∷ []) read.all_units (first.unit, tt));
       split = read.split ∙ ap (λ xs. spelled us ++ xs) first.split ∙ sym (append_assoc (spelled us) (spelling u) first.rest)
-        ∙ ap (λ xs. xs ++ first.rest) (sym all) ∙ ap (λ xs. spelled more ++ xs) (sym left);
+          ∙ ap (λ xs. xs ++ first.rest) (sym all) ∙ ap (λ xs. spelled more ++ xs) (sym left);
     }
 
 nothing_left : (rest ws : List ℕ) → first_unit rest ≡ None → rest ≡ spelled ws → AllByRecursion IsUnit ws → rest ≡ []
@@ -91,6 +91,33 @@ all_read us text rest (vs, (others, spells)) read none =
 pub one_longest : (text : List ℕ) (m n : ℕ) → IsLongestFront text m → IsLongestFront text n → m ≡ n
 one_longest text m n p q =
     elim (cases_order m n) [
-        inl e ↦ e
+      | inl e ↦ e
       | inr (inl below) ↦ absurd (p.longest n below (omega (arith, q.within)) q.front)
-      | inr (inr above) ↦ absurd (q.longest m above (omega (arith, p.within)) p.front) ]
+      | inr (inr above) ↦ absurd (q.longest m above (omega (arith, p.within)) p.front)
+    ]
+
+-- what begins with no unit is no text
+pub none_stands : (bytes : List ℕ) → 0 < length bytes → first_unit bytes ≡ None → IsWellSpelled bytes → ⊥
+none_stands bytes room none (us, (units, is)) = omega (arith, ap length (nothing_left bytes us none is units))
+
+-- ---- texts made of texts
+
+pub append_spelled : (a b : List ℕ) → IsWellSpelled a → IsWellSpelled b → IsWellSpelled (a ++ b)
+append_spelled a b (us, (p, is)) (vs, (q, are)) =
+    (us ++ vs, (all_append IsUnit us vs p q, ap (λ xs. xs ++ b) is ∙ ap (λ xs. spelled us ++ xs) are ∙ sym (flat_map-append spelling us vs)))
+
+abbrev pub is_ascii : ℕ → Bool
+is_ascii c = nat_lt 0 c && nat_lt c 0x80
+
+-- Characters below 0x80 spell themselves.
+pub ascii_spelled : (b : List ℕ) → list_all is_ascii b ≡ true → IsWellSpelled b
+ascii_spelled [] h = ([], (tt, refl))
+ascii_spelled (c ∷ b) h =
+    let parts = and_parts (is_ascii c) (list_all is_ascii b) h in
+    let bounds = and_parts (nat_lt 0 c) (nat_lt c 0x80) parts.0 in
+    let low = ltb-true 0 c bounds.0 in
+    let high = ltb-true c 0x80 bounds.1 in
+    append_spelled (c ∷ []) b (c ∷ [], ((omega arith, tt), sym (append-nil (spelling c) ∙ spelling_in_one c low high))) (ascii_spelled b parts.1)
+
+pub slash_spelled : IsWellSpelled (47 ∷ [])
+slash_spelled = ascii_spelled (47 ∷ []) refl

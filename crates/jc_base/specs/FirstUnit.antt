@@ -18,17 +18,17 @@ six_bits bytes place =
 -- the unit that 110xxxxx 10xxxxxx spells, unless it has a shorter spelling
 unfoldable pub two_byte_unit : ℕ → List ℕ → Option ℕ
 two_byte_unit first bytes = do
-    low ← six_bits bytes 1
-    let unit = first % 32 * 64 + low
-    if unit == 0 || nat_le 0x80 unit then Some unit else None
+  low ← six_bits bytes 1
+  let unit = first % 32 * 64 + low
+  if unit == 0 || nat_le 0x80 unit then Some unit else None
 
 -- the unit that 1110xxxx 10xxxxxx 10xxxxxx spells, unless it has a shorter spelling
 unfoldable pub three_byte_unit : ℕ → List ℕ → Option ℕ
 three_byte_unit first bytes = do
-    middle ← six_bits bytes 1
-    low ← six_bits bytes 2
-    let unit = (first % 16 * 64 + middle) * 64 + low
-    if nat_le 0x800 unit then Some unit else None
+  middle ← six_bits bytes 1
+  low ← six_bits bytes 2
+  let unit = (first % 16 * 64 + middle) * 64 + low
+  if nat_le 0x800 unit then Some unit else None
 
 -- the unit at the front, and how many bytes spell it
 unfoldable pub first_unit : List ℕ → Option (ℕ × ℕ)

@@ -1,8 +1,8 @@
 //! Modified UTF-8, in which class files write their texts (JVMS 4.4.7).
 
-ghost use Rattle.std.specs.Prelude.{◌≡◌, ℕ, ◌+◌, ◌*◌, ◌<◌, ◌≤◌, ◌↔◌, List, length, take, IsOk, IfOk, IfErr, IfSome, OnSome};
+ghost use Rattle.std.specs.Prelude.{◌≡◌, ℕ, ◌+◌, ◌*◌, ◌<◌, ◌≤◌, ◌↔◌, List, [], ◌∷◌, length, take, All, Contains, IsOk, IfOk, IfErr, IfSome, OnSome};
 ghost use Rattle.jc_base.specs.declared.modified_utf8.UnitsError.TheVariants.{NoMemory};
-ghost use Rattle.jc_base.specs.ModifiedUtf8.{Spells, IsWellSpelled, IsLongestFront};
+ghost use Rattle.jc_base.specs.ModifiedUtf8.{spelled, Spells, IsWellSpelled, IsLongestFront};
 ghost use Rattle.jc_base.specs.FirstUnit.{six_bits, two_byte_unit, three_byte_unit, first_unit};
 
 use std::alloc::{AllocError, Global};
@@ -89,7 +89,11 @@ fn two_byte_unit(first: u8, text: &[u8]) -> Option<u16>
     ensures within { OnSome result (2 ≤ length text.now) }
 {
     let unit = joined(u16::from(first & 0x1f), six_bits(text, 1)?);
-    if unit == 0 || unit >= 0x80 { Some(unit) } else { None }
+    if unit == 0 || unit >= 0x80 {
+        Some(unit)
+    } else {
+        None
+    }
 }
 
 // The unit that `1110xxxx 10xxxxxx 10xxxxxx` spells, unless it has a shorter spelling.
@@ -125,8 +129,42 @@ fn joined(high: u16, low: u16) -> u16
     (high << 6) | low
 }
 
-/// No bytes spell two lists of units.
+/// No bytes spell two lists of units, and a text has one longest well spelled front at most.
 pub fn units_are_determined()
-    ensures { (us vs bytes : List ℕ) → Spells us bytes → Spells vs bytes → us ≡ vs }
-{
-}
+    ensures units { (us vs bytes : List ℕ) → Spells us bytes → Spells vs bytes → us ≡ vs }
+    ensures fronts { (bytes : List ℕ) (m n : ℕ) →
+        IsLongestFront bytes m → IsLongestFront bytes n → m ≡ n }
+{}
+
+/// No byte of a text is 0 or lies from 0xf0 to 0xff (JVMS 4.4.7).
+pub fn bytes_are_in_range()
+    ensures { (bytes : List ℕ) → IsWellSpelled bytes → All (λ b. (0 < b) × (b < 0xf0)) bytes }
+{}
+
+/// A character from 0x01 to 0x7f stands among the units where its byte stands among the bytes.
+pub fn ascii_stands_for_itself()
+    ensures { (us bytes : List ℕ) (c : ℕ) →
+        Spells us bytes → 0 < c → c < 0x80 → (Contains us c ↔ Contains bytes c) }
+{}
+
+/// What some texts spell, and some bytes that are no texts.
+pub fn spelling_examples()
+    ensures capital_a { spelled (0x41 ∷ []) ≡ 0x41 ∷ [] }
+    ensures zero { spelled (0 ∷ []) ≡ 0xc0 ∷ 0x80 ∷ [] }
+    ensures last_of_one { spelled (0x7f ∷ 0x80 ∷ []) ≡ 0x7f ∷ 0xc2 ∷ 0x80 ∷ [] }
+    ensures last_of_two { spelled (0x7ff ∷ 0x800 ∷ []) ≡ 0xdf ∷ 0xbf ∷ 0xe0 ∷ 0xa0 ∷ 0x80 ∷ [] }
+    ensures last_of_three { spelled (0xffff ∷ []) ≡ 0xef ∷ 0xbf ∷ 0xbf ∷ [] }
+    ensures surrogates { spelled (0xd83d ∷ 0xde00 ∷ [])
+        ≡ 0xed ∷ 0xa0 ∷ 0xbd ∷ 0xed ∷ 0xb8 ∷ 0x80 ∷ [] }
+
+    ensures overlong_two { ¬ IsWellSpelled (0xc1 ∷ 0x81 ∷ []) }
+    ensures overlong_three { ¬ IsWellSpelled (0xe0 ∷ 0x80 ∷ 0x80 ∷ []) }
+    ensures four_bytes { ¬ IsWellSpelled (0xf0 ∷ 0x9f ∷ 0x98 ∷ 0x80 ∷ []) }
+    ensures zero_byte { ¬ IsWellSpelled (0 ∷ []) }
+    ensures lone_continuation { ¬ IsWellSpelled (0x80 ∷ []) }
+    ensures cut_short { ¬ IsWellSpelled (0xe2 ∷ 0x82 ∷ []) }
+    ensures second_is_wrong { IsLongestFront (0x41 ∷ 0xc1 ∷ 0x81 ∷ []) 1 }
+{}
+
+#[cfg(test)]
+mod tests;

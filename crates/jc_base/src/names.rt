@@ -1,7 +1,8 @@
 //! Names of classes, interfaces, fields and methods, as class files write them (JVMS 4.2).
 
-ghost use Rattle.std.specs.Prelude.{◌≡◌, ◌↔◌, Contains, IsTrue};
+ghost use Rattle.std.specs.Prelude.{◌≡◌, ◌↔◌, ℕ, List, Contains, IsTrue, codes};
 ghost use Rattle.jc_base.specs.Names.{Lacks, name_stops, method_name_stops, IsUnqualifiedName, IsSpecialMethodName, IsMethodName, IsClassName};
+ghost use Rattle.jc_base.specs.ModifiedUtf8.{IsWellSpelled};
 
 use crate::modified_utf8::check_units;
 
@@ -30,6 +31,7 @@ pub fn is_class_name(text: &[u8]) -> bool
 }
 
 const INSTANCE_INITIALIZER: &[u8] = b"<init>";
+
 const CLASS_INITIALIZER: &[u8] = b"<clinit>";
 
 fn is_special(text: &[u8]) -> bool
@@ -61,3 +63,33 @@ fn is_method_name_byte(byte: &u8) -> bool
 {
     !matches!(*byte, b'<' | b'>')
 }
+
+/// Names are texts of modified UTF-8.
+pub fn names_are_well_spelled()
+    ensures class { (b : List ℕ) → IsClassName b → IsWellSpelled b }
+    ensures method { (b : List ℕ) → IsMethodName b → IsWellSpelled b }
+{}
+
+/// Some names, and some texts that are none.
+pub fn name_examples()
+    ensures word { IsUnqualifiedName (codes "word") }
+    ensures bracketed { IsUnqualifiedName (codes "<x>") }
+    ensures empty { ¬ IsUnqualifiedName (codes "") }
+    ensures array { ¬ IsUnqualifiedName (codes "[I") }
+    ensures path { ¬ IsUnqualifiedName (codes "a/b") }
+
+    ensures method { IsMethodName (codes "main") }
+    ensures constructor { IsMethodName (codes "<init>") }
+    ensures bracketed_method { ¬ IsMethodName (codes "<x>") }
+
+    ensures class { IsClassName (codes "java/lang/Object") }
+    ensures one_part { IsClassName (codes "Main") }
+    ensures no_part { ¬ IsClassName (codes "") }
+    ensures empty_part { ¬ IsClassName (codes "a//b") }
+    ensures empty_first { ¬ IsClassName (codes "/a") }
+    ensures empty_last { ¬ IsClassName (codes "a/") }
+    ensures array_class { ¬ IsClassName (codes "[Ljava/lang/Object;") }
+{}
+
+#[cfg(test)]
+mod tests;

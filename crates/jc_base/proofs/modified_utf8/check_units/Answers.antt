@@ -1,4 +1,4 @@
-use Rattle.std.proofs.Common.{sym, ◌∙◌, arith}
+use Rattle.std.proofs.Common.{sym, ◌∙◌}
 use Rattle.std.proofs.lemmas.Bool.{false≢true}
 use Rattle.jc_base.proofs.WellSpelledLemmas.{one_more, longest_front, whole_front}
 use Rattle.jc_base.proofs.modified_utf8.check_units.Goals as goal
