@@ -1,0 +1,4 @@
+pub mod FirstUnitLemmas
+pub mod WellSpelledLemmas
+pub mod NamesLemmas
+pub mod SpelledBytes

@@ -1,3 +1,6 @@
 pub mod Cursor
 pub use Rattle.byteorder.specs.Endian
 pub use Rattle.byteorder.specs.Numbers
+pub mod FirstUnit
+pub mod ModifiedUtf8
+pub mod Names

@@ -1,0 +1,18 @@
+use Rattle.std.proofs.Common.{sym, ◌∙◌}
+use Rattle.std.proofs.lemmas.Bool.{false≢true}
+use Rattle.jc_base.proofs.WellSpelledLemmas.{one_more, longest_front, whole_front}
+use Rattle.jc_base.proofs.modified_utf8.check_units.Goals as goal
+
+pub loop-place-preserved : goal.loop-place-preserved
+loop-place-preserved c =
+    let more = one_more c.args.text.now c.loop-place.place _ _ c.loop-place.invariant.0 c.loop-place.invariant.1 (sym c.unit_at.ensures.value ∙ c.in-Some.is) in
+    (more.1, more.2)
+
+pub returns-in-None-clause-ok : goal.returns-in-None-clause-ok
+returns-in-None-clause-ok c =
+    let longest = longest_front c.args.text.now c.loop-place.place c.loop-place-test.true c.loop-place.invariant.1 (sym c.unit_at.ensures.value ∙ c.in-None.is) in
+    (λ e. absurd (false≢true e), λ well. absurd (whole_front c.args.text.now c.loop-place.place longest well))
+
+pub returns-in-None-clause-place : goal.returns-in-None-clause-place
+returns-in-None-clause-place c =
+    longest_front c.args.text.now c.loop-place.place c.loop-place-test.true c.loop-place.invariant.1 (sym c.unit_at.ensures.value ∙ c.in-None.is)

@@ -1,0 +1,33 @@
+-- Modified UTF-8 (JVMS 4.4.7): how a text, a list of UTF-16 code units, is written in bytes.
+use Rattle.std.specs.Prelude.{◌≡◌, ℕ, ◌+◌, ◌/◌, ◌%◌, ◌^◌, ◌<◌, ◌≤◌, List, [], ◌∷◌, length, take, if◌then◌else◌, ◌&&◌, nat_lt}
+use Rattle.std.specs.List.{flat_map, AllByRecursion}
+
+-- a UTF-16 code unit
+abbrev pub IsUnit : ℕ → Type 0
+IsUnit u = u < 2 ^ 16
+
+-- The bytes of a unit: one for 0x0001 to 0x007f, two for 0x0000 and for 0x0080 to 0x07ff, and three
+-- above.
+unfoldable pub spelling : ℕ → List ℕ
+spelling u =
+    if nat_lt 0 u && nat_lt u 0x80 then u ∷ []
+    else (if nat_lt u 0x800 then (0xc0 + u / 64) ∷ (0x80 + u % 64) ∷ []
+    else (0xe0 + u / 4096) ∷ (0x80 + u / 64 % 64) ∷ (0x80 + u % 64) ∷ [])
+
+-- the bytes of the units, one after another
+abbrev pub spelled : List ℕ → List ℕ
+spelled us = flat_map spelling us
+
+-- these bytes spell these units
+abbrev pub Spells : List ℕ → List ℕ → Type 0
+Spells us b = AllByRecursion IsUnit us × (b ≡ spelled us)
+
+-- these bytes are modified UTF-8
+abbrev pub IsWellSpelled : List ℕ → Type 0
+IsWellSpelled b = (us : List ℕ) × Spells us b
+
+-- the first n bytes are well spelled, they are not all, and no longer front is well spelled
+pub record IsLongestFront (b : List ℕ) (n : ℕ) : Type 0 where
+  pub within : n < length b
+  pub front : IsWellSpelled (take n b)
+  pub longest : (m : ℕ) → n < m → m ≤ length b → ¬ IsWellSpelled (take m b)

@@ -1,0 +1,170 @@
+//! Modified UTF-8, in which class files write their texts (JVMS 4.4.7).
+
+ghost use Rattle.std.specs.Prelude.{◌≡◌, ℕ, ◌+◌, ◌*◌, ◌<◌, ◌≤◌, ◌↔◌, List, [], ◌∷◌, length, take, All, Contains, IsOk, IfOk, IfErr, IfSome, OnSome};
+ghost use Rattle.jc_base.specs.declared.modified_utf8.UnitsError.TheVariants.{NoMemory};
+ghost use Rattle.jc_base.specs.ModifiedUtf8.{spelled, Spells, IsWellSpelled, IsLongestFront};
+ghost use Rattle.jc_base.specs.FirstUnit.{six_bits, two_byte_unit, three_byte_unit, first_unit};
+
+use std::alloc::{AllocError, Global};
+
+/// Whether `text` is modified UTF-8: the error is the length of its longest well spelled front.
+///
+/// Surrogates may stand alone, and each unit has one spelling: an overlong one is an error.
+pub fn check_units(text: &[u8]) -> Result<(), usize>
+    ensures ok { IsOk result ↔ IsWellSpelled text.now }
+    ensures place { IfErr result (IsLongestFront text.now) }
+{
+    let mut place = 0;
+    while place < text.len() {
+        match unit_at(&text[place..]) {
+            Some((_, size)) => place += size,
+            None => return Err(place),
+        }
+    }
+    Ok(())
+}
+
+/// The UTF-16 code units that `text` spells. A text that is not modified UTF-8 is told first: the
+/// memory for the units is asked for only after the whole text was checked.
+pub fn units(alloc: Global, text: &[u8]) -> Result<Vec<u16>, UnitsError>
+    ensures ok { IfOk result (λ units. Spells units.items text.now) }
+    ensures bad { (place : ℕ) →
+        (result ≡ Err (UnitsError.Bad place)) ↔ IsLongestFront text.now place }
+{
+    if let Err(place) = check_units(text) {
+        return Err(UnitsError::Bad(place));
+    }
+    Ok(spelled_units(alloc, text)?)
+}
+
+fn spelled_units(alloc: Global, text: &[u8]) -> Result<Vec<u16>, AllocError>
+    requires { IsWellSpelled text.now }
+    ensures { IfOk result (λ units. Spells units.items text.now) }
+{
+    let mut units = Vec::new(alloc);
+    let mut rest = text;
+    while let Some((unit, size)) = unit_at(rest) {
+        units.push(unit)?;
+        rest = &rest[size..];
+    }
+    Ok(units)
+}
+
+/// Why the units of a text were not given.
+#[derive(Clone, Copy, Debug, PartialEq, Eq)]
+pub enum UnitsError {
+    /// The text is not modified UTF-8: its longest well spelled front has so many bytes.
+    Bad(usize),
+    /// Memory ran out.
+    NoMemory,
+}
+
+impl From<AllocError> for UnitsError {
+    ghost from_gives = { λ _ error. error ≡ NoMemory };
+
+    fn from(_refused: AllocError) -> UnitsError {
+        UnitsError::NoMemory
+    }
+}
+
+// The unit at the front of `text`, and how many bytes spell it.
+#[tactic(auto, unfolding(crate::specs::FirstUnit::first_unit))]
+fn unit_at(text: &[u8]) -> Option<(u16, usize)>
+    ensures value { result ≡ first_unit text.now }
+    ensures within { IfSome result (λ found. (0 < found.1) × (found.1 ≤ length text.now)) }
+{
+    let first = *text.first()?;
+    match first {
+        0x01..=0x7f => Some((u16::from(first), 1)),
+        0xc0..=0xdf => Some((two_byte_unit(first, text)?, 2)),
+        0xe0..=0xef => Some((three_byte_unit(first, text)?, 3)),
+        _ => None,
+    }
+}
+
+// The unit that `110xxxxx 10xxxxxx` spells, unless it has a shorter spelling.
+#[tactic(auto, unfolding(crate::specs::FirstUnit::two_byte_unit))]
+fn two_byte_unit(first: u8, text: &[u8]) -> Option<u16>
+    ensures value { result ≡ two_byte_unit first text.now }
+    ensures within { OnSome result (2 ≤ length text.now) }
+{
+    let unit = joined(u16::from(first & 0x1f), six_bits(text, 1)?);
+    if unit == 0 || unit >= 0x80 {
+        Some(unit)
+    } else {
+        None
+    }
+}
+
+// The unit that `1110xxxx 10xxxxxx 10xxxxxx` spells, unless it has a shorter spelling.
+#[tactic(auto, unfolding(crate::specs::FirstUnit::three_byte_unit))]
+fn three_byte_unit(first: u8, text: &[u8]) -> Option<u16>
+    ensures value { result ≡ three_byte_unit first text.now }
+    ensures within { OnSome result (3 ≤ length text.now) }
+{
+    let high = joined(u16::from(first & 0x0f), six_bits(text, 1)?);
+    let unit = joined(high, six_bits(text, 2)?);
+    if unit >= 0x800 { Some(unit) } else { None }
+}
+
+// The bits that the byte `10xxxxxx` at `place` adds to a unit.
+#[tactic(auto, unfolding(crate::specs::FirstUnit::six_bits))]
+fn six_bits(text: &[u8], place: usize) -> Option<u16>
+    ensures value { result ≡ six_bits text.now place }
+    ensures small { IfSome result (λ bits. bits < 64) }
+    ensures within { OnSome result (place < length text.now) }
+{
+    match *text.get(place)? {
+        byte @ 0x80..=0xbf => Some(u16::from(byte & 0x3f)),
+        _ => None,
+    }
+}
+
+// `high` with six more bits below it.
+fn joined(high: u16, low: u16) -> u16
+    requires high { high < 1024 }
+    requires low { low < 64 }
+    ensures { result ≡ high * 64 + low }
+{
+    (high << 6) | low
+}
+
+/// No bytes spell two lists of units, and a text has one longest well spelled front at most.
+pub fn units_are_determined()
+    ensures units { (us vs bytes : List ℕ) → Spells us bytes → Spells vs bytes → us ≡ vs }
+    ensures fronts { (bytes : List ℕ) (m n : ℕ) →
+        IsLongestFront bytes m → IsLongestFront bytes n → m ≡ n }
+{}
+
+/// No byte of a text is 0 or lies from 0xf0 to 0xff (JVMS 4.4.7).
+pub fn bytes_are_in_range()
+    ensures { (bytes : List ℕ) → IsWellSpelled bytes → All (λ b. (0 < b) × (b < 0xf0)) bytes }
+{}
+
+/// A character from 0x01 to 0x7f stands among the units where its byte stands among the bytes.
+pub fn ascii_stands_for_itself()
+    ensures { (us bytes : List ℕ) (c : ℕ) →
+        Spells us bytes → 0 < c → c < 0x80 → (Contains us c ↔ Contains bytes c) }
+{}
+
+/// What some texts spell, and some bytes that are no texts.
+pub fn spelling_examples()
+    ensures capital_a { spelled (0x41 ∷ []) ≡ 0x41 ∷ [] }
+    ensures zero { spelled (0 ∷ []) ≡ 0xc0 ∷ 0x80 ∷ [] }
+    ensures last_of_one { spelled (0x7f ∷ 0x80 ∷ []) ≡ 0x7f ∷ 0xc2 ∷ 0x80 ∷ [] }
+    ensures last_of_two { spelled (0x7ff ∷ 0x800 ∷ []) ≡ 0xdf ∷ 0xbf ∷ 0xe0 ∷ 0xa0 ∷ 0x80 ∷ [] }
+    ensures last_of_three { spelled (0xffff ∷ []) ≡ 0xef ∷ 0xbf ∷ 0xbf ∷ [] }
+    ensures surrogates { spelled (0xd83d ∷ 0xde00 ∷ [])
+        ≡ 0xed ∷ 0xa0 ∷ 0xbd ∷ 0xed ∷ 0xb8 ∷ 0x80 ∷ [] }
+
+    ensures overlong_two { ¬ IsWellSpelled (0xc1 ∷ 0x81 ∷ []) }
+    ensures overlong_three { ¬ IsWellSpelled (0xe0 ∷ 0x80 ∷ 0x80 ∷ []) }
+    ensures four_bytes { ¬ IsWellSpelled (0xf0 ∷ 0x9f ∷ 0x98 ∷ 0x80 ∷ []) }
+    ensures zero_byte { ¬ IsWellSpelled (0 ∷ []) }
+    ensures lone_continuation { ¬ IsWellSpelled (0x80 ∷ []) }
+    ensures cut_short { ¬ IsWellSpelled (0xe2 ∷ 0x82 ∷ []) }
+    ensures second_is_wrong { IsLongestFront (0x41 ∷ 0xc1 ∷ 0x81 ∷ []) 1 }
+{}
+
+#[cfg(test)]
+mod tests;

@@ -1,0 +1,95 @@
+//! Names of classes, interfaces, fields and methods, as class files write them (JVMS 4.2).
+
+ghost use Rattle.std.specs.Prelude.{◌≡◌, ◌↔◌, ℕ, List, Contains, IsTrue, codes};
+ghost use Rattle.jc_base.specs.Names.{Lacks, name_stops, method_name_stops, IsUnqualifiedName, IsSpecialMethodName, IsMethodName, IsClassName};
+ghost use Rattle.jc_base.specs.ModifiedUtf8.{IsWellSpelled};
+
+use crate::modified_utf8::check_units;
+
+/// Whether `text` is an unqualified name, as a field or a local variable has (JVMS 4.2.2): at least
+/// one character and none of `.`, `;`, `[` and `/`.
+pub fn is_unqualified(text: &[u8]) -> bool
+    ensures { IsTrue result ↔ IsUnqualifiedName text.now }
+{
+    !text.is_empty() && check_units(text).is_ok() && lacks_name_stops(text)
+}
+
+/// Whether `text` is a method's name (JVMS 4.2.2): `<init>`, `<clinit>` or an unqualified name
+/// without `<` and `>`.
+pub fn is_method_name(text: &[u8]) -> bool
+    ensures { IsTrue result ↔ IsMethodName text.now }
+{
+    is_special(text) || is_unqualified(text) && lacks_method_name_stops(text)
+}
+
+/// Whether `text` is a class or interface name in its internal form (JVMS 4.2.1): unqualified names
+/// with `/` between them, as `java/lang/Object`.
+pub fn is_class_name(text: &[u8]) -> bool
+    ensures { IsTrue result ↔ IsClassName text.now }
+{
+    text.split(|byte| *byte == b'/').all(is_unqualified)
+}
+
+const INSTANCE_INITIALIZER: &[u8] = b"<init>";
+
+const CLASS_INITIALIZER: &[u8] = b"<clinit>";
+
+fn is_special(text: &[u8]) -> bool
+    ensures { IsTrue result ↔ IsSpecialMethodName text.now }
+{
+    text == INSTANCE_INITIALIZER || text == CLASS_INITIALIZER
+}
+
+fn lacks_name_stops(text: &[u8]) -> bool
+    ensures { IsTrue result ↔ Lacks text.now name_stops }
+{
+    text.iter().all(is_name_byte)
+}
+
+fn lacks_method_name_stops(text: &[u8]) -> bool
+    ensures { IsTrue result ↔ Lacks text.now method_name_stops }
+{
+    text.iter().all(is_method_name_byte)
+}
+
+fn is_name_byte(byte: &u8) -> bool
+    ensures { IsTrue result ↔ (¬ Contains name_stops byte.now) }
+{
+    !matches!(*byte, b'.' | b';' | b'[' | b'/')
+}
+
+fn is_method_name_byte(byte: &u8) -> bool
+    ensures { IsTrue result ↔ (¬ Contains method_name_stops byte.now) }
+{
+    !matches!(*byte, b'<' | b'>')
+}
+
+/// Names are texts of modified UTF-8.
+pub fn names_are_well_spelled()
+    ensures class { (b : List ℕ) → IsClassName b → IsWellSpelled b }
+    ensures method { (b : List ℕ) → IsMethodName b → IsWellSpelled b }
+{}
+
+/// Some names, and some texts that are none.
+pub fn name_examples()
+    ensures word { IsUnqualifiedName (codes "word") }
+    ensures bracketed { IsUnqualifiedName (codes "<x>") }
+    ensures empty { ¬ IsUnqualifiedName (codes "") }
+    ensures array { ¬ IsUnqualifiedName (codes "[I") }
+    ensures path { ¬ IsUnqualifiedName (codes "a/b") }
+
+    ensures method { IsMethodName (codes "main") }
+    ensures constructor { IsMethodName (codes "<init>") }
+    ensures bracketed_method { ¬ IsMethodName (codes "<x>") }
+
+    ensures class { IsClassName (codes "java/lang/Object") }
+    ensures one_part { IsClassName (codes "Main") }
+    ensures no_part { ¬ IsClassName (codes "") }
+    ensures empty_part { ¬ IsClassName (codes "a//b") }
+    ensures empty_first { ¬ IsClassName (codes "/a") }
+    ensures empty_last { ¬ IsClassName (codes "a/") }
+    ensures array_class { ¬ IsClassName (codes "[Ljava/lang/Object;") }
+{}
+
+#[cfg(test)]
+mod tests;
