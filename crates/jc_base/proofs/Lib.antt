@@ -1,0 +1,2 @@
+pub mod ByteEntries
+pub mod ByteMapLemmas
