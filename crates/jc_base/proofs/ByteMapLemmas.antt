@@ -201,3 +201,6 @@ module _ {V W : Type 0} (f : V → W) where
   mapped-remove m k = same_map _ _ (λ q.
       get-mapped _ q ∙ ap (option_map f) (get-remove m k q) ∙ option_map-cond (same_bytes q k) None (fin.get m q)
       ∙ ap (cond (same_bytes q k) None) (sym (get-mapped m q)) ∙ sym (get-remove (mapped f m) k q))
+
+-- for `grind`, as `using(jc_base::proofs::ByteMapLemmas::byte_maps)`: what a changed map has, a change taken back, and `mapped` after a change
+pub ruleset byte_maps = (get-insert, get-remove, get-mapped, mapped-empty, mapped-insert, mapped-remove, insert-insert, remove-insert, remove_absent)

@@ -46,7 +46,8 @@ impl<V> ByteMap<V> {
 
     /// How many keys the map has.
     pub fn len(&self) -> usize
-        ensures { result ≡ map.len self.now }
+        ensures len { result ≡ map.len self.now }
+        ensures small { result < 2 ^ 63 }
     {
         self.entries.len()
     }
@@ -115,7 +116,8 @@ impl<V> ByteMap<V> {
     /// The entries in the order of their keys.
     pub fn iter(&self) -> Iter<'_, V>
         ensures entries { result ≡ map.entries self.now }
-        ensures fits { length result < 2 ^ 63 }
+        ensures len { length result ≡ map.len self.now }
+        ensures small { length result < 2 ^ 63 }
     {
         Iter {
             entries: self.entries.iter(),
@@ -125,7 +127,8 @@ impl<V> ByteMap<V> {
     /// The keys in their order.
     pub fn keys(&self) -> Keys<'_, V>
         ensures keys { result ≡ map.keys self.now }
-        ensures fits { length result < 2 ^ 63 }
+        ensures len { length result ≡ map.len self.now }
+        ensures small { length result < 2 ^ 63 }
     {
         Keys {
             keys: self.entries.keys(),
@@ -138,7 +141,7 @@ impl<'a, V> IntoIterator for &'a ByteMap<V> {
 
     type IntoIter = Iter<'a, V>;
 
-    ghost into_iter_gives = { λ m it. (it ≡ map.entries m.now) × (length it < 2 ^ 63) };
+    ghost into_iter_gives = { λ m it. (it ≡ map.entries m.now) × (length it ≡ map.len m.now) × (length it < 2 ^ 63) };
 
     fn into_iter(self) -> Iter<'a, V> {
         self.iter()
@@ -200,3 +203,6 @@ impl<'a, V> Iterator for Keys<'a, V> {
         Some(key.as_slice())
     }
 }
+
+#[cfg(test)]
+mod tests;

@@ -5,6 +5,6 @@ use Rattle.jc_base.proofs.byte_map.ByteMap.is_empty.Goals as goal
 
 pub returns : goal.returns
 returns g c = (
-  λ h. fin.empty_of_len c.args.self.now (sym c.len.ensures ∙ eqb→eq _ _ (subst T (sym h) tt)),
-  λ h. eq-eqb c.len.result 0 (c.len.ensures ∙ ap fin.len h ∙ fin.len-empty bytes_cmp g.row.V.Denot),
+  λ h. fin.empty_of_len c.args.self.now (sym c.len.ensures.len ∙ eqb→eq _ _ (subst T (sym h) tt)),
+  λ h. eq-eqb c.len.result 0 (c.len.ensures.len ∙ ap fin.len h ∙ fin.len-empty bytes_cmp g.row.V.Denot),
 )
