@@ -2,3 +2,5 @@ pub mod FirstUnitLemmas
 pub mod WellSpelledLemmas
 pub mod NamesLemmas
 pub mod SpelledBytes
+pub mod ByteEntries
+pub mod ByteMapLemmas

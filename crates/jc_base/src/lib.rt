@@ -15,3 +15,6 @@ pub use modified_utf8::{
 pub use names::{
     is_class_name, is_method_name, is_unqualified, name_examples, names_are_well_spelled,
 };
+pub mod byte_map;
+
+pub use byte_map::ByteMap;

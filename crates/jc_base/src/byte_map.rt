@@ -1,0 +1,208 @@
+//! An ordered map keyed by byte strings, seen as a finite map from lists of bytes.
+ghost use Rattle.std.specs.Prelude.{◌≡◌, ◌^◌, ◌<◌, ◌↔◌, IsTrue, IfOk, IfErr, OnOk, OnErr, length};
+ghost use Rattle.std.specs.declared.option.Option.TheVariants.{None, Some};
+ghost use Rattle.std.specs.Option.{option_copied, option_copied_mut};
+ghost use Rattle.std.specs.Borrow.{LendsIf, sem};
+ghost use Rattle.jc_base.specs.contracts.byte_map.ByteMap.{the_row};
+ghost use Rattle.std.specs.Iterator.{YieldsFirstBy, YieldsFirstRef, item_count};
+ghost use Rattle.std.specs.Map.Iter.{deref_pair};
+ghost use Rattle.std.specs.FinMap as map;
+
+use std::alloc::{AllocFailed, Global};
+use std::collections::{BTreeMap, btree_map};
+use std::marker::Model;
+use std::mem;
+
+/// A map from byte strings to values, in the order of the keys' bytes.
+#[derive(Drop)]
+pub struct ByteMap<V> {
+    entries: BTreeMap<Vec<u8>, V>,
+}
+
+impl<V> Model for ByteMap<V> {
+    ghost use Rattle.std.specs.Prelude.{ℕ, List};
+    ghost use Rattle.std.specs.Coded.{coded_list, coded_ℕ};
+    ghost use Rattle.std.specs.FinMap as map;
+    ghost use Rattle.jc_base.specs.Bytes.{bytes_cmp};
+
+    ghost Value = { map.FinMap bytes_cmp V };
+
+    ghost coded = { map.code (coded_list coded_ℕ) V.code };
+
+    ghost use Rattle.jc_base.specs.ByteMap.{byte_entries};
+
+    ghost view = { λ a. map.from_entries (byte_entries a.entries.entries) };
+}
+
+impl<V> ByteMap<V> {
+    /// An empty map, which takes no memory.
+    pub fn new(alloc: Global) -> ByteMap<V>
+        ensures { result ≡ map.empty }
+    {
+        ByteMap {
+            entries: BTreeMap::new(alloc),
+        }
+    }
+
+    /// How many keys the map has.
+    pub fn len(&self) -> usize
+        ensures len { result ≡ map.len self.now }
+        ensures small { result < 2 ^ 63 }
+    {
+        self.entries.len()
+    }
+
+    pub fn is_empty(&self) -> bool
+        ensures { IsTrue result ↔ (self.now ≡ map.empty) }
+    {
+        self.len() == 0
+    }
+
+    pub fn get(&self, key: &[u8]) -> Option<&V>
+        ensures { option_copied result ≡ map.get self.now key.now }
+    {
+        self.entries.get(key)
+    }
+
+    pub fn contains_key(&self, key: &[u8]) -> bool
+        ensures { result ≡ map.contains_key self.now key.now }
+    {
+        self.entries.contains_key(key)
+    }
+
+    /// Puts the value at the key, and answers the value that stood there. Fails only for want of
+    /// memory at a new key, and then gives the key and the value back.
+    pub fn insert(&mut self, key: Vec<u8>, value: V) -> Result<Option<V>, AllocFailed<(Vec<u8>, V)>>
+        ensures before { IfOk result (λ before. before ≡ map.get self.old key.items) }
+        ensures ok { OnOk result (self.new ≡ map.insert self.old key.items value) }
+        ensures absent { OnErr result (map.get self.old key.items ≡ None) }
+        ensures value_returned { IfErr result (λ refused. refused.value ≡ (key, value)) }
+        ensures err { OnErr result (self.new ≡ self.old) }
+    {
+        self.entries.insert(key, value)
+    }
+
+    /// Takes the key out, and answers the value that stood there. Takes no memory.
+    pub fn remove(&mut self, key: &[u8]) -> Option<V>
+        ensures before { result ≡ map.get self.old key.now }
+        ensures removed { self.new ≡ map.remove self.old key.now }
+    {
+        self.entries.remove(key)
+    }
+
+    /// The value at the key, to be written over.
+    pub fn get_mut(&mut self, key: &[u8]) -> Option<&mut V>
+        ensures value { option_copied_mut result ≡ map.get self.old key.now }
+        ensures* writes_back { sem 𝓛 (LendsIf (the_row V.row) V.row self.entry result (map.insert self.entry.now key.now) self.entry.now) }
+    {
+        self.entries.get_mut(key)
+    }
+
+    /// Puts the value at a key that is there, and answers the value that stood there. Gives the
+    /// value back at any other key. Takes no memory.
+    pub fn replace(&mut self, key: &[u8], value: V) -> Result<V, V>
+        ensures before { IfOk result (λ before. map.get self.old key.now ≡ Some before) }
+        ensures ok { OnOk result (self.new ≡ map.insert self.old key.now value) }
+        ensures absent { OnErr result (map.get self.old key.now ≡ None) }
+        ensures value_returned { IfErr result (λ refused. refused ≡ value) }
+        ensures err { OnErr result (self.new ≡ self.old) }
+    {
+        match self.get_mut(key) {
+            Some(place) => Ok(mem::replace(place, value)),
+            None => Err(value),
+        }
+    }
+
+    /// The entries in the order of their keys.
+    pub fn iter(&self) -> Iter<'_, V>
+        ensures entries { result ≡ map.entries self.now }
+        ensures len { length result ≡ map.len self.now }
+        ensures small { length result < 2 ^ 63 }
+    {
+        Iter {
+            entries: self.entries.iter(),
+        }
+    }
+
+    /// The keys in their order.
+    pub fn keys(&self) -> Keys<'_, V>
+        ensures keys { result ≡ map.keys self.now }
+        ensures len { length result ≡ map.len self.now }
+        ensures small { length result < 2 ^ 63 }
+    {
+        Keys {
+            keys: self.entries.keys(),
+        }
+    }
+}
+
+impl<'a, V> IntoIterator for &'a ByteMap<V> {
+    type Item = (&'a [u8], &'a V);
+
+    type IntoIter = Iter<'a, V>;
+
+    ghost into_iter_gives = { λ m it. (it ≡ map.entries m.now) × (length it ≡ map.len m.now) × (length it < 2 ^ 63) };
+
+    fn into_iter(self) -> Iter<'a, V> {
+        self.iter()
+    }
+}
+
+/// The entries of a [`ByteMap`] in the order of their keys, seen as the list of those that are left.
+#[derive(Drop)]
+pub struct Iter<'a, V> {
+    entries: btree_map::Iter<'a, Vec<u8>, V>,
+}
+
+impl<'a, V> Model for Iter<'a, V> {
+    ghost use Rattle.std.specs.Prelude.{ℕ, List};
+    ghost use Rattle.jc_base.specs.ByteMap.{byte_entries};
+
+    ghost Value = { List (List ℕ × V) };
+
+    ghost view = { λ a. byte_entries a.entries };
+}
+
+impl<'a, V> Iterator for Iter<'a, V> {
+    type Item = (&'a [u8], &'a V);
+
+    ghost next_gives = { YieldsFirstBy deref_pair (λ left. left) };
+
+    ghost remaining = { item_count (λ left. left) };
+
+    fn next(&mut self) -> Option<(&'a [u8], &'a V)> {
+        let (key, value) = self.entries.next()?;
+        Some((key.as_slice(), value))
+    }
+}
+
+/// The keys of a [`ByteMap`] in their order, seen as the list of those that are left.
+#[derive(Drop)]
+pub struct Keys<'a, V> {
+    keys: btree_map::Keys<'a, Vec<u8>, V>,
+}
+
+impl<'a, V> Model for Keys<'a, V> {
+    ghost use Rattle.std.specs.Prelude.{ℕ, List};
+    ghost use Rattle.jc_base.specs.ByteMap.{byte_keys};
+
+    ghost Value = { List (List ℕ) };
+
+    ghost view = { λ a. byte_keys a.keys };
+}
+
+impl<'a, V> Iterator for Keys<'a, V> {
+    type Item = &'a [u8];
+
+    ghost next_gives = { YieldsFirstRef (λ left. left) };
+
+    ghost remaining = { item_count (λ left. left) };
+
+    fn next(&mut self) -> Option<&'a [u8]> {
+        let key = self.keys.next()?;
+        Some(key.as_slice())
+    }
+}
+
+#[cfg(test)]
+mod tests;
