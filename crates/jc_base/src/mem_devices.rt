@@ -1,5 +1,5 @@
 //! Devices over memory.
-ghost use Rattle.std.specs.Prelude.{◌≡◌, ◌≢◌, ◌+◌, ◌-◌, ◌<◌, ◌≤◌, ◌^◌, ◌++◌, ◌↔◌, [], List, IfOk, IsErr, IsTrue, MatchResult, OnErr, OnOk, Some, min, take, drop, length, vec_capacity};
+ghost use Rattle.std.specs.Prelude.{◌≡◌, ◌≢◌, ◌+◌, ◌-◌, ◌<◌, ◌≤◌, ◌^◌, ◌++◌, ◌↔◌, [], List, IfOk, IsErr, IsOk, IsTrue, MatchResult, OnErr, OnOk, Some, min, take, drop, length, vec_capacity};
 ghost use Rattle.std.proofs.Common.{arith};
 ghost use Rattle.std.specs.Io.KnownBytes.{ReadConsumes, WriteAppends};
 ghost use Rattle.jc_base.specs.Device.{CountsFault};
@@ -38,7 +38,7 @@ impl<'a> MemInput<'a> {
     /// After its bytes the input fails at each further read if `fails`, and else it has ended.
     pub fn new(bytes: &'a [u8], fails: bool) -> MemInput<'a>
         ensures state { result ≡ record { remaining = bytes.now; fails = fails; failures = 0 } }
-        ensures bound { length bytes.now < 2 ^ 63 }
+        ensures bound { ⟦<MemInput<'a> as Input>⟧.bound result ≡ length bytes.now }
     {
         MemInput {
             rest: bytes,
@@ -95,7 +95,8 @@ impl Model for MemOutput {
 impl MemOutput {
     /// Takes the memory for `room` bytes at once.
     pub fn new(alloc: Global, room: usize) -> Result<MemOutput, NoMemory>
-        ensures { IfOk result (λ output. output ≡ record { written = []; room = room; failures = 0 }) }
+        ensures ok { IfOk result (λ output. output ≡ record { written = []; room = room; failures = 0 }) }
+        ensures none { room ≡ 0 → IsOk result }
     {
         Ok(MemOutput {
             bytes: Vec::with_capacity(alloc, room)?,
@@ -139,3 +140,6 @@ impl Output for MemOutput {
         Ok(count)
     }
 }
+
+#[cfg(test)]
+mod tests;

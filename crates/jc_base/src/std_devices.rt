@@ -118,3 +118,6 @@ impl<W: Write + Drop> Output for StdOutput<W> {
         }
     }
 }
+
+#[cfg(test)]
+mod tests;
