@@ -1,12 +1,12 @@
 -- What was written after several calls.
-use Rattle.std.proofs.Common.{◌≡◌, ◌∙◌, ◌+◌, ◌<◌, ◌≤◌, ◌++◌, ◌∷◌, [], ℕ, List, Option, Some, None, length, take, drop, get_or, sym, ap, refl, subst, arith, append_assoc, length-append}
-use Rattle.std.proofs.lemmas.List.{take-append-le, take-append-drop, drop_more, take_more}
+use Rattle.std.proofs.Common.{◌≡◌, ◌∙◌, ◌+◌, ◌<◌, ◌≤◌, ◌++◌, ℕ, List, Option, length, take, drop, get_or, sym, ap, subst, arith, length-append}
+use Rattle.std.proofs.lemmas.List.{take-append-le, take-append-drop, drop_more}
 use Rattle.std.proofs.Math.Seq.{take-append-add}
 use Rattle.std.proofs.lemmas.Grind.{flat_map-append}
-use Rattle.std.proofs.KnownBytes.{Appends-kept, Appends-nil, Appends-trans}
+use Rattle.std.proofs.KnownBytes.{Appends-kept, Appends-trans}
 use Rattle.std.specs.List.{flat_map}
 use Rattle.std.specs.Io.KnownBytes.{Appends, Keeps}
-use Rattle.jc_base.specs.Device.{WritesFront}
+use Rattle.jc_base.specs.Device.{MoreFaults, WritesFront}
 
 -- a beginning of the first text is one of the two together
 pub front_of_first : (old new : Option (List ℕ)) (first second : List ℕ) → WritesFront old new first → WritesFront old new (first ++ second)
@@ -31,3 +31,11 @@ front_in_loop {X} text_of items i d old mid new within whole front =
     ap (λ l. flat_map text_of (take i items) ++ flat_map text_of l) (sym (drop_more items i d within))
     ∙ sym (flat_map-append text_of (take i items) (drop i items)) ∙ ap (flat_map text_of) (take-append-drop i items) in
     subst (WritesFront old new) parts (front_of_second old mid new _ _ whole (front_of_first mid new _ rest front))
+
+-- a failure in the second of two steps is one in both
+pub more_faults_later : (old mid new : ℕ) → old ≤ mid → MoreFaults mid new → MoreFaults old new
+more_faults_later old mid new le more = omega arith
+
+-- a failure in the first of two steps is one in both
+pub more_faults_before : (old mid new : ℕ) → MoreFaults old mid → mid ≤ new → MoreFaults old new
+more_faults_before old mid new more le = omega arith
