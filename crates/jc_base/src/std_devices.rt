@@ -31,6 +31,7 @@ pub struct StdOutput<W> {
 impl<R> StdInput<R> {
     ghost use Rattle.jc_base.specs.StdDevices.{input_reader, input_allowance, input_failures};
 
+    /// An input that has handed over nothing yet, and has not failed.
     pub fn new(inner: R) -> StdInput<R>
         ensures reader { input_reader result ≡ inner }
         ensures allowance { input_allowance result ≡ 2 ^ 62 }
@@ -43,6 +44,7 @@ impl<R> StdInput<R> {
         }
     }
 
+    /// The reader, where the reads so far have left it.
     pub fn into_inner(self) -> R
         ensures { result ≡ input_reader self }
     {
@@ -89,6 +91,7 @@ impl<R: Read + Drop> Input for StdInput<R> {
 impl<W> StdOutput<W> {
     ghost use Rattle.jc_base.specs.StdDevices.{output_writer, output_failures};
 
+    /// An output that has not failed.
     pub fn new(inner: W) -> StdOutput<W>
         ensures writer { output_writer result ≡ inner }
         ensures failures { output_failures result ≡ 0 }
@@ -96,6 +99,7 @@ impl<W> StdOutput<W> {
         StdOutput { inner, failures: 0 }
     }
 
+    /// The writer, with what was written. It is not flushed.
     pub fn into_inner(self) -> W
         ensures { result ≡ output_writer self }
     {
