@@ -4,3 +4,4 @@ pub mod NamesLemmas
 pub mod SpelledBytes
 pub mod ByteEntries
 pub mod ByteMapLemmas
+pub mod DeviceLemmas

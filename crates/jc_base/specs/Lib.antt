@@ -6,3 +6,6 @@ pub mod ModifiedUtf8
 pub mod Names
 pub mod Bytes
 pub mod ByteMap
+pub mod Device
+pub mod MemDevices
+pub mod StdDevices

@@ -18,3 +18,14 @@ pub use names::{
 pub mod byte_map;
 
 pub use byte_map::ByteMap;
+mod device;
+mod mem_devices;
+mod no_memory;
+mod std_devices;
+mod writing;
+
+pub use device::{DeviceFault, Input, Output};
+pub use mem_devices::{MemInput, MemOutput};
+pub use no_memory::NoMemory;
+pub use std_devices::{StdInput, StdOutput};
+pub use writing::{write_all, write_parts};

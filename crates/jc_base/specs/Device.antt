@@ -1,0 +1,21 @@
+-- What the calls of a device do to its count of failures and to what was written.
+use Rattle.std.specs.Prelude.{ℕ, ◌+◌, ◌-◌, ◌^◌, ◌<◌, ◌≤◌, ◌≡◌, min, List, length, take, Result, Option, MatchResult}
+use Rattle.std.specs.Borrow.{Bor}
+use Rattle.std.specs.List.{flat_map}
+use Rattle.std.specs.Io.KnownBytes.{Appends}
+
+-- the count of failures rose, unless it is at the top of a `u64`
+abbrev pub MoreFaults : ℕ → ℕ → Type 0
+MoreFaults old new = min (old + 1) (2 ^ 64 - 1) ≤ new
+
+-- the count stays at `Ok` and rises at `Err`
+abbrev pub CountsFault : {T E : Type 0} → Result T E → ℕ → ℕ → Type 0
+CountsFault result old new = MatchResult result (λ _. new ≡ old) (λ _. MoreFaults old new × (old ≤ new))
+
+-- a proper beginning of the text was appended to what is known to be written
+abbrev pub WritesFront : Option (List ℕ) → Option (List ℕ) → List ℕ → Type 0
+WritesFront old new text = (n : ℕ) × (n < length text) × Appends old new (take n text)
+
+-- the parts, one after another
+abbrev pub joined : List (Bor (List ℕ)) → List ℕ
+joined parts = flat_map (λ part. part.now) parts

@@ -1,0 +1,14 @@
+-- What a clause sees of a device over memory.
+use Rattle.std.specs.Prelude.{ℕ, Bool, List}
+
+-- the bytes still to come, whether a failure follows them in place of the end, and the failures so far
+pub record InputState : Type 0 where
+  pub remaining : List ℕ
+  pub fails : Bool
+  pub failures : ℕ
+
+-- the bytes that were written, how many there may be, and the failures so far
+pub record OutputState : Type 0 where
+  pub written : List ℕ
+  pub room : ℕ
+  pub failures : ℕ

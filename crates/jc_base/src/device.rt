@@ -1,0 +1,57 @@
+//! The devices that a run reads and writes.
+ghost use Rattle.std.specs.Prelude.{◌≡◌, ◌+◌, ◌-◌, ◌<◌, ◌≤◌, ◌^◌, ℕ, List, Option, min, length, IfOk, MatchResult};
+ghost use Rattle.std.specs.Io.KnownBytes.{ReadConsumes, WriteAppends};
+ghost use Rattle.jc_base.specs.Device.{CountsFault, MoreFaults};
+
+/// A call of a device failed. The cause is not kept, and no failed call is tried again.
+#[derive(Clone, Copy, Debug, PartialEq, Eq)]
+pub struct DeviceFault;
+
+/// Bytes that come in.
+pub trait Input {
+    /// The bytes that reads hand over from here on unless one fails, where they are known.
+    ghost remaining: { Self → Option (List ℕ) };
+
+    /// How often a read has failed, up to the top of a `u64`.
+    ghost failures: { Self → ℕ };
+
+    /// At most so many bytes are still handed over.
+    ghost bound: { Self → ℕ };
+
+    /// At `Ok(n)` the first `n` bytes of `buffer` are handed over. `Ok(0)` with some room means that
+    /// the input has ended.
+    fn read(&mut self, buffer: &mut [u8]) -> Result<usize, DeviceFault>
+        ensures room { IfOk result (λ n. n ≤ length buffer.new) }
+        ensures bytes { ReadConsumes (remaining self.old) (remaining self.new) result buffer.new }
+        ensures failures { CountsFault result (failures self.old) (failures self.new) }
+        ensures bound { MatchResult result
+            (λ n. bound self.new + n ≤ bound self.old)
+            (λ _. bound self.new ≤ bound self.old) };
+
+    ghost bound_fits: { (device : Self) → bound device < 2 ^ 63 };
+}
+
+/// Bytes that go out.
+pub trait Output {
+    /// All the bytes that were written, where they are known.
+    ghost written: { Self → Option (List ℕ) };
+
+    /// How often a write has failed, up to the top of a `u64`.
+    ghost failures: { Self → ℕ };
+
+    /// At `Ok(n)` the first `n` bytes are written, at least one of them if there are any.
+    fn write(&mut self, bytes: &[u8]) -> Result<usize, DeviceFault>
+        ensures room { IfOk result (λ n. n ≤ length bytes.now) }
+        ensures some { 0 < length bytes.now → IfOk result (λ n. 0 < n) }
+        ensures bytes { WriteAppends (written self.old) (written self.new) result bytes.now }
+        ensures failures { CountsFault result (failures self.old) (failures self.new) };
+}
+
+/// Counts one more failure, up to the top of a `u64`, and tells it.
+pub(crate) fn one_more(failures: &mut u64) -> DeviceFault
+    ensures count { failures.new ≡ min (failures.old + 1) (2 ^ 64 - 1) }
+    ensures more { MoreFaults failures.old failures.new × (failures.old ≤ failures.new) }
+{
+    *failures = failures.saturating_add(1);
+    DeviceFault
+}

@@ -1,0 +1,145 @@
+//! Devices over memory.
+ghost use Rattle.std.specs.Prelude.{◌≡◌, ◌+◌, ◌-◌, ◌<◌, ◌≤◌, ◌^◌, ◌++◌, ◌↔◌, [], IfOk, IsErr, IsOk, IsTrue, MatchResult, OnErr, Some, min, take, drop, length, vec_capacity};
+ghost use Rattle.std.proofs.Common.{arith};
+ghost use Rattle.std.specs.Io.KnownBytes.{ReadConsumes, WriteAppends};
+ghost use Rattle.jc_base.specs.Device.{CountsFault};
+ghost use Rattle.jc_base.specs.MemDevices.{InputState, OutputState};
+
+use crate::device::{DeviceFault, Input, Output, one_more};
+use crate::no_memory::NoMemory;
+use std::alloc::Global;
+use std::marker::Model;
+
+/// An input that hands over given bytes, and then ends or fails.
+#[derive(Drop)]
+pub struct MemInput<'a> {
+    rest: &'a [u8],
+    fails: bool,
+    failures: u64,
+}
+
+/// An output that keeps what is written, up to the room that it was made with.
+#[derive(Drop)]
+pub struct MemOutput {
+    bytes: Vec<u8>,
+    room: usize,
+    failures: u64,
+}
+
+impl<'a> Model for MemInput<'a> {
+    ghost Value = { InputState };
+
+    ghost view = { λ a. record { remaining = a.rest.now; fails = a.fails; failures = a.failures } };
+
+    ghost invariant = { λ a. length a.rest.now < 2 ^ 63 };
+}
+
+impl<'a> MemInput<'a> {
+    /// After its bytes the input fails at each further read if `fails`, and else it has ended.
+    pub fn new(bytes: &'a [u8], fails: bool) -> MemInput<'a>
+        ensures state { result ≡ record { remaining = bytes.now; fails = fails; failures = 0 } }
+        ensures bound { ⟦<MemInput<'a> as Input>⟧.bound result ≡ length bytes.now }
+    {
+        MemInput {
+            rest: bytes,
+            fails,
+            failures: 0,
+        }
+    }
+}
+
+impl<'a> Input for MemInput<'a> {
+    ghost remaining = { λ input. Some input.remaining };
+
+    ghost failures = { λ input. input.failures };
+
+    ghost bound = { λ input. min (length input.remaining) (2 ^ 63 - 1) };
+
+    fn read(&mut self, buffer: &mut [u8]) -> Result<usize, DeviceFault>
+        ensures room { IfOk result (λ n. n ≤ length buffer.new) }
+        ensures bytes { ReadConsumes (Some self.old.remaining) (Some self.new.remaining) result buffer.new }
+        ensures failures { CountsFault result self.old.failures self.new.failures }
+        ensures bound { MatchResult result
+            (λ n. min (length self.new.remaining) (2 ^ 63 - 1) + n ≤ min (length self.old.remaining) (2 ^ 63 - 1))
+            (λ _. min (length self.new.remaining) (2 ^ 63 - 1) ≤ min (length self.old.remaining) (2 ^ 63 - 1)) }
+
+        // It fails only after its bytes, and only if it was made so.
+        ensures fails { IsErr result ↔ (IsTrue self.old.fails × (self.old.remaining ≡ []) × (0 < length buffer.old)) }
+
+        // It hands over what fits, and changes nothing else.
+        ensures most { IfOk result (λ n. n ≡ min (length buffer.old) (length self.old.remaining)) }
+        ensures ok { IfOk result (λ n. self.new ≡ record self.old { remaining = drop n self.old.remaining }) }
+        ensures err { OnErr result (self.new ≡ record self.old { failures = min (self.old.failures + 1) (2 ^ 64 - 1) }) }
+    {
+        let count = buffer.len().min(self.rest.len());
+        if count == 0 && self.fails && !buffer.is_empty() {
+            return Err(one_more(&mut self.failures));
+        }
+        let (front, rest) = self.rest.split_at(count);
+        buffer[..count].copy_from_slice(front);
+        self.rest = rest;
+        Ok(count)
+    }
+
+    ghost bound_fits = { λ input. Prim.omega arith };
+}
+
+impl Model for MemOutput {
+    ghost Value = { OutputState };
+
+    ghost view = { λ a. record { written = a.bytes.items; room = a.room; failures = a.failures } };
+
+    ghost invariant = { λ a. (length a.bytes.items ≤ a.room) × (a.room ≤ vec_capacity a.bytes) };
+}
+
+impl MemOutput {
+    /// Takes the memory for `room` bytes at once.
+    pub fn new(alloc: Global, room: usize) -> Result<MemOutput, NoMemory>
+        ensures ok { IfOk result (λ output. output ≡ record { written = []; room = room; failures = 0 }) }
+        ensures none { room ≡ 0 → IsOk result }
+    {
+        Ok(MemOutput {
+            bytes: Vec::with_capacity(alloc, room)?,
+            room,
+            failures: 0,
+        })
+    }
+
+    /// What was written.
+    pub fn bytes(&self) -> &[u8]
+        ensures { result.now ≡ self.now.written }
+    {
+        self.bytes.as_slice()
+    }
+}
+
+impl Output for MemOutput {
+    ghost written = { λ output. Some output.written };
+
+    ghost failures = { λ output. output.failures };
+
+    fn write(&mut self, bytes: &[u8]) -> Result<usize, DeviceFault>
+        ensures room { IfOk result (λ n. n ≤ length bytes.now) }
+        ensures some { 0 < length bytes.now → IfOk result (λ n. 0 < n) }
+        ensures bytes { WriteAppends (Some self.old.written) (Some self.new.written) result bytes.now }
+        ensures failures { CountsFault result self.old.failures self.new.failures }
+
+        // It fails only where no room is left.
+        ensures full { IsErr result ↔ ((length self.old.written ≡ self.old.room) × (0 < length bytes.now)) }
+
+        // It takes what fits, and changes nothing else.
+        ensures most { IfOk result (λ n. n ≡ min (length bytes.now) (self.old.room - length self.old.written)) }
+        ensures ok { IfOk result (λ n. self.new ≡ record self.old { written = self.old.written ++ take n bytes.now }) }
+        ensures err { OnErr result (self.new ≡ record self.old { failures = min (self.old.failures + 1) (2 ^ 64 - 1) }) }
+    {
+        let count = bytes.len().min(self.room - self.bytes.len());
+        if count == 0 && !bytes.is_empty() {
+            return Err(one_more(&mut self.failures));
+        }
+        self.bytes.extend_from_slice(&bytes[..count]).unwrap();
+        Ok(count)
+    }
+}
+
+#[cfg(test)]
+mod tests;
