@@ -1,11 +1,11 @@
-pub mod Cursor
-pub use Rattle.byteorder.specs.Endian
-pub use Rattle.byteorder.specs.Numbers
-pub mod FirstUnit
-pub mod ModifiedUtf8
-pub mod Names
 pub mod Bytes
 pub mod ByteMap
+pub mod Cursor
 pub mod Device
+pub mod FirstUnit
 pub mod MemDevices
+pub mod ModifiedUtf8
+pub mod Names
 pub mod StdDevices
+pub use Rattle.byteorder.specs.Endian
+pub use Rattle.byteorder.specs.Numbers

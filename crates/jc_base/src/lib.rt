@@ -2,12 +2,20 @@
 //! the Java Virtual Machine, and an ordered map keyed by byte strings.
 #![tactic(auto)]
 
+pub mod byte_map;
 mod cursor;
-
-pub use cursor::Cursor;
+mod device;
+mod mem_devices;
 mod modified_utf8;
 mod names;
+mod no_memory;
+mod std_devices;
+mod writing;
 
+pub use byte_map::ByteMap;
+pub use cursor::Cursor;
+pub use device::{DeviceFault, Input, Output};
+pub use mem_devices::{MemInput, MemOutput};
 pub use modified_utf8::{
     UnitsError, ascii_stands_for_itself, bytes_are_in_range, check_units, spelling_examples, units,
     units_are_determined,
@@ -15,17 +23,6 @@ pub use modified_utf8::{
 pub use names::{
     is_class_name, is_method_name, is_unqualified, name_examples, names_are_well_spelled,
 };
-pub mod byte_map;
-
-pub use byte_map::ByteMap;
-mod device;
-mod mem_devices;
-mod no_memory;
-mod std_devices;
-mod writing;
-
-pub use device::{DeviceFault, Input, Output};
-pub use mem_devices::{MemInput, MemOutput};
 pub use no_memory::NoMemory;
 pub use std_devices::{StdInput, StdOutput};
 pub use writing::{write_all, write_parts};
