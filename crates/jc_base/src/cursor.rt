@@ -1,6 +1,6 @@
 //! Reading bytes from front to back, numbers big-endian (JVMS 4: "in big-endian order").
 
-ghost use Rattle.std.specs.Prelude.{◌≡◌, ◌+◌, ◌<◌, ◌↔◌, ◌≤◌, ◌^◌, length, take, drop, IsSome, IfSome, IfNone};
+ghost use Rattle.std.specs.Prelude.{◌≡◌, ◌==◌, ◌+◌, ◌<◌, ◌↔◌, ◌≤◌, ◌^◌, not, length, take, drop, IsSome, IfSome, IfNone};
 ghost use Rattle.byteorder.specs.Endian.{big_number};
 ghost use Rattle.jc_base.specs.Cursor.{HasLeft, past};
 
@@ -44,6 +44,13 @@ impl<'a> Cursor<'a> {
         ensures { result ≡ self.now.place }
     {
         self.place
+    }
+
+    /// Whether bytes are left.
+    pub fn has_left(&self) -> bool
+        ensures { result ≡ not (length self.now.rest == 0) }
+    {
+        !self.rest.is_empty()
     }
 
     /// The next `count` bytes, as the slice of the input that they are.

@@ -1,5 +1,5 @@
 -- What the parts of `parse` take from the front of the bytes. Its theorem speaks of `layout` alone.
-use Rattle.std.specs.Prelude.{◌≡◌, ℕ, zero, suc, ◌+◌, ◌-◌, ◌*◌, Bool, true, false, ◌&&◌, List, [], ◌∷◌, ◌++◌, length, take, drop, slice_index, Option, Some, None, Result, Ok, Err, if◌then◌else◌, ◌==◌, nat_lt, unwrap_or, option_and_then}
+use Rattle.std.specs.Prelude.{◌≡◌, ℕ, zero, suc, ◌+◌, ◌-◌, ◌*◌, Bool, true, false, not, ◌&&◌, ◌||◌, List, [], ◌∷◌, ◌++◌, length, take, drop, slice_index, Option, Some, None, Result, Ok, Err, if◌then◌else◌, ◌==◌, nat_lt, unwrap_or, option_and_then}
 use Rattle.std.specs.Option.{option_map_or}
 use Rattle.jc_base.specs.Endian.{big_number}
 use Rattle.jc_base.specs.Cursor.{Reading}
@@ -211,3 +211,27 @@ class_with minor major constants xs = record {
 -- the class file in these bytes whose constants begin at these places, and whose other parts at that place
 unfoldable pub class_value : List ℕ → List (Option ℕ) → ℕ → ClassFile
 class_value bytes places tail = class_with (big_number 2 (drop 4 bytes)) (big_number 2 (drop 6 bytes)) (constants_at bytes places) (drop tail bytes)
+
+abbrev pub is_accepted : ℕ → ℕ → Bool
+is_accepted major minor = major == 51 || (major == 52 && minor == 0)
+
+-- what stands before the constants: their count
+unfoldable pub head_at : Reading → Result (ℕ × Reading) ParseError
+head_at reading = do
+  behind_magic ← or_refusal (after 4 reading.rest) errors.Short
+  right_magic ← unless (not (big_number 4 reading.rest == magic)) errors.Magic
+  behind_minor ← or_refusal (after 2 behind_magic) errors.Short
+  behind_major ← or_refusal (after 2 behind_minor) errors.Short
+  right_version ← unless (not (is_accepted (big_number 2 behind_minor) (big_number 2 behind_magic))) errors.Version
+  behind_count ← or_refusal (after 2 behind_major) errors.Short
+  right_count ← unless (big_number 2 behind_major == 0) errors.Count
+  Ok (big_number 2 behind_major, moved_to reading behind_count)
+
+-- by index, where each constant begins, and the place behind them
+unfoldable pub parts_at : Reading → Result ((List (Option ℕ) × ℕ) × Reading) ParseError
+parts_at reading = do
+  head ← head_at reading
+  pool ← pool_at head.0 head.1
+  rest ← or_refusal (after_tail pool.1.rest) errors.Short
+  at_end ← unless (not (length rest == 0)) (errors.Trailing (moved_to pool.1 rest).place)
+  Ok ((pool.0, pool.1.place), moved_to pool.1 rest)

@@ -1,14 +1,66 @@
 //! Moving past the parts of a class file, to see that they are whole.
 
-ghost use Rattle.std.specs.Prelude.{◌<◌};
+ghost use Rattle.std.specs.Prelude.{◌≡◌, ◌<◌, IfOk};
 ghost use Rattle.jc_file.specs.Reading.{after_attribute, after_member, after_table, after_indexes, after_tail, after_body};
-ghost use Rattle.jc_file.specs.Reading.{first_constant, entry_at, entry, pool_at};
+ghost use Rattle.jc_file.specs.Reading.{first_constant, entry_at, entry, pool_at, head_at, parts_at, is_accepted};
 ghost use Rattle.jc_file.specs.Skip.{MovesBehind, Takes};
+ghost use Rattle.jc_file.specs.Parts.{parts};
 
 use crate::constant_pool::ConstantKind;
 use crate::parse_error::ParseError;
 use jc_base::Cursor;
 use std::alloc::Global;
+
+const MAGIC: u32 = 0xcafebabe;
+
+/// Where the constants of a class file begin, by index, and the place behind them.
+#[derive(Drop)]
+pub(crate) struct Parts {
+    pub(crate) offsets: Vec<Option<usize>>,
+    pub(crate) tail: usize,
+}
+
+/// Goes over a whole class file.
+#[tactic(auto, unfolding(crate::specs::Reading::parts_at))]
+pub(crate) fn skip_class(alloc: Global, cursor: &mut Cursor) -> Result<Parts, ParseError>
+    ensures { Takes parts parts_at cursor.old result cursor.new }
+{
+    let count = skip_head(cursor)?;
+    let offsets = skip_pool(alloc, count, cursor)?;
+    let tail = cursor.place();
+    skip_tail(cursor).ok_or(ParseError::Short)?;
+    if cursor.has_left() {
+        return Err(ParseError::Trailing(cursor.place()));
+    }
+    Ok(Parts { offsets, tail })
+}
+
+/// Past what stands before the constants: their count, which is not 0.
+#[tactic(auto, unfolding(crate::specs::Reading::head_at))]
+fn skip_head(cursor: &mut Cursor) -> Result<u16, ParseError>
+    ensures head { Takes (λ count. count) head_at cursor.old result cursor.new }
+    ensures some { IfOk result (λ count. 0 < count) }
+{
+    if cursor.u4().ok_or(ParseError::Short)? != MAGIC {
+        return Err(ParseError::Magic);
+    }
+    let minor = cursor.u2().ok_or(ParseError::Short)?;
+    let major = cursor.u2().ok_or(ParseError::Short)?;
+    if !is_accepted_version(major, minor) {
+        return Err(ParseError::Version);
+    }
+    let count = cursor.u2().ok_or(ParseError::Short)?;
+    if count == 0 {
+        return Err(ParseError::Count);
+    }
+    Ok(count)
+}
+
+fn is_accepted_version(major: u16, minor: u16) -> bool
+    ensures { result ≡ is_accepted major minor }
+{
+    major == 51 || major == 52 && minor == 0
+}
 
 /// Past what stands behind the constants.
 #[tactic(auto, unfolding(crate::specs::Reading::after_tail))]
