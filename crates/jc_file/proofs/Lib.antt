@@ -5,3 +5,4 @@ pub mod Constants
 pub mod PoolLaws
 pub mod Parts
 pub mod Tail
+pub mod Whole

@@ -161,7 +161,7 @@ reads_member = record { takes = member_takes; again = member_again }
 
 -- ---- a table of indexes
 
-after_short : (n : ℕ) (xs : List ℕ) → length xs < n → after n xs ≡ None
+pub after_short : (n : ℕ) (xs : List ℕ) → length xs < n → after n xs ≡ None
 after_short n xs lt = rw (lt-ltb _ _ lt) refl
 
 after_sum : (m n : ℕ) (xs : List ℕ) → after (m + n) xs ≡ option_and_then (after n) (after m xs)
