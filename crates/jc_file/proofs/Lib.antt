@@ -6,3 +6,4 @@ pub mod PoolLaws
 pub mod Parts
 pub mod Tail
 pub mod Whole
+pub mod Classes

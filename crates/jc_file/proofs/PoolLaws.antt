@@ -95,7 +95,7 @@ tag_fits kinds.MethodHandle = omega arith
 tag_fits kinds.MethodType = omega arith
 tag_fits kinds.InvokeDynamic = omega arith
 
-first_byte : (x : ℕ) (xs : List ℕ) → big_number 1 (x ∷ xs) ≡ x
+pub first_byte : (x : ℕ) (xs : List ℕ) → big_number 1 (x ∷ xs) ≡ x
 first_byte x xs = omega arith
 
 -- ---- one constant

@@ -65,10 +65,10 @@ not_accepted major minor h =
 abbrev pub start : List ℕ → Reading
 start b = record { place = 0; rest = b }
 
-abbrev version_in : List ℕ → Type 0
+abbrev pub version_in : List ℕ → Type 0
 version_in b = IsAcceptedVersion (big_number 2 (drop 6 b)) (big_number 2 (drop 4 b))
 
-behind : (m n : ℕ) (b : List ℕ) → m + n ≤ length b → after n (drop m b) ≡ Some (drop (m + n) b)
+pub behind : (m n : ℕ) (b : List ℕ) → m + n ≤ length b → after n (drop m b) ≡ Some (drop (m + n) b)
 behind m n b le = after_front n (drop m b) (omega (arith, length-drop m b)) ∙ ap (λ (xs : List ℕ). Some xs) (drop-drop n m b)
 
 cut : (m n : ℕ) (b : List ℕ) → m ≤ length b → length b < m + n → after n (drop m b) ≡ None
