@@ -52,26 +52,30 @@ impl<V> ByteMap<V> {
         self.entries.len()
     }
 
+    /// Whether the map has no key.
     pub fn is_empty(&self) -> bool
         ensures { IsTrue result ↔ (self.now ≡ map.empty) }
     {
         self.len() == 0
     }
 
+    /// The value at the key.
     pub fn get(&self, key: &[u8]) -> Option<&V>
         ensures { option_copied result ≡ map.get self.now key.now }
     {
         self.entries.get(key)
     }
 
+    /// Whether the map has the key.
     pub fn contains_key(&self, key: &[u8]) -> bool
         ensures { result ≡ map.contains_key self.now key.now }
     {
         self.entries.contains_key(key)
     }
 
-    /// Puts the value at the key, and answers the value that stood there. Fails only for want of
-    /// memory at a new key, and then gives the key and the value back.
+    /// Puts the value at the key, and answers the value that stood there. A key that is there stays,
+    /// and the new one is let go. Fails only for want of memory at a new key, and then gives the key
+    /// and the value back.
     pub fn insert(&mut self, key: Vec<u8>, value: V) -> Result<Option<V>, AllocFailed<(Vec<u8>, V)>>
         ensures before { IfOk result (λ before. before ≡ map.get self.old key.items) }
         ensures ok { OnOk result (self.new ≡ map.insert self.old key.items value) }
@@ -90,10 +94,11 @@ impl<V> ByteMap<V> {
         self.entries.remove(key)
     }
 
-    /// The value at the key, to be written over.
+    /// The value at the key, to be read and written in place. Takes no memory.
     pub fn get_mut(&mut self, key: &[u8]) -> Option<&mut V>
         ensures value { option_copied_mut result ≡ map.get self.old key.now }
-        ensures* writes_back { sem 𝓛 (LendsIf (the_row V.row) V.row self.entry result (map.insert self.entry.now key.now) self.entry.now) }
+        ensures* writes_back { sem 𝓛 (LendsIf (the_row V.row) V.row self.entry result
+            (map.insert self.entry.now key.now) self.entry.now) }
     {
         self.entries.get_mut(key)
     }
@@ -141,7 +146,8 @@ impl<'a, V> IntoIterator for &'a ByteMap<V> {
 
     type IntoIter = Iter<'a, V>;
 
-    ghost into_iter_gives = { λ m it. (it ≡ map.entries m.now) × (length it ≡ map.len m.now) × (length it < 2 ^ 63) };
+    ghost into_iter_gives = { λ m it. (it ≡ map.entries m.now)
+        × (length it ≡ map.len m.now) × (length it < 2 ^ 63) };
 
     fn into_iter(self) -> Iter<'a, V> {
         self.iter()

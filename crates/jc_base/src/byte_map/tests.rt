@@ -28,7 +28,8 @@ fn all_keys(alloc: Global, places: &ByteMap<usize>) -> Result<Vec<Vec<u8>>, Allo
 }
 
 fn listing(alloc: Global, texts: &ByteMap<Vec<u8>>) -> Result<Vec<u8>, AllocError>
-    ensures { IfOk result (λ text. text.items ≡ flat_map (λ e. e.0 ++ e.1.items) (map.entries texts.now)) }
+    ensures { IfOk result (λ text.
+        text.items ≡ flat_map (λ e. e.0 ++ e.1.items) (map.entries texts.now)) }
 {
     let mut text = Vec::new(alloc);
     for (key, value) in texts {
