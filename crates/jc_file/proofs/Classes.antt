@@ -197,6 +197,7 @@ whole_takes b pool rest fits head read behind_tail =
 pub record IsWholeAgain (c : ClassFile) (rest : List ℕ) : Type 0 where
   pub head : IsGoodHead (layout c ++ rest)
   pub pool : pool_at (big_number 2 (drop 8 (layout c ++ rest))) (record { place = 10; rest = drop 10 (layout c ++ rest) }) ≡ Ok (None ∷ places_of 10 c.constants, record { place = 10 + length (pool_bytes c.constants); rest = tail_bytes c ++ rest })
+  pub behind_ten : drop 10 (layout c ++ rest) ≡ pool_bytes c.constants ++ (tail_bytes c ++ rest)
   pub tail : after_tail (tail_bytes c ++ rest) ≡ Some rest
   pub same : class_value (layout c ++ rest) (None ∷ places_of 10 c.constants) (10 + length (pool_bytes c.constants)) ≡ c
 
@@ -263,6 +264,7 @@ module _ (c : ClassFile) (rest : List ℕ) (fits : FitsClassFile c) where
   whole_again = record {
     head = subst (λ (b : List ℕ). IsGoodHead b) (sym regrouped) good;
     pool = ap (λ (b : List ℕ). pool_at (big_number 2 (drop 8 b)) (record { place = 10; rest = drop 10 b })) regrouped ∙ the_pool;
+    behind_ten = ap (drop 10) regrouped ∙ the_head.behind_all;
     tail = (tail_again c rest fits_tail).left;
     same = ap (λ (b : List ℕ). class_value b (None ∷ places_of 10 c.constants) (10 + length (pool_bytes c.constants))) regrouped ∙ the_same;
   }

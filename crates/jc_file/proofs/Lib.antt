@@ -1,5 +1,5 @@
 pub mod Tables
-pub mod Pool
+pub mod PoolSteps
 pub mod Numbers
 pub mod Constants
 pub mod PoolLaws
@@ -7,3 +7,4 @@ pub mod Parts
 pub mod Tail
 pub mod Whole
 pub mod Classes
+pub mod Stored

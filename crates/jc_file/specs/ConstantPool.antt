@@ -115,3 +115,13 @@ FitsConstant (NameAndType name descriptor) = IsIndex name × IsIndex descriptor
 FitsConstant (MethodHandle kind reference) = (kind < 2 ^ 8) × IsIndex reference
 FitsConstant (MethodType descriptor) = IsIndex descriptor
 FitsConstant (InvokeDynamic bootstrap name_and_type) = (bootstrap < 2 ^ 16) × IsIndex name_and_type
+
+-- the index in a Class constant
+abbrev pub class_entry : Constant → Option ConstantIndex
+class_entry (Class name) = Some name
+class_entry constant = None
+
+-- the text of a Utf8 constant
+abbrev pub utf8_text : Constant → Option (List ℕ)
+utf8_text (Utf8 text) = Some text
+utf8_text constant = None

@@ -3,6 +3,8 @@ pub mod ClassFile
 pub mod Reading
 pub mod Skip
 pub mod Parts
+pub mod Stored
+pub mod View
 pub mod Refusal
 pub use Rattle.jc_base.specs.Cursor
 pub use Rattle.jc_base.specs.Endian

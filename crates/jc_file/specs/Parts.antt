@@ -1,5 +1,10 @@
-use Rattle.std.specs.Prelude.{ℕ, List, Option}
+-- What going over a class file found.
 use Rattle.jc_file.specs.declared.skip.Parts.{Parts}
+use Rattle.jc_file.specs.declared.skip.Numbers.{Numbers}
+use Rattle.jc_file.specs.Reading as reading
 
-abbrev pub parts : Parts → List (Option ℕ) × ℕ
-parts p = (p.offsets.items, p.tail)
+abbrev pub numbers : Numbers → reading.Numbers
+numbers n = record { flags = n.flags; this_class = n.this_class; super_class = n.super_class }
+
+abbrev pub parts : Parts → reading.Parts
+parts p = record { places = p.offsets.items; tail = p.tail; numbers = numbers p.numbers }

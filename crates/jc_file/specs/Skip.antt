@@ -13,6 +13,11 @@ abbrev pub MovesBehind : {X : Type 0} → (List ℕ → Option (List ℕ)) → R
 MovesBehind after_part old None new = after_part old.rest ≡ None
 MovesBehind after_part old (Some x) new = (after_part old.rest ≡ Some new.rest) × KeepsEnd old new
 
+-- Some: the part's value, and the cursor stands behind the part; None: the part is cut
+abbrev pub Lends : {X Y : Type 0} → (X → Y) → (List ℕ → Option (List ℕ)) → (List ℕ → Y) → Reading → Option X → Reading → Type 0
+Lends view after_part value old None new = after_part old.rest ≡ None
+Lends view after_part value old (Some x) new = (after_part old.rest ≡ Some new.rest) × KeepsEnd old new × (view x ≡ value old.rest)
+
 -- what was read is what the definition reads, unless memory was refused
 abbrev pub Fails : {A : Type 0} → ParseError → Result A ParseError → Type 0
 Fails errors.NoMemory read = Unit {0}

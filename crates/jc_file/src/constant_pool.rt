@@ -26,6 +26,25 @@ pub enum ConstantKind {
     InvokeDynamic,
 }
 
+/// A constant, whose text is a slice of the file (JVMS 4.4). Numbers are the bits that stand there.
+#[derive(Clone, Copy, Debug)]
+pub enum Constant<'a> {
+    Utf8(&'a [u8]),
+    Integer(u32),
+    Float(u32),
+    Long(u64),
+    Double(u64),
+    Class(ConstantIndex),
+    String(ConstantIndex),
+    Fieldref(ConstantIndex, ConstantIndex),
+    Methodref(ConstantIndex, ConstantIndex),
+    InterfaceMethodref(ConstantIndex, ConstantIndex),
+    NameAndType(ConstantIndex, ConstantIndex),
+    MethodHandle(u8, ConstantIndex),
+    MethodType(ConstantIndex),
+    InvokeDynamic(u16, ConstantIndex),
+}
+
 impl ConstantKind {
     /// The kind of a tag.
     pub fn of_tag(tag: u8) -> Option<ConstantKind>

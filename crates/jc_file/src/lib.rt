@@ -4,6 +4,7 @@
 
 mod constant_pool;
 mod parse_error;
+mod pool;
 mod skip;
 
 pub use constant_pool::{ConstantIndex, ConstantKind};

@@ -1,23 +1,33 @@
 //! Moving past the parts of a class file, to see that they are whole.
 
 ghost use Rattle.std.specs.Prelude.{◌≡◌, ◌<◌, IfOk};
-ghost use Rattle.jc_file.specs.Reading.{after_attribute, after_member, after_table, after_indexes, after_tail, after_body};
-ghost use Rattle.jc_file.specs.Reading.{first_constant, entry_at, entry, pool_at, head_at, parts_at, is_accepted};
-ghost use Rattle.jc_file.specs.Skip.{MovesBehind, Takes};
-ghost use Rattle.jc_file.specs.Parts.{parts};
+ghost use Rattle.jc_file.specs.Reading.{after, after_attribute, after_member, after_table, after_indexes, after_tail, after_body};
+ghost use Rattle.jc_file.specs.Reading.{first_constant, entry_at, entry, pool_at, head_at, last_at, parts_at, numbers_value, is_accepted};
+ghost use Rattle.jc_file.specs.Skip.{MovesBehind, Lends, Takes};
+ghost use Rattle.jc_file.specs.Parts.{parts, numbers};
 
-use crate::constant_pool::ConstantKind;
+use crate::constant_pool::{ConstantIndex, ConstantKind};
 use crate::parse_error::ParseError;
+use crate::pool::read_pair;
 use jc_base::Cursor;
 use std::alloc::Global;
 
 const MAGIC: u32 = 0xcafebabe;
 
-/// Where the constants of a class file begin, by index, and the place behind them.
+/// Where the constants of a class file begin, by index, the place behind them, and the numbers there.
 #[derive(Drop)]
 pub(crate) struct Parts {
     pub(crate) offsets: Vec<Option<usize>>,
     pub(crate) tail: usize,
+    pub(crate) numbers: Numbers,
+}
+
+/// The numbers behind the constants.
+#[derive(Clone, Copy)]
+pub(crate) struct Numbers {
+    pub(crate) flags: u16,
+    pub(crate) this_class: ConstantIndex,
+    pub(crate) super_class: ConstantIndex,
 }
 
 /// Goes over a whole class file.
@@ -28,11 +38,24 @@ pub(crate) fn skip_class(alloc: Global, cursor: &mut Cursor) -> Result<Parts, Pa
     let count = skip_head(cursor)?;
     let offsets = skip_pool(alloc, count, cursor)?;
     let tail = cursor.place();
-    skip_tail(cursor).ok_or(ParseError::Short)?;
+    let numbers = read_last(cursor)?;
+    Ok(Parts {
+        offsets,
+        tail,
+        numbers,
+    })
+}
+
+/// Past what stands behind the constants, which are the last bytes: the numbers at its front.
+#[tactic(auto, unfolding(crate::specs::Reading::last_at))]
+fn read_last(cursor: &mut Cursor) -> Result<Numbers, ParseError>
+    ensures { Takes numbers last_at cursor.old result cursor.new }
+{
+    let numbers = read_tail(cursor).ok_or(ParseError::Short)?;
     if cursor.has_left() {
         return Err(ParseError::Trailing(cursor.place()));
     }
-    Ok(Parts { offsets, tail })
+    Ok(numbers)
 }
 
 /// Past what stands before the constants: their count, which is not 0.
@@ -62,16 +85,29 @@ fn is_accepted_version(major: u16, minor: u16) -> bool
     major == 51 || major == 52 && minor == 0
 }
 
-/// Past what stands behind the constants.
+/// Past what stands behind the constants: the numbers at its front.
 #[tactic(auto, unfolding(crate::specs::Reading::after_tail))]
-pub(crate) fn skip_tail(cursor: &mut Cursor) -> Option<()>
-    ensures { MovesBehind after_tail cursor.old result cursor.new }
+fn read_tail(cursor: &mut Cursor) -> Option<Numbers>
+    ensures { Lends numbers after_tail numbers_value cursor.old result cursor.new }
 {
-    cursor.take(6)?;
+    let numbers = read_numbers(cursor)?;
     skip_indexes(cursor)?;
     skip_members(cursor)?;
     skip_members(cursor)?;
-    skip_attributes(cursor)
+    skip_attributes(cursor)?;
+    Some(numbers)
+}
+
+fn read_numbers(cursor: &mut Cursor) -> Option<Numbers>
+    ensures { Lends numbers (after 6) numbers_value cursor.old result cursor.new }
+{
+    let flags = cursor.u2()?;
+    let (this_class, super_class) = read_pair(cursor)?;
+    Some(Numbers {
+        flags,
+        this_class,
+        super_class,
+    })
 }
 
 fn skip_indexes(cursor: &mut Cursor) -> Option<()>

@@ -1,0 +1,14 @@
+-- What the places of the constants tell.
+use Rattle.std.specs.Prelude.{◌≡◌, ℕ, ◌+◌, List, [], ◌∷◌, ◌++◌, drop, Option, Some, None, slice_get, option_and_then}
+use Rattle.jc_file.specs.declared.constant_pool.ConstantIndex.{ConstantIndex}
+use Rattle.jc_file.specs.ConstantPool.{Constant, constant_bytes, FitsConstant}
+use Rattle.jc_file.specs.ClassFile.{ClassFile, layout, FitsClassFile, places_of}
+
+abbrev pub place_at : List (Option ℕ) → ConstantIndex → Option ℕ
+place_at places index = option_and_then (λ place. place) (slice_get places index.0)
+
+-- the bytes are those of a class file whose constants begin at these places
+pub record Holds (bytes : List ℕ) (places : List (Option ℕ)) (c : ClassFile) : Type 0 where
+  pub fits : FitsClassFile c
+  pub layout : layout c ≡ bytes
+  pub are_places : places ≡ None ∷ places_of 10 c.constants
