@@ -106,6 +106,11 @@ pub record IsWhole (b : List ℕ) (places : List (Option ℕ)) (tail : ℕ) (res
   pub parts : b ≡ layout (class_value b places tail) ++ rest
   pub are_places : places ≡ None ∷ places_of 10 (class_value b places tail).constants
 
+-- where the constants end
+pub record EndsPool (b : List ℕ) (new : Reading) : Type 0 where
+  pub end : new.place + length new.rest ≡ length b
+  pub rest : new.rest ≡ drop new.place b
+
 record IsClass (b : List ℕ) (places : List (Option ℕ)) (rest : List ℕ) (c : ClassFile) : Type 0 where
   fits : FitsClassFile c
   parts : b ≡ layout c ++ rest
@@ -175,6 +180,9 @@ module _ (b : List ℕ) (fits : IsBytes b) (head : IsGoodHead b) (places : List 
       let here : IsClass b (None ∷ places) rest the_class = record { fits = the_class_fits; parts = whole_text; are_places = ap (λ (ps : List (Option ℕ)). None ∷ ps) t.are_places } in
       by_class b (None ∷ places) new.place rest (subst (λ (c : ClassFile). IsClass b (None ∷ places) rest c) (sym is_class) here)
 
+  ends_pool : EndsPool b new
+  ends_pool = record { end = let long = head.long in omega (arith, t.end, length-drop 10 b); rest = sym at_tail }
+
 front_ok : (front : List (Option ℕ)) (read : Result (List (Option ℕ) × Reading) ParseError) (found : List (Option ℕ) × Reading) → with_front front read ≡ Ok found
     → (x : List (Option ℕ) × Reading) × (read ≡ Ok x) × ◌≡◌ {A = List (Option ℕ) × Reading} (front ++ x.0, x.1) found
 front_ok front (Ok x) found e = (x, refl, ok_is _ found e)
@@ -182,7 +190,7 @@ front_ok front (Err d) found e = absurd cc
 
 pub whole_takes : (b : List ℕ) (pool : List (Option ℕ) × Reading) (rest : List ℕ) → IsBytes b → IsGoodHead b
     → pool_at (big_number 2 (drop 8 b)) (record { place = 10; rest = drop 10 b }) ≡ Ok pool → after_tail pool.1.rest ≡ Some rest
-    → IsWhole b pool.0 pool.1.place rest
+    → IsWhole b pool.0 pool.1.place rest × EndsPool b pool.1
 whole_takes b pool rest fits head read behind_tail =
     let count = big_number 2 (drop 8 b) - 1 in
     let old : Reading = record { place = 10; rest = drop 10 b } in
@@ -190,7 +198,7 @@ whole_takes b pool rest fits head read behind_tail =
     let t = pool_take count old w.0 (IsBytes-drop 10 b fits) w.1 in
     let same : w.0.1 ≡ pool.1 = ap (λ (p : List (Option ℕ) × Reading). p.1) w.2 in
     let left : after_tail w.0.1.rest ≡ Some rest = subst (λ (r : Reading). after_tail r.rest ≡ Some rest) (sym same) behind_tail in
-    subst (λ (p : List (Option ℕ) × Reading). IsWhole b p.0 p.1.place rest) w.2 (whole_of b fits head w.0.0 w.0.1 rest t left)
+    subst (λ (p : List (Option ℕ) × Reading). IsWhole b p.0 p.1.place rest × EndsPool b p.1) w.2 (whole_of b fits head w.0.0 w.0.1 rest t left, ends_pool b fits head w.0.0 w.0.1 rest t left)
 
 -- ---- what was spelled is read again
 

@@ -8,3 +8,4 @@ pub mod Tail
 pub mod Whole
 pub mod Classes
 pub mod Stored
+pub mod Refusals

@@ -485,7 +485,7 @@ behind_whole indexes old at o =
     ∙ entries_front o.constants o.left old.place (o.tag ∷ o.rest) o.whole
     ∙ ap (λ (p : ℕ). with_front (places_of old.place o.constants) (entries_from o.left false (record { place = p; rest = o.tag ∷ o.rest }))) (sym o.here)
 
-front_err : (front : List (Option ℕ)) (read : Pool) (e : ParseError) → read ≡ Err e → with_front front read ≡ Err e
+pub front_err : (front : List (Option ℕ)) (read : Pool) (e : ParseError) → read ≡ Err e → with_front front read ≡ Err e
 front_err front (Ok x) e h = absurd cc
 front_err front (Err d) e h = ap (λ (x : ParseError). Err x) (err_is d e h)
 

@@ -36,7 +36,7 @@ place_from places i = option_and_then (λ place. place) (slice_get places i)
 -- behind a constant and its second index, if it has one
 later : (w : Bool) (constants : List Constant) (places : List (Option ℕ)) (bytes : List ℕ) → ((j : ℕ) → read_at bytes (place_from places j) ≡ constant_from_first constants j)
     → (i : ℕ) → read_at bytes (place_from (second_index w ++ places) i) ≡ cond (ltb (suc i) (cond w 2 1)) None (constant_from_first constants (suc i - cond w 2 1))
-unfolding read_at place_from
+unfolding place_from
 later true constants places bytes h zero = refl
 later true constants places bytes h (suc i) =
     let past : ltb (suc (suc i)) 2 ≡ false = le-ltb _ _ (omega arith) in
@@ -49,7 +49,7 @@ later false constants places bytes h i =
 
 found_from : (constants : List Constant) (place : ℕ) (bytes rest : List ℕ) (i : ℕ) → place ≤ length bytes → AllByRecursion FitsConstant constants → drop place bytes ≡ pool_bytes constants ++ rest
     → read_at bytes (place_from (places_of place constants) i) ≡ constant_from_first constants i
-unfolding read_at place_from places_of
+unfolding place_from places_of
 found_from [] place bytes rest i le fits here = refl
 found_from (c ∷ cs) place bytes rest zero le fits here =
     read_here place bytes (pool_bytes cs ++ rest) c le fits.0 (here ∙ append_assoc (constant_bytes c) (pool_bytes cs) rest)
@@ -63,7 +63,7 @@ found_from (c ∷ cs) place bytes rest (suc i) le fits here =
     later (is_wide (kind_of c)) cs (places_of next_place cs) bytes (λ j. found_from cs next_place bytes rest j within fits.1 next) i ∙ sym (rw not_first refl)
 
 found_in : (c : ClassFile) (n : ℕ) → FitsClassFile c → read_at (layout c) (place_from (None ∷ places_of 10 c.constants) n) ≡ constant_at c (record { 0 = n })
-unfolding read_at place_from
+unfolding place_from
 found_in c zero fits = refl
 found_in c (suc n) fits =
     let again = whole_again c [] fits in

@@ -23,11 +23,11 @@ or_true : (b : Bool) → b || true ≡ true
 or_true true = refl
 or_true false = refl
 
-not_false : (b : Bool) → not b ≡ false → b ≡ true
+pub not_false : (b : Bool) → not b ≡ false → b ≡ true
 not_false true e = refl
 not_false false e = absurd cc
 
-not_true : (b : Bool) → not b ≡ true → b ≡ false
+pub not_true : (b : Bool) → not b ≡ true → b ≡ false
 not_true true e = absurd cc
 not_true false e = refl
 
@@ -74,16 +74,16 @@ behind m n b le = after_front n (drop m b) (omega (arith, length-drop m b)) ∙ 
 cut : (m n : ℕ) (b : List ℕ) → m ≤ length b → length b < m + n → after n (drop m b) ≡ None
 cut m n b le lt = after_short n (drop m b) (omega (arith, length-drop m b))
 
-head_magic : (b : List ℕ) → 4 ≤ length b → big_number 4 b ≢ magic → head_at (start b) ≡ Err errors.Magic
+pub head_magic : (b : List ℕ) → 4 ≤ length b → big_number 4 b ≢ magic → head_at (start b) ≡ Err errors.Magic
 unfolding head_at
 head_magic b long other = rw (behind 0 4 b long, ne_eqb _ _ other) refl
 
-head_version : (b : List ℕ) → 8 ≤ length b → big_number 4 b ≡ magic → ¬ version_in b → head_at (start b) ≡ Err errors.Version
+pub head_version : (b : List ℕ) → 8 ≤ length b → big_number 4 b ≡ magic → ¬ version_in b → head_at (start b) ≡ Err errors.Version
 unfolding head_at
 head_version b long is_magic other =
     rw (behind 0 4 b (omega arith), eq-eqb _ _ is_magic, behind 4 2 b (omega arith), behind 6 2 b long, not_accepted _ _ other) refl
 
-head_count : (b : List ℕ) → 10 ≤ length b → big_number 4 b ≡ magic → version_in b → big_number 2 (drop 8 b) ≡ 0 → head_at (start b) ≡ Err errors.Count
+pub head_count : (b : List ℕ) → 10 ≤ length b → big_number 4 b ≡ magic → version_in b → big_number 2 (drop 8 b) ≡ 0 → head_at (start b) ≡ Err errors.Count
 unfolding head_at
 head_count b long is_magic version count =
     rw (behind 0 4 b (omega arith), eq-eqb _ _ is_magic, behind 4 2 b (omega arith), behind 6 2 b (omega arith), is_accepted_of _ _ version, behind 8 2 b long, eq-eqb _ _ count) refl
@@ -118,7 +118,7 @@ pub record IsGoodHead (b : List ℕ) : Type 0 where
 
 -- a front has no head, or it is wrong, or it is good
 pub data HeadIs (b : List ℕ) : Type 0 where
-  too_short : head_at (start b) ≡ Err errors.Short → HeadIs b
+  too_short : length b < 10 → head_at (start b) ≡ Err errors.Short → HeadIs b
   no_magic : 4 ≤ length b → big_number 4 b ≢ magic → HeadIs b
   no_version : 8 ≤ length b → big_number 4 b ≡ magic → ¬ version_in b → HeadIs b
   no_count : 10 ≤ length b → big_number 4 b ≡ magic → version_in b → big_number 2 (drop 8 b) ≡ 0 → HeadIs b
@@ -127,17 +127,17 @@ pub data HeadIs (b : List ℕ) : Type 0 where
 pub head_is : (b : List ℕ) → HeadIs b
 head_is b =
     elim (cases_lt (length b) 4) [
-      | inl lt ↦ too_short (head_short b lt)
+      | inl lt ↦ too_short (omega arith) (head_short b lt)
       | inr four ↦ elim (cases_eq (big_number 4 b) magic) [
         | inr other ↦ no_magic four other
         | inl is_magic ↦ elim (cases_lt (length b) 6) [
-          | inl lt ↦ too_short (head_no_minor b four lt is_magic)
+          | inl lt ↦ too_short (omega arith) (head_no_minor b four lt is_magic)
           | inr six ↦ elim (cases_lt (length b) 8) [
-            | inl lt ↦ too_short (head_no_major b six lt is_magic)
+            | inl lt ↦ too_short (omega arith) (head_no_major b six lt is_magic)
             | inr eight ↦ elim (cases_Bool (is_accepted (big_number 2 (drop 6 b)) (big_number 2 (drop 4 b)))) [
               | inr miss ↦ no_version eight is_magic (λ h. let hit = is_accepted_of _ _ h in cc)
               | inl hit ↦ elim (cases_lt (length b) 10) [
-                | inl lt ↦ too_short (head_no_count b eight lt is_magic (accepted_is _ _ hit))
+                | inl lt ↦ too_short (omega arith) (head_no_count b eight lt is_magic (accepted_is _ _ hit))
                 | inr ten ↦ elim (cases_eq (big_number 2 (drop 8 b)) 0) [
                   | inl none ↦ no_count ten is_magic (accepted_is _ _ hit) none
                   | inr some ↦ good (record { long = ten; is_magic = is_magic; version = accepted_is _ _ hit; count = some })
