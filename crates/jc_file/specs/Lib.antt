@@ -5,6 +5,7 @@ pub mod Skip
 pub mod Parts
 pub mod Stored
 pub mod View
+pub mod ClassView
 pub mod Refusal
 pub use Rattle.jc_base.specs.Cursor
 pub use Rattle.jc_base.specs.Endian

@@ -6,6 +6,8 @@ mod constant_pool;
 mod parse_error;
 mod pool;
 mod skip;
+mod view;
 
-pub use constant_pool::{ConstantIndex, ConstantKind};
+pub use constant_pool::{Constant, ConstantIndex, ConstantKind};
 pub use parse_error::ParseError;
+pub use view::{ClassView, parse};

@@ -1,0 +1,86 @@
+//! A class file as a borrowed view (JVMS 4.1).
+
+ghost use Rattle.std.specs.Prelude.{◌≡◌, ◌⊎◌, ℕ, List, IfOk, IfErr, IfSome, IfNone};
+ghost use Rattle.jc_file.specs.declared.parse_error.ParseError.TheVariants.{NoMemory};
+ghost use Rattle.jc_file.specs.ClassFile.{ClassFile};
+ghost use Rattle.jc_file.specs.Stored.{Holds};
+ghost use Rattle.jc_file.specs.Refusal.{IsLayoutOf, IsNamed, IsReadable, IsRefusal};
+
+use crate::constant_pool::{Constant, ConstantIndex};
+use crate::parse_error::ParseError;
+use crate::pool::entry;
+use crate::skip::{Numbers, skip_class};
+use jc_base::{Cursor, is_class_name};
+use std::alloc::Global;
+use std::marker::Model;
+
+/// A readable class file. Each text that it lends is a slice of the file.
+#[derive(Drop)]
+pub struct ClassView<'a> {
+    bytes: &'a [u8],
+    offsets: Vec<Option<usize>>,
+    tail: usize,
+    numbers: Numbers,
+    name: &'a [u8],
+}
+
+impl<'a> Model for ClassView<'a> {
+    ghost use Rattle.jc_file.specs.ClassFile.{ClassFile};
+
+    ghost Value = { ClassFile };
+
+    ghost use Rattle.jc_file.specs.ClassView.{class_in, IsViewed};
+
+    ghost view = { class_in };
+
+    ghost invariant = { IsViewed };
+}
+
+impl<'a> ClassView<'a> {
+    /// The name of the class, in its internal form (JVMS 4.2.1).
+    pub fn name(&self) -> &'a [u8]
+        ensures { IsNamed self.now result.now }
+    {
+        self.name
+    }
+}
+
+/// Reads a class file.
+///
+/// Refuses bytes that are none by the first cause that applies, and answers `NoMemory` only where
+/// memory was refused.
+pub fn parse<'a>(alloc: Global, bytes: &'a [u8]) -> Result<ClassView<'a>, ParseError>
+    ensures ok { IfOk result (λ view. IsLayoutOf view bytes.now) }
+    ensures refused { IfErr result (λ e. (e ≡ NoMemory) ⊎ IsRefusal bytes.now e) }
+    ensures readable { IsReadable bytes.now → IfErr result (λ e. e ≡ NoMemory) }
+{
+    let mut cursor = Cursor::new(bytes);
+    let parts = skip_class(alloc, &mut cursor)?;
+    let name = class_name(bytes, &parts.offsets, parts.numbers.this_class)
+        .ok_or(ParseError::NoName)?;
+    Ok(ClassView {
+        bytes,
+        offsets: parts.offsets,
+        tail: parts.tail,
+        numbers: parts.numbers,
+        name,
+    })
+}
+
+/// The text of the Class constant of an index, where it is a class name.
+fn class_name<'a>(
+    bytes: &'a [u8],
+    offsets: &[Option<usize>],
+    index: ConstantIndex,
+) -> Option<&'a [u8]>
+    ensures some { (c : ClassFile) → Holds bytes.now offsets.now c → c.this_class ≡ index → IfSome result (λ name. IsNamed c name.now) }
+    ensures none { (c : ClassFile) → Holds bytes.now offsets.now c → c.this_class ≡ index → IfNone result ((name : List ℕ) → ¬ IsNamed c name) }
+{
+    let Constant::Class(text) = entry(bytes, offsets, index)? else {
+        return None;
+    };
+    let Constant::Utf8(name) = entry(bytes, offsets, text)? else {
+        return None;
+    };
+    if is_class_name(name) { Some(name) } else { None }
+}
