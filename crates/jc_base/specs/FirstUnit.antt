@@ -1,11 +1,12 @@
--- What the reader of modified UTF-8 finds at the front of its bytes. It is tied to `spelling` by
--- the laws of proofs/FirstUnitLemmas.
+-- What the reader of modified UTF-8 finds at the front of its bytes: the unit that `spelling` puts
+-- there, as the law on `first_unit_is_spelled` says.
 use Rattle.std.specs.Prelude.{ℕ, ◌+◌, ◌*◌, ◌%◌, List, ◌==◌, ◌&&◌, ◌||◌, nat_le, if◌then◌else◌, Bool, Option, Some, None, option_and_then, option_map, slice_index}
 
 infixl 10 ◌>>=◌
 abbrev ◌>>=◌ : {A B : Type 0} → Option A → (A → Option B) → Option B
 o >>= f = option_and_then f o
 
+-- low, high and what lies between
 abbrev pub is_between : ℕ → ℕ → ℕ → Bool
 is_between low high b = nat_le low b && nat_le b high
 

@@ -17,8 +17,8 @@ pub use cursor::Cursor;
 pub use device::{DeviceFault, Input, Output};
 pub use mem_devices::{MemInput, MemOutput};
 pub use modified_utf8::{
-    UnitsError, ascii_stands_for_itself, bytes_are_in_range, check_units, spelling_examples, units,
-    units_are_determined,
+    UnitsError, ascii_stands_for_itself, bytes_are_in_range, check_units, first_unit_is_spelled,
+    spelling_examples, units, units_are_determined,
 };
 pub use names::{
     is_class_name, is_method_name, is_unqualified, name_examples, names_are_well_spelled,

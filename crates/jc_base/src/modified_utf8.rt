@@ -1,8 +1,8 @@
 //! Modified UTF-8, in which class files write their texts (JVMS 4.4.7).
 
-ghost use Rattle.std.specs.Prelude.{◌≡◌, ℕ, ◌+◌, ◌*◌, ◌<◌, ◌≤◌, ◌↔◌, List, [], ◌∷◌, length, take, All, Contains, IsOk, IfOk, IfErr, IfSome, OnSome};
+ghost use Rattle.std.specs.Prelude.{◌≡◌, ℕ, ◌+◌, ◌*◌, ◌<◌, ◌≤◌, ◌↔◌, List, [], ◌∷◌, ◌++◌, length, take, All, Contains, IsOk, IfOk, IfErr, IfSome, OnSome};
 ghost use Rattle.jc_base.specs.declared.modified_utf8.UnitsError.TheVariants.{NoMemory};
-ghost use Rattle.jc_base.specs.ModifiedUtf8.{spelled, Spells, IsWellSpelled, IsLongestFront};
+ghost use Rattle.jc_base.specs.ModifiedUtf8.{IsUnit, spelling, spelled, Spells, IsWellSpelled, IsLongestFront};
 ghost use Rattle.jc_base.specs.FirstUnit.{six_bits, two_byte_unit, three_byte_unit, first_unit};
 
 use std::alloc::{AllocError, Global};
@@ -88,7 +88,7 @@ fn two_byte_unit(first: u8, text: &[u8]) -> Option<u16>
     ensures value { result ≡ two_byte_unit first text.now }
     ensures within { OnSome result (2 ≤ length text.now) }
 {
-    let unit = joined(u16::from(first & 0x1f), six_bits(text, 1)?);
+    let unit = with_six_bits(u16::from(first & 0x1f), six_bits(text, 1)?);
     if unit == 0 || unit >= 0x80 {
         Some(unit)
     } else {
@@ -102,8 +102,8 @@ fn three_byte_unit(first: u8, text: &[u8]) -> Option<u16>
     ensures value { result ≡ three_byte_unit first text.now }
     ensures within { OnSome result (3 ≤ length text.now) }
 {
-    let high = joined(u16::from(first & 0x0f), six_bits(text, 1)?);
-    let unit = joined(high, six_bits(text, 2)?);
+    let high = with_six_bits(u16::from(first & 0x0f), six_bits(text, 1)?);
+    let unit = with_six_bits(high, six_bits(text, 2)?);
     if unit >= 0x800 { Some(unit) } else { None }
 }
 
@@ -121,13 +121,22 @@ fn six_bits(text: &[u8], place: usize) -> Option<u16>
 }
 
 // `high` with six more bits below it.
-fn joined(high: u16, low: u16) -> u16
+fn with_six_bits(high: u16, low: u16) -> u16
     requires high { high < 1024 }
     requires low { low < 64 }
     ensures { result ≡ high * 64 + low }
 {
     (high << 6) | low
 }
+
+/// What the reader finds at the front of its bytes is what is spelled there, and it finds all that
+/// is spelled.
+pub fn first_unit_is_spelled()
+    ensures found { (bytes : List ℕ) (u n : ℕ) → first_unit bytes ≡ Some (u, n) →
+        IsUnit u × (take n bytes ≡ spelling u) × (n ≡ length (spelling u)) }
+    ensures finds { (u : ℕ) (rest : List ℕ) → IsUnit u →
+        first_unit (spelling u ++ rest) ≡ Some (u, length (spelling u)) }
+{}
 
 /// No bytes spell two lists of units, and a text has one longest well spelled front at most.
 pub fn units_are_determined()

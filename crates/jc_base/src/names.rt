@@ -19,7 +19,7 @@ pub fn is_unqualified(text: &[u8]) -> bool
 pub fn is_method_name(text: &[u8]) -> bool
     ensures { IsTrue result ↔ IsMethodName text.now }
 {
-    is_special(text) || is_unqualified(text) && lacks_method_name_stops(text)
+    is_special_method_name(text) || (is_unqualified(text) && lacks_method_name_stops(text))
 }
 
 /// Whether `text` is a class or interface name in its internal form (JVMS 4.2.1): unqualified names
@@ -34,7 +34,7 @@ const INSTANCE_INITIALIZER: &[u8] = b"<init>";
 
 const CLASS_INITIALIZER: &[u8] = b"<clinit>";
 
-fn is_special(text: &[u8]) -> bool
+fn is_special_method_name(text: &[u8]) -> bool
     ensures { IsTrue result ↔ IsSpecialMethodName text.now }
 {
     text == INSTANCE_INITIALIZER || text == CLASS_INITIALIZER
