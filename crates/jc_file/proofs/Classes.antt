@@ -37,7 +37,7 @@ constants_again (c ∷ cs) place b rest fits here =
     let grouped : drop place b ≡ constant_bytes c ++ (pool_bytes cs ++ rest) = here ∙ append_assoc (constant_bytes c) (pool_bytes cs) rest in
     let first : constant_value (drop place b) ≡ c = ap constant_value grouped ∙ constant_again c (pool_bytes cs ++ rest) fits.0 in
     let next : drop (place + length (constant_bytes c)) b ≡ pool_bytes cs ++ rest =
-      sym (drop-drop (length (constant_bytes c)) place b) ∙ ap (drop (length (constant_bytes c))) grouped ∙ drop_at (constant_bytes c) (pool_bytes cs ++ rest) (length (constant_bytes c)) refl in
+    sym (drop-drop (length (constant_bytes c)) place b) ∙ ap (drop (length (constant_bytes c))) grouped ∙ drop_at (constant_bytes c) (pool_bytes cs ++ rest) (length (constant_bytes c)) refl in
     let others = constants_again cs (place + length (constant_bytes c)) b rest fits.1 next in
     ap (λ (x : Constant). x ∷ constants_at b (second_index (is_wide (kind_of c)) ++ places_of (place + length (constant_bytes c)) cs)) first
     ∙ ap (λ (xs : List Constant). c ∷ xs) (constants_behind (is_wide (kind_of c)) b (places_of (place + length (constant_bytes c)) cs) ∙ others)
@@ -89,8 +89,18 @@ head_again m minor major count rest lt_m lt_minor lt_major lt_count =
     let at_8 : drop 8 xs ≡ third = further 6 major xs third at_6 in
     let at_10 : drop 10 xs ≡ rest = further 8 count xs rest at_8 in
     record {
-      long = omega (arith, ap length regrouped, length-append (big_bytes 4 m) first, length-append (big_bytes 2 minor) second, length-append (big_bytes 2 major) third, length-append (big_bytes 2 count) rest,
-        length-big_bytes 4 m, length-big_bytes 2 minor, length-big_bytes 2 major, length-big_bytes 2 count);
+      long = omega (
+        arith,
+        ap length regrouped,
+        length-append (big_bytes 4 m) first,
+        length-append (big_bytes 2 minor) second,
+        length-append (big_bytes 2 major) third,
+        length-append (big_bytes 2 count) rest,
+        length-big_bytes 4 m,
+        length-big_bytes 2 minor,
+        length-big_bytes 2 major,
+        length-big_bytes 2 count,
+      );
       is_magic = ap (big_number 4) regrouped ∙ number_again 4 m first lt_m;
       is_minor = ap (big_number 2) at_4 ∙ number_again 2 minor second lt_minor;
       is_major = ap (big_number 2) at_6 ∙ number_again 2 major third lt_major;
@@ -124,7 +134,6 @@ same_with minor major e f i = class_with minor major (e i) (f i)
 
 module _ (b : List ℕ) (fits : IsBytes b) (head : IsGoodHead b) (places : List (Option ℕ)) (new : Reading) (rest : List ℕ)
     (t : TakesPool (big_number 2 (drop 8 b) - 1) (record { place = 10; rest = drop 10 b }) places new) (behind_tail : after_tail new.rest ≡ Some rest) where
-
   abbrev the_class : ClassFile
   the_class = class_with (big_number 2 (drop 4 b)) (big_number 2 (drop 6 b)) t.constants new.rest
 
@@ -136,7 +145,7 @@ module _ (b : List ℕ) (fits : IsBytes b) (head : IsGoodHead b) (places : List 
 
   at_tail : drop new.place b ≡ new.rest
   at_tail = ap (λ (n : ℕ). drop n b) the_place ∙ sym (drop-drop (length (pool_bytes t.constants)) 10 b) ∙ ap (drop (length (pool_bytes t.constants))) t.takes.parts
-    ∙ drop_at (pool_bytes t.constants) new.rest (length (pool_bytes t.constants)) refl
+      ∙ drop_at (pool_bytes t.constants) new.rest (length (pool_bytes t.constants)) refl
 
   are_constants : constants_at b (None ∷ places) ≡ t.constants
   are_constants = ap (constants_at b) t.are_places ∙ constants_again t.constants 10 b new.rest t.fits t.takes.parts
@@ -263,7 +272,7 @@ module _ (c : ClassFile) (rest : List ℕ) (fits : FitsClassFile c) where
   the_same =
       let constants : constants_at text (places_of 10 c.constants) ≡ c.constants = constants_again c.constants 10 text behind_pool fits.constants the_head.behind_all in
       let tail : drop (10 + length (pool_bytes c.constants)) text ≡ behind_pool =
-        sym (drop-drop (length (pool_bytes c.constants)) 10 text) ∙ ap (drop (length (pool_bytes c.constants))) the_head.behind_all ∙ drop_at (pool_bytes c.constants) behind_pool (length (pool_bytes c.constants)) refl in
+      sym (drop-drop (length (pool_bytes c.constants)) 10 text) ∙ ap (drop (length (pool_bytes c.constants))) the_head.behind_all ∙ drop_at (pool_bytes c.constants) behind_pool (length (pool_bytes c.constants)) refl in
       ap (λ (n : ℕ). class_with n (big_number 2 (drop 6 text)) (constants_at text (places_of 10 c.constants)) (drop (10 + length (pool_bytes c.constants)) text)) the_head.is_minor
       ∙ ap (λ (n : ℕ). class_with c.minor n (constants_at text (places_of 10 c.constants)) (drop (10 + length (pool_bytes c.constants)) text)) the_head.is_major
       ∙ same_with c.minor c.major constants tail ∙ (tail_again c rest fits_tail).same

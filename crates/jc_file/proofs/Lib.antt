@@ -9,3 +9,4 @@ pub mod Whole
 pub mod Classes
 pub mod Stored
 pub mod Refusals
+pub mod Parsed

@@ -125,10 +125,11 @@ takes_two m n first second xs rest fits e =
 pub again_two : (m n x y : ℕ) (rest : List ℕ) → x < 256 ^ m → y < 256 ^ n
     → (after (m + n) ((big_bytes m x ++ big_bytes n y) ++ rest) ≡ Some rest) × (big_number m ((big_bytes m x ++ big_bytes n y) ++ rest) ≡ x) × (big_number n (drop m ((big_bytes m x ++ big_bytes n y) ++ rest)) ≡ y)
 again_two m n x y rest lt_x lt_y =
-    let regrouped : (big_bytes m x ++ big_bytes n y) ++ rest ≡ big_bytes m x ++ (big_bytes n y ++ rest) = append_assoc (big_bytes m x) (big_bytes n y) rest in
-    (after_text (big_bytes m x ++ big_bytes n y) rest (m + n) (omega (arith, length-append (big_bytes m x) (big_bytes n y), length-big_bytes m x, length-big_bytes n y)),
-     ap (big_number m) regrouped ∙ number_again m x (big_bytes n y ++ rest) lt_x,
-     ap (λ (t : List ℕ). big_number n (drop m t)) regrouped ∙ ap (big_number n) (drop_at (big_bytes m x) (big_bytes n y ++ rest) m (length-big_bytes m x)) ∙ number_again n y rest lt_y)
+    let regrouped : (big_bytes m x ++ big_bytes n y) ++ rest ≡ big_bytes m x ++ (big_bytes n y ++ rest) = append_assoc (big_bytes m x) (big_bytes n y) rest in (
+      after_text (big_bytes m x ++ big_bytes n y) rest (m + n) (omega (arith, length-append (big_bytes m x) (big_bytes n y), length-big_bytes m x, length-big_bytes n y)),
+      ap (big_number m) regrouped ∙ number_again m x (big_bytes n y ++ rest) lt_x,
+      ap (λ (t : List ℕ). big_number n (drop m t)) regrouped ∙ ap (big_number n) (drop_at (big_bytes m x) (big_bytes n y ++ rest) m (length-big_bytes m x)) ∙ number_again n y rest lt_y,
+    )
 
 -- ---- a step that was taken
 
@@ -148,9 +149,10 @@ takes_sized n width xs rest fits e =
     let size = takes_number n width xs b.0 fits b.1 in
     let text = takes_front (big_number n xs) b.0 rest size.0.rest_fits b.2 in
     let len : length (sized_value n xs) ≡ big_number n xs = rw here text.1 in
-    let whole : Takes xs (big_bytes n (big_number n xs) ++ take (big_number n xs) b.0) rest = Takes-then xs (big_bytes n (big_number n xs)) b.0 (take (big_number n xs) b.0) rest size.0 text.0 in
-    (subst (λ (k : ℕ). Takes xs (big_bytes n k ++ sized_value n xs) rest) (sym len) (subst (λ (ys : List ℕ). Takes xs (big_bytes n (big_number n xs) ++ take (big_number n xs) ys) rest) (sym here) whole),
-     subst (λ (k : ℕ). k < 256 ^ n) (sym len) size.1)
+    let whole : Takes xs (big_bytes n (big_number n xs) ++ take (big_number n xs) b.0) rest = Takes-then xs (big_bytes n (big_number n xs)) b.0 (take (big_number n xs) b.0) rest size.0 text.0 in (
+      subst (λ (k : ℕ). Takes xs (big_bytes n k ++ sized_value n xs) rest) (sym len) (subst (λ (ys : List ℕ). Takes xs (big_bytes n (big_number n xs) ++ take (big_number n xs) ys) rest) (sym here) whole),
+      subst (λ (k : ℕ). k < 256 ^ n) (sym len) size.1,
+    )
 
 pub again_sized : (n : ℕ) (text rest : List ℕ) → length text < 256 ^ n → (after_sized n (sized_bytes n text ++ rest) ≡ Some rest) × (sized_value n (sized_bytes n text ++ rest) ≡ text)
 again_sized n text rest lt =

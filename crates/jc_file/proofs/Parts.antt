@@ -46,10 +46,11 @@ module _ {X : Type 0} {bytes : X → List ℕ} {Fits : X → Type 0} {after_one 
       let first = reads.takes xs b.0 fits b.1 in
       let others = each_takes reads n b.0 rest first.0.rest_fits b.2 in
       let left : left_of (after_one xs) ≡ b.0 = ap left_of b.1 in
-      let text : Takes xs (bytes (value xs) ++ flat_map bytes (each_value after_one value n b.0)) rest = Takes-then xs (bytes (value xs)) b.0 (flat_map bytes (each_value after_one value n b.0)) rest first.0 others.0 in
-      (subst (λ (ys : List ℕ). Takes xs (bytes (value xs) ++ flat_map bytes (each_value after_one value n ys)) rest) (sym left) text,
-       (first.1, subst (λ (ys : List ℕ). AllByRecursion Fits (each_value after_one value n ys)) (sym left) others.1),
-       ap suc (subst (λ (ys : List ℕ). length (each_value after_one value n ys) ≡ n) (sym left) others.2))
+      let text : Takes xs (bytes (value xs) ++ flat_map bytes (each_value after_one value n b.0)) rest = Takes-then xs (bytes (value xs)) b.0 (flat_map bytes (each_value after_one value n b.0)) rest first.0 others.0 in (
+        subst (λ (ys : List ℕ). Takes xs (bytes (value xs) ++ flat_map bytes (each_value after_one value n ys)) rest) (sym left) text,
+        (first.1, subst (λ (ys : List ℕ). AllByRecursion Fits (each_value after_one value n ys)) (sym left) others.1),
+        ap suc (subst (λ (ys : List ℕ). length (each_value after_one value n ys) ≡ n) (sym left) others.2),
+      )
 
   each_again : Reads bytes Fits after_one value → (table : List X) (rest : List ℕ) → AllByRecursion Fits table
       → (after_each after_one (length table) (flat_map bytes table ++ rest) ≡ Some rest) × (each_value after_one value (length table) (flat_map bytes table ++ rest) ≡ table)
@@ -61,11 +62,12 @@ module _ {X : Type 0} {bytes : X → List ℕ} {Fits : X → Type 0} {after_one 
       let first = reads.again x behind fits.0 in
       let others = each_again reads table rest fits.1 in
       let here : after_one (bytes x ++ flat_map bytes table ++ rest) ≡ Some behind = ap after_one regrouped ∙ first.0 in
-      let value_is : value (bytes x ++ flat_map bytes table ++ rest) ≡ x = ap value regrouped ∙ first.1 in
-      (ap (option_and_then (after_each after_one (length table))) here ∙ others.0,
-       let left : left_of (after_one (bytes x ++ flat_map bytes table ++ rest)) ≡ behind = ap left_of here in
-       ap (λ (ys : List ℕ). value (bytes x ++ flat_map bytes table ++ rest) ∷ each_value after_one value (length table) ys) left
-       ∙ ap (λ (y : X). y ∷ each_value after_one value (length table) behind) value_is ∙ ap (λ (ys : List X). x ∷ ys) others.1)
+      let value_is : value (bytes x ++ flat_map bytes table ++ rest) ≡ x = ap value regrouped ∙ first.1 in (
+        ap (option_and_then (after_each after_one (length table))) here ∙ others.0,
+        let left : left_of (after_one (bytes x ++ flat_map bytes table ++ rest)) ≡ behind = ap left_of here in
+            ap (λ (ys : List ℕ). value (bytes x ++ flat_map bytes table ++ rest) ∷ each_value after_one value (length table) ys) left
+            ∙ ap (λ (y : X). y ∷ each_value after_one value (length table) behind) value_is ∙ ap (λ (ys : List X). x ∷ ys) others.1,
+      )
 
   table_takes : Reads bytes Fits after_one value → (xs rest : List ℕ) → IsBytes xs → after_table after_one xs ≡ Some rest
       → Takes xs (counted bytes (table_value after_one value xs)) rest × FitsTable Fits (table_value after_one value xs)
@@ -90,11 +92,12 @@ module _ {X : Type 0} {bytes : X → List ℕ} {Fits : X → Type 0} {after_one 
       let size : big_number 2 (counted bytes table ++ rest) ≡ n = ap (big_number 2) regrouped ∙ number_again 2 n behind fits.0 in
       let head : after 2 (counted bytes table ++ rest) ≡ Some behind = ap (after 2) regrouped ∙ after_text (big_bytes 2 n) behind 2 (length-big_bytes 2 n) in
       let body : drop 2 (counted bytes table ++ rest) ≡ behind = ap (drop 2) regrouped ∙ drop_at (big_bytes 2 n) behind 2 (length-big_bytes 2 n) in
-      let all = each_again reads table rest fits.1 in
-      (ap (λ (k : ℕ). option_and_then (after_each after_one k) (after 2 (counted bytes table ++ rest))) size
-       ∙ ap (option_and_then (after_each after_one n)) head ∙ all.0,
-       ap (λ (k : ℕ). each_value after_one value k (drop 2 (counted bytes table ++ rest))) size
-       ∙ ap (each_value after_one value n) body ∙ all.1)
+      let all = each_again reads table rest fits.1 in (
+        ap (λ (k : ℕ). option_and_then (after_each after_one k) (after 2 (counted bytes table ++ rest))) size
+            ∙ ap (option_and_then (after_each after_one n)) head ∙ all.0,
+        ap (λ (k : ℕ). each_value after_one value k (drop 2 (counted bytes table ++ rest))) size
+            ∙ ap (each_value after_one value n) body ∙ all.1,
+      )
 
   pub reads_table : Reads bytes Fits after_one value → Reads (counted bytes) (FitsTable Fits) (after_table after_one) (table_value after_one value)
   reads_table reads = record { takes = table_takes reads; again = table_again reads }
@@ -111,9 +114,10 @@ attribute_takes xs rest fits e =
     let body = sized_value 4 b.0 in
     let whole : Takes xs (big_bytes 2 (big_number 2 xs) ++ sized_bytes 4 body) rest = Takes-then xs (big_bytes 2 (big_number 2 xs)) b.0 (sized_bytes 4 body) rest name.0 text.0 in
     let grouped : big_bytes 2 (big_number 2 xs) ++ sized_bytes 4 body ≡ big_bytes 2 (big_number 2 xs) ++ big_bytes 4 (length body) ++ body = sym (append_assoc (big_bytes 2 (big_number 2 xs)) (big_bytes 4 (length body)) body) in
-    let regrouped : Takes xs (big_bytes 2 (big_number 2 xs) ++ big_bytes 4 (length body) ++ body) rest = subst (λ (t : List ℕ). Takes xs t rest) grouped whole in
-    (subst (λ (ys : List ℕ). Takes xs (big_bytes 2 (big_number 2 xs) ++ big_bytes 4 (length (sized_value 4 ys)) ++ sized_value 4 ys) rest) (sym here) regrouped,
-     record { name = name.1; bytes = subst (λ (ys : List ℕ). length (sized_value 4 ys) < 2 ^ 32) (sym here) text.1 })
+    let regrouped : Takes xs (big_bytes 2 (big_number 2 xs) ++ big_bytes 4 (length body) ++ body) rest = subst (λ (t : List ℕ). Takes xs t rest) grouped whole in (
+      subst (λ (ys : List ℕ). Takes xs (big_bytes 2 (big_number 2 xs) ++ big_bytes 4 (length (sized_value 4 ys)) ++ sized_value 4 ys) rest) (sym here) regrouped,
+      record { name = name.1; bytes = subst (λ (ys : List ℕ). length (sized_value 4 ys) < 2 ^ 32) (sym here) text.1 },
+    )
 
 attribute_again : (a : Attribute) (rest : List ℕ) → FitsAttribute a → (after_attribute (attribute_bytes a ++ rest) ≡ Some rest) × (attribute_value (attribute_bytes a ++ rest) ≡ a)
 unfolding after_attribute
@@ -124,9 +128,10 @@ attribute_again a rest fits =
     let text = again_sized 4 a.bytes rest fits.bytes in
     let head : after 2 (attribute_bytes a ++ rest) ≡ Some behind = ap (after 2) regrouped ∙ after_text (big_bytes 2 n) behind 2 (length-big_bytes 2 n) in
     let name : big_number 2 (attribute_bytes a ++ rest) ≡ n = ap (big_number 2) regrouped ∙ number_again 2 n behind fits.name in
-    let body : sized_value 4 (drop 2 (attribute_bytes a ++ rest)) ≡ a.bytes = ap (λ (t : List ℕ). sized_value 4 (drop 2 t)) regrouped ∙ ap (sized_value 4) (drop_at (big_bytes 2 n) behind 2 (length-big_bytes 2 n)) ∙ text.1 in
-    (ap (option_and_then (after_sized 4)) head ∙ text.0,
-     ap (λ (p : ℕ × List ℕ). record { name = record { 0 = p.0 }; bytes = p.1 }) (pair_is name body))
+    let body : sized_value 4 (drop 2 (attribute_bytes a ++ rest)) ≡ a.bytes = ap (λ (t : List ℕ). sized_value 4 (drop 2 t)) regrouped ∙ ap (sized_value 4) (drop_at (big_bytes 2 n) behind 2 (length-big_bytes 2 n)) ∙ text.1 in (
+      ap (option_and_then (after_sized 4)) head ∙ text.0,
+      ap (λ (p : ℕ × List ℕ). record { name = record { 0 = p.0 }; bytes = p.1 }) (pair_is name body),
+    )
 
 pub reads_attribute : Reads attribute_bytes FitsAttribute after_attribute attribute_value
 reads_attribute = record { takes = attribute_takes; again = attribute_again }
@@ -140,9 +145,10 @@ member_takes xs rest fits e =
     let table = (reads_table reads_attribute).takes b.0 rest head.0.rest_fits b.2 in
     let first = three_bytes (big_number 2 xs) (big_number 2 (drop 2 xs)) (big_number 2 (drop 4 xs)) in
     let whole : Takes xs (first ++ counted attribute_bytes (table_value after_attribute attribute_value b.0)) rest =
-      Takes-then xs first b.0 (counted attribute_bytes (table_value after_attribute attribute_value b.0)) rest head.0 table.0 in
-    (subst (λ (ys : List ℕ). Takes xs (first ++ counted attribute_bytes (table_value after_attribute attribute_value ys)) rest) (sym here) whole,
-     record { flags = head.1; name = head.2; descriptor = head.3; attributes = subst (λ (ys : List ℕ). FitsTable FitsAttribute (table_value after_attribute attribute_value ys)) (sym here) table.1 })
+    Takes-then xs first b.0 (counted attribute_bytes (table_value after_attribute attribute_value b.0)) rest head.0 table.0 in (
+      subst (λ (ys : List ℕ). Takes xs (first ++ counted attribute_bytes (table_value after_attribute attribute_value ys)) rest) (sym here) whole,
+      record { flags = head.1; name = head.2; descriptor = head.3; attributes = subst (λ (ys : List ℕ). FitsTable FitsAttribute (table_value after_attribute attribute_value ys)) (sym here) table.1 },
+    )
 
 member_again : (m : Member) (rest : List ℕ) → FitsMember m → (after_member (member_bytes m ++ rest) ≡ Some rest) × (member_value (member_bytes m ++ rest) ≡ m)
 unfolding after_member

@@ -211,7 +211,7 @@ second_front false n reading =
 
 entries_first : (c : Constant) (n place : ℕ) (ys : List ℕ) → FitsConstant c
     → entries_from (suc (pending (is_wide (kind_of c)) + n)) false (record { place = place; rest = constant_bytes c ++ ys })
-      ≡ with_front (Some place ∷ second_index (is_wide (kind_of c))) (entries_from n false (record { place = place + length (constant_bytes c); rest = ys }))
+    ≡ with_front (Some place ∷ second_index (is_wide (kind_of c))) (entries_from n false (record { place = place + length (constant_bytes c); rest = ys }))
 unfolding entries_from entry_at
 entries_first c n place ys fits =
     let w = is_wide (kind_of c) in
@@ -222,7 +222,7 @@ entries_first c n place ys fits =
 -- whole constants at the front fill the first indexes
 pub entries_front : (constants : List Constant) (n place : ℕ) (ys : List ℕ) → AllByRecursion FitsConstant constants
     → entries_from (all_slots constants + n) false (record { place = place; rest = pool_bytes constants ++ ys })
-      ≡ with_front (places_of place constants) (entries_from n false (record { place = place + length (pool_bytes constants); rest = ys }))
+    ≡ with_front (places_of place constants) (entries_from n false (record { place = place + length (pool_bytes constants); rest = ys }))
 unfolding places_of
 entries_front [] n place ys fits =
     let k : 0 + n ≡ n = omega arith in
@@ -279,7 +279,7 @@ take_one is_last indexes m old mid new kind places first others count =
     let kind_is : is_wide (kind_of c) ≡ is_wide kind = ap is_wide first.same in
     let wide_is : pending (is_wide (kind_of c)) ≡ pending (is_wide kind) = ap pending kind_is in
     let here : Some old.place ∷ (second_index (is_wide kind) ++ places) ≡ places_of old.place (c ∷ others.constants) =
-      rw (others.are_places, next_place is_last old kind mid first, ← kind_is) refl in
+    rw (others.are_places, next_place is_last old kind mid first, ← kind_is) refl in
     record {
       constants = c ∷ others.constants;
       takes = Takes-then old.rest (constant_bytes c) mid.rest (pool_bytes others.constants) new.rest first.takes others.takes;
@@ -318,7 +318,7 @@ entries_take (suc left) false indexes old found fits count e =
     let first = first_takes (eqb left 0) old f.0 fits f.1 in
     let entry_is : ◌≡◌ {A = Entry × Reading} (record { offset = Some old.place; is_wide = is_wide f.0.0 }, f.0.1) a.0 = ok_is _ a.0 f.2 in
     let rest : (entries_from left (is_wide f.0.0) f.0.1 >>= λ others. Ok (Some old.place ∷ others.0, others.1)) ≡ Ok found =
-      subst (λ (x : Entry × Reading). (entries_from left x.0.is_wide x.1 >>= λ others. Ok (x.0.offset ∷ others.0, others.1)) ≡ Ok found) (sym entry_is) a.2 in
+    subst (λ (x : Entry × Reading). (entries_from left x.0.is_wide x.1 >>= λ others. Ok (x.0.offset ∷ others.0, others.1)) ≡ Ok found) (sym entry_is) a.2 in
     let b = bind_ok (entries_from left (is_wide f.0.0) f.0.1) (λ others. Ok (Some old.place ∷ others.0, others.1)) found rest in
     let w = wide_goes_on (is_wide f.0.0) left first.room in
     let others = entries_take left (is_wide f.0.0) w.0 f.0.1 b.0 first.takes.rest_fits w.1 b.1 in
@@ -442,7 +442,7 @@ entries_stop (suc left) false indexes old e fits count h =
           let first = first_takes (eqb left 0) old f.0 fits f.1 in
           let entry_is : ◌≡◌ {A = Entry × Reading} (record { offset = Some old.place; is_wide = is_wide f.0.0 }, f.0.1) a.0 = ok_is _ a.0 f.2 in
           let rest : (entries_from left (is_wide f.0.0) f.0.1 >>= λ others. Ok (Some old.place ∷ others.0, others.1)) ≡ Err e =
-            subst (λ (x : Entry × Reading). (entries_from left x.0.is_wide x.1 >>= λ others. Ok (x.0.offset ∷ others.0, others.1)) ≡ Err e) (sym entry_is) a.2 in
+          subst (λ (x : Entry × Reading). (entries_from left x.0.is_wide x.1 >>= λ others. Ok (x.0.offset ∷ others.0, others.1)) ≡ Err e) (sym entry_is) a.2 in
           let w = wide_goes_on (is_wide f.0.0) left first.room in
           elim (bind_err (entries_from left (is_wide f.0.0) f.0.1) (λ others. Ok (Some old.place ∷ others.0, others.1)) e rest) [
             | inl later ↦ stops_later (eqb left 0) indexes w.0 old f.0.1 f.0.0 e first (omega (arith, w.1, count)) (entries_stop left (is_wide f.0.0) w.0 f.0.1 e first.takes.rest_fits w.1 later)

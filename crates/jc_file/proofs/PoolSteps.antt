@@ -30,7 +30,7 @@ pool_more front count i is_second old new entry total lt here so_far =
     let one : with_front front (entries_from (count - i) is_second old) ≡ with_front (front ++ entry.offset ∷ []) (entries_from (count - (i + 1)) entry.is_wide new) = rw (k, same) (regroup front entry.offset (entries_from (count - (i + 1)) entry.is_wide new)) in
     sym one ∙ so_far
 
-fails_is : {A : Type 0} (e : ParseError) (read : Result A ParseError) → Fails e read → (e ≡ errors.NoMemory) ⊎ (read ≡ Err e)
+pub fails_is : {A : Type 0} (e : ParseError) (read : Result A ParseError) → Fails e read → (e ≡ errors.NoMemory) ⊎ (read ≡ Err e)
 fails_is errors.NoMemory read h = inl refl
 fails_is errors.Magic read h = inr h
 fails_is errors.Version read h = inr h

@@ -154,7 +154,7 @@ parts_apply b e fits h =
       | inr a ↦
           let g = good_of b a.0 a.1 in
           let read : (pool_at (count_in b) (old_pool b) >>= λ pool. last_at pool.1 >>= λ last. last_of pool last) ≡ Err e =
-            ap (λ (x : ℕ × Reading). pool_at x.0 x.1 >>= λ pool. last_at pool.1 >>= λ last. last_of pool last) g.1 ∙ a.2 in
+          ap (λ (x : ℕ × Reading). pool_at x.0 x.1 >>= λ pool. last_at pool.1 >>= λ last. last_of pool last) g.1 ∙ a.2 in
           elim (bind_err (pool_at (count_in b) (old_pool b)) (λ pool. last_at pool.1 >>= λ last. last_of pool last) e read) [
             | inl stops ↦ pool_applies b e g.0 h (pool_stops (pool_size b) (old_pool b) e (IsBytes-drop 10 b fits) (pool_err (None ∷ []) (entries_from (pool_size b) false (old_pool b)) e stops))
             | inr pool ↦ elim (bind_err (last_at pool.0.1) (last_of pool.0) e pool.2) [
@@ -195,7 +195,7 @@ parts_found b found fits h =
     let a = bind_ok (head_at (start b)) (λ head. pool_at head.0 head.1 >>= λ pool. last_at pool.1 >>= λ last. last_of pool last) found h in
     let g = good_of b a.0 a.1 in
     let read : (pool_at (count_in b) (old_pool b) >>= λ pool. last_at pool.1 >>= λ last. last_of pool last) ≡ Ok found =
-      ap (λ (x : ℕ × Reading). pool_at x.0 x.1 >>= λ pool. last_at pool.1 >>= λ last. last_of pool last) g.1 ∙ a.2 in
+    ap (λ (x : ℕ × Reading). pool_at x.0 x.1 >>= λ pool. last_at pool.1 >>= λ last. last_of pool last) g.1 ∙ a.2 in
     let pool = bind_ok (pool_at (count_in b) (old_pool b)) (λ pool. last_at pool.1 >>= λ last. last_of pool last) found read in
     let last = bind_ok (last_at pool.0.1) (last_of pool.0) found pool.2 in
     let rest = bind_ok (or_refusal (after_tail pool.0.1.rest) errors.Short) (λ rest. unless (not (eqb (length rest) 0)) (errors.Trailing (moved_to pool.0.1 rest).place) >>= λ at_end. Ok (numbers_value pool.0.1.rest, moved_to pool.0.1 rest)) last.0 last.1 in
@@ -204,7 +204,7 @@ parts_found b found fits h =
     let whole = found_by b pool.0 rest.0 fits g.0 pool.1 (or_ok _ _ _ rest.1) none in
     let same_last : ◌≡◌ {A = Numbers × Reading} (numbers_value pool.0.1.rest, moved_to pool.0.1 rest.0) last.0 = ok_is _ _ end.2 in
     let same : ◌≡◌ {A = Parts × Reading} (parts_of pool.0, moved_to pool.0.1 rest.0) found =
-      ap (λ (x : Numbers × Reading). (record { places = pool.0.0; tail = pool.0.1.place; numbers = x.0 }, x.1)) same_last ∙ ok_is _ _ last.2 in
+    ap (λ (x : Numbers × Reading). (record { places = pool.0.0; tail = pool.0.1.place; numbers = x.0 }, x.1)) same_last ∙ ok_is _ _ last.2 in
     subst (λ (x : Parts × Reading). IsFound b x.0) same whole
 
 -- ---- nothing earlier applies
@@ -321,16 +321,16 @@ pub one_layout : (c d : ClassFile) (rest : List ℕ) → FitsClassFile c → Fit
 one_layout c d rest fits_c fits_d same =
     let of_d = read_again d fits_d in
     let none : length rest ≡ 0 =
-      elim (cases_eq (length rest) 0) [
-        | inl none ↦ none
-        | inr some ↦ absurd (let impossible = sym (follow c rest fits_c some) ∙ ap (λ (xs : List ℕ). parts_at (start xs)) (same ∙ sym (append-nil (layout d))) ∙ of_d.1 in cc)
-      ] in
+    elim (cases_eq (length rest) 0) [
+      | inl none ↦ none
+      | inr some ↦ absurd (let impossible = sym (follow c rest fits_c some) ∙ ap (λ (xs : List ℕ). parts_at (start xs)) (same ∙ sym (append-nil (layout d))) ∙ of_d.1 in cc)
+    ] in
     let empty : rest ≡ [] = nil_from_length rest none in
     let texts : layout c ++ [] ≡ layout d ++ [] = ap (λ (xs : List ℕ). layout c ++ xs) (sym empty) ∙ same ∙ sym (append-nil (layout d)) in
     let of_c = read_again c fits_c in
     let found = ok_is _ _ (sym of_c.1 ∙ ap (λ (xs : List ℕ). parts_at (start xs)) texts ∙ of_d.1) in
     let classes : class_value (layout c ++ []) (None ∷ places_of 10 c.constants) (10 + length (pool_bytes c.constants)) ≡ class_value (layout d ++ []) (None ∷ places_of 10 d.constants) (10 + length (pool_bytes d.constants)) =
-      ap (λ (xs : List ℕ). class_value xs (None ∷ places_of 10 c.constants) (10 + length (pool_bytes c.constants))) texts ∙ ap (λ (p : Parts × Reading). class_value (layout d ++ []) p.0.places p.0.tail) found in
+    ap (λ (xs : List ℕ). class_value xs (None ∷ places_of 10 c.constants) (10 + length (pool_bytes c.constants))) texts ∙ ap (λ (p : Parts × Reading). class_value (layout d ++ []) p.0.places p.0.tail) found in
     (empty, sym (whole_again c [] fits_c).same ∙ classes ∙ (whole_again d [] fits_d).same)
 
 -- the place in a refusal, and the refusal of a number and a place
@@ -395,10 +395,10 @@ one_refusal b e f h k =
     let not_less : code_of e < code_of f → ⊥ = λ lt. k.first e lt h.applies in
     let not_more : code_of f < code_of e → ⊥ = λ lt. h.first f lt k.applies in
     let same : code_of e ≡ code_of f =
-      elim (cases_lt (code_of e) (code_of f)) [
-        | inl less ↦ absurd (not_less less)
-        | inr more ↦ elim (cases_lt (code_of f) (code_of e)) [ inl lt ↦ absurd (not_more lt) | inr le ↦ omega arith ]
-      ] in
+    elim (cases_lt (code_of e) (code_of f)) [
+      | inl less ↦ absurd (not_less less)
+      | inr more ↦ elim (cases_lt (code_of f) (code_of e)) [ inl lt ↦ absurd (not_more lt) | inr le ↦ omega arith ]
+    ] in
     sym (by_its_number e) ∙ ap (by_number (code_of e)) (place_is_told b e h.applies) ∙ ap (λ (n : ℕ). by_number n (told b n)) same
     ∙ sym (ap (by_number (code_of f)) (place_is_told b f k.applies)) ∙ by_its_number f
 

@@ -57,7 +57,7 @@ found_from (c ∷ cs) place bytes rest (suc i) le fits here =
     let grouped : drop place bytes ≡ constant_bytes c ++ (pool_bytes cs ++ rest) = here ∙ append_assoc (constant_bytes c) (pool_bytes cs) rest in
     let next_place = place + length (constant_bytes c) in
     let next : drop next_place bytes ≡ pool_bytes cs ++ rest =
-      sym (drop-drop (length (constant_bytes c)) place bytes) ∙ ap (drop (length (constant_bytes c))) grouped ∙ drop_at (constant_bytes c) (pool_bytes cs ++ rest) (length (constant_bytes c)) refl in
+    sym (drop-drop (length (constant_bytes c)) place bytes) ∙ ap (drop (length (constant_bytes c))) grouped ∙ drop_at (constant_bytes c) (pool_bytes cs ++ rest) (length (constant_bytes c)) refl in
     let within : next_place ≤ length bytes = omega (arith, ap length grouped, length-drop place bytes, length-append (constant_bytes c) (pool_bytes cs ++ rest)) in
     let not_first : eqb (suc i) 0 ≡ false = ne_eqb (suc i) 0 (λ e. absurd (omega arith)) in
     later (is_wide (kind_of c)) cs (places_of next_place cs) bytes (λ j. found_from cs next_place bytes rest j within fits.1 next) i ∙ sym (rw not_first refl)

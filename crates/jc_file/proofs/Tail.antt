@@ -23,7 +23,7 @@ left_of o = unwrap_or o []
 -- the numbers at the front, and the tables at four places
 pub record Taken (xs interfaces fields methods attributes rest : List ℕ) : Type 0 where
   pub text : Takes xs (three_bytes (big_number 2 xs) (big_number 2 (drop 2 xs)) (big_number 2 (drop 4 xs)) ++ counted index_bytes (interfaces_in interfaces)
-    ++ counted member_bytes (members_in fields) ++ counted member_bytes (members_in methods) ++ counted attribute_bytes (attributes_in attributes)) rest
+      ++ counted member_bytes (members_in fields) ++ counted member_bytes (members_in methods) ++ counted attribute_bytes (attributes_in attributes)) rest
   pub flags : big_number 2 xs < 2 ^ 16
   pub this_class : big_number 2 (drop 2 xs) < 2 ^ 16
   pub super_class : big_number 2 (drop 4 xs) < 2 ^ 16
@@ -123,5 +123,5 @@ tail_again c rest fits =
     record {
       left = ap after_tail regrouped ∙ ap (option_and_then (after_table after_attribute)) to_d ∙ attributes.0;
       same = ap (λ (t : List ℕ). class_with c.minor c.major c.constants t) regrouped
-        ∙ same_class c head.first head.second head.third (ap interfaces_in head.behind ∙ interfaces.1) (ap members_in is_f ∙ fields.1) (ap members_in is_m ∙ methods.1) (ap attributes_in is_d ∙ attributes.1);
+          ∙ same_class c head.first head.second head.third (ap interfaces_in head.behind ∙ interfaces.1) (ap members_in is_f ∙ fields.1) (ap members_in is_m ∙ methods.1) (ap attributes_in is_d ∙ attributes.1);
     }

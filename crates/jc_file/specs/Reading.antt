@@ -135,11 +135,11 @@ constant_value xs = option_map_or (λ kind. body_value kind (drop 1 xs)) (kind_o
 unfoldable pub constant_read : ℕ → List ℕ → Option Constant
 constant_read place bytes =
     option_and_then (λ xs.
-      option_and_then (λ body.
-        option_and_then (λ kind.
-          option_and_then (λ rest. Some (body_value kind body)) (after_body kind body))
-        (kind_of_tag (big_number 1 xs)))
-      (after 1 xs))
+    option_and_then (λ body.
+    option_and_then (λ kind.
+    option_and_then (λ rest. Some (body_value kind body)) (after_body kind body))
+    (kind_of_tag (big_number 1 xs)))
+    (after 1 xs))
     (after place bytes)
 
 -- a reading that goes on where these bytes are left

@@ -194,7 +194,11 @@ pub(crate) fn skip_constant(is_last: bool, cursor: &mut Cursor) -> Result<Consta
 
 /// Where the constant of an index begins, if one does, and whether it takes the next index too.
 #[tactic(auto, unfolding(crate::specs::Reading::entry_at))]
-fn skip_entry(is_second: bool, is_last: bool, cursor: &mut Cursor) -> Result<(Option<usize>, bool), ParseError>
+fn skip_entry(
+    is_second: bool,
+    is_last: bool,
+    cursor: &mut Cursor,
+) -> Result<(Option<usize>, bool), ParseError>
     ensures { Takes entry (entry_at is_second is_last) cursor.old result cursor.new }
 {
     if is_second {

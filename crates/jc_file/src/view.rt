@@ -56,8 +56,9 @@ pub fn parse<'a>(alloc: Global, bytes: &'a [u8]) -> Result<ClassView<'a>, ParseE
 {
     let mut cursor = Cursor::new(bytes);
     let parts = skip_class(alloc, &mut cursor)?;
-    let name = class_name(bytes, &parts.offsets, parts.numbers.this_class)
-        .ok_or(ParseError::NoName)?;
+    let Some(name) = class_name(bytes, &parts.offsets, parts.numbers.this_class) else {
+        return Err(ParseError::NoName);
+    };
     Ok(ClassView {
         bytes,
         offsets: parts.offsets,
@@ -82,5 +83,9 @@ fn class_name<'a>(
     let Constant::Utf8(name) = entry(bytes, offsets, text)? else {
         return None;
     };
-    if is_class_name(name) { Some(name) } else { None }
+    if is_class_name(name) {
+        Some(name)
+    } else {
+        None
+    }
 }

@@ -1,0 +1,74 @@
+use Rattle.std.proofs.Common.{◌≡◌, ◌⊎◌, Ok, sym, subst, ap, ◌∙◌, inr, arith}
+use Rattle.std.proofs.lemmas.Result.{err_from_is_err_and}
+use Rattle.jc_base.specs.Cursor.{Reading}
+use Rattle.jc_file.specs.declared.parse_error.ParseError.TheVariants.{NoMemory, NoName}
+use Rattle.jc_file.specs.Parts.{parts}
+use Rattle.jc_file.specs.Reading.{parts_at, class_value}
+use Rattle.jc_file.specs.Refusal.{IsRefusal, IsNamed}
+use Rattle.jc_file.specs.Skip.{Fails}
+use Rattle.jc_file.specs.Stored.{Holds}
+use Rattle.jc_file.proofs.Numbers.{IsBytes}
+use Rattle.jc_file.proofs.Whole.{start}
+use Rattle.jc_file.proofs.Parsed.{at_start, holds_at, refused, no_refusal, IsParsed, parsed, unnamed}
+use Rattle.jc_file.proofs.view.parse.Goals as goal
+
+-- why going over the bytes stopped
+cause : (c : goal.After-from_residual) → (c.in_err-parts.field-0.0 ≡ NoMemory) ⊎ IsRefusal c.args.bytes.now c.in_err-parts.field-0.0
+cause c =
+    refused c.args.bytes.now c.in_err-parts.field-0.0 (λ i. omega (arith, c.type_inv.bytes i))
+    (subst (λ (r : Reading). Fails c.in_err-parts.field-0.0 (parts_at r)) (at_start c.new-cursor.result c.args.bytes.now c.new-cursor.ensures.place c.new-cursor.ensures.rest) c.in_err-parts.ensures)
+
+pub returns-in_err-parts-clause-refused : goal.returns-in_err-parts-clause-refused
+returns-in_err-parts-clause-refused c =
+    let p = err_from_is_err_and c.from_residual.result c.from_residual.ensures.1 in
+    rw (p.1, p.2) (cause c)
+
+pub returns-in_err-parts-clause-readable : goal.returns-in_err-parts-clause-readable
+returns-in_err-parts-clause-readable c = λ readable.
+    let p = err_from_is_err_and c.from_residual.result c.from_residual.ensures.1 in
+    rw (p.1, p.2) (no_refusal c.args.bytes.now c.in_err-parts.field-0.0 readable (cause c))
+
+-- what was found, where the class has no name
+read_unnamed : (c : goal.After-drop-parts) → parts_at (start c.args.bytes.now) ≡ Ok (parts c.in_ok-parts.parts, c.skip_class.new.cursor)
+read_unnamed c = ap parts_at (sym (at_start c.new-cursor.result c.args.bytes.now c.new-cursor.ensures.place c.new-cursor.ensures.rest)) ∙ c.in_ok-parts.ensures
+
+found_unnamed : (c : goal.After-drop-parts) → IsParsed c.args.bytes.now (parts c.in_ok-parts.parts)
+found_unnamed c = parsed c.args.bytes.now (parts c.in_ok-parts.parts) c.skip_class.new.cursor (λ i. omega (arith, c.type_inv.bytes i)) (read_unnamed c)
+
+is_unnamed : (c : goal.After-drop-parts) → IsRefusal c.args.bytes.now NoName
+is_unnamed c =
+    let b = c.args.bytes.now in
+    let items = c.in_ok-parts.parts.offsets.items in
+    let class = class_value b items c.in_ok-parts.parts.tail in
+    let found = found_unnamed c in
+    unnamed b (parts c.in_ok-parts.parts) c.skip_class.new.cursor (λ i. omega (arith, c.type_inv.bytes i)) (read_unnamed c)
+    (c.in_default.ensures.none class (holds_at b c.deref.result.now items class c.deref.ensures.value found.holds) (sym found.this_class))
+
+pub returns-in_default-clause-refused : goal.returns-in_default-clause-refused
+returns-in_default-clause-refused c = inr (is_unnamed c)
+
+pub returns-in_default-clause-readable : goal.returns-in_default-clause-readable
+returns-in_default-clause-readable c = λ readable. no_refusal c.args.bytes.now NoName readable (inr (is_unnamed c))
+
+-- what was found
+found : (c : goal.After-result-1) → IsParsed c.args.bytes.now (parts c.in_ok-parts.parts)
+found c =
+    parsed c.args.bytes.now (parts c.in_ok-parts.parts) c.skip_class.new.cursor (λ i. omega (arith, c.type_inv.bytes i))
+    (ap parts_at (sym (at_start c.new-cursor.result c.args.bytes.now c.new-cursor.ensures.place c.new-cursor.ensures.rest)) ∙ c.in_ok-parts.ensures)
+
+pub invariant_of-result : goal.invariant_of-result
+invariant_of-result c =
+    let b = c.args.bytes.now in
+    let items = c.in_ok-parts.parts.offsets.items in
+    let class = class_value b items c.in_ok-parts.parts.tail in
+    let found_here = found c in
+    record {
+      holds = found_here.holds;
+      flags = found_here.flags;
+      this_class = found_here.this_class;
+      super_class = found_here.super_class;
+      is_name = c.in-Some.ensures.some class (holds_at b c.deref.result.now items class c.deref.ensures.value found_here.holds) (sym found_here.this_class);
+    }
+
+pub returns-clause-ok : goal.returns-clause-ok
+returns-clause-ok c = (found c).is_layout
