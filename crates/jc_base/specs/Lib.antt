@@ -7,5 +7,6 @@ pub mod MemDevices
 pub mod ModifiedUtf8
 pub mod Names
 pub mod StdDevices
+pub mod TextTests
 pub use Rattle.byteorder.specs.Endian
 pub use Rattle.byteorder.specs.Numbers

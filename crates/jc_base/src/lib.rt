@@ -22,6 +22,7 @@ pub use modified_utf8::{
 };
 pub use names::{
     is_class_name, is_method_name, is_unqualified, name_examples, names_are_well_spelled,
+    texts_are_decided,
 };
 pub use no_memory::NoMemory;
 pub use std_devices::{StdInput, StdOutput};

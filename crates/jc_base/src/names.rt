@@ -1,8 +1,9 @@
 //! Names of classes, interfaces, fields and methods, as class files write them (JVMS 4.2).
 
-ghost use Rattle.std.specs.Prelude.{◌≡◌, ◌↔◌, ℕ, List, Contains, IsTrue, codes};
+ghost use Rattle.std.specs.Prelude.{◌≡◌, ◌↔◌, ℕ, List, Some, Contains, IsTrue, codes};
 ghost use Rattle.jc_base.specs.Names.{Lacks, name_stops, method_name_stops, IsUnqualifiedName, IsSpecialMethodName, IsMethodName, IsClassName};
-ghost use Rattle.jc_base.specs.ModifiedUtf8.{IsWellSpelled};
+ghost use Rattle.jc_base.specs.ModifiedUtf8.{IsWellSpelled, Spells};
+ghost use Rattle.jc_base.specs.TextTests.{units_of, is_unqualified_text, is_class_text};
 
 use crate::modified_utf8::check_units;
 
@@ -68,6 +69,13 @@ fn is_method_name_byte(byte: &u8) -> bool
 pub fn names_are_well_spelled()
     ensures class { (b : List ℕ) → IsClassName b → IsWellSpelled b }
     ensures method { (b : List ℕ) → IsMethodName b → IsWellSpelled b }
+{}
+
+/// The tests of texts that definitions compute with decide what the names' definitions say.
+pub fn texts_are_decided()
+    ensures units { (b us : List ℕ) → (units_of b ≡ Some us) ↔ Spells us b }
+    ensures unqualified { (b : List ℕ) → IsTrue (is_unqualified_text b) ↔ IsUnqualifiedName b }
+    ensures class { (b : List ℕ) → IsTrue (is_class_text b) ↔ IsClassName b }
 {}
 
 /// Some names, and some texts that are none.

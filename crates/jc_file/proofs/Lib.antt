@@ -10,3 +10,4 @@ pub mod Classes
 pub mod Stored
 pub mod Refusals
 pub mod Parsed
+pub mod Outcomes

@@ -9,3 +9,4 @@ pub mod ClassView
 pub mod Refusal
 pub use Rattle.jc_base.specs.Cursor
 pub use Rattle.jc_base.specs.Endian
+pub mod Outcome

@@ -1,0 +1,138 @@
+-- The tests of texts decide what they say.
+use Rattle.std.proofs.Common.{◌≡◌, ◌≢◌, ℕ, zero, suc, ◌+◌, ◌-◌, ◌<◌, ◌≤◌, Bool, true, false, ◌&&◌, not, eqb, List, [], ◌∷◌, ◌++◌, length, get_or, take, drop, Option, Some, None, option_and_then, option_map, is_some, All, refl, sym, ap, ◌∙◌, arith, inl, inr, subst, eq-eqb}
+use Rattle.std.specs.Prelude.{Contains, IsTrue}
+use Rattle.std.specs.List.{flat_map, AllByRecursion, list_all, list_any, slice_split}
+use Rattle.std.proofs.lemmas.Bool.{cases_Bool, eqb-true, ne_eqb, cases_eq}
+use Rattle.std.proofs.lemmas.List.{drop_at, length-append, length-drop, append-nil}
+use Rattle.std.proofs.lemmas.List.Elements.{recursion_from_All, All-from_recursion}
+use Rattle.jc_base.specs.FirstUnit.{first_unit}
+use Rattle.jc_base.specs.ModifiedUtf8.{IsUnit, spelling, spelled, Spells, IsWellSpelled}
+use Rattle.jc_base.specs.Names.{name_stops, Lacks, IsUnqualifiedName, IsClassName}
+use Rattle.jc_base.specs.TextTests.{units_within, units_of, is_unqualified_text, is_class_text}
+use Rattle.jc_base.proofs.FirstUnitLemmas.{StandsFirst, first_found, found_first, spelling_takes_room, same_units}
+use Rattle.jc_base.proofs.NamesLemmas.{class_name_by_split, lacks_by_test}
+
+-- the value of a step that did not fail
+then_some : {A B : Type 0} (o : Option A) (f : A → Option B) (y : B) → option_and_then f o ≡ Some y → (x : A) × (o ≡ Some x) × (f x ≡ Some y)
+then_some None f y e = absurd cc
+then_some (Some x) f y e = (x, refl, e)
+
+map_some : {A B : Type 0} (o : Option A) (f : A → B) (y : B) → option_map f o ≡ Some y → (x : A) × (o ≡ Some x) × (f x ≡ y)
+map_some None f y e = absurd cc
+map_some (Some x) f y e = (x, refl, cc)
+
+some_is : {A : Type 0} (x y : A) → Some x ≡ Some y → x ≡ y
+some_is x y e = cc
+
+units_sound : (n : ℕ) (b us : List ℕ) → units_within n b ≡ Some us → Spells us b
+unfolding units_within
+units_sound n [] us e = subst (λ (vs : List ℕ). Spells vs []) (some_is [] us e) (tt, refl)
+units_sound zero (x ∷ xs) us e = absurd cc
+units_sound (suc n) (x ∷ xs) us e =
+    let a = then_some (first_unit (x ∷ xs)) (λ first. option_map (λ others. first.0 ∷ others) (units_within n (drop first.1 (x ∷ xs)))) us e in
+    let m = map_some (units_within n (drop a.0.1 (x ∷ xs))) (λ others. a.0.0 ∷ others) us a.2 in
+    let first = first_found (x ∷ xs) a.0.0 a.0.1 a.1 in
+    let others = units_sound n (drop a.0.1 (x ∷ xs)) m.0 m.1 in
+    let behind : drop a.0.1 (x ∷ xs) ≡ first.rest = ap (drop a.0.1) first.split ∙ drop_at (spelling a.0.0) first.rest a.0.1 (sym first.size) in
+    let text : x ∷ xs ≡ spelling a.0.0 ++ spelled m.0 = first.split ∙ ap (λ (ys : List ℕ). spelling a.0.0 ++ ys) (sym behind ∙ others.1) in
+    subst (λ (vs : List ℕ). Spells vs (x ∷ xs)) m.2 ((first.unit, others.0), text)
+
+nonempty : (b : List ℕ) → 0 < length b → (x : ℕ) × (xs : List ℕ) × (b ≡ x ∷ xs)
+nonempty [] lt = absurd (omega arith)
+nonempty (x ∷ xs) lt = (x, xs, refl)
+
+-- one unit at the front, and the units behind it
+one_within : (n : ℕ) (b rest : List ℕ) (u : ℕ) (us : List ℕ) → b ≡ spelling u ++ rest → IsUnit u → units_within n rest ≡ Some us → units_within (suc n) b ≡ Some (u ∷ us)
+unfolding units_within
+one_within n b rest u us is unit others =
+    let room : 0 < length b = omega (arith, ap length is, length-append (spelling u) rest, spelling_takes_room u) in
+    let split = nonempty b room in
+    let text : split.0 ∷ split.1 ≡ spelling u ++ rest = sym split.2 ∙ is in
+    let first : first_unit (split.0 ∷ split.1) ≡ Some (u, length (spelling u)) = ap first_unit text ∙ found_first u rest unit in
+    let behind : drop (length (spelling u)) (split.0 ∷ split.1) ≡ rest = ap (drop (length (spelling u))) text ∙ drop_at (spelling u) rest (length (spelling u)) refl in
+    ap (units_within (suc n)) split.2 ∙ rw (first, behind, others) refl
+
+units_complete : (us : List ℕ) (n : ℕ) → AllByRecursion IsUnit us → length (spelled us) ≤ n → units_within n (spelled us) ≡ Some us
+unfolding units_within
+units_complete [] n units le = refl
+units_complete (u ∷ us) zero units le = absurd (omega (arith, length-append (spelling u) (spelled us), spelling_takes_room u))
+units_complete (u ∷ us) (suc n) units le =
+    one_within n (spelling u ++ spelled us) (spelled us) u us refl units.0 (units_complete us n units.1 (omega (arith, length-append (spelling u) (spelled us), spelling_takes_room u)))
+
+pub units_decide : (b us : List ℕ) → ((units_of b ≡ Some us) → Spells us b) × (Spells us b → (units_of b ≡ Some us))
+units_decide b us = (
+  units_sound (length b) b us,
+  λ spells. ap (λ (xs : List ℕ). units_within (length b) xs) spells.1 ∙ units_complete us (length b) spells.0 (omega (arith, ap length spells.1)),
+)
+
+-- ---- tests and facts
+
+and_both : (a b : Bool) → a && b ≡ true → (a ≡ true) × (b ≡ true)
+and_both true b e = (refl, e)
+and_both false b e = absurd cc
+
+both_and : (a b : Bool) → a ≡ true → b ≡ true → a && b ≡ true
+both_and true b p q = q
+both_and false b p q = absurd cc
+
+is_some_of : {A : Type 0} (o : Option A) → is_some o ≡ true → (x : A) × (o ≡ Some x)
+is_some_of None e = absurd cc
+is_some_of (Some x) e = (x, refl)
+
+well_spelled : (b : List ℕ) → is_some (units_of b) ≡ true → IsWellSpelled b
+well_spelled b e = let us = is_some_of (units_of b) e in (us.0, (units_decide b us.0).0 us.1)
+
+well_spelled_test : (b : List ℕ) → IsWellSpelled b → is_some (units_of b) ≡ true
+well_spelled_test b w = ap is_some ((units_decide b w.0).1 w.1)
+
+any_stop : (c : ℕ) (stops : List ℕ) → list_any (λ s. eqb s c) stops ≡ true → Contains stops c
+any_stop c [] e = absurd cc
+any_stop c (s ∷ stops) e =
+    elim (cases_Bool (eqb s c)) [
+      | inl hit ↦ (0, omega arith, eqb-true s c hit)
+      | inr miss ↦ let rest = any_stop c stops (let e' = e in let m = miss in rw m at e') in let within = rest.1 in (suc rest.0, omega arith, rest.2)
+    ]
+
+not_any : (c : ℕ) → (Contains name_stops c → ⊥) → not (list_any (λ s. eqb s c) name_stops) ≡ true
+not_any c h =
+    elim (cases_Bool (list_any (λ s. eqb s c) name_stops)) [
+      | inl hit ↦ absurd (h (any_stop c name_stops hit))
+      | inr miss ↦ ap not miss
+    ]
+
+not_empty : (b : List ℕ) → b ≢ [] → not (eqb (length b) 0) ≡ true
+not_empty [] h = absurd (h refl)
+not_empty (x ∷ b) h = ap not (ne_eqb (suc (length b)) 0 (λ e. absurd (omega arith)))
+
+lacks_test : (b : List ℕ) → AllByRecursion (λ c. Contains name_stops c → ⊥) b → list_all (λ c. not (list_any (λ s. eqb s c) name_stops)) b ≡ true
+lacks_test [] h = refl
+lacks_test (c ∷ b) h = both_and _ _ (not_any c h.0) (lacks_test b h.1)
+
+unqualified_fact : (b : List ℕ) → is_unqualified_text b ≡ true → IsUnqualifiedName b
+unqualified_fact b e =
+    let w = and_both (is_some (units_of b)) (not (eqb (length b) 0) && list_all (λ c. not (list_any (λ s. eqb s c) name_stops)) b) e in
+    let l = and_both (not (eqb (length b) 0)) (list_all (λ c. not (list_any (λ s. eqb s c) name_stops)) b) w.1 in
+    (well_spelled b w.0, (λ nil. absurd (let none = eq-eqb (length b) 0 (ap length nil) in let some = l.0 in cc)), lacks_by_test b name_stops l.1)
+
+unqualified_test : (b : List ℕ) → IsUnqualifiedName b → is_unqualified_text b ≡ true
+unqualified_test b h = both_and _ _ (well_spelled_test b h.0) (both_and _ _ (not_empty b h.1) (lacks_test b (recursion_from_All (λ c. Contains name_stops c → ⊥) b h.2)))
+
+all_fact : {X : Type 0} (p : X → Bool) (P : X → Type 0) → ((x : X) → p x ≡ true → P x) → (xs : List X) → list_all p xs ≡ true → AllByRecursion P xs
+all_fact p P h [] e = tt
+all_fact p P h (x ∷ xs) e = let b = and_both (p x) (list_all p xs) e in (h x b.0, all_fact p P h xs b.1)
+
+all_test : {X : Type 0} (p : X → Bool) (P : X → Type 0) → ((x : X) → P x → p x ≡ true) → (xs : List X) → AllByRecursion P xs → list_all p xs ≡ true
+all_test p P h [] a = refl
+all_test p P h (x ∷ xs) a = both_and (p x) (list_all p xs) (h x a.0) (all_test p P h xs a.1)
+
+class_fact : (b : List ℕ) → is_class_text b ≡ true → IsClassName b
+class_fact b e = (class_name_by_split b).0 (All-from_recursion IsUnqualifiedName (slice_split (λ c. eqb c 47) b) (all_fact is_unqualified_text IsUnqualifiedName unqualified_fact (slice_split (λ c. eqb c 47) b) e))
+
+class_test : (b : List ℕ) → IsClassName b → is_class_text b ≡ true
+class_test b h = all_test is_unqualified_text IsUnqualifiedName unqualified_test (slice_split (λ c. eqb c 47) b) (recursion_from_All IsUnqualifiedName (slice_split (λ c. eqb c 47) b) ((class_name_by_split b).1 h))
+
+pub unqualified_decides : (b : List ℕ) → ((is_unqualified_text b ≡ true) → IsUnqualifiedName b) × (IsUnqualifiedName b → (is_unqualified_text b ≡ true))
+unqualified_decides b = (unqualified_fact b, unqualified_test b)
+
+pub class_decides : (b : List ℕ) → ((is_class_text b ≡ true) → IsClassName b) × (IsClassName b → (is_class_text b ≡ true))
+class_decides b = (class_fact b, class_test b)
