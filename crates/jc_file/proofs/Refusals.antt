@@ -402,7 +402,7 @@ one_refusal b e f h k =
     sym (by_its_number e) ∙ ap (by_number (code_of e)) (place_is_told b e h.applies) ∙ ap (λ (n : ℕ). by_number n (told b n)) same
     ∙ sym (ap (by_number (code_of f)) (place_is_told b f k.applies)) ∙ by_its_number f
 
-is_read : (b : List ℕ) (c : ClassFile) → IsLayoutOf c b → (found : Parts × Reading) × (parts_at (start b) ≡ Ok found)
+pub is_read : (b : List ℕ) (c : ClassFile) → IsLayoutOf c b → (found : Parts × Reading) × (parts_at (start b) ≡ Ok found)
 is_read b c here =
     let again = read_again c here.fits in
     let text : layout c ++ [] ≡ b = append-nil (layout c) ∙ here.bytes in

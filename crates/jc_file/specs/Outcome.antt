@@ -1,5 +1,5 @@
 -- The class that bytes name, or why they name none, as a function.
-use Rattle.std.specs.Prelude.{◌≡◌, ℕ, List, Option, Some, None, Result, Ok, Err, if◌then◌else◌, option_and_then}
+use Rattle.std.specs.Prelude.{◌≡◌, ◌<◌, ℕ, List, slice_index, Option, Some, None, Result, Ok, Err, if◌then◌else◌, option_and_then}
 use Rattle.jc_base.specs.TextTests.{is_class_text}
 use Rattle.jc_file.specs.declared.parse_error.ParseError.{ParseError}
 use Rattle.jc_file.specs.declared.parse_error.ParseError.TheVariants as errors
@@ -7,6 +7,10 @@ use Rattle.jc_file.specs.ConstantPool.{class_entry, utf8_text}
 use Rattle.jc_file.specs.ClassFile.{ClassFile, constant_at}
 use Rattle.jc_file.specs.Reading.{◌>>=◌, or_refusal, parts_at, class_value}
 use Rattle.jc_file.specs.Refusal.{IsLayoutOf, IsNamed}
+
+-- numbers below 256, as the elements of a slice of bytes are
+abbrev pub AreBytes : List ℕ → Type 0
+AreBytes b = (i : ℕ) → slice_index b i < 256
 
 -- the bytes are a readable file that names this class
 abbrev pub NamesClass : List ℕ → List ℕ → Type 0
@@ -19,11 +23,11 @@ class_text name = if is_class_text name then Some name else None
 unfoldable pub name_in : ClassFile → Option (List ℕ)
 name_in c =
     option_and_then (λ class.
-      option_and_then (λ entry.
-        option_and_then (λ text.
-          option_and_then class_text (utf8_text text))
-        (constant_at c entry))
-      (class_entry class))
+    option_and_then (λ entry.
+    option_and_then (λ text.
+    option_and_then class_text (utf8_text text))
+    (constant_at c entry))
+    (class_entry class))
     (constant_at c c.this_class)
 
 -- the class that bytes name, or the first refusal that applies: `outcomes_are_exact` says so

@@ -3,11 +3,13 @@
 #![tactic(auto)]
 
 mod constant_pool;
+mod laws;
 mod parse_error;
 mod pool;
 mod skip;
 mod view;
 
 pub use constant_pool::{Constant, ConstantIndex, ConstantKind};
+pub use laws::{layouts_are_apart, outcomes_are_exact};
 pub use parse_error::ParseError;
 pub use view::{ClassView, parse};

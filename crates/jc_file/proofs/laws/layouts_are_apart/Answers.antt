@@ -1,0 +1,5 @@
+use Rattle.jc_file.proofs.Refusals.{one_layout, one_refusal, none_applies}
+use Rattle.jc_file.proofs.laws.layouts_are_apart.Goals as goal
+
+pub returns : goal.returns
+returns c = record { fronts = one_layout; refusals = one_refusal; readable = λ b e h. none_applies b e h }
