@@ -1,0 +1,89 @@
+-- What a list of lines owes.
+use Rattle.std.specs.Prelude.{ℕ, List, [], ◌∷◌, ◌++◌, Option, Some, None, Result, Ok, Err, codes, decimal}
+use Rattle.jc_session.specs.declared.edit.EditError.{EditError}
+use Rattle.jc_session.specs.declared.edit.EditError.TheVariants as errors
+use Rattle.jc_session.specs.declared.source.SourceError.{SourceError}
+use Rattle.jc_session.specs.declared.source.SourceError.TheVariants as sources
+use Rattle.jc_session.specs.Files.{Files, Change, Adds, Replaces, Removes, judge, after}
+use Rattle.jc_session.specs.RowText.{path_text, report_text}
+use Rattle.jc_session.specs.Lines.{Command, Add, Replace, Remove, Report, End, Bad, command_of, lines_of}
+
+-- what a source answers, in order
+abbrev pub SourceAnswers : Type 0
+SourceAnswers = List (Result (List ℕ) SourceError)
+
+abbrev pub edit_code : EditError → ℕ
+edit_code errors.AlreadyThere = 1
+edit_code errors.NoSuchFile = 2
+edit_code errors.TooLarge = 3
+edit_code errors.TooMany = 4
+edit_code errors.BadPath = 5
+edit_code errors.NoMemory = 6
+
+abbrev pub edit_error_name : EditError → List ℕ
+edit_error_name errors.AlreadyThere = codes "AlreadyThere"
+edit_error_name errors.NoSuchFile = codes "NoSuchFile"
+edit_error_name errors.TooLarge = codes "TooLarge"
+edit_error_name errors.TooMany = codes "TooMany"
+edit_error_name errors.BadPath = codes "BadPath"
+edit_error_name errors.NoMemory = codes "NoMemory"
+
+-- what one line is answered, and what is then
+pub data Reply : Type 0 where
+  -- this text, with these files and these answers of the source to come
+  Says : (text : List ℕ) (files : Files) (source : SourceAnswers) → Reply
+  -- nothing, and no line after it is read
+  Ends : Reply
+  -- the source had no memory, with these answers to come
+  Lacks : (source : SourceAnswers) → Reply
+
+abbrev pub judged_reply : Files → SourceAnswers → Change → Option EditError → Reply
+judged_reply f s change None = Says (codes "ok\n") (after f change) s
+judged_reply f s change (Some e) = Says (codes "refused " ++ decimal (edit_code e) ++ codes " " ++ edit_error_name e ++ codes "\n") f s
+
+-- an edit that judge lets pass happens
+abbrev pub edit_reply : Files → SourceAnswers → Change → Reply
+edit_reply f s change = judged_reply f s change (judge f change)
+
+-- the source is asked for the bytes first, and answers Unread with none left
+abbrev pub sourced_reply : Files → SourceAnswers → List ℕ → (List ℕ → Change) → Reply
+sourced_reply f [] path change = Says (codes "unread " ++ path_text path ++ codes "\n") f []
+sourced_reply f (Ok bytes ∷ s) path change = edit_reply f s (change bytes)
+sourced_reply f (Err sources.Unread ∷ s) path change = Says (codes "unread " ++ path_text path ++ codes "\n") f s
+sourced_reply f (Err sources.NoMemory ∷ s) path change = Lacks s
+
+abbrev pub reply : Files → SourceAnswers → Command → Reply
+reply f s (Add path) = sourced_reply f s path (Adds path)
+reply f s (Replace path) = sourced_reply f s path (Replaces path)
+reply f s (Remove path) = edit_reply f s (Removes path)
+reply f s Report = Says (report_text f) f s
+reply f s End = Ends
+reply f s Bad = Says (codes "bad line\n") f s
+
+pub data Ending : Type 0 where
+  AtEnd : Ending
+  AtEof : Ending
+  WithoutMemory : Ending
+
+-- a run over lines: all that it says, the files and the source's answers that are left, and how it ends
+pub record Run : Type 0 where
+  pub text : List ℕ
+  pub files : Files
+  pub source : SourceAnswers
+  pub ending : Ending
+
+abbrev pub after_text : List ℕ → Run → Run
+after_text text run = record { text = text ++ run.text; files = run.files; source = run.source; ending = run.ending }
+
+unfoldable pub run_of : Files → SourceAnswers → List (List ℕ) → Run
+run_of f s [] = record { text = []; files = f; source = s; ending = AtEof }
+run_of f s (line ∷ lines) =
+    elim (reply f s (command_of line)) [
+      | Says text files source ↦ after_text text (run_of files source lines)
+      | Ends ↦ record { text = []; files = f; source = s; ending = AtEnd }
+      | Lacks source ↦ record { text = []; files = f; source = source; ending = WithoutMemory }
+    ]
+
+-- the text that a run owes for files, the source's answers to come and an input
+abbrev pub answers : Files → SourceAnswers → List ℕ → List ℕ
+answers f s input = (run_of f s (lines_of input)).text

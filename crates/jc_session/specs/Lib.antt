@@ -1,0 +1,10 @@
+pub mod Files
+pub mod Rows
+pub mod RowText
+pub mod Lines
+pub mod Answers
+pub use Rattle.jc_file.specs.Outcome
+pub use Rattle.jc_file.specs.Refusal
+pub use Rattle.jc_base.specs.Bytes
+pub use Rattle.jc_base.specs.TextTests
+pub mod FileRowView

@@ -1,0 +1,36 @@
+-- How input is cut into lines, and what a line asks for.
+use Rattle.std.specs.Prelude.{ℕ, ◌==◌, nat_eq, nat_lt, List, [], ◌∷◌, length, drop, Bool, if◌then◌else◌, codes}
+use Rattle.std.specs.List.{starts_with}
+use Rattle.jc_base.specs.Bytes.{same_bytes}
+
+abbrev pub onto_first : ℕ → List (List ℕ) → List (List ℕ)
+onto_first x [] = (x ∷ []) ∷ []
+onto_first x (line ∷ lines) = (x ∷ line) ∷ lines
+
+-- the lines of an input, without the LF that ends each; a last line without it counts if it has a byte
+abbrev pub lines_of : List ℕ → List (List ℕ)
+lines_of [] = []
+lines_of (x ∷ input) = if x == 10 then [] ∷ lines_of input else onto_first x (lines_of input)
+
+-- what a line asks for
+pub data Command : Type 0 where
+  Add : (path : List ℕ) → Command
+  Replace : (path : List ℕ) → Command
+  Remove : (path : List ℕ) → Command
+  Report : Command
+  End : Command
+  Bad : Command
+
+abbrev pub begins_with : List ℕ → List ℕ → Bool
+begins_with word line = starts_with nat_eq line word
+
+-- all bytes after the one space are the path; a line over 8,192 bytes is bad
+abbrev pub command_of : List ℕ → Command
+command_of line =
+    if nat_lt 8192 (length line) then Bad
+    else (if begins_with (codes "add ") line then Add (drop 4 line)
+    else (if begins_with (codes "replace ") line then Replace (drop 8 line)
+    else (if begins_with (codes "remove ") line then Remove (drop 7 line)
+    else (if same_bytes line (codes "report") then Report
+    else (if same_bytes line (codes "end") then End
+    else Bad)))))

@@ -1,0 +1,58 @@
+//! Edits of the files, and why one is refused.
+
+ghost use Rattle.std.specs.Prelude.{◌≡◌};
+ghost use Rattle.jc_session.specs.declared.edit.EditError.TheVariants.{NoMemory};
+
+use std::alloc::{AllocError, AllocFailed};
+
+/// An edit of the files, by paths. Paths and bytes are owned; a refusal drops them.
+#[derive(Debug, Drop)]
+pub enum Edit {
+    /// A new file at a path, with its bytes.
+    Add(Vec<u8>, Vec<u8>),
+    /// Other bytes at the path of a file.
+    Replace(Vec<u8>, Vec<u8>),
+    /// No file at a path.
+    Remove(Vec<u8>),
+}
+
+/// What an accepted edit cost: class parts made, and classes asked for.
+#[derive(Clone, Copy, Debug, PartialEq, Eq)]
+pub struct Done {
+    pub made: u64,
+    pub asks: u64,
+}
+
+/// Why an edit is refused: the first that applies, in the order `BadPath`, `AlreadyThere` or
+/// `NoSuchFile`, `TooLarge`, `TooMany`, and `NoMemory` only where none of them does.
+#[derive(Clone, Copy, Debug, PartialEq, Eq)]
+pub enum EditError {
+    /// `Add`: a file stands at the path.
+    AlreadyThere,
+    /// `Replace` and `Remove`: no file stands at the path.
+    NoSuchFile,
+    /// The bytes are more than 16,777,216.
+    TooLarge,
+    /// `Add`: there are 65,535 files.
+    TooMany,
+    /// The path is empty or longer than 4,096 bytes.
+    BadPath,
+    /// Memory was refused.
+    NoMemory,
+}
+
+impl From<AllocError> for EditError {
+    ghost from_gives = { λ _ e. e ≡ NoMemory };
+
+    fn from(_: AllocError) -> EditError {
+        EditError::NoMemory
+    }
+}
+
+impl<T: Drop> From<AllocFailed<T>> for EditError {
+    ghost from_gives = { λ _ e. e ≡ NoMemory };
+
+    fn from(_: AllocFailed<T>) -> EditError {
+        EditError::NoMemory
+    }
+}
