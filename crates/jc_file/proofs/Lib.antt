@@ -11,3 +11,4 @@ pub mod Stored
 pub mod Refusals
 pub mod Parsed
 pub mod Outcomes
+pub mod Bytes

@@ -10,3 +10,4 @@ pub mod Refusal
 pub use Rattle.jc_base.specs.Cursor
 pub use Rattle.jc_base.specs.Endian
 pub mod Outcome
+pub mod Examples

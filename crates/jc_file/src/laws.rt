@@ -1,6 +1,7 @@
 //! Laws of the definitions: functions without a body, whose contracts are the laws.
 
-ghost use Rattle.std.specs.Prelude.{◌≡◌, ◌↔◌, ◌++◌, [], ℕ, List, Ok, Err};
+ghost use Rattle.std.specs.Prelude.{◌≡◌, ◌↔◌, ◌++◌, [], ◌∷◌, ℕ, List, Ok, Err, take, codes};
+ghost use Rattle.jc_file.specs.Examples.{class_a, class_a_data, head, constants, tail};
 ghost use Rattle.jc_file.specs.declared.parse_error.ParseError.{ParseError};
 ghost use Rattle.jc_file.specs.ClassFile.{ClassFile, layout, FitsClassFile};
 ghost use Rattle.jc_file.specs.Refusal.{Applies, IsReadable, IsRefusal};
@@ -23,3 +24,22 @@ pub fn layouts_are_apart()
     ensures refusals { (b : List ℕ) (e f : ParseError) → IsRefusal b e → IsRefusal b f → e ≡ f }
     ensures readable { (b : List ℕ) (e : ParseError) → IsReadable b → ¬ Applies e b }
 {}
+
+/// A class file of 53 bytes, and how bytes near it are refused.
+pub fn parsing_examples()
+    ensures layout { layout class_a_data ≡ class_a }
+    ensures named { NamesClass class_a (codes "A") }
+    ensures empty { IsRefusal [] ParseError.Short }
+    ensures cut { IsRefusal (take 52 class_a) ParseError.Short }
+    ensures more { IsRefusal (class_a ++ 0 ∷ []) (ParseError.Trailing 53) }
+    ensures magic { IsRefusal (0xca ∷ 0xfe ∷ 0xba ∷ 0xbf ∷ []) ParseError.Magic }
+    ensures version { IsRefusal (0xca ∷ 0xfe ∷ 0xba ∷ 0xbe ∷ 0 ∷ 0 ∷ 0 ∷ 0x3d ∷ []) ParseError.Version }
+    ensures count { IsRefusal (head 0 ++ constants ++ tail 1) ParseError.Count }
+    ensures tag { IsRefusal (head 6 ++ constants ++ tail 1) (ParseError.Tag 39) }
+    ensures fewer { IsRefusal (head 4 ++ constants ++ tail 1) ParseError.Short }
+    ensures wide { IsRefusal (head 2 ++ 5 ∷ []) (ParseError.Wide 10) }
+    ensures no_tag { IsRefusal (head 2 ++ 2 ∷ []) (ParseError.Tag 10) }
+    ensures no_name { IsRefusal (head 5 ++ constants ++ tail 2) ParseError.NoName }
+{
+    outcomes_are_exact();
+}

@@ -10,6 +10,6 @@ mod skip;
 mod view;
 
 pub use constant_pool::{Constant, ConstantIndex, ConstantKind};
-pub use laws::{layouts_are_apart, outcomes_are_exact};
+pub use laws::{layouts_are_apart, outcomes_are_exact, parsing_examples};
 pub use parse_error::ParseError;
 pub use view::{ClassView, parse};
