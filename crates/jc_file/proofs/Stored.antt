@@ -2,13 +2,14 @@
 use Rattle.std.proofs.Common.{◌≡◌, ℕ, zero, suc, ◌+◌, ◌-◌, ◌<◌, ◌≤◌, Bool, true, false, cond, eqb, ltb, List, [], ◌∷◌, ◌++◌, length, take, drop, Option, Some, None, option_and_then, slice_get, refl, sym, ap, subst, ◌∙◌, append_assoc, arith, inl, inr, length-append}
 use Rattle.std.specs.List.{AllByRecursion}
 use Rattle.std.proofs.lemmas.Bool.{cases_Bool, ne_eqb, lt-ltb, le-ltb}
-use Rattle.std.proofs.lemmas.List.{drop_at, drop-drop, length-drop, append-nil}
+use Rattle.std.proofs.lemmas.List.{take_at, drop_at, drop-drop, length-drop, append-nil}
 use Rattle.jc_base.specs.Endian.{big_number}
 use Rattle.jc_file.specs.declared.constant_pool.ConstantIndex.{ConstantIndex}
+use Rattle.jc_file.specs.ConstantPool as pool
 use Rattle.jc_file.specs.ConstantPool.{Constant, kind_of, tag_of, kind_of_tag, is_wide, body_bytes, constant_bytes, FitsConstant}
 use Rattle.jc_file.specs.ClassFile.{ClassFile, head_bytes, tail_bytes, layout, FitsClassFile, slots, second_index, places_of, constant_from_first, constant_at}
 use Rattle.jc_file.specs.Reading.{after, after_body, body_value, constant_read}
-use Rattle.jc_file.specs.Stored.{place_at, Holds}
+use Rattle.jc_file.specs.Stored.{place_at, Holds, IsLent}
 use Rattle.jc_file.proofs.Numbers.{after_front, after_text}
 use Rattle.jc_file.proofs.PoolLaws.{first_byte, kind_of_its_tag, pool_bytes}
 use Rattle.jc_file.proofs.Constants.{body_again}
@@ -79,3 +80,67 @@ pub found : (bytes : List ℕ) (places : List (Option ℕ)) (c : ClassFile) (ind
 unfolding place_from
 found bytes places c index h =
     ap (λ (b : List ℕ). read_at b (place_at places index)) (sym h.layout) ∙ ap (λ (ps : List (Option ℕ)). read_at (layout c) (place_at ps index)) h.are_places ∙ found_in c index.0 h.fits
+
+-- ---- texts at their places
+
+-- a constant begins at the place of its index
+pub record BeginsAt (bytes : List ℕ) (constant : Constant) (place : Option ℕ) : Type 0 where
+  pub at : ℕ
+  pub is_at : place ≡ Some at
+  pub rest : List ℕ
+  pub stands : drop at bytes ≡ constant_bytes constant ++ rest
+
+some_is : {A : Type 0} (x y : A) → Some x ≡ Some y → x ≡ y
+some_is x y e = cc
+
+begins_later : (w : Bool) (constants : List Constant) (places : List (Option ℕ)) (bytes : List ℕ) (constant : Constant)
+    → ((j : ℕ) → constant_from_first constants j ≡ Some constant → BeginsAt bytes constant (place_from places j))
+    → (i : ℕ) → cond (ltb (suc i) (cond w 2 1)) None (constant_from_first constants (suc i - cond w 2 1)) ≡ Some constant → BeginsAt bytes constant (place_from (second_index w ++ places) i)
+unfolding place_from
+begins_later true constants places bytes constant h zero e = absurd cc
+begins_later true constants places bytes constant h (suc i) e =
+    let past : ltb (suc (suc i)) 2 ≡ false = le-ltb _ _ (omega arith) in
+    let left : suc (suc i) - 2 ≡ i = omega arith in
+    h i (sym (rw (past, left) refl) ∙ e)
+begins_later false constants places bytes constant h i e =
+    let past : ltb (suc i) 1 ≡ false = le-ltb _ _ (omega arith) in
+    let left : suc i - 1 ≡ i = omega arith in
+    h i (sym (rw (past, left) refl) ∙ e)
+
+begins_from : (constants : List Constant) (place : ℕ) (bytes rest : List ℕ) (constant : Constant) (i : ℕ) → drop place bytes ≡ pool_bytes constants ++ rest
+    → constant_from_first constants i ≡ Some constant → BeginsAt bytes constant (place_from (places_of place constants) i)
+unfolding place_from places_of
+begins_from [] place bytes rest constant i here e = absurd cc
+begins_from (c ∷ cs) place bytes rest constant zero here e =
+    let grouped : drop place bytes ≡ constant_bytes c ++ (pool_bytes cs ++ rest) = here ∙ append_assoc (constant_bytes c) (pool_bytes cs) rest in
+    record { at = place; is_at = refl; rest = pool_bytes cs ++ rest; stands = grouped ∙ ap (λ (k : Constant). constant_bytes k ++ (pool_bytes cs ++ rest)) (some_is c constant e) }
+begins_from (c ∷ cs) place bytes rest constant (suc i) here e =
+    let grouped : drop place bytes ≡ constant_bytes c ++ (pool_bytes cs ++ rest) = here ∙ append_assoc (constant_bytes c) (pool_bytes cs) rest in
+    let next_place = place + length (constant_bytes c) in
+    let next : drop next_place bytes ≡ pool_bytes cs ++ rest =
+    sym (drop-drop (length (constant_bytes c)) place bytes) ∙ ap (drop (length (constant_bytes c))) grouped ∙ drop_at (constant_bytes c) (pool_bytes cs ++ rest) (length (constant_bytes c)) refl in
+    let not_first : eqb (suc i) 0 ≡ false = ne_eqb (suc i) 0 (λ h. absurd (omega arith)) in
+    begins_later (is_wide (kind_of c)) cs (places_of next_place cs) bytes constant (λ j h. begins_from cs next_place bytes rest constant j next h) i (sym (rw not_first refl) ∙ e)
+
+begins_in : (c : ClassFile) (n : ℕ) (constant : Constant) → FitsClassFile c → constant_at c (record { 0 = n }) ≡ Some constant → BeginsAt (layout c) constant (place_from (None ∷ places_of 10 c.constants) n)
+unfolding place_from
+begins_in c zero constant fits e = absurd cc
+begins_in c (suc n) constant fits e =
+    let again = whole_again c [] fits in
+    let text : layout c ++ [] ≡ layout c = append-nil (layout c) in
+    let behind : drop 10 (layout c) ≡ pool_bytes c.constants ++ (tail_bytes c ++ []) = ap (drop 10) (sym text) ∙ again.behind_ten in
+    let not_first : eqb (suc n) 0 ≡ false = ne_eqb (suc n) 0 (λ h. absurd (omega arith)) in
+    let left : suc n - 1 ≡ n = omega arith in
+    begins_from c.constants 10 (layout c) (tail_bytes c ++ []) constant n behind (sym (rw (not_first, left) refl) ∙ e)
+
+-- the text of a Utf8 constant is the part of the layout at its place
+pub lent : (c : ClassFile) (index : ConstantIndex) (text : List ℕ) → FitsClassFile c → constant_at c index ≡ Some (pool.Utf8 text) → IsLent c index text
+unfolding place_from constant_bytes
+lent c index text fits e =
+    let b = begins_in c index.0 (pool.Utf8 text) fits e in
+    let front : drop 3 (constant_bytes (pool.Utf8 text) ++ b.rest) ≡ text ++ b.rest = refl in
+    record {
+      place = b.at;
+      begins = b.is_at;
+      part = ap (take (length text)) (sym (drop-drop 3 b.at (layout c)) ∙ ap (drop 3) b.stands ∙ front) ∙ take_at text b.rest (length text) refl;
+    }

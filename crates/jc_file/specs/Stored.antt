@@ -1,11 +1,17 @@
 -- What the places of the constants tell.
-use Rattle.std.specs.Prelude.{◌≡◌, ℕ, ◌+◌, List, [], ◌∷◌, ◌++◌, drop, Option, Some, None, slice_get, option_and_then}
+use Rattle.std.specs.Prelude.{◌≡◌, ℕ, ◌+◌, List, [], ◌∷◌, ◌++◌, length, take, drop, Option, Some, None, slice_get, option_and_then}
 use Rattle.jc_file.specs.declared.constant_pool.ConstantIndex.{ConstantIndex}
 use Rattle.jc_file.specs.ConstantPool.{Constant, constant_bytes, FitsConstant}
 use Rattle.jc_file.specs.ClassFile.{ClassFile, layout, FitsClassFile, places_of}
 
 abbrev pub place_at : List (Option ℕ) → ConstantIndex → Option ℕ
 place_at places index = option_and_then (λ place. place) (slice_get places index.0)
+
+-- the text of the Utf8 constant of an index, as the part of the layout at its place: behind a tag and two bytes of length
+pub record IsLent (c : ClassFile) (index : ConstantIndex) (text : List ℕ) : Type 0 where
+  pub place : ℕ
+  pub begins : place_at (None ∷ places_of 10 c.constants) index ≡ Some place
+  pub part : take (length text) (drop (place + 3) (layout c)) ≡ text
 
 -- the bytes are those of a class file whose constants begin at these places
 pub record Holds (bytes : List ℕ) (places : List (Option ℕ)) (c : ClassFile) : Type 0 where

@@ -4,7 +4,7 @@ ghost use Rattle.std.specs.Prelude.{◌≡◌, ◌↔◌, ◌++◌, [], ◌∷�
 ghost use Rattle.jc_file.specs.Examples.{class_a, class_a_data, head, constants, tail};
 ghost use Rattle.jc_file.specs.declared.parse_error.ParseError.{ParseError};
 ghost use Rattle.jc_file.specs.ClassFile.{ClassFile, layout, FitsClassFile};
-ghost use Rattle.jc_file.specs.Refusal.{Applies, IsReadable, IsRefusal};
+ghost use Rattle.jc_file.specs.Refusal.{Applies, IsLayoutOf, IsReadable, IsRefusal};
 ghost use Rattle.jc_file.specs.Outcome.{AreBytes, NamesClass, class_named};
 
 use jc_base::texts_are_decided;
@@ -21,6 +21,7 @@ pub fn outcomes_are_exact()
 /// most one refusal is the first that applies.
 pub fn layouts_are_apart()
     ensures fronts { (c d : ClassFile) (rest : List ℕ) → FitsClassFile c → FitsClassFile d → layout c ++ rest ≡ layout d → (rest ≡ []) × (c ≡ d) }
+    ensures one_record { (b : List ℕ) (c d : ClassFile) → IsLayoutOf c b → IsLayoutOf d b → c ≡ d }
     ensures refusals { (b : List ℕ) (e f : ParseError) → IsRefusal b e → IsRefusal b f → e ≡ f }
     ensures readable { (b : List ℕ) (e : ParseError) → IsReadable b → ¬ Applies e b }
 {}

@@ -3,7 +3,7 @@
 ghost use Rattle.std.specs.Prelude.{◌≡◌, ◌⊎◌, ℕ, List, IfOk, IfErr, IfSome, IfNone};
 ghost use Rattle.jc_file.specs.declared.parse_error.ParseError.TheVariants.{NoMemory};
 ghost use Rattle.jc_file.specs.ClassFile.{ClassFile};
-ghost use Rattle.jc_file.specs.Stored.{Holds};
+ghost use Rattle.jc_file.specs.Stored.{Holds, IsLent};
 ghost use Rattle.jc_file.specs.Refusal.{IsLayoutOf, IsNamed, IsReadable, IsRefusal};
 
 use crate::constant_pool::{Constant, ConstantIndex};
@@ -39,7 +39,9 @@ impl<'a> Model for ClassView<'a> {
 impl<'a> ClassView<'a> {
     /// The name of the class, in its internal form (JVMS 4.2.1).
     pub fn name(&self) -> &'a [u8]
-        ensures { IsNamed self.now result.now }
+        ensures named { IsNamed self.now result.now }
+        // It is the part of the file at its place.
+        ensures lent { (named : IsNamed self.now result.now) → IsLent self.now named.entry result.now }
     {
         self.name
     }

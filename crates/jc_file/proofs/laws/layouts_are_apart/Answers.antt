@@ -1,5 +1,5 @@
-use Rattle.jc_file.proofs.Refusals.{one_layout, one_refusal, none_applies}
+use Rattle.jc_file.proofs.Refusals.{one_layout, one_class, one_refusal, none_applies}
 use Rattle.jc_file.proofs.laws.layouts_are_apart.Goals as goal
 
 pub returns : goal.returns
-returns c = record { fronts = one_layout; refusals = one_refusal; readable = λ b e h. none_applies b e h }
+returns c = record { fronts = one_layout; one_record = one_class; refusals = one_refusal; readable = λ b e h. none_applies b e h }
