@@ -1,9 +1,9 @@
 -- A class file as plain data, and its bytes (JVMS 4.1, 4.4 to 4.7).
-use Rattle.std.specs.Prelude.{◌≡◌, ℕ, ◌+◌, ◌<◌, ◌^◌, ◌⊎◌, Bool, true, false, List, [], ◌∷◌, ◌++◌, length, Option, Some, None, if◌then◌else◌, ◌==◌, nat_lt, ◌-◌}
+use Rattle.std.specs.Prelude.{◌≡◌, ℕ, ◌+◌, ◌<◌, ◌^◌, ◌⊎◌, Bool, true, false, List, [], ◌∷◌, ◌++◌, length, Option, Some, None, if◌then◌else◌, ◌==◌, nat_lt, ◌-◌, option_and_then}
 use Rattle.std.specs.List.{flat_map, AllByRecursion}
 use Rattle.jc_base.specs.Endian.{big_bytes}
 use Rattle.jc_file.specs.declared.constant_pool.ConstantIndex.{ConstantIndex}
-use Rattle.jc_file.specs.ConstantPool.{Constant, constant_bytes, FitsConstant, kind_of, is_wide, index_bytes, IsIndex}
+use Rattle.jc_file.specs.ConstantPool.{Constant, constant_bytes, FitsConstant, kind_of, is_wide, index_bytes, IsIndex, class_entry, utf8_text}
 
 pub record Attribute : Type 0 where
   pub name : ConstantIndex
@@ -120,3 +120,12 @@ unfoldable pub places_of : ℕ → List Constant → List (Option ℕ)
 places_of place [] = []
 places_of place (constant ∷ constants) =
     Some place ∷ (second_index (is_wide (kind_of constant)) ++ places_of (place + length (constant_bytes constant)) constants)
+
+-- the text of the Class constant of an index
+abbrev pub class_text_at : ClassFile → ConstantIndex → Option (List ℕ)
+class_text_at c index =
+    option_and_then (λ class.
+      option_and_then (λ entry.
+        option_and_then utf8_text (constant_at c entry))
+      (class_entry class))
+    (constant_at c index)

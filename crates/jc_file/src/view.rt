@@ -2,7 +2,9 @@
 
 ghost use Rattle.std.specs.Prelude.{◌≡◌, ◌⊎◌, ℕ, List, IfOk, IfErr, IfSome, IfNone};
 ghost use Rattle.jc_file.specs.declared.parse_error.ParseError.TheVariants.{NoMemory};
-ghost use Rattle.jc_file.specs.ClassFile.{ClassFile};
+ghost use Rattle.std.specs.Option.{option_copied, option_map};
+ghost use Rattle.jc_file.specs.ClassFile.{ClassFile, class_text_at, constant_at};
+ghost use Rattle.jc_file.specs.View.{constant_of};
 ghost use Rattle.jc_file.specs.Stored.{Holds, IsLent};
 ghost use Rattle.jc_file.specs.Refusal.{IsLayoutOf, IsNamed, IsReadable, IsRefusal};
 
@@ -25,7 +27,9 @@ pub struct ClassView<'a> {
 }
 
 impl<'a> Model for ClassView<'a> {
-    ghost use Rattle.jc_file.specs.ClassFile.{ClassFile};
+    ghost use Rattle.std.specs.Option.{option_copied, option_map};
+ghost use Rattle.jc_file.specs.ClassFile.{ClassFile, class_text_at, constant_at};
+ghost use Rattle.jc_file.specs.View.{constant_of};
 
     ghost Value = { ClassFile };
 
@@ -44,6 +48,29 @@ impl<'a> ClassView<'a> {
         ensures lent { (named : IsNamed self.now result.now) → IsLent self.now named.entry result.now }
     {
         self.name
+    }
+
+    /// The class's access flags (JVMS 4.1, table 4.1-B), those that mean nothing too.
+    pub fn flags(&self) -> u16
+        ensures { result ≡ self.now.flags }
+    {
+        self.numbers.flags
+    }
+
+    /// The text of the superclass's Class constant; `None` where super_class names none, as in
+    /// `java/lang/Object`, whose super_class is 0.
+    pub fn super_name(&self) -> Option<&'a [u8]>
+        ensures { option_copied result ≡ class_text_at self.now self.now.super_class }
+    {
+        class_text(self.bytes, &self.offsets, self.numbers.super_class)
+    }
+
+    /// The constant of an index; `None` for 0, for one past the last, and for the second index of a
+    /// `Long` or a `Double` (JVMS 4.4.5).
+    pub fn constant(&self, index: u16) -> Option<Constant<'a>>
+        ensures { option_map constant_of result ≡ constant_at self.now (record { 0 = index }) }
+    {
+        entry(self.bytes, &self.offsets, ConstantIndex(index))
     }
 }
 
@@ -68,6 +95,23 @@ pub fn parse<'a>(alloc: Global, bytes: &'a [u8]) -> Result<ClassView<'a>, ParseE
         numbers: parts.numbers,
         name,
     })
+}
+
+/// The text of the Class constant of an index.
+fn class_text<'a>(
+    bytes: &'a [u8],
+    offsets: &[Option<usize>],
+    index: ConstantIndex,
+) -> Option<&'a [u8]>
+    ensures { (c : ClassFile) → Holds bytes.now offsets.now c → option_copied result ≡ class_text_at c index }
+{
+    let Constant::Class(text) = entry(bytes, offsets, index)? else {
+        return None;
+    };
+    let Constant::Utf8(name) = entry(bytes, offsets, text)? else {
+        return None;
+    };
+    Some(name)
 }
 
 /// The text of the Class constant of an index, where it is a class name.
