@@ -1,20 +1,18 @@
 -- A class file that is read is the class file that was spelled, and what was spelled is read again.
-use Rattle.std.proofs.Common.{◌≡◌, ◌≢◌, ℕ, zero, suc, ◌+◌, ◌-◌, ◌*◌, ◌^◌, ◌<◌, ◌≤◌, ◌⊎◌, Bool, true, false, not, cond, eqb, List, [], ◌∷◌, ◌++◌, length, take, drop, Option, Some, None, option_and_then, Result, Ok, Err, refl, sym, ap, subst, ◌∙◌, append_assoc, arith, inl, inr, length-append, eq-eqb}
-use Rattle.std.specs.List.{flat_map, AllByRecursion}
-use Rattle.std.proofs.lemmas.Bool.{cases_Bool, cases_eq, cases_lt, eqb-true, ne_eqb}
-use Rattle.std.proofs.lemmas.List.{take_at, drop_at, take-append-drop, append-nil, nil_from_length, length-drop, drop-drop}
+use Rattle.std.proofs.Common.{◌≡◌, ℕ, ◌+◌, ◌-◌, ◌^◌, ◌<◌, ◌≤◌, true, false, List, [], ◌∷◌, ◌++◌, length, drop, Option, Some, None, Result, Ok, Err, refl, sym, ap, subst, ◌∙◌, append_assoc, arith, inl, inr, length-append}
+use Rattle.std.specs.List.{AllByRecursion}
+use Rattle.std.proofs.lemmas.List.{drop_at, append-nil, length-drop, drop-drop}
 use Rattle.jc_base.specs.Cursor.{Reading}
 use Rattle.jc_base.specs.Endian.{big_bytes, big_number}
 use Rattle.jc_file.specs.declared.parse_error.ParseError.{ParseError}
-use Rattle.jc_file.specs.declared.parse_error.ParseError.TheVariants as errors
 use Rattle.jc_file.specs.ConstantPool.{Constant, kind_of, tag_of, kind_of_tag, body_bytes, constant_bytes, FitsConstant, is_wide}
-use Rattle.jc_file.specs.ClassFile.{ClassFile, magic, head_bytes, tail_bytes, layout, FitsClassFile, IsAcceptedVersion, all_slots, second_index, places_of}
-use Rattle.jc_file.specs.Reading.{after, ◌>>=◌, or_refusal, unless, moved_to, with_front, pool_at, entries_from, head_at, after_tail, parts_at, body_value, constants_at, constant_value, class_with, class_value}
-use Rattle.jc_file.proofs.Numbers.{IsBytes, IsBytes-drop, width2, width4, Takes, Takes-then, takes_number, takes_two, again_two, number_again, after_some, after_front, length-big_bytes}
+use Rattle.jc_file.specs.ClassFile.{ClassFile, magic, tail_bytes, layout, FitsClassFile, IsAcceptedVersion, all_slots, second_index, places_of}
+use Rattle.jc_file.specs.Reading.{with_front, pool_at, entries_from, after_tail, constants_at, constant_value, class_with, class_value}
+use Rattle.jc_file.proofs.Numbers.{IsBytes, IsBytes-drop, width2, width4, Takes, Takes-then, takes_number, number_again, length-big_bytes}
 use Rattle.jc_file.proofs.PoolLaws.{first_byte, kind_of_its_tag, ok_is, pool_bytes, TakesPool, pool_take, entries_front}
 use Rattle.jc_file.proofs.Constants.{body_again}
-use Rattle.jc_file.proofs.Tail.{Taken, TakesTail, tail_takes, IsTailAgain, FitsTail, tail_again}
-use Rattle.jc_file.proofs.Whole.{start, IsGoodHead, good_head, behind, version_in}
+use Rattle.jc_file.proofs.Tail.{tail_takes, FitsTail, tail_again}
+use Rattle.jc_file.proofs.Whole.{IsGoodHead, behind}
 
 -- ---- constants at their places
 

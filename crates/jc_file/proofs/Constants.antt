@@ -1,14 +1,12 @@
 -- A constant that is read is the constant that was spelled, and what was spelled is read again.
-use Rattle.std.proofs.Common.{◌≡◌, ℕ, ◌+◌, ◌^◌, ◌<◌, ◌≤◌, Bool, true, false, List, [], ◌∷◌, ◌++◌, length, take, drop, Option, Some, None, option_and_then, refl, sym, ap, subst, ◌∙◌, append_assoc, arith}
-use Rattle.std.proofs.lemmas.List.{take_at, drop_at}
-use Rattle.jc_base.specs.Endian.{big_bytes, big_number}
+use Rattle.std.proofs.Common.{◌≡◌, ℕ, List, ◌++◌, Some, refl, ap}
 use Rattle.jc_file.specs.declared.constant_pool.ConstantIndex.{ConstantIndex}
 use Rattle.jc_file.specs.declared.constant_pool.ConstantKind.{ConstantKind}
 use Rattle.jc_file.specs.declared.constant_pool.ConstantKind.TheVariants as kinds
 use Rattle.jc_file.specs.ConstantPool as pool
 use Rattle.jc_file.specs.ConstantPool.{Constant, kind_of, body_bytes, FitsConstant}
-use Rattle.jc_file.specs.Reading.{after, after_body, body_value}
-use Rattle.jc_file.proofs.Numbers.{IsBytes, IsWidth, width1, width2, width4, width8, Takes, Takes-then, takes_front, takes_number, again_number, takes_two, again_two, takes_sized, again_sized}
+use Rattle.jc_file.specs.Reading.{after_body, body_value}
+use Rattle.jc_file.proofs.Numbers.{IsBytes, width1, width2, width4, width8, Takes, takes_number, again_number, takes_two, again_two, takes_sized, again_sized}
 
 -- what the body of a kind takes
 pub record TakesBody (kind : ConstantKind) (xs rest : List ℕ) : Type 0 where

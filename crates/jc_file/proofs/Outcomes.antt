@@ -1,6 +1,5 @@
 -- The class that bytes name, as a function, is what the definitions say.
-use Rattle.std.proofs.Common.{◌≡◌, ℕ, List, Bool, true, false, Option, Some, None, option_and_then, Result, Ok, Err, refl, sym, ap, subst, ◌∙◌, inl, inr}
-use Rattle.std.specs.Prelude.{IsTrue}
+use Rattle.std.proofs.Common.{◌≡◌, ℕ, List, true, Some, None, option_and_then, Result, Ok, Err, refl, sym, ap, subst, ◌∙◌, inl, inr}
 use Rattle.std.proofs.lemmas.Bool.{cases_Bool}
 use Rattle.jc_base.specs.Names.{IsClassName}
 use Rattle.jc_base.specs.TextTests.{is_class_text}
@@ -12,12 +11,12 @@ use Rattle.jc_file.specs.ConstantPool as pool
 use Rattle.jc_file.specs.ConstantPool.{Constant, class_entry, utf8_text}
 use Rattle.jc_file.specs.ClassFile.{ClassFile, constant_at}
 use Rattle.jc_file.specs.Reading.{◌>>=◌, or_refusal, Parts, parts_at, class_value}
-use Rattle.jc_file.specs.Refusal.{IsLayoutOf, IsNamed, IsReadable, IsRefusal}
+use Rattle.jc_file.specs.Refusal.{IsNamed, IsRefusal}
 use Rattle.jc_file.specs.Outcome.{NamesClass, class_text, name_in, class_named}
 use Rattle.jc_file.proofs.Numbers.{IsBytes, then_some}
 use Rattle.jc_file.proofs.PoolLaws.{bind_ok, bind_err, or_ok, or_err}
 use Rattle.jc_file.proofs.Refusals.{is_refusal, is_read, one_class, one_refusal, none_applies}
-use Rattle.jc_file.proofs.Parsed.{IsParsed, parsed, unnamed}
+use Rattle.jc_file.proofs.Parsed.{parsed, unnamed}
 use Rattle.jc_file.proofs.Whole.{start}
 
 -- the test for class names, from the base

@@ -1,6 +1,5 @@
 -- What `parse` answers, from what going over the bytes answers.
-use Rattle.std.proofs.Common.{◌≡◌, ◌⊎◌, ℕ, List, Result, Ok, Err, Option, Some, None, refl, sym, ap, subst, ◌∙◌, inl, inr}
-use Rattle.std.specs.Prelude.{IfErr}
+use Rattle.std.proofs.Common.{◌≡◌, ◌⊎◌, ℕ, List, Ok, Option, sym, ap, subst, inl, inr}
 use Rattle.jc_base.specs.Cursor.{Reading}
 use Rattle.jc_file.specs.declared.parse_error.ParseError.{ParseError}
 use Rattle.jc_file.specs.declared.parse_error.ParseError.TheVariants as errors
@@ -12,7 +11,7 @@ use Rattle.jc_file.specs.Stored.{Holds}
 use Rattle.jc_file.proofs.Numbers.{IsBytes}
 use Rattle.jc_file.proofs.PoolSteps.{fails_is}
 use Rattle.jc_file.proofs.Whole.{start}
-use Rattle.jc_file.proofs.Refusals.{IsFound, parts_found, is_refusal, no_name, none_applies}
+use Rattle.jc_file.proofs.Refusals.{parts_found, is_refusal, no_name, none_applies}
 
 pub refused : (b : List ℕ) (e : ParseError) → IsBytes b → Fails e (parts_at (start b)) → (e ≡ errors.NoMemory) ⊎ IsRefusal b e
 refused b e fits h =

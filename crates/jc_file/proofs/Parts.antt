@@ -1,14 +1,13 @@
 -- A table, an attribute or a member that is read is the one that was spelled, and what was spelled is read again.
-use Rattle.std.proofs.Common.{◌≡◌, ℕ, zero, suc, ◌+◌, ◌*◌, ◌^◌, ◌<◌, ◌≤◌, Bool, true, false, List, [], ◌∷◌, ◌++◌, length, take, drop, Option, Some, None, option_and_then, unwrap_or, refl, sym, ap, subst, ◌∙◌, append_assoc, arith, inl, inr}
+use Rattle.std.proofs.Common.{◌≡◌, ℕ, zero, suc, ◌+◌, ◌*◌, ◌^◌, ◌<◌, List, [], ◌∷◌, ◌++◌, length, drop, Option, Some, None, option_and_then, unwrap_or, refl, sym, ap, subst, ◌∙◌, append_assoc, arith, inl, inr}
 use Rattle.std.specs.List.{flat_map, AllByRecursion}
 use Rattle.std.proofs.lemmas.Bool.{cases_lt, lt-ltb}
-use Rattle.std.proofs.lemmas.List.{drop_at, length-append, length-drop, drop-drop}
+use Rattle.std.proofs.lemmas.List.{drop_at, length-drop, drop-drop}
 use Rattle.jc_base.specs.Endian.{big_bytes, big_number}
-use Rattle.jc_file.specs.declared.constant_pool.ConstantIndex.{ConstantIndex}
 use Rattle.jc_file.specs.ConstantPool.{index_bytes, IsIndex}
 use Rattle.jc_file.specs.ClassFile.{Attribute, Member, counted, attribute_bytes, member_bytes, FitsTable, FitsAttribute, FitsMember}
 use Rattle.jc_file.specs.Reading.{after, after_sized, sized_value, index_value, after_each, each_value, after_table, table_value, after_attribute, attribute_value, after_member, member_value, after_indexes}
-use Rattle.jc_file.proofs.Numbers.{IsBytes, width2, width4, Takes, Takes-then, takes_number, again_number, after_some, after_front, after_both, then_some, number_again, takes_sized, again_sized, sized_bytes, after_text, length-big_bytes, takes_three, again_three, three_bytes}
+use Rattle.jc_file.proofs.Numbers.{IsBytes, width2, width4, Takes, Takes-then, takes_number, again_number, after_some, after_front, then_some, number_again, takes_sized, again_sized, sized_bytes, after_text, length-big_bytes, takes_three, again_three, three_bytes}
 
 -- what the reader of a part and the bytes of that part have to do with one another
 pub record Reads {X : Type 0} (bytes : X → List ℕ) (Fits : X → Type 0) (after_one : List ℕ → Option (List ℕ)) (value : List ℕ → X) : Type 0 where

@@ -1,21 +1,19 @@
 -- A pool that is read is the pool that was spelled, and what was spelled is read again.
-use Rattle.std.proofs.Common.{◌≡◌, ℕ, zero, suc, ◌+◌, ◌-◌, ◌^◌, ◌<◌, ◌≤◌, Bool, true, false, ◌&&◌, cond, eqb, List, [], ◌∷◌, ◌++◌, length, take, drop, Option, Some, None, option_and_then, Result, Ok, Err, refl, sym, ap, subst, ◌∙◌, append_assoc, arith, ◌⊎◌, inl, inr, length-append}
+use Rattle.std.proofs.Common.{◌≡◌, ℕ, zero, suc, ◌+◌, ◌-◌, ◌<◌, Bool, true, false, ◌&&◌, cond, eqb, List, [], ◌∷◌, ◌++◌, length, drop, Option, Some, None, Result, Ok, Err, refl, sym, ap, subst, ◌∙◌, append_assoc, arith, ◌⊎◌, inl, inr, length-append}
 use Rattle.std.specs.List.{flat_map, AllByRecursion}
-use Rattle.std.proofs.lemmas.List.{take_at, drop_at}
 use Rattle.std.proofs.lemmas.Bool.{cases_Bool, eqb-true, ne_eqb}
 use Rattle.jc_base.specs.Cursor.{Reading}
-use Rattle.jc_base.specs.Endian.{big_bytes, big_number}
+use Rattle.jc_base.specs.Endian.{big_number}
 use Rattle.jc_file.specs.declared.constant_pool.ConstantKind.{ConstantKind}
 use Rattle.jc_file.specs.declared.constant_pool.ConstantKind.TheVariants as kinds
 use Rattle.jc_file.specs.declared.parse_error.ParseError.{ParseError}
 use Rattle.jc_file.specs.declared.parse_error.ParseError.TheVariants as errors
-use Rattle.jc_file.specs.ConstantPool as pool
 use Rattle.jc_file.specs.ConstantPool.{Constant, kind_of, tag_of, all_kinds, with_tag, kind_of_tag, is_wide, body_bytes, constant_bytes, FitsConstant}
 use Rattle.jc_file.specs.ClassFile.{slots, all_slots, second_index, places_of}
 use Rattle.jc_file.specs.Refusal.{Owes, IsNoTag, IsWideTag}
 use Rattle.jc_file.specs.Reading.{after, after_body, body_value, constant_value, moved_to, ◌>>=◌, or_refusal, unless, first_constant, Entry, entry_at, entries_from, with_front}
-use Rattle.jc_file.proofs.Numbers.{IsBytes, width1, Takes, Takes-then, takes_number, after_some, after_text}
-use Rattle.jc_file.proofs.Constants.{TakesBody, body_takes, IsAgain, body_again}
+use Rattle.jc_file.proofs.Numbers.{IsBytes, Takes, Takes-then, after_some, after_text}
+use Rattle.jc_file.proofs.Constants.{body_takes, body_again}
 
 -- ---- steps
 

@@ -1,19 +1,19 @@
 -- Where going over bytes stops is the first refusal that applies, and where it does not, they are a class file.
-use Rattle.std.proofs.Common.{◌≡◌, ◌≢◌, ℕ, ◌+◌, ◌-◌, ◌<◌, ◌≤◌, ◌⊎◌, Bool, true, false, not, cond, eqb, List, [], ◌∷◌, ◌++◌, length, take, drop, Option, Some, None, Result, Ok, Err, refl, sym, ap, subst, ◌∙◌, arith, inl, inr, length-append, eq-eqb}
-use Rattle.std.proofs.lemmas.Bool.{cases_Bool, cases_eq, cases_lt, eqb-true, ne_eqb}
+use Rattle.std.proofs.Common.{◌≡◌, ◌≢◌, ℕ, ◌+◌, ◌<◌, ◌≤◌, ◌⊎◌, false, not, cond, eqb, List, [], ◌∷◌, ◌++◌, length, take, drop, Option, Some, None, Result, Ok, Err, refl, sym, ap, subst, ◌∙◌, arith, inl, inr, length-append, eq-eqb}
+use Rattle.std.proofs.lemmas.Bool.{cases_eq, cases_lt, eqb-true, ne_eqb}
 use Rattle.std.proofs.lemmas.List.{take_at, take_all, take-append-drop, append-nil, nil_from_length, length-drop, length-take}
 use Rattle.jc_base.specs.Cursor.{Reading}
-use Rattle.jc_base.specs.Endian.{big_bytes, big_number}
+use Rattle.jc_base.specs.Endian.{big_number}
 use Rattle.jc_file.specs.declared.parse_error.ParseError.{ParseError}
 use Rattle.jc_file.specs.declared.parse_error.ParseError.TheVariants as errors
 use Rattle.jc_file.specs.ClassFile.{ClassFile, magic, layout, tail_bytes, FitsClassFile, places_of}
-use Rattle.jc_file.specs.Reading.{after, ◌>>=◌, or_refusal, unless, moved_to, with_front, pool_at, entries_from, head_at, after_tail, Numbers, numbers_value, last_at, Parts, parts_at, class_value}
-use Rattle.jc_file.specs.Refusal.{IsLayoutOf, pool_size, Applies, code_of, Owes, IsNoTag, IsWideTag, IsRefusal, IsReadable, IsNamed}
+use Rattle.jc_file.specs.Reading.{◌>>=◌, or_refusal, unless, moved_to, with_front, pool_at, entries_from, head_at, after_tail, Numbers, numbers_value, last_at, Parts, parts_at, class_value}
+use Rattle.jc_file.specs.Refusal.{IsLayoutOf, pool_size, Applies, code_of, IsRefusal, IsReadable, IsNamed}
 use Rattle.jc_file.specs.Stored.{Holds}
 use Rattle.jc_file.proofs.Numbers.{IsBytes, IsBytes-drop}
 use Rattle.jc_file.proofs.PoolLaws.{bind_ok, bind_err, or_ok, or_err, unless_ok, unless_err, ok_is, err_is, pool_bytes, Stops, pool_stops, tag_stops, wide_stops, front_err}
-use Rattle.jc_file.proofs.Whole.{start, IsGoodHead, good_head, HeadIs, too_short, no_magic, no_version, no_count, good, head_is, head_magic, head_version, head_count, version_in, not_false, not_true}
-use Rattle.jc_file.proofs.Classes.{IsWhole, EndsPool, whole_takes, IsWholeAgain, whole_again}
+use Rattle.jc_file.proofs.Whole.{start, IsGoodHead, good_head, too_short, no_magic, no_version, no_count, good, head_is, head_magic, head_version, head_count, not_false, not_true}
+use Rattle.jc_file.proofs.Classes.{whole_takes, IsWholeAgain, whole_again}
 
 abbrev old_pool : List ℕ → Reading
 old_pool b = record { place = 10; rest = drop 10 b }

@@ -1,19 +1,19 @@
 -- The constant of an index stands where its place says.
-use Rattle.std.proofs.Common.{◌≡◌, ℕ, zero, suc, ◌+◌, ◌-◌, ◌<◌, ◌≤◌, Bool, true, false, cond, eqb, ltb, List, [], ◌∷◌, ◌++◌, length, take, drop, Option, Some, None, option_and_then, slice_get, refl, sym, ap, subst, ◌∙◌, append_assoc, arith, inl, inr, length-append}
+use Rattle.std.proofs.Common.{◌≡◌, ℕ, zero, suc, ◌+◌, ◌-◌, ◌≤◌, Bool, true, false, cond, eqb, ltb, List, [], ◌∷◌, ◌++◌, length, take, drop, Option, Some, None, option_and_then, slice_get, refl, sym, ap, subst, ◌∙◌, append_assoc, arith, length-append}
 use Rattle.std.specs.List.{AllByRecursion}
-use Rattle.std.proofs.lemmas.Bool.{cases_Bool, ne_eqb, lt-ltb, le-ltb}
+use Rattle.std.proofs.lemmas.Bool.{ne_eqb, le-ltb}
 use Rattle.std.proofs.lemmas.List.{take_at, drop_at, drop-drop, length-drop, append-nil}
 use Rattle.jc_base.specs.Endian.{big_number}
 use Rattle.jc_file.specs.declared.constant_pool.ConstantIndex.{ConstantIndex}
 use Rattle.jc_file.specs.ConstantPool as pool
 use Rattle.jc_file.specs.ConstantPool.{Constant, kind_of, tag_of, kind_of_tag, is_wide, body_bytes, constant_bytes, FitsConstant}
-use Rattle.jc_file.specs.ClassFile.{ClassFile, head_bytes, tail_bytes, layout, FitsClassFile, slots, second_index, places_of, constant_from_first, constant_at}
-use Rattle.jc_file.specs.Reading.{after, after_body, body_value, constant_read}
+use Rattle.jc_file.specs.ClassFile.{ClassFile, tail_bytes, layout, FitsClassFile, second_index, places_of, constant_from_first, constant_at}
+use Rattle.jc_file.specs.Reading.{after, constant_read}
 use Rattle.jc_file.specs.Stored.{place_at, Holds, IsLent}
 use Rattle.jc_file.proofs.Numbers.{after_front, after_text}
 use Rattle.jc_file.proofs.PoolLaws.{first_byte, kind_of_its_tag, pool_bytes}
 use Rattle.jc_file.proofs.Constants.{body_again}
-use Rattle.jc_file.proofs.Classes.{IsWholeAgain, whole_again}
+use Rattle.jc_file.proofs.Classes.{whole_again}
 
 -- what is read at these places is what stands there
 abbrev pub read_at : List ℕ → Option ℕ → Option Constant

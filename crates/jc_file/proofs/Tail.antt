@@ -1,12 +1,12 @@
 -- What stands behind the constants: what is read is what was spelled, and what was spelled is read again.
-use Rattle.std.proofs.Common.{◌≡◌, ℕ, ◌+◌, ◌^◌, ◌<◌, ◌≤◌, List, [], ◌∷◌, ◌++◌, length, take, drop, Option, Some, None, option_and_then, unwrap_or, refl, sym, ap, subst, ◌∙◌, append_assoc, arith}
-use Rattle.jc_base.specs.Endian.{big_bytes, big_number}
+use Rattle.std.proofs.Common.{◌≡◌, ℕ, ◌^◌, ◌<◌, List, [], ◌++◌, drop, Option, Some, option_and_then, unwrap_or, sym, ap, subst, ◌∙◌, append_assoc}
+use Rattle.jc_base.specs.Endian.{big_number}
 use Rattle.jc_file.specs.declared.constant_pool.ConstantIndex.{ConstantIndex}
-use Rattle.jc_file.specs.ConstantPool.{Constant, index_bytes, IsIndex}
+use Rattle.jc_file.specs.ConstantPool.{index_bytes, IsIndex}
 use Rattle.jc_file.specs.ClassFile.{ClassFile, Attribute, Member, counted, attribute_bytes, member_bytes, tail_bytes, FitsTable, FitsAttribute, FitsMember}
 use Rattle.jc_file.specs.Reading.{after, index_value, table_value, after_table, after_attribute, attribute_value, after_member, member_value, after_indexes, after_members, after_tail, fields_at, methods_at, attributes_at, class_with}
 use Rattle.jc_file.proofs.Numbers.{IsBytes, Takes, Takes-then, after_some, then_some, takes_three, again_three, three_bytes}
-use Rattle.jc_file.proofs.Parts.{Reads, reads_table, reads_attribute, reads_member, reads_indexes}
+use Rattle.jc_file.proofs.Parts.{reads_table, reads_attribute, reads_member, reads_indexes}
 
 abbrev pub interfaces_in : List ℕ → List ConstantIndex
 interfaces_in xs = table_value (after 2) index_value xs

@@ -1,20 +1,13 @@
 -- A class file that is read is the class file that was spelled, and what was spelled is read again.
-use Rattle.std.proofs.Common.{◌≡◌, ◌≢◌, ℕ, zero, suc, ◌+◌, ◌-◌, ◌*◌, ◌^◌, ◌<◌, ◌≤◌, ◌⊎◌, Bool, true, false, not, cond, ◌&&◌, ◌||◌, eqb, List, [], ◌∷◌, ◌++◌, length, take, drop, Option, Some, None, option_and_then, Result, Ok, Err, refl, sym, ap, subst, ◌∙◌, append_assoc, arith, inl, inr, length-append, eq-eqb}
-use Rattle.std.specs.List.{flat_map, AllByRecursion}
+use Rattle.std.proofs.Common.{◌≡◌, ◌≢◌, ℕ, ◌+◌, ◌-◌, ◌<◌, ◌≤◌, ◌⊎◌, Bool, true, false, not, ◌&&◌, ◌||◌, eqb, List, length, drop, Some, None, Ok, Err, refl, ap, ◌∙◌, arith, inl, inr, eq-eqb}
 use Rattle.std.proofs.lemmas.Bool.{cases_Bool, cases_eq, eqb-true, ne_eqb, cases_lt}
-use Rattle.std.proofs.lemmas.List.{take_at, drop_at, take-append-drop, append-nil, nil_from_length, length-drop, drop-drop}
+use Rattle.std.proofs.lemmas.List.{length-drop, drop-drop}
 use Rattle.jc_base.specs.Cursor.{Reading}
-use Rattle.jc_base.specs.Endian.{big_bytes, big_number}
-use Rattle.jc_file.specs.declared.parse_error.ParseError.{ParseError}
+use Rattle.jc_base.specs.Endian.{big_number}
 use Rattle.jc_file.specs.declared.parse_error.ParseError.TheVariants as errors
-use Rattle.jc_file.specs.ConstantPool.{Constant, constant_bytes, FitsConstant}
-use Rattle.jc_file.specs.ClassFile.{ClassFile, magic, head_bytes, tail_bytes, layout, FitsClassFile, IsAcceptedVersion, all_slots, places_of}
-use Rattle.jc_file.specs.Reading.{after, ◌>>=◌, or_refusal, unless, moved_to, with_front, pool_at, entries_from, is_accepted, head_at, after_tail, parts_at, constants_at, constant_value, class_with, class_value}
-use Rattle.jc_file.specs.Refusal.{IsLayoutOf, pool_size, Applies, code_of, Owes}
-use Rattle.jc_file.proofs.Numbers.{IsBytes, IsBytes-drop, width2, width4, Takes, Takes-then, takes_number, takes_two, again_number, number_again, after_some, after_front, after_text, after_both, length-big_bytes, HasFront}
-use Rattle.jc_file.proofs.PoolLaws.{bind_ok, bind_err, or_ok, or_err, unless_ok, unless_err, ok_is, err_is, pool_bytes, TakesPool, pool_take, Stops, pool_stops, entries_front, tag_stops, wide_stops, first_takes}
-use Rattle.jc_file.proofs.Constants.{body_again}
-use Rattle.jc_file.proofs.Tail.{Taken, TakesTail, tail_takes, IsTailAgain, FitsTail, tail_again}
+use Rattle.jc_file.specs.ClassFile.{magic, IsAcceptedVersion}
+use Rattle.jc_file.specs.Reading.{after, is_accepted, head_at}
+use Rattle.jc_file.proofs.Numbers.{after_front}
 use Rattle.jc_file.proofs.Parts.{after_short}
 
 -- ---- tests and facts

@@ -125,7 +125,7 @@ places_of place (constant ∷ constants) =
 abbrev pub class_text_at : ClassFile → ConstantIndex → Option (List ℕ)
 class_text_at c index =
     option_and_then (λ class.
-      option_and_then (λ entry.
-        option_and_then utf8_text (constant_at c entry))
-      (class_entry class))
+    option_and_then (λ entry.
+    option_and_then utf8_text (constant_at c entry))
+    (class_entry class))
     (constant_at c index)

@@ -1,6 +1,6 @@
 -- Constants, their tags and their bytes (JVMS 4.4).
-use Rattle.std.specs.Prelude.{◌≡◌, ℕ, ◌+◌, ◌*◌, ◌<◌, ◌^◌, Bool, true, false, List, [], ◌∷◌, ◌++◌, length, take, drop, Option, Some, None, if◌then◌else◌, ◌==◌}
-use Rattle.jc_base.specs.Endian.{big_bytes, big_number}
+use Rattle.std.specs.Prelude.{ℕ, ◌<◌, ◌^◌, Bool, true, false, List, [], ◌∷◌, ◌++◌, length, Option, Some, None, if◌then◌else◌, ◌==◌}
+use Rattle.jc_base.specs.Endian.{big_bytes}
 use Rattle.jc_file.specs.declared.constant_pool.ConstantIndex.{ConstantIndex}
 use Rattle.jc_file.specs.declared.constant_pool.ConstantKind.{ConstantKind}
 use Rattle.jc_file.specs.declared.constant_pool.ConstantKind.TheVariants as kinds

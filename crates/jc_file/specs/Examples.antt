@@ -1,5 +1,5 @@
 -- A class file of 53 bytes, and bytes near it.
-use Rattle.std.specs.Prelude.{ℕ, List, [], ◌∷◌, ◌++◌, take, drop, codes}
+use Rattle.std.specs.Prelude.{ℕ, List, [], ◌∷◌, ◌++◌, codes}
 use Rattle.jc_file.specs.ConstantPool as pool
 use Rattle.jc_file.specs.ClassFile.{ClassFile}
 

@@ -1,5 +1,5 @@
 -- The class that bytes name, or why they name none, as a function.
-use Rattle.std.specs.Prelude.{◌≡◌, ◌<◌, ℕ, List, slice_index, Option, Some, None, Result, Ok, Err, if◌then◌else◌, option_and_then}
+use Rattle.std.specs.Prelude.{◌<◌, ℕ, List, slice_index, Option, Some, None, Result, if◌then◌else◌, option_and_then}
 use Rattle.jc_base.specs.TextTests.{is_class_text}
 use Rattle.jc_file.specs.declared.parse_error.ParseError.{ParseError}
 use Rattle.jc_file.specs.declared.parse_error.ParseError.TheVariants as errors

@@ -1,7 +1,7 @@
 -- Which bytes are a readable class file, and why others are not.
-use Rattle.std.specs.Prelude.{◌≡◌, ◌≢◌, ℕ, ◌+◌, ◌-◌, ◌<◌, ◌≤◌, ◌⊎◌, List, [], ◌∷◌, ◌++◌, length, take, drop, Option, Some, None}
+use Rattle.std.specs.Prelude.{◌≡◌, ◌≢◌, ℕ, ◌+◌, ◌-◌, ◌<◌, ◌≤◌, ◌⊎◌, List, ◌∷◌, ◌++◌, length, take, drop, Some}
 use Rattle.std.specs.List.{flat_map, AllByRecursion}
-use Rattle.jc_base.specs.Endian.{big_bytes, big_number}
+use Rattle.jc_base.specs.Endian.{big_number}
 use Rattle.jc_base.specs.Names.{IsClassName}
 use Rattle.jc_file.specs.declared.constant_pool.ConstantIndex.{ConstantIndex}
 use Rattle.jc_file.specs.declared.constant_pool.ConstantKind.{ConstantKind}

@@ -1,7 +1,6 @@
 -- What the places of the constants tell.
-use Rattle.std.specs.Prelude.{◌≡◌, ℕ, ◌+◌, List, [], ◌∷◌, ◌++◌, length, take, drop, Option, Some, None, slice_get, option_and_then}
+use Rattle.std.specs.Prelude.{◌≡◌, ℕ, ◌+◌, List, ◌∷◌, length, take, drop, Option, Some, None, slice_get, option_and_then}
 use Rattle.jc_file.specs.declared.constant_pool.ConstantIndex.{ConstantIndex}
-use Rattle.jc_file.specs.ConstantPool.{Constant, constant_bytes, FitsConstant}
 use Rattle.jc_file.specs.ClassFile.{ClassFile, layout, FitsClassFile, places_of}
 
 abbrev pub place_at : List (Option ℕ) → ConstantIndex → Option ℕ

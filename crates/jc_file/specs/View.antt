@@ -1,5 +1,4 @@
 -- What a borrowed constant is as data.
-use Rattle.std.specs.Prelude.{ℕ}
 use Rattle.jc_file.specs.declared.constant_pool.Constant.{Constant}
 use Rattle.jc_file.specs.declared.constant_pool.Constant.TheVariants as lent
 use Rattle.jc_file.specs.ConstantPool as pool

@@ -28,8 +28,8 @@ pub struct ClassView<'a> {
 
 impl<'a> Model for ClassView<'a> {
     ghost use Rattle.std.specs.Option.{option_copied, option_map};
-ghost use Rattle.jc_file.specs.ClassFile.{ClassFile, class_text_at, constant_at};
-ghost use Rattle.jc_file.specs.View.{constant_of};
+    ghost use Rattle.jc_file.specs.ClassFile.{ClassFile, class_text_at, constant_at};
+    ghost use Rattle.jc_file.specs.View.{constant_of};
 
     ghost Value = { ClassFile };
 

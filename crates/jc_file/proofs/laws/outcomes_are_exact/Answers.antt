@@ -1,4 +1,3 @@
-use Rattle.std.proofs.Common.{List, ℕ}
 use Rattle.jc_file.proofs.Outcomes.{Decided, named_is, is_named, refused_is, is_refused}
 use Rattle.jc_file.proofs.laws.outcomes_are_exact.Goals as goal
 

@@ -1,13 +1,11 @@
-use Rattle.std.proofs.Common.{◌≡◌, ℕ, List, [], ◌∷◌, ◌++◌, take, Ok, Err, refl, codes}
+use Rattle.std.proofs.Common.{◌≡◌, [], ◌∷◌, ◌++◌, take, Ok, Err, refl, codes}
 use Rattle.jc_base.specs.TextTests.{units_within}
-use Rattle.jc_base.specs.FirstUnit.{first_unit, six_bits, two_byte_unit, three_byte_unit}
-use Rattle.jc_file.specs.declared.parse_error.ParseError.{ParseError}
+use Rattle.jc_base.specs.FirstUnit.{first_unit}
 use Rattle.jc_file.specs.declared.parse_error.ParseError.TheVariants as errors
 use Rattle.jc_file.specs.ConstantPool.{constant_bytes}
 use Rattle.jc_file.specs.ClassFile.{layout}
 use Rattle.jc_file.specs.Reading.{after_each, each_value, after_attribute, after_member, after_tail, first_constant, entry_at, entries_from, head_at, last_at, parts_at, class_value}
-use Rattle.jc_file.specs.Refusal.{IsRefusal}
-use Rattle.jc_file.specs.Outcome.{NamesClass, name_in, class_named}
+use Rattle.jc_file.specs.Outcome.{name_in, class_named}
 use Rattle.jc_file.specs.Examples.{class_a, head, constants, tail}
 use Rattle.jc_file.proofs.Bytes.{are_bytes}
 use Rattle.jc_file.proofs.laws.parsing_examples.Goals as goal

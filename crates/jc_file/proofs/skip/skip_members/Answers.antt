@@ -1,4 +1,4 @@
-use Rattle.std.proofs.Common.{◌≡◌, ◌-◌, ◌∙◌}
+use Rattle.std.proofs.Common.{◌∙◌}
 use Rattle.jc_file.specs.Reading.{after_member, after_table}
 use Rattle.jc_file.proofs.Tables.{each_more, each_cut, each_done}
 use Rattle.jc_file.proofs.skip.skip_members.Goals as goal

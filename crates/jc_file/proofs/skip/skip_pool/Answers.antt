@@ -1,4 +1,3 @@
-use Rattle.std.proofs.Common.{◌-◌}
 use Rattle.std.proofs.lemmas.Result.{err_from_is_err_and}
 use Rattle.jc_file.specs.Reading.{pool_at}
 use Rattle.jc_file.proofs.PoolSteps.{pool_more, pool_cut, pool_done}

@@ -4,10 +4,8 @@ use Rattle.jc_base.specs.Cursor.{Reading}
 use Rattle.jc_file.specs.declared.parse_error.ParseError.TheVariants.{NoMemory, NoName}
 use Rattle.jc_file.specs.Parts.{parts}
 use Rattle.jc_file.specs.Reading.{parts_at, class_value}
-use Rattle.jc_file.specs.Refusal.{IsRefusal, IsNamed}
+use Rattle.jc_file.specs.Refusal.{IsRefusal}
 use Rattle.jc_file.specs.Skip.{Fails}
-use Rattle.jc_file.specs.Stored.{Holds}
-use Rattle.jc_file.proofs.Numbers.{IsBytes}
 use Rattle.jc_file.proofs.Whole.{start}
 use Rattle.jc_file.proofs.Parsed.{at_start, holds_at, refused, no_refusal, IsParsed, parsed, unnamed}
 use Rattle.jc_file.proofs.view.parse.Goals as goal
