@@ -9,7 +9,8 @@ use Rattle.jc_file.specs.ConstantPool.{Constant, kind_of, tag_of, kind_of_tag, b
 use Rattle.jc_file.specs.ClassFile.{ClassFile, magic, tail_bytes, layout, FitsClassFile, IsAcceptedVersion, all_slots, second_index, places_of}
 use Rattle.jc_file.specs.Reading.{with_front, pool_at, entries_from, after_tail, constants_at, constant_value, class_with, class_value}
 use Rattle.jc_file.proofs.Numbers.{IsBytes, IsBytes-drop, width2, width4, Takes, Takes-then, takes_number, number_again, length-big_bytes}
-use Rattle.jc_file.proofs.PoolLaws.{first_byte, kind_of_its_tag, ok_is, pool_bytes, TakesPool, pool_take, entries_front}
+use Rattle.jc_file.proofs.FirstConstant.{first_byte, kind_of_its_tag, ok_is}
+use Rattle.jc_file.proofs.PoolLaws.{pool_bytes, TakesPool, pool_take, entries_front}
 use Rattle.jc_file.proofs.Constants.{body_again}
 use Rattle.jc_file.proofs.Tail.{tail_takes, FitsTail, tail_again}
 use Rattle.jc_file.proofs.Whole.{IsGoodHead, behind}

@@ -14,8 +14,9 @@ use Rattle.jc_file.specs.Reading.{◌>>=◌, or_refusal, Parts, parts_at, class_
 use Rattle.jc_file.specs.Refusal.{IsNamed, IsRefusal}
 use Rattle.jc_file.specs.Outcome.{NamesClass, class_text, name_in, class_named}
 use Rattle.jc_file.proofs.Numbers.{IsBytes, then_some}
-use Rattle.jc_file.proofs.PoolLaws.{bind_ok, bind_err, or_ok, or_err}
-use Rattle.jc_file.proofs.Refusals.{is_refusal, is_read, one_class, one_refusal, none_applies}
+use Rattle.jc_file.proofs.Steps.{bind_ok, bind_err, or_ok, or_err}
+use Rattle.jc_file.proofs.Refusals.{is_refusal}
+use Rattle.jc_file.proofs.LayoutLaws.{is_read, one_class, one_refusal, none_applies}
 use Rattle.jc_file.proofs.Parsed.{parsed, unnamed}
 use Rattle.jc_file.proofs.Whole.{start}
 

@@ -11,7 +11,8 @@ use Rattle.jc_file.specs.Stored.{Holds}
 use Rattle.jc_file.proofs.Numbers.{IsBytes}
 use Rattle.jc_file.proofs.PoolSteps.{fails_is}
 use Rattle.jc_file.proofs.Whole.{start}
-use Rattle.jc_file.proofs.Refusals.{parts_found, is_refusal, no_name, none_applies}
+use Rattle.jc_file.proofs.Refusals.{parts_found, is_refusal, no_name}
+use Rattle.jc_file.proofs.LayoutLaws.{none_applies}
 
 pub refused : (b : List ℕ) (e : ParseError) → IsBytes b → Fails e (parts_at (start b)) → (e ≡ errors.NoMemory) ⊎ IsRefusal b e
 refused b e fits h =

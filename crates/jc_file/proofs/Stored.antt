@@ -11,7 +11,8 @@ use Rattle.jc_file.specs.ClassFile.{ClassFile, tail_bytes, layout, FitsClassFile
 use Rattle.jc_file.specs.Reading.{after, constant_read}
 use Rattle.jc_file.specs.Stored.{place_at, Holds, IsLent}
 use Rattle.jc_file.proofs.Numbers.{after_front, after_text}
-use Rattle.jc_file.proofs.PoolLaws.{first_byte, kind_of_its_tag, pool_bytes}
+use Rattle.jc_file.proofs.FirstConstant.{first_byte, kind_of_its_tag}
+use Rattle.jc_file.proofs.PoolLaws.{pool_bytes}
 use Rattle.jc_file.proofs.Constants.{body_again}
 use Rattle.jc_file.proofs.Classes.{whole_again}
 

@@ -1,4 +1,4 @@
-use Rattle.jc_file.proofs.Refusals.{one_layout, one_class, one_refusal, none_applies}
+use Rattle.jc_file.proofs.LayoutLaws.{one_layout, one_class, one_refusal, none_applies}
 use Rattle.jc_file.proofs.laws.layouts_are_apart.Goals as goal
 
 pub returns : goal.returns
