@@ -5,7 +5,7 @@ The program parse_trial reads the files once, goes over them N times in memory a
 processor time of N rounds less that of none is the time of the rounds, so neither the start of the
 program nor its input counts. Each figure is the least of several runs.
 
-Usage: run.py. It builds the program by `rt run`, and needs javac 8 to 19.
+Usage: run.py. It builds the program by `rt run`, and needs javac 9 to 19.
 """
 import os
 import pathlib

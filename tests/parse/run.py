@@ -5,7 +5,7 @@ Compiles the sources beside this file for Java 7 and 8, and for each class file 
 cuts of it and changes of it. The program parse_trial and the reader beside this file answer each of
 them, and the answers are compared, places included.
 
-Usage: run.py [--seed N]. It builds the program by `rt run`, and needs javac 8 to 19.
+Usage: run.py [--seed N]. It builds the program by `rt run`, and needs javac 9 to 19.
 """
 import argparse
 import collections
