@@ -2,7 +2,9 @@
 //! says which class each names.
 #![tactic(auto)]
 
+mod claims;
 mod edit;
+mod file;
 mod file_row;
 mod source;
 
