@@ -3,8 +3,14 @@
 ghost use Rattle.std.specs.Prelude.{◌≡◌, ◌&&◌, ◌||◌, not, false, ℕ, List, OnOk, OnErr};
 ghost use Rattle.std.specs.Option.{option_map};
 ghost use Rattle.jc_base.specs.Bytes.{same_bytes};
-ghost use Rattle.jc_session.specs.Claims.{has_claim, first_claim};
+ghost use Rattle.jc_file.specs.Outcome.{class_named};
+ghost use Rattle.jc_session.specs.Claims.{has_claim, first_claim, claimed_state};
+ghost use Rattle.jc_session.specs.FileRowView.{state_lent};
+ghost use Rattle.jc_session.specs.Rows as rows;
+ghost use Rattle.jc_session.specs.Rows.{names};
 
+use crate::file::File;
+use crate::file_row::FileState;
 use jc_base::{ByteMap, NoMemory};
 use std::alloc::Global;
 
@@ -61,5 +67,55 @@ impl Claims {
     {
         let paths = self.by_name.get(name)?;
         paths.keys().next()
+    }
+}
+
+/// Adds the class that the file at the path names, if it names one.
+pub(crate) fn claim(claims: &mut Claims, file: &File, path: &[u8]) -> Result<(), NoMemory>
+    ensures ok { OnOk result ((n p : List ℕ) → has_claim claims.new.by_name n p ≡ ((same_bytes p path.now && names file.now n) || has_claim claims.old.by_name n p)) }
+    ensures err { OnErr result ((n p : List ℕ) → has_claim claims.new.by_name n p ≡ has_claim claims.old.by_name n p) }
+{
+    match file.class() {
+        Ok(name) => claims.add(name, path),
+        Err(_) => Ok(()),
+    }
+}
+
+/// Takes out the class that the file at the path names, if it names one.
+pub(crate) fn withdraw(claims: &mut Claims, file: &File, path: &[u8])
+    ensures { (n p : List ℕ) → has_claim claims.new.by_name n p ≡ (not (same_bytes p path.now && names file.now n) && has_claim claims.old.by_name n p) }
+{
+    if let Ok(name) = file.class() {
+        claims.remove(name, path);
+    }
+}
+
+/// Takes out the class that the file at the path named before, unless it names it now too.
+pub(crate) fn withdraw_stale(claims: &mut Claims, before: &File, now: &File, path: &[u8])
+    ensures { (n p : List ℕ) → has_claim claims.new.by_name n p ≡ (not (same_bytes p path.now && (names before.now n && not (names now.now n))) && has_claim claims.old.by_name n p) }
+{
+    if let Ok(name) = before.class()
+        && !now.names(name)
+    {
+        claims.remove(name, path);
+    }
+}
+
+/// What the file at the path is, by the claims of all files.
+pub(crate) fn state<'a>(claims: &'a Claims, file: &'a File, path: &'a [u8]) -> FileState<'a>
+    ensures { state_lent result ≡ claimed_state claims.now.by_name path.now (class_named file.now) }
+{
+    match file.class() {
+        Ok(name) => state_by(path, name, claims.first(name)),
+        Err(refusal) => FileState::Unreadable(refusal),
+    }
+}
+
+fn state_by<'a>(path: &'a [u8], name: &'a [u8], winner: Option<&'a [u8]>) -> FileState<'a>
+    ensures { state_lent result ≡ rows.state_by path.now name.now (option_map (λ path. path.now) winner.entry) }
+{
+    match winner {
+        Some(winner) if winner != path => FileState::Shadowed(name, winner),
+        _ => FileState::Class(name),
     }
 }

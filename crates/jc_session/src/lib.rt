@@ -6,6 +6,7 @@ mod claims;
 mod edit;
 mod file;
 mod file_row;
+mod judge;
 mod source;
 
 pub use edit::{Done, Edit, EditError};
