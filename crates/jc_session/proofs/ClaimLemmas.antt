@@ -1,9 +1,9 @@
 -- Claims after a path was added or taken out.
-use Rattle.std.proofs.Common.{◌≡◌, ℕ, Bool, true, false, cond, not, ◌&&◌, ◌||◌, List, Option, Some, None, Result, Ok, Err, OnErr, is_some, refl, sym, ap, subst, ◌∙◌, ⊎_elim}
+use Rattle.std.proofs.Common.{◌≡◌, ℕ, Bool, true, false, cond, not, ◌&&◌, ◌||◌, List, Option, Some, None, Result, Ok, Err, OnErr, is_some, refl, sym, ap, ◌∙◌, ⊎_elim}
 use Rattle.std.specs.FinMap as fin
 use Rattle.std.proofs.lemmas.Bool.{cases_Bool}
 use Rattle.jc_base.specs.Bytes.{bytes_cmp, same_bytes}
-use Rattle.jc_base.proofs.ByteMapLemmas.{get-insert, get-remove, insert_found, same_bytes_decides}
+use Rattle.jc_base.proofs.ByteMapLemmas.{get-insert, get-remove, same_bytes_decides}
 use Rattle.jc_session.specs.Claims.{Paths, ClaimMap, has_path, has_claim}
 
 -- what holds in any case holds at an error

@@ -11,3 +11,4 @@ pub mod FileRowView
 pub mod Judged
 pub mod Claims
 pub mod HeldFile
+pub mod Winners

@@ -1,6 +1,7 @@
 //! A file as a session holds it.
 
 ghost use Rattle.std.specs.Prelude.{◌≡◌, IfOk};
+ghost use Rattle.std.specs.Result.{is_ok};
 ghost use Rattle.jc_file.specs.Outcome.{class_named};
 ghost use Rattle.jc_session.specs.HeldFile.{class_held, class_lent};
 ghost use Rattle.jc_session.specs.Rows.{names};
@@ -53,6 +54,13 @@ impl File {
             Ok(name) => Ok(name),
             Err(refusal) => Err(*refusal),
         }
+    }
+
+    /// Whether the bytes name a class.
+    pub(crate) fn is_readable(&self) -> bool
+        ensures { result ≡ is_ok (class_named self.now) }
+    {
+        self.class.is_ok()
     }
 
     /// Whether the bytes name the class of this name.

@@ -8,7 +8,9 @@ use crate::file::File;
 use jc_base::ByteMap;
 
 const LONGEST_PATH: usize = 4_096;
+
 const LARGEST_FILE: usize = 16_777_216;
+
 const MOST_FILES: usize = 65_535;
 
 /// The first refusal of the edit that applies, but for memory.

@@ -1,5 +1,4 @@
-use Rattle.std.proofs.Common.{Ok, ◌≡◌, List, ℕ, sym, ap, ◌∙◌, Result, arith}
-use Rattle.jc_file.specs.declared.parse_error.ParseError.{ParseError}
+use Rattle.std.proofs.Common.{Ok, ◌≡◌, List, ℕ, sym, ap, ◌∙◌, arith}
 use Rattle.jc_file.specs.Outcome.{class_named}
 use Rattle.jc_session.proofs.file.class_of.Goals as goal
 
