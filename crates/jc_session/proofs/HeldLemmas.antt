@@ -9,7 +9,7 @@ use Rattle.jc_file.specs.declared.parse_error.ParseError.{ParseError}
 use Rattle.jc_file.specs.Outcome.{class_named}
 use Rattle.jc_session.specs.Files.{Files}
 use Rattle.jc_session.specs.Rows.{Class, Shadowed, names, winner, state_by, state_of, row_of, rows, is_unreadable, is_unreadable_state}
-use Rattle.jc_session.specs.Claims.{ClaimMap, has_claim, names_there, names_at, AreClaims, claimed_state, claimed_row}
+use Rattle.jc_session.specs.Claims.{PathsByName, has_claim, names_there, names_at, AreClaims, claimed_state, claimed_row}
 use Rattle.jc_session.proofs.WinnerLemmas.{claims_win}
 
 -- ---- tests
@@ -52,45 +52,44 @@ names_here f path n p o e same = ap (λ q. names_at f q n) ((same_bytes_decides 
 
 -- ---- claims over an edit
 
-pub no_claims : (U : Type 0) (claims : ClaimMap U) → ((n p : List ℕ) → has_claim claims n p ≡ false) → AreClaims claims fin.empty
-no_claims U claims h n p = h n p ∙ sym (ap (λ o. names_there o n) (fin.get-empty bytes_cmp p))
+pub no_claims : (claims : PathsByName) → ((n p : List ℕ) → has_claim claims n p ≡ false) → AreClaims claims fin.empty
+no_claims claims h n p = h n p ∙ sym (ap (λ o. names_there o n) (fin.get-empty bytes_cmp p))
 
-module _ {U : Type 0} where
-  pub claims_added : (old new : ClaimMap U) (f : Files) (path bytes : List ℕ) → AreClaims old f → fin.get f path ≡ None
-      → ((n p : List ℕ) → has_claim new n p ≡ ((same_bytes p path && names bytes n) || has_claim old n p)) → AreClaims new (fin.insert f path bytes)
-  claims_added old new f path bytes are absent claimed n p =
-      claimed n p ∙ ap (λ y. (same_bytes p path && names bytes n) || y) (are n p)
-      ∙ put_in (same_bytes p path) (names bytes n) (names_at f p n) (names_here f path n p None absent) ∙ sym (names_at-insert f path bytes n p)
+pub claims_added : (old new : PathsByName) (f : Files) (path bytes : List ℕ) → AreClaims old f → fin.get f path ≡ None
+    → ((n p : List ℕ) → has_claim new n p ≡ ((same_bytes p path && names bytes n) || has_claim old n p)) → AreClaims new (fin.insert f path bytes)
+claims_added old new f path bytes are absent claimed n p =
+    claimed n p ∙ ap (λ y. (same_bytes p path && names bytes n) || y) (are n p)
+    ∙ put_in (same_bytes p path) (names bytes n) (names_at f p n) (names_here f path n p None absent) ∙ sym (names_at-insert f path bytes n p)
 
-  pub claims_removed : (old new : ClaimMap U) (f : Files) (path bytes : List ℕ) → AreClaims old f → fin.get f path ≡ Some bytes
-      → ((n p : List ℕ) → has_claim new n p ≡ (not (same_bytes p path && names bytes n) && has_claim old n p)) → AreClaims new (fin.remove f path)
-  claims_removed old new f path bytes are there withdrawn n p =
-      withdrawn n p ∙ ap (λ y. not (same_bytes p path && names bytes n) && y) (are n p)
-      ∙ take_out (same_bytes p path) (names bytes n) (names_at f p n) (names_here f path n p (Some bytes) there) ∙ sym (names_at-remove f path n p)
+pub claims_removed : (old new : PathsByName) (f : Files) (path bytes : List ℕ) → AreClaims old f → fin.get f path ≡ Some bytes
+    → ((n p : List ℕ) → has_claim new n p ≡ (not (same_bytes p path && names bytes n) && has_claim old n p)) → AreClaims new (fin.remove f path)
+claims_removed old new f path bytes are there withdrawn n p =
+    withdrawn n p ∙ ap (λ y. not (same_bytes p path && names bytes n) && y) (are n p)
+    ∙ take_out (same_bytes p path) (names bytes n) (names_at f p n) (names_here f path n p (Some bytes) there) ∙ sym (names_at-remove f path n p)
 
-  pub claims_replaced : (old mid new : ClaimMap U) (f : Files) (path before bytes : List ℕ) → AreClaims old f → fin.get f path ≡ Some before
-      → ((n p : List ℕ) → has_claim mid n p ≡ ((same_bytes p path && names bytes n) || has_claim old n p))
-      → ((n p : List ℕ) → has_claim new n p ≡ (not (same_bytes p path && (names before n && not (names bytes n))) && has_claim mid n p)) → AreClaims new (fin.insert f path bytes)
-  claims_replaced old mid new f path before bytes are there claimed withdrawn n p =
-      withdrawn n p ∙ ap (λ y. not (same_bytes p path && (names before n && not (names bytes n))) && y) (claimed n p ∙ ap (λ y. (same_bytes p path && names bytes n) || y) (are n p))
-      ∙ exchange (same_bytes p path) (names before n) (names bytes n) (names_at f p n) (names_here f path n p (Some before) there) ∙ sym (names_at-insert f path bytes n p)
+pub claims_replaced : (old mid new : PathsByName) (f : Files) (path before bytes : List ℕ) → AreClaims old f → fin.get f path ≡ Some before
+    → ((n p : List ℕ) → has_claim mid n p ≡ ((same_bytes p path && names bytes n) || has_claim old n p))
+    → ((n p : List ℕ) → has_claim new n p ≡ (not (same_bytes p path && (names before n && not (names bytes n))) && has_claim mid n p)) → AreClaims new (fin.insert f path bytes)
+claims_replaced old mid new f path before bytes are there claimed withdrawn n p =
+    withdrawn n p ∙ ap (λ y. not (same_bytes p path && (names before n && not (names bytes n))) && y) (claimed n p ∙ ap (λ y. (same_bytes p path && names bytes n) || y) (are n p))
+    ∙ exchange (same_bytes p path) (names before n) (names bytes n) (names_at f p n) (names_here f path n p (Some before) there) ∙ sym (names_at-insert f path bytes n p)
 
-  pub claims_absent : (old : ClaimMap U) (f : Files) (path : List ℕ) → AreClaims old f → fin.get f path ≡ None → AreClaims old (fin.remove f path)
-  claims_absent old f path are absent n p =
-      are n p ∙ sym (names_at-remove f path n p ∙ gone (same_bytes p path) (names_at f p n) (names_here f path n p None absent))
+pub claims_absent : (old : PathsByName) (f : Files) (path : List ℕ) → AreClaims old f → fin.get f path ≡ None → AreClaims old (fin.remove f path)
+claims_absent old f path are absent n p =
+    are n p ∙ sym (names_at-remove f path n p ∙ gone (same_bytes p path) (names_at f p n) (names_here f path n p None absent))
 
-  -- ---- rows by the claims
+-- ---- rows by the claims
 
-  same_state : (claims : ClaimMap U) (f : Files) → AreClaims claims f → (path : List ℕ) (outcome : Result (List ℕ) ParseError) → claimed_state claims path outcome ≡ state_of f path outcome
-  same_state claims f are path (Ok name) = ap (state_by path name) (sym (claims_win claims f are name))
-  same_state claims f are path (Err refusal) = refl
+same_state : (claims : PathsByName) (f : Files) → AreClaims claims f → (path : List ℕ) (outcome : Result (List ℕ) ParseError) → claimed_state claims path outcome ≡ state_of f path outcome
+same_state claims f are path (Ok name) = ap (state_by path name) (sym (claims_win claims f are name))
+same_state claims f are path (Err refusal) = refl
 
-  same_rows : (claims : ClaimMap U) (f : Files) → AreClaims claims f → (es : List (List ℕ × List ℕ)) → map (claimed_row claims) es ≡ map (row_of f) es
-  same_rows claims f are [] = refl
-  same_rows claims f are (e ∷ es) = λ i. record { path = e.0; state = same_state claims f are e.0 (class_named e.1) i } ∷ same_rows claims f are es i
+same_rows : (claims : PathsByName) (f : Files) → AreClaims claims f → (es : List (List ℕ × List ℕ)) → map (claimed_row claims) es ≡ map (row_of f) es
+same_rows claims f are [] = refl
+same_rows claims f are (e ∷ es) = λ i. record { path = e.0; state = same_state claims f are e.0 (class_named e.1) i } ∷ same_rows claims f are es i
 
-  pub claimed_rows : (claims : ClaimMap U) (f : Files) → AreClaims claims f → map (claimed_row claims) (fin.entries f) ≡ rows f
-  claimed_rows claims f are = same_rows claims f are (fin.entries f)
+pub claimed_rows : (claims : PathsByName) (f : Files) → AreClaims claims f → map (claimed_row claims) (fin.entries f) ≡ rows f
+claimed_rows claims f are = same_rows claims f are (fin.entries f)
 
 -- ---- unreadable rows
 

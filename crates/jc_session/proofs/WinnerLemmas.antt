@@ -12,7 +12,7 @@ use Rattle.jc_file.specs.declared.parse_error.ParseError.{ParseError}
 use Rattle.jc_file.specs.Outcome.{class_named}
 use Rattle.jc_session.specs.Files.{Files}
 use Rattle.jc_session.specs.Rows.{names_by, names, first_naming, winner}
-use Rattle.jc_session.specs.Claims.{Paths, ClaimMap, has_path, first_of, first_path, first_claim, names_there, names_at, AreClaims}
+use Rattle.jc_session.specs.Claims.{Paths, PathsByName, has_path, first_of, first_path, first_claim, names_there, names_at, AreClaims}
 use Rattle.jc_session.specs.Winners.{NamesAt, IsWinner}
 
 -- ---- the order
@@ -211,20 +211,19 @@ unnamed_none f n h = no_winner f n (λ q. ⊎_elim (λ y. absurd (h q (to_named 
 
 -- ---- the first claim
 
-module _ {U : Type 0} where
-  -- the first path of a set is the winner, where the set has the paths of those that name the class
-  first_wins : (f : Files) (n : List ℕ) (es : List (List ℕ × U)) → T (fin.is_sorted bytes_cmp es) → ((q : List ℕ) → is_some (fin.find bytes_cmp q es) ≡ names_at f q n) → winner f n ≡ first_of (map (λ e. e.0) es)
-  first_wins f n [] sorted h = no_winner f n (λ q. sym (h q))
-  first_wins f n (e ∷ es) sorted h =
-      let least : IsLeast f n e.0 = record {
-        is_there = sym (h e.0) ∙ ap is_some (found-cons e es e.0 true (same_bytes_equiv.refl e.0));
-        least = λ q there other. below_found e.0 es q (front _ _ sorted) (ap is_some (sym (found-cons e es q false other)) ∙ h q ∙ there);
-      } in
-      least_winner f n e.0 least
+-- the first path of a set is the winner, where the set has the paths of those that name the class
+first_wins : (f : Files) (n : List ℕ) (es : List (List ℕ × Unit {0})) → T (fin.is_sorted bytes_cmp es) → ((q : List ℕ) → is_some (fin.find bytes_cmp q es) ≡ names_at f q n) → winner f n ≡ first_of (map (λ e. e.0) es)
+first_wins f n [] sorted h = no_winner f n (λ q. sym (h q))
+first_wins f n (e ∷ es) sorted h =
+    let least : IsLeast f n e.0 = record {
+      is_there = sym (h e.0) ∙ ap is_some (found-cons e es e.0 true (same_bytes_equiv.refl e.0));
+      least = λ q there other. below_found e.0 es q (front _ _ sorted) (ap is_some (sym (found-cons e es q false other)) ∙ h q ∙ there);
+    } in
+    least_winner f n e.0 least
 
-  paths_win : (f : Files) (n : List ℕ) (o : Option (Paths U)) → ((q : List ℕ) → has_path o q ≡ names_at f q n) → winner f n ≡ first_path o
-  paths_win f n None h = no_winner f n (λ q. sym (h q))
-  paths_win f n (Some paths) h = first_wins f n (fin.entries paths) (fin.entries_sorted paths) (λ q. ap is_some (sym (fin.get-entries paths q)) ∙ h q)
+paths_win : (f : Files) (n : List ℕ) (o : Option Paths) → ((q : List ℕ) → has_path o q ≡ names_at f q n) → winner f n ≡ first_path o
+paths_win f n None h = no_winner f n (λ q. sym (h q))
+paths_win f n (Some paths) h = first_wins f n (fin.entries paths) (fin.entries_sorted paths) (λ q. ap is_some (sym (fin.get-entries paths q)) ∙ h q)
 
-  pub claims_win : (claims : ClaimMap U) (f : Files) → AreClaims claims f → (n : List ℕ) → winner f n ≡ first_claim claims n
-  claims_win claims f h n = paths_win f n (fin.get claims n) (λ q. h n q)
+pub claims_win : (claims : PathsByName) (f : Files) → AreClaims claims f → (n : List ℕ) → winner f n ≡ first_claim claims n
+claims_win claims f h n = paths_win f n (fin.get claims n) (λ q. h n q)

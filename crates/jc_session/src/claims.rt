@@ -13,6 +13,7 @@ use crate::file::File;
 use crate::file_row::FileState;
 use jc_base::{ByteMap, NoMemory};
 use std::alloc::Global;
+use std::marker::Model;
 
 /// From the names of classes to the paths of the files that name them.
 #[derive(Drop)]
@@ -21,10 +22,23 @@ pub(crate) struct Claims {
     by_name: ByteMap<ByteMap<()>>,
 }
 
+impl Model for Claims {
+    ghost use Rattle.std.specs.Coded.{coded_list, coded_ℕ};
+    ghost use Rattle.std.specs.FinMap as map;
+    ghost use Rattle.std.specs.FinSet as set;
+    ghost use Rattle.jc_session.specs.Claims.{PathsByName};
+
+    ghost Value = { PathsByName };
+
+    ghost coded = { map.code (coded_list coded_ℕ) (set.code (coded_list coded_ℕ)) };
+
+    ghost view = { λ a. a.by_name };
+}
+
 impl Claims {
     /// No claims.
     pub(crate) fn new(alloc: Global) -> Claims
-        ensures { (name path : List ℕ) → has_claim result.by_name name path ≡ false }
+        ensures { (name path : List ℕ) → has_claim result name path ≡ false }
     {
         Claims {
             alloc,
@@ -34,8 +48,8 @@ impl Claims {
 
     /// Adds that the file at the path names the class.
     pub(crate) fn add(&mut self, name: &[u8], path: &[u8]) -> Result<(), NoMemory>
-        ensures ok { OnOk result ((n p : List ℕ) → has_claim self.new.by_name n p ≡ ((same_bytes n name.now && same_bytes p path.now) || has_claim self.old.by_name n p)) }
-        ensures err { OnErr result ((n p : List ℕ) → has_claim self.new.by_name n p ≡ has_claim self.old.by_name n p) }
+        ensures ok { OnOk result ((n p : List ℕ) → has_claim self.new n p ≡ ((same_bytes n name.now && same_bytes p path.now) || has_claim self.old n p)) }
+        ensures err { OnErr result (self.new ≡ self.old) }
     {
         let path = Vec::from_slice(self.alloc, path)?;
         if let Some(paths) = self.by_name.get_mut(name) {
@@ -51,7 +65,7 @@ impl Claims {
 
     /// Takes out that the file at the path names the class.
     pub(crate) fn remove(&mut self, name: &[u8], path: &[u8])
-        ensures { (n p : List ℕ) → has_claim self.new.by_name n p ≡ (not (same_bytes n name.now && same_bytes p path.now) && has_claim self.old.by_name n p) }
+        ensures { (n p : List ℕ) → has_claim self.new n p ≡ (not (same_bytes n name.now && same_bytes p path.now) && has_claim self.old n p) }
     {
         if let Some(paths) = self.by_name.get_mut(name) {
             paths.remove(path);
@@ -63,7 +77,7 @@ impl Claims {
 
     /// The least of the paths of the files that name the class.
     pub(crate) fn first(&self, name: &[u8]) -> Option<&[u8]>
-        ensures { option_map (λ path. path.now) result ≡ first_claim self.now.by_name name.now }
+        ensures { option_map (λ path. path.now) result ≡ first_claim self.now name.now }
     {
         let paths = self.by_name.get(name)?;
         paths.keys().next()
@@ -72,8 +86,8 @@ impl Claims {
 
 /// Adds the class that the file at the path names, if it names one.
 pub(crate) fn claim(claims: &mut Claims, file: &File, path: &[u8]) -> Result<(), NoMemory>
-    ensures ok { OnOk result ((n p : List ℕ) → has_claim claims.new.by_name n p ≡ ((same_bytes p path.now && names file.now n) || has_claim claims.old.by_name n p)) }
-    ensures err { OnErr result ((n p : List ℕ) → has_claim claims.new.by_name n p ≡ has_claim claims.old.by_name n p) }
+    ensures ok { OnOk result ((n p : List ℕ) → has_claim claims.new n p ≡ ((same_bytes p path.now && names file.now n) || has_claim claims.old n p)) }
+    ensures err { OnErr result (claims.new ≡ claims.old) }
 {
     match file.class() {
         Ok(name) => claims.add(name, path),
@@ -83,7 +97,7 @@ pub(crate) fn claim(claims: &mut Claims, file: &File, path: &[u8]) -> Result<(),
 
 /// Takes out the class that the file at the path names, if it names one.
 pub(crate) fn withdraw(claims: &mut Claims, file: &File, path: &[u8])
-    ensures { (n p : List ℕ) → has_claim claims.new.by_name n p ≡ (not (same_bytes p path.now && names file.now n) && has_claim claims.old.by_name n p) }
+    ensures { (n p : List ℕ) → has_claim claims.new n p ≡ (not (same_bytes p path.now && names file.now n) && has_claim claims.old n p) }
 {
     if let Ok(name) = file.class() {
         claims.remove(name, path);
@@ -92,7 +106,7 @@ pub(crate) fn withdraw(claims: &mut Claims, file: &File, path: &[u8])
 
 /// Takes out the class that the file at the path named before, unless it names it now too.
 pub(crate) fn withdraw_stale(claims: &mut Claims, before: &File, now: &File, path: &[u8])
-    ensures { (n p : List ℕ) → has_claim claims.new.by_name n p ≡ (not (same_bytes p path.now && (names before.now n && not (names now.now n))) && has_claim claims.old.by_name n p) }
+    ensures { (n p : List ℕ) → has_claim claims.new n p ≡ (not (same_bytes p path.now && (names before.now n && not (names now.now n))) && has_claim claims.old n p) }
 {
     if let Ok(name) = before.class()
         && !now.names(name)
@@ -103,7 +117,7 @@ pub(crate) fn withdraw_stale(claims: &mut Claims, before: &File, now: &File, pat
 
 /// What the file at the path is, by the claims of all files.
 pub(crate) fn state<'a>(claims: &'a Claims, file: &'a File, path: &'a [u8]) -> FileState<'a>
-    ensures { state_lent result ≡ claimed_state claims.now.by_name path.now (class_named file.now) }
+    ensures { state_lent result ≡ claimed_state claims.now path.now (class_named file.now) }
 {
     match file.class() {
         Ok(name) => state_by(path, name, claims.first(name)),

@@ -35,7 +35,7 @@ impl Model for Report {
 
     ghost view = { λ a. a.files };
 
-    ghost invariant = { λ a. AreClaims a.claims.by_name a.files };
+    ghost invariant = { λ a. AreClaims a.claims a.files };
 }
 
 impl Report {

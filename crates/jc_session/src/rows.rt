@@ -23,7 +23,7 @@ impl<'a> Model for Rows<'a> {
 
     ghost Value = { List FileRow };
 
-    ghost view = { λ a. map (claimed_row a.claims.now.by_name) a.files };
+    ghost view = { λ a. map (claimed_row a.claims.now) a.files };
 }
 
 impl<'a> Iterator for Rows<'a> {

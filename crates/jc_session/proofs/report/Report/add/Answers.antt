@@ -8,8 +8,8 @@ use Rattle.jc_session.proofs.report.Report.add.Goals as goal
 
 pub invariant_of-self-in-Ok : goal.invariant_of-self-in-Ok
 invariant_of-self-in-Ok c =
-    let old = c.self.inside.claims.by_name in
-    let new = c.claim.new.claims.by_name in
+    let old = c.self.inside.claims in
+    let new = c.claim.new.claims in
     let path = c.args.path.items in
     let file = c.in_ok-file.file in
     subst (AreClaims new) (sym c.in-Ok.ensures.ok) (claims_added old new c.self.inside.files path file c.self.invariant

@@ -5,6 +5,6 @@ use Rattle.jc_session.proofs.report.Report.replace.Goals as goal
 
 pub invariant_of-self-2 : goal.invariant_of-self-2
 invariant_of-self-2 c =
-    let new = c.withdraw_stale.new.claims.by_name in
-    subst (AreClaims new) (sym c.in-Ok.ensures.ok) (claims_replaced c.self.inside.claims.by_name c.claim.new.claims.by_name new c.self.inside.files c.args.path.now c.in-Some.before.now c.in_ok-file.file c.self.invariant
+    let new = c.withdraw_stale.new.claims in
+    subst (AreClaims new) (sym c.in-Ok.ensures.ok) (claims_replaced c.self.inside.claims c.claim.new.claims new c.self.inside.files c.args.path.now c.in-Some.before.now c.in_ok-file.file c.self.invariant
     (sym c.in-Some.ensures) c.in_ok-claim.ensures.ok c.withdraw_stale.ensures)

@@ -6,5 +6,5 @@ use Rattle.jc_session.proofs.report.Report.rows.Goals as goal
 
 pub returns : goal.returns
 returns c =
-    let claims = c.self.inside.claims.by_name in
+    let claims = c.self.inside.claims in
     ap (map (claimed_row claims)) c.iter.ensures.entries ∙ claimed_rows claims c.self.inside.files c.self.invariant ∙ ap rows c.self.view_is
