@@ -1,5 +1,5 @@
 -- The files of a session, and edits of them.
-use Rattle.std.specs.Prelude.{ℕ, ◌==◌, nat_lt, ◌||◌, Bool, List, length, Option, Some, None, if◌then◌else◌}
+use Rattle.std.specs.Prelude.{ℕ, ◌==◌, nat_lt, ◌||◌, List, length, Option, Some, None, if◌then◌else◌}
 use Rattle.std.specs.FinMap as map
 use Rattle.jc_base.specs.Bytes.{bytes_cmp}
 use Rattle.jc_session.specs.declared.edit.Edit.{Edit}

@@ -8,3 +8,7 @@ pub use Rattle.jc_file.specs.Refusal
 pub use Rattle.jc_base.specs.Bytes
 pub use Rattle.jc_base.specs.TextTests
 pub mod FileRowView
+pub mod Judged
+pub mod Claims
+pub mod HeldFile
+pub mod Winners

@@ -3,6 +3,7 @@
 ghost use Rattle.std.specs.Prelude.{◌≡◌};
 ghost use Rattle.jc_session.specs.declared.edit.EditError.TheVariants.{NoMemory};
 
+use jc_base::NoMemory;
 use std::alloc::{AllocError, AllocFailed};
 
 /// An edit of the files, by paths. Paths and bytes are owned; a refusal drops them.
@@ -53,6 +54,14 @@ impl<T: Drop> From<AllocFailed<T>> for EditError {
     ghost from_gives = { λ _ e. e ≡ NoMemory };
 
     fn from(_: AllocFailed<T>) -> EditError {
+        EditError::NoMemory
+    }
+}
+
+impl From<NoMemory> for EditError {
+    ghost from_gives = { λ _ e. e ≡ NoMemory };
+
+    fn from(_: NoMemory) -> EditError {
         EditError::NoMemory
     }
 }

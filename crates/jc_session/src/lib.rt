@@ -2,10 +2,21 @@
 //! says which class each names.
 #![tactic(auto)]
 
+mod claims;
 mod edit;
+mod file;
 mod file_row;
+mod judge;
+mod laws;
+mod report;
+mod rows;
+mod session;
 mod source;
 
 pub use edit::{Done, Edit, EditError};
 pub use file_row::{FileRow, FileState};
+pub use laws::winners_are_least;
+pub use report::Report;
+pub use rows::Rows;
+pub use session::Session;
 pub use source::SourceError;

@@ -1,0 +1,3 @@
+pub mod ClaimLemmas
+pub mod WinnerLemmas
+pub mod HeldLemmas

@@ -1,0 +1,58 @@
+-- Which files name a class, as a map from names to the paths of the files.
+use Rattle.std.specs.Prelude.{◌≡◌, ℕ, Bool, false, List, [], ◌∷◌, Option, Some, None, Result, Ok, Err}
+use Rattle.std.specs.FinMap as map
+use Rattle.std.specs.FinSet as set
+use Rattle.jc_base.specs.Bytes.{bytes_cmp}
+use Rattle.jc_file.specs.declared.parse_error.ParseError.{ParseError}
+use Rattle.jc_file.specs.Outcome.{class_named}
+use Rattle.jc_session.specs.Files.{Files}
+use Rattle.jc_session.specs.Rows.{FileState, Unreadable, FileRow, names, state_by}
+
+-- the paths of the files that name a class
+abbrev pub Paths : Type 0
+Paths = set.FinSet bytes_cmp
+
+-- from the names of classes
+abbrev pub PathsByName : Type 0
+PathsByName = map.FinMap bytes_cmp Paths
+
+abbrev pub has_path : Option Paths → List ℕ → Bool
+has_path None path = false
+has_path (Some paths) path = map.contains_key paths path
+
+-- whether the file at the path is said to name the class
+abbrev pub has_claim : PathsByName → List ℕ → List ℕ → Bool
+has_claim claims name path = has_path (map.get claims name) path
+
+abbrev pub first_of : List (List ℕ) → Option (List ℕ)
+first_of [] = None
+first_of (path ∷ paths) = Some path
+
+abbrev pub first_path : Option Paths → Option (List ℕ)
+first_path None = None
+first_path (Some paths) = first_of (map.keys paths)
+
+-- the least of the paths that name a class
+abbrev pub first_claim : PathsByName → List ℕ → Option (List ℕ)
+first_claim claims name = first_path (map.get claims name)
+
+abbrev pub names_there : Option (List ℕ) → List ℕ → Bool
+names_there None name = false
+names_there (Some bytes) name = names bytes name
+
+-- whether there is a file at the path that names the class
+abbrev pub names_at : Files → List ℕ → List ℕ → Bool
+names_at f path name = names_there (map.get f path) name
+
+-- the claims are those of the files
+abbrev pub AreClaims : PathsByName → Files → Type 0
+AreClaims claims f = (name path : List ℕ) → has_claim claims name path ≡ names_at f path name
+
+-- ---- rows by the claims
+
+abbrev pub claimed_state : PathsByName → List ℕ → Result (List ℕ) ParseError → FileState
+claimed_state claims path (Ok name) = state_by path name (first_claim claims name)
+claimed_state claims path (Err refusal) = Unreadable refusal
+
+abbrev pub claimed_row : PathsByName → List ℕ × List ℕ → FileRow
+claimed_row claims file = record { path = file.0; state = claimed_state claims file.0 (class_named file.1) }

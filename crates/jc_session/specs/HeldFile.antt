@@ -1,0 +1,13 @@
+-- The class that a held file names, or its refusal, without vectors and references.
+use Rattle.std.specs.Prelude.{ℕ, List, Result, Ok, Err}
+use Rattle.std.specs.Borrow.{Bor}
+use Rattle.std.specs.declared.vec.Vec.{Vec}
+use Rattle.jc_file.specs.declared.parse_error.ParseError.{ParseError}
+
+abbrev pub class_held : {A : Type 0} → Result (Vec ℕ A) ParseError → Result (List ℕ) ParseError
+class_held (Ok name) = Ok name.items
+class_held (Err refusal) = Err refusal
+
+abbrev pub class_lent : Result (Bor (List ℕ)) ParseError → Result (List ℕ) ParseError
+class_lent (Ok name) = Ok name.now
+class_lent (Err refusal) = Err refusal

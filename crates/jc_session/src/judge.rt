@@ -1,0 +1,92 @@
+//! Whether an edit is refused.
+
+ghost use Rattle.std.specs.Prelude.{◌≡◌};
+ghost use Rattle.jc_session.specs.Files as files_of;
+
+use crate::edit::{Edit, EditError};
+use crate::file::File;
+use jc_base::ByteMap;
+
+const LONGEST_PATH: usize = 4_096;
+
+const LARGEST_FILE: usize = 16_777_216;
+
+const MOST_FILES: usize = 65_535;
+
+/// The first refusal of the edit that applies, but for memory.
+pub(crate) fn judge(files: &ByteMap<File>, edit: &Edit) -> Option<EditError>
+    ensures { result ≡ files_of.judge files.now (files_of.change_of edit.now) }
+{
+    match edit {
+        Edit::Add(path, bytes) => judge_add(files, path, bytes),
+        Edit::Replace(path, bytes) => judge_replace(files, path, bytes),
+        Edit::Remove(path) => path_fault(path).or(missing_fault(files, path)),
+    }
+}
+
+fn judge_add(files: &ByteMap<File>, path: &[u8], bytes: &[u8]) -> Option<EditError>
+    ensures { result ≡ files_of.judge files.now (files_of.Adds path.now bytes.now) }
+{
+    path_fault(path)
+        .or(there_fault(files, path))
+        .or(size_fault(bytes))
+        .or(room_fault(files))
+}
+
+fn judge_replace(files: &ByteMap<File>, path: &[u8], bytes: &[u8]) -> Option<EditError>
+    ensures { result ≡ files_of.judge files.now (files_of.Replaces path.now bytes.now) }
+{
+    path_fault(path)
+        .or(missing_fault(files, path))
+        .or(size_fault(bytes))
+}
+
+fn path_fault(path: &[u8]) -> Option<EditError>
+    ensures { result ≡ files_of.path_fault path.now }
+{
+    if path.is_empty() || path.len() > LONGEST_PATH {
+        Some(EditError::BadPath)
+    } else {
+        None
+    }
+}
+
+fn there_fault(files: &ByteMap<File>, path: &[u8]) -> Option<EditError>
+    ensures { result ≡ files_of.there_fault files.now path.now }
+{
+    if files.contains_key(path) {
+        Some(EditError::AlreadyThere)
+    } else {
+        None
+    }
+}
+
+fn missing_fault(files: &ByteMap<File>, path: &[u8]) -> Option<EditError>
+    ensures { result ≡ files_of.missing_fault files.now path.now }
+{
+    if files.contains_key(path) {
+        None
+    } else {
+        Some(EditError::NoSuchFile)
+    }
+}
+
+fn size_fault(bytes: &[u8]) -> Option<EditError>
+    ensures { result ≡ files_of.size_fault bytes.now }
+{
+    if bytes.len() > LARGEST_FILE {
+        Some(EditError::TooLarge)
+    } else {
+        None
+    }
+}
+
+fn room_fault(files: &ByteMap<File>) -> Option<EditError>
+    ensures { result ≡ files_of.room_fault files.now }
+{
+    if files.len() < MOST_FILES {
+        None
+    } else {
+        Some(EditError::TooMany)
+    }
+}

@@ -1,0 +1,13 @@
+//! Laws of the definitions: functions without a body, whose contracts are the laws.
+
+ghost use Rattle.std.specs.Prelude.{◌≡◌, ◌↔◌, ℕ, List, Some, None};
+ghost use Rattle.jc_session.specs.Files.{Files};
+ghost use Rattle.jc_session.specs.Rows.{winner};
+ghost use Rattle.jc_session.specs.Winners.{NamesAt, IsWinner};
+
+/// The file that gives a class is the one with the least path of those that name it, and there is none
+/// only where no file names it.
+pub fn winners_are_least()
+    ensures least { (f : Files) (name path : List ℕ) → (winner f name ≡ Some path) ↔ IsWinner f name path }
+    ensures none { (f : Files) (name : List ℕ) → (winner f name ≡ None) ↔ ((path : List ℕ) → ¬ NamesAt f path name) }
+{}
