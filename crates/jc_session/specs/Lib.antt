@@ -3,8 +3,11 @@ pub mod Rows
 pub mod RowText
 pub mod Lines
 pub mod Answers
+pub mod AnswerText
 pub use Rattle.jc_file.specs.Outcome
 pub use Rattle.jc_file.specs.Refusal
 pub use Rattle.jc_base.specs.Bytes
 pub use Rattle.jc_base.specs.TextTests
 pub mod FileRowView
+pub use Rattle.jc_base.specs.Device
+pub use Rattle.jc_base.specs.CodeUnits

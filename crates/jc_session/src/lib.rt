@@ -2,8 +2,11 @@
 //! says which class each names.
 #![tactic(auto)]
 
+mod answer_text;
 mod edit;
+mod escapes;
 mod file_row;
+mod report_text;
 mod source;
 
 pub use edit::{Done, Edit, EditError};
