@@ -74,7 +74,8 @@ pub(crate) fn write_refusal<W: Output>(out: &mut W, refusal: ParseError) -> Resu
     ensures failures { CountsFault result (W.failures out.old) (W.failures out.new) }
 {
     let mut buffer = Buffer::new();
-    write_parts(out, &[buffer.format(refusal.code()).as_bytes(), b" "])?;
+    let code = buffer.format(refusal.code()).as_bytes();
+    write_parts(out, &[code, b" "])?;
     write_refusal_name(out, refusal)
 }
 
