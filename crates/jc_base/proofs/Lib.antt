@@ -1,4 +1,5 @@
 pub mod FirstUnitLemmas
+pub mod CodeUnitLemmas
 pub mod WellSpelledLemmas
 pub mod NamesLemmas
 pub mod SpelledBytes

@@ -1,5 +1,6 @@
 pub mod Bytes
 pub mod ByteMap
+pub mod CodeUnits
 pub mod Cursor
 pub mod Device
 pub mod FirstUnit

@@ -3,6 +3,7 @@
 #![tactic(auto)]
 
 pub mod byte_map;
+mod code_units;
 mod cursor;
 mod device;
 mod mem_devices;
@@ -13,6 +14,7 @@ mod std_devices;
 mod writing;
 
 pub use byte_map::ByteMap;
+pub use code_units::{Units, units_end_at_the_first_wrong_spelling};
 pub use cursor::Cursor;
 pub use device::{DeviceFault, Input, Output};
 pub use mem_devices::{MemInput, MemOutput};

@@ -69,7 +69,7 @@ impl From<AllocError> for UnitsError {
 
 // The unit at the front of `text`, and how many bytes spell it.
 #[tactic(auto, unfolding(crate::specs::FirstUnit::first_unit))]
-fn unit_at(text: &[u8]) -> Option<(u16, usize)>
+pub(crate) fn unit_at(text: &[u8]) -> Option<(u16, usize)>
     ensures value { result ≡ first_unit text.now }
     ensures within { IfSome result (λ found. (0 < found.1) × (found.1 ≤ length text.now)) }
 {

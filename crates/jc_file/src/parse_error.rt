@@ -30,6 +30,27 @@ pub enum ParseError {
     NoMemory,
 }
 
+impl ParseError {
+    ghost use Rattle.jc_file.specs.Refusal.{code_of};
+
+    /// The number of the refusal, from 1, in the order of the variants.
+    pub fn code(&self) -> u8
+        ensures { result ≡ code_of self.now }
+    {
+        match self {
+            ParseError::Magic => 1,
+            ParseError::Version => 2,
+            ParseError::Count => 3,
+            ParseError::Tag(_) => 4,
+            ParseError::Wide(_) => 5,
+            ParseError::Trailing(_) => 6,
+            ParseError::Short => 7,
+            ParseError::NoName => 8,
+            ParseError::NoMemory => 9,
+        }
+    }
+}
+
 impl From<AllocError> for ParseError {
     ghost from_gives = { λ _ e. e ≡ NoMemory };
 

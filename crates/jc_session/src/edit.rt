@@ -42,6 +42,38 @@ pub enum EditError {
     NoMemory,
 }
 
+impl EditError {
+    ghost use Rattle.jc_session.specs.Answers.{edit_code, edit_error_name};
+
+    /// The number of the refusal, from 1, in the order of the variants.
+    pub fn code(&self) -> u8
+        ensures { result ≡ edit_code self.now }
+    {
+        match self {
+            EditError::AlreadyThere => 1,
+            EditError::NoSuchFile => 2,
+            EditError::TooLarge => 3,
+            EditError::TooMany => 4,
+            EditError::BadPath => 5,
+            EditError::NoMemory => 6,
+        }
+    }
+
+    /// The name of the variant.
+    pub fn name(&self) -> &'static [u8]
+        ensures { result.now ≡ edit_error_name self.now }
+    {
+        match self {
+            EditError::AlreadyThere => b"AlreadyThere",
+            EditError::NoSuchFile => b"NoSuchFile",
+            EditError::TooLarge => b"TooLarge",
+            EditError::TooMany => b"TooMany",
+            EditError::BadPath => b"BadPath",
+            EditError::NoMemory => b"NoMemory",
+        }
+    }
+}
+
 impl From<AllocError> for EditError {
     ghost from_gives = { λ _ e. e ≡ NoMemory };
 

@@ -11,6 +11,10 @@ mod laws;
 mod report;
 mod rows;
 mod session;
+
+mod answer_text;
+mod escapes;
+mod report_text;
 mod source;
 
 pub use edit::{Done, Edit, EditError};
