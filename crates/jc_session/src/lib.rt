@@ -2,8 +2,10 @@
 //! says which class each names.
 #![tactic(auto)]
 
+mod command;
 mod edit;
 mod file_row;
+mod lines;
 mod source;
 
 pub use edit::{Done, Edit, EditError};
