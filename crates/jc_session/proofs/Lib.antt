@@ -4,3 +4,5 @@ pub mod HeldLemmas
 
 pub mod WritingLemmas
 pub mod EscapeLemmas
+
+pub mod LineLemmas

@@ -2,6 +2,7 @@ pub mod Files
 pub mod Rows
 pub mod RowText
 pub mod Lines
+pub mod Commands
 pub mod Answers
 pub mod AnswerText
 pub use Rattle.jc_file.specs.Outcome

@@ -3,6 +3,8 @@
 #![tactic(auto)]
 
 mod claims;
+
+mod command;
 mod edit;
 mod file;
 mod file_row;
@@ -15,6 +17,8 @@ mod session;
 mod answer_text;
 mod escapes;
 mod report_text;
+
+mod lines;
 mod source;
 
 pub use edit::{Done, Edit, EditError};

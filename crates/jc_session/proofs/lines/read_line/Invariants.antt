@@ -1,0 +1,14 @@
+use Rattle.std.proofs.Common.{◌≡◌, ◌+◌, ◌≤◌, length}
+use Rattle.jc_session.specs.Commands.{commands_of}
+use Rattle.jc_session.proofs.LineLemmas.{IsReading}
+use Rattle.jc_session.proofs.lines.read_line.Given as goal
+
+abbrev pub invariant-loop-ahead : goal.invariant-loop-ahead
+invariant-loop-ahead g l = record {
+  reading : IsReading (commands_of l.fn.ahead (g.R.Input.remaining l.fn.input)) l.line l.ahead (g.R.Input.remaining l.input);
+  spent : g.R.Input.bound l.input + (length l.ahead + length l.line) ≤ g.R.Input.bound l.fn.input + length l.fn.ahead;
+  failures : g.R.Input.failures l.input ≡ g.R.Input.failures l.fn.input;
+}
+
+abbrev pub decreases-loop-ahead : goal.decreases-loop-ahead
+decreases-loop-ahead g l = g.R.Input.bound l.input
