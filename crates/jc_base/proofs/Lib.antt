@@ -4,4 +4,6 @@ pub mod NamesLemmas
 pub mod SpelledBytes
 pub mod ByteEntries
 pub mod ByteMapLemmas
+pub mod DescriptorLemmas
 pub mod DeviceLemmas
+pub mod MethodLemmas

@@ -1,11 +1,15 @@
 pub mod Bytes
 pub mod ByteMap
 pub mod Cursor
+pub mod Descriptors
 pub mod Device
+pub mod FieldsInFront
 pub mod FirstUnit
 pub mod MemDevices
+pub mod MethodParts
 pub mod ModifiedUtf8
 pub mod Names
+pub mod Params
 pub mod StdDevices
 pub use Rattle.byteorder.specs.Endian
 pub use Rattle.byteorder.specs.Numbers

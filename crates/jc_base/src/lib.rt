@@ -4,6 +4,7 @@
 
 pub mod byte_map;
 mod cursor;
+mod descriptors;
 mod device;
 mod mem_devices;
 mod modified_utf8;
@@ -14,6 +15,7 @@ mod writing;
 
 pub use byte_map::ByteMap;
 pub use cursor::Cursor;
+pub use descriptors::{FieldDesc, MethodDesc, Params};
 pub use device::{DeviceFault, Input, Output};
 pub use mem_devices::{MemInput, MemOutput};
 pub use modified_utf8::{
