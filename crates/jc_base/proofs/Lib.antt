@@ -7,3 +7,4 @@ pub mod ByteMapLemmas
 pub mod DescriptorLemmas
 pub mod DeviceLemmas
 pub mod MethodLemmas
+pub mod SignatureLemmas

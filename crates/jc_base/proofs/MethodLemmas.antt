@@ -56,7 +56,7 @@ next_param text slots rest param after read front params =
     let each = subst (All IsFieldDescriptor) fields params.each in
     let sums = sum_by-append slots_of read.done (param ∷ fields_of after) in
     let sum : sum_by slots_of (fields_of text) ≡ sum_by slots_of (read.done ++ (param ∷ fields_of after)) = ap (sum_by slots_of) fields in
-    let one : sum_by slots_of (param ∷ fields_of after) ≡ slots_of param + sum_by slots_of (fields_of after) = refl in
+    let one : sum_by slots_of (param ∷ fields_of after) ≡ 0 + slots_of param + sum_by slots_of (fields_of after) = sum_by-append slots_of (param ∷ []) (fields_of after) in
     let few : sum_by slots_of (fields_of text) ≤ 255 = params.few in
     let taken : slots ≡ sum_by slots_of read.done = read.taken in
     (middle IsFieldDescriptor read.done param (fields_of after) each, omega arith)

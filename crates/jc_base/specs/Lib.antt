@@ -10,6 +10,7 @@ pub mod MethodParts
 pub mod ModifiedUtf8
 pub mod Names
 pub mod Params
+pub mod Signatures
 pub mod StdDevices
 pub use Rattle.byteorder.specs.Endian
 pub use Rattle.byteorder.specs.Numbers

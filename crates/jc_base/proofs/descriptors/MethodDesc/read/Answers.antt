@@ -1,4 +1,4 @@
-use Rattle.std.proofs.Common.{[], ◌∷◌, Some, None}
+use Rattle.std.proofs.Common.{[], ◌∷◌, Some, None, refl}
 use Rattle.std.proofs.lemmas.Bool.{false≢true}
 use Rattle.std.proofs.lemmas.Bool.Decides.{Decides-eqb}
 use Rattle.std.proofs.lemmas.Slice.Eq.{strip_prefix_is}
@@ -40,7 +40,13 @@ invariant_of-result c =
     (cut.0, c.in_ok-result.ensures.found.field, cut.1)
 
 pub returns-clause-some : goal.returns-clause-some
-returns-clause-some c = ?
+returns-clause-some c =
+    let inner = c.in_ok-inner.inner in
+    let rest = c.in_ok-slots.rest in
+    let after = c.in_ok-strip_prefix.field-0 in
+    let at = strip_prefix_is Decides-eqb c.args.text.now (40 ∷ []) (Some inner) c.in_ok-inner.ensures.cases in
+    let close = strip_prefix_is Decides-eqb rest.now (41 ∷ []) (Some after) c.in_ok-strip_prefix.ensures.cases in
+    (λ _. (_, method_read c.args.text.now inner.now rest.now after.now c.in_ok-slots.slots _ at c.in_ok-slots.ensures.found close c.in_ok-result.ensures.found), λ _. refl)
 
 pub returns-clause-tree : goal.returns-clause-tree
 returns-clause-tree c =
