@@ -9,6 +9,7 @@ pub mod MemDevices
 pub mod MethodParts
 pub mod ModifiedUtf8
 pub mod Names
+pub mod Owed
 pub mod Params
 pub mod Signatures
 pub mod StdDevices

@@ -25,6 +25,7 @@ pub data Symbol : Type 0 where
   MethodSignature : Symbol
   Result : Symbol
   Throws : Symbol
+  Thrown : Symbol
   JavaType : Symbol
   ReferenceType : Symbol
   TypeVariable : Symbol
@@ -48,8 +49,9 @@ pub data Produces : Symbol → List Symbol → Type 0 where
   method_signature : Produces MethodSignature (Maybe Params ∷ Mark 40 ∷ Many JavaType ∷ Mark 41 ∷ Result ∷ Many Throws ∷ [])
   result_type : Produces Result (JavaType ∷ [])
   result_void : Produces Result (Mark 86 ∷ [])
-  throws_class : Produces Throws (Mark 94 ∷ ClassType ∷ [])
-  throws_variable : Produces Throws (Mark 94 ∷ TypeVariable ∷ [])
+  throws : Produces Throws (Mark 94 ∷ Thrown ∷ [])
+  thrown_class : Produces Thrown (ClassType ∷ [])
+  thrown_variable : Produces Thrown (TypeVariable ∷ [])
   base_type : (c : ℕ) → Contains base_types c → Produces JavaType (Mark c ∷ [])
   reference_type : Produces JavaType (ReferenceType ∷ [])
   class_reference : Produces ReferenceType (ClassType ∷ [])

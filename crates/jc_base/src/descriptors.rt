@@ -281,7 +281,7 @@ fn name_within(text: &[u8]) -> Option<&[u8]>
     text.strip_prefix(b"L")?.strip_suffix(b";")
 }
 
-fn is_base_letter(letter: u8) -> bool
+pub(crate) fn is_base_letter(letter: u8) -> bool
     ensures test { result ≡ list_any (λ b. b == letter) base_types }
     ensures base { IsTrue result ↔ Contains base_types letter }
 {
