@@ -22,7 +22,7 @@ single (x ∷ y ∷ b) e = absurd (omega arith)
 base_test : (c : ℕ) → Contains base_types c → list_any (λ b. eqb b c) base_types ≡ true
 base_test c (k, within, is) = list_any_at (λ b. eqb b c) base_types k c within (eq-eqb (get_or base_types k c) c is)
 
-no_base : (c d : ℕ) → list_any (λ b. eqb b d) base_types ≡ false → Contains base_types c → c ≢ d
+pub no_base : (c d : ℕ) → list_any (λ b. eqb b d) base_types ≡ false → Contains base_types c → c ≢ d
 no_base c d none has is = false≢true (sym none ∙ base_test d (subst (Contains base_types) is has))
 
 pub element_starts : (e : List ℕ) → IsElementType e → get_or e 0 0 ≢ 91

@@ -8,3 +8,5 @@ pub mod DescriptorLemmas
 pub mod DeviceLemmas
 pub mod MethodLemmas
 pub mod SignatureLemmas
+pub mod OwedLemmas
+pub mod NameRunLemmas
