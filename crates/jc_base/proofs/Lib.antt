@@ -10,3 +10,6 @@ pub mod MethodLemmas
 pub mod SignatureLemmas
 pub mod OwedLemmas
 pub mod NameRunLemmas
+pub mod CutLemmas
+pub mod StepLemmas
+pub mod StackLemmas

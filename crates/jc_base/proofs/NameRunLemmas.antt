@@ -55,7 +55,7 @@ named_from owed text c rest named d = names named.name owed text (c ∷ rest) na
 
 -- ---- what begins with a stop
 
-mark_some : (m : ℕ) (owed : List Symbol) → Derives (Mark m ∷ owed) [] → ⊥
+pub mark_some : (m : ℕ) (owed : List Symbol) → Derives (Mark m ∷ owed) [] → ⊥
 mark_some m owed (expands _ _ _ _ made d) = elim made [ ]
 
 pub mark_stops : (m : ℕ) (owed : List Symbol) → IsStop m → BeginsWithStop (Mark m ∷ owed)

@@ -1,5 +1,5 @@
 -- What the judge of signatures still owes: each entry of its stack, as symbols of the grammar.
-use Rattle.std.specs.Prelude.{◌≡◌, ℕ, ◌<◌, ◌↔◌, List, [], ◌∷◌, ◌++◌, length, Contains, Option, Some, None, MatchOption, fold}
+use Rattle.std.specs.Prelude.{◌≡◌, ℕ, ◌<◌, ◌≤◌, ◌↔◌, List, [], ◌∷◌, ◌++◌, length, Contains, Option, Some, None, MatchOption, fold}
 use Rattle.jc_base.specs.declared.signatures.SigKind.{SigKind}
 use Rattle.jc_base.specs.declared.signatures.SigKind.TheVariants as kind
 use Rattle.jc_base.specs.declared.signatures.Owed.{Owed}
@@ -7,7 +7,7 @@ use Rattle.jc_base.specs.declared.signatures.Owed.TheVariants as entry
 use Rattle.jc_base.specs.declared.signatures.After.{After}
 use Rattle.jc_base.specs.declared.signatures.Step.{Step}
 use Rattle.jc_base.specs.Names.{Lacks}
-use Rattle.jc_base.specs.Signatures.{Symbol, Mark, Identifier, Maybe, Many, Result, Throws, Thrown, JavaType, ReferenceType, ClassType, Package, SimpleClass, Suffix, Arguments, Argument, Params, Param, Bound, Derives, IsIdentifier, identifier_stops}
+use Rattle.jc_base.specs.Signatures.{Symbol, Mark, Identifier, Maybe, Many, Result, Throws, Thrown, JavaType, ReferenceType, ClassType, Package, SimpleClass, Suffix, Arguments, Argument, Params, Param, Bound, Derives, IsIdentifier, IsSignature, identifier_stops}
 
 abbrev pub symbols_of : Owed → List Symbol
 symbols_of entry.Class = Maybe Params ∷ ClassType ∷ []
@@ -127,3 +127,29 @@ abbrev pub GivesRest : List Symbol → List ℕ → List ℕ → Option After �
 GivesRest symbols text rest answer =
     MatchOption answer ((owed : List Symbol) → ¬ Derives (symbols ++ owed) text)
     (λ after. LeavesRest symbols text after rest)
+
+-- the answer to a stack: the entry at its top, or what may be repeated when it is empty
+abbrev pub GivesTop : SigKind → List Owed → List Owed → Option Owed → Type 0
+GivesTop kind old new answer =
+    MatchOption answer ((c : ℕ) (rest : List ℕ) → ¬ Derives (stack_before old (tail_of kind)) (c ∷ rest))
+    (λ entry. (c : ℕ) (rest : List ℕ) →
+        Derives (stack_before old (tail_of kind)) (c ∷ rest)
+        ↔ Derives (symbols_of entry ++ stack_before new (tail_of kind)) (c ∷ rest))
+
+-- one step of the stack
+pub record StackStep (kind : SigKind) (old new : List Owed) (text : List ℕ) (step : Step) : Type 0 where
+  pub less : length step.rest.now < length text
+  pub same :
+      Derives (stack_before old (tail_of kind)) text
+      ↔ Derives (both_before step.after (stack_before new (tail_of kind))) step.rest.now
+
+-- the answer to a stack and a text
+abbrev pub GivesStackStep : SigKind → List Owed → List Owed → List ℕ → Option Step → Type 0
+GivesStackStep kind old new text answer =
+    MatchOption answer (¬ Derives (stack_before old (tail_of kind)) text) (StackStep kind old new text)
+
+-- whether the text is a signature hangs on the stack and on what is left alone, and each entry of
+-- the stack has a byte that is left
+pub record IsJudged (kind : SigKind) (text : List ℕ) (stack : List Owed) (rest : List ℕ) : Type 0 where
+  pub same : IsSignature kind text ↔ Derives (stack_before stack (tail_of kind)) rest
+  pub room : length stack ≤ length rest

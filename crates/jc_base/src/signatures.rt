@@ -1,11 +1,12 @@
 //! Signatures, which tell of type variables and parameterized types (JVMS 4.7.9.1).
 
-ghost use Rattle.std.specs.Prelude.{◌≡◌, ◌≢◌, ◌<◌, ◌≤◌, ◌++◌, ◌↔◌, ◌∷◌, [], ◌==◌, ℕ, List, All, position, Contains, Option, length, IsTrue, IfOk, IfSome, IfNone, MatchOption};
+ghost use Rattle.std.specs.Prelude.{◌≡◌, ◌≢◌, ◌<◌, ◌≤◌, ◌++◌, ◌↔◌, ◌∷◌, [], ◌==◌, ℕ, List, All, position, Contains, Option, length, IsTrue, IfOk, OnOk, IfSome, IfNone, MatchOption};
 ghost use Rattle.std.specs.List.{list_any};
+ghost use Rattle.std.specs.Option.{option_map};
 ghost use Rattle.jc_base.specs.ModifiedUtf8.{IsWellSpelled};
 ghost use Rattle.jc_base.specs.Names.{Lacks};
 ghost use Rattle.jc_base.specs.Signatures.{identifier_stops, Symbol, Derives, Mark, Maybe, Many, JavaType, ReferenceType, ClassType, Thrown, Throws, Argument, Result, Arguments, Suffix, IsIdentifier, IsSignature};
-ghost use Rattle.jc_base.specs.Owed.{symbols_of, tail_of, stack_before, GivesEntry, GivesAfter, GivesNamed, GivesRest, GivesStep, IsCut, HasName, HasNoName, EndsAtColon, IsStop};
+ghost use Rattle.jc_base.specs.Owed.{symbols_of, tail_of, before, both_before, stack_before, GivesTop, GivesStackStep, GivesEntry, GivesAfter, GivesNamed, GivesRest, GivesStep, IsCut, HasName, HasNoName, EndsAtColon, IsStop};
 
 use crate::descriptors::is_base_letter;
 use crate::modified_utf8::check_units;
@@ -162,7 +163,8 @@ fn argument(first: u8) -> Option<Option<Owed>>
 }
 
 fn alone(entry: Option<Option<Owed>>) -> Option<After>
-    ensures { (symbols : List Symbol) (c : ℕ) →
+    ensures value { result ≡ option_map (λ e. record { 0 = e; 1 = None }) entry }
+    ensures gives { (symbols : List Symbol) (c : ℕ) →
         GivesEntry symbols c entry → GivesAfter symbols c result }
 {
     match entry {
@@ -354,12 +356,17 @@ fn bounds(text: &[u8]) -> Option<Step<'_>>
     ensures { GivesStep (symbols_of Owed.Bounds) text.now result }
 {
     let (first, rest) = text.split_first()?;
-    let after = match *first {
-        b':' => After(Some(Owed::Reference), Some(Owed::Bounds)),
-        b'>' => After(None, None),
-        _ => return first_param(text),
-    };
-    Some(Step { after, rest })
+    match *first {
+        b':' => Some(Step {
+            after: After(Some(Owed::Reference), Some(Owed::Bounds)),
+            rest,
+        }),
+        b'>' => Some(Step {
+            after: After(None, None),
+            rest,
+        }),
+        _ => first_param(text),
+    }
 }
 
 // A name that ends at `:` is the next parameter's, also where it begins as a type does.
@@ -368,11 +375,128 @@ fn class_bound(text: &[u8]) -> Option<Step<'_>>
 {
     let (first, rest) = text.split_first()?;
     if *first == b'>' {
-        let after = After(None, None);
-        Some(Step { after, rest })
+        Some(Step {
+            after: After(None, None),
+            rest,
+        })
     } else if ends_at_colon(text) {
         bounds(text)
     } else {
         with_rest(followed(reference(*first), Owed::Bounds), rest)
     }
+}
+
+// Reads off the front of `text` what belongs to the entry, and says what it owes after that. Each
+// step reads a byte or more.
+fn advance(entry: Owed, text: &[u8]) -> Option<Step<'_>>
+    ensures { GivesStep (symbols_of entry) text.now result }
+{
+    let (first, rest) = text.split_first()?;
+    match entry {
+        Owed::Class => with_rest(class_signature(*first), rest),
+        Owed::Method => with_rest(method_signature(*first), rest),
+        Owed::MethodTypes => with_rest(alone(method_types(*first)), rest),
+        Owed::Parameters => with_rest(parameters(*first), rest),
+        Owed::Result => with_rest(alone(result_type(*first)), rest),
+        Owed::Java => with_rest(alone(java(*first)), rest),
+        Owed::Reference => with_rest(alone(reference(*first)), rest),
+        Owed::ClassType => with_rest(alone(class_type(*first)), rest),
+        Owed::Throws => with_rest(alone(throws(*first)), rest),
+        Owed::Thrown => with_rest(alone(thrown(*first)), rest),
+        Owed::VariableName => variable_name(text),
+        Owed::ClassName => class_name(text),
+        Owed::SimpleName => simple_name(text),
+        Owed::Suffixes => with_rest(alone(suffixes(*first)), rest),
+        Owed::FirstArgument => with_rest(first_argument(*first), rest),
+        Owed::Arguments => with_rest(arguments(*first), rest),
+        Owed::FirstParam => first_param(text),
+        Owed::ClassBound => class_bound(text),
+        Owed::Bounds => bounds(text),
+    }
+}
+
+fn start(kind: SigKind) -> Owed
+    ensures { (text : List ℕ) →
+        IsSignature kind text ↔ Derives (symbols_of result ++ tail_of kind) text }
+{
+    match kind {
+        SigKind::Class => Owed::Class,
+        SigKind::Method => Owed::Method,
+        SigKind::Field => Owed::Reference,
+    }
+}
+
+// What may follow any number of times.
+fn repeated(kind: SigKind) -> Option<Owed>
+    ensures { MatchOption result
+        ((c : ℕ) (rest : List ℕ) → ¬ Derives (tail_of kind) (c ∷ rest))
+        (λ entry. (c : ℕ) (rest : List ℕ) →
+            Derives (tail_of kind) (c ∷ rest) ↔ Derives (symbols_of entry ++ tail_of kind) (c ∷ rest)) }
+{
+    match kind {
+        SigKind::Class => Some(Owed::ClassType),
+        SigKind::Method => Some(Owed::Throws),
+        SigKind::Field => None,
+    }
+}
+
+fn next_entry(stack: &mut Vec<Owed>, kind: SigKind) -> Option<Owed>
+    ensures { GivesTop kind stack.old.items stack.new.items result }
+{
+    match stack.pop() {
+        Some(entry) => Some(entry),
+        None => repeated(kind),
+    }
+}
+
+// Takes the entry at the top of the stack and goes one step on with it.
+fn next_step<'a>(stack: &mut Vec<Owed>, kind: SigKind, text: &'a [u8]) -> Option<Step<'a>>
+    requires { 0 < length text.now }
+    ensures { GivesStackStep kind stack.old.items stack.new.items text.now result }
+{
+    let entry = next_entry(stack, kind)?;
+    advance(entry, text)
+}
+
+fn push(stack: &mut Vec<Owed>, entry: Option<Owed>) -> Result<(), NoMemory>
+    ensures { OnOk result ((owed : List Symbol) →
+        stack_before stack.new.items owed ≡ before entry (stack_before stack.old.items owed)) }
+{
+    if let Some(entry) = entry {
+        stack.push(entry)?;
+    }
+    Ok(())
+}
+
+fn push_after(stack: &mut Vec<Owed>, after: After) -> Result<(), NoMemory>
+    ensures { OnOk result ((owed : List Symbol) →
+        stack_before stack.new.items owed ≡ both_before after (stack_before stack.old.items owed)) }
+{
+    push(stack, after.1)?;
+    push(stack, after.0)
+}
+
+/// Whether `text` is a signature of this kind (JVMS 4.7.9.1). A text that is not modified UTF-8 is
+/// none.
+pub fn check_signature(alloc: Global, kind: SigKind, text: &[u8]) -> Result<bool, NoMemory>
+    ensures { IfOk result (λ holds. IsTrue holds ↔ IsSignature kind text.now) }
+{
+    if text.is_empty() {
+        return Ok(false);
+    }
+    let mut rest = text;
+    let mut stack = Vec::new(alloc);
+    stack.push(start(kind))?;
+    while !rest.is_empty() {
+        let Some(step) = next_step(&mut stack, kind, rest) else {
+            return Ok(false);
+        };
+        push_after(&mut stack, step.after)?;
+        rest = step.rest;
+        // Each entry takes a byte or more.
+        if stack.len() > rest.len() {
+            return Ok(false);
+        }
+    }
+    Ok(stack.is_empty())
 }

@@ -9,4 +9,4 @@ pub returns-in-43 : goal.returns-in-43
 returns-in-43 c = elim c.in-43.is [ inl e ↦ argument_extends c.args.first e | inr e ↦ argument_super c.args.first e ]
 
 pub returns-in_default : goal.returns-in_default
-returns-in_default c = argument_other c.args.first c.reference.result (λ e. omega arith) (λ e. omega arith) (λ e. omega arith) c.reference.ensures
+returns-in_default c = argument_other c.args.first c.reference.result (λ e. grind arith) (λ e. grind arith) (λ e. grind arith) c.reference.ensures

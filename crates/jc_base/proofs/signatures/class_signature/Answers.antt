@@ -7,4 +7,4 @@ pub returns-then-first-eq60 : goal.returns-then-first-eq60
 returns-then-first-eq60 c = params_begin (ClassType ∷ []) c.args.first class_refuses_params c.if-first-eq60.true
 
 pub returns-else-first-eq60 : goal.returns-else-first-eq60
-returns-else-first-eq60 c = no_params (ClassType ∷ []) c.args.first c.alone.result c.if-first-eq60.false (c.alone.ensures (ClassType ∷ []) c.args.first c.class_type.ensures)
+returns-else-first-eq60 c = no_params (ClassType ∷ []) c.args.first c.alone.result c.if-first-eq60.false (c.alone.ensures.gives (ClassType ∷ []) c.args.first c.class_type.ensures)
