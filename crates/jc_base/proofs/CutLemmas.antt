@@ -19,9 +19,9 @@ any_has : (xs : List ℕ) (c : ℕ) → list_any (λ x. eqb x c) xs ≡ true →
 any_has [] c e = absurd (false≢true e)
 any_has (x ∷ xs) c e = by_first (cases_Bool (eqb x c)) (any_has xs c)
   where
-  by_first : (eqb x c ≡ true) ⊎ (eqb x c ≡ false) → (list_any (λ y. eqb y c) xs ≡ true → Contains xs c) → Contains (x ∷ xs) c
-  by_first (inl passed) has = (0, omega arith, eqb-true x c passed)
-  by_first (inr none) has = Contains-append_right (x ∷ []) xs c (has (sym (ap (λ b. b || list_any (λ y. eqb y c) xs) none) ∙ e))
+    by_first : (eqb x c ≡ true) ⊎ (eqb x c ≡ false) → (list_any (λ y. eqb y c) xs ≡ true → Contains xs c) → Contains (x ∷ xs) c
+    by_first (inl passed) has = (0, omega arith, eqb-true x c passed)
+    by_first (inr none) has = Contains-append_right (x ∷ []) xs c (has (sym (ap (λ b. b || list_any (λ y. eqb y c) xs) none) ∙ e))
 
 pub stop_from_test : (c : ℕ) → is_stop_byte c ≡ true → IsStop c
 stop_from_test c e = any_has identifier_stops c e
@@ -58,11 +58,11 @@ cut_nowhere text none k d below stop =
 pub one_cut : (text n m : List ℕ) (c x : ℕ) (r b : List ℕ) → IsCut text n c r → IsCut text m x b → c ≡ x
 one_cut text n m c x r b p q = same n m r b p.lacks q.lacks (sym p.split ∙ q.split)
   where
-  same : (n m r b : List ℕ) → Lacks n identifier_stops → Lacks m identifier_stops → n ++ c ∷ r ≡ m ++ x ∷ b → c ≡ x
-  same [] [] r b l k e = cc
-  same [] (y ∷ m) r b l k e = let f : c ≡ y = cc in absurd (All-head (λ c. Contains identifier_stops c → ⊥) y m k (subst IsStop f p.stop))
-  same (y ∷ n) [] r b l k e = let f : x ≡ y = cc in absurd (All-head (λ c. Contains identifier_stops c → ⊥) y n l (subst IsStop f q.stop))
-  same (y ∷ n) (z ∷ m) r b l k e = same n m r b (All-tail (λ c. Contains identifier_stops c → ⊥) y n l) (All-tail (λ c. Contains identifier_stops c → ⊥) z m k) (ap (drop 1) e)
+    same : (n m r b : List ℕ) → Lacks n identifier_stops → Lacks m identifier_stops → n ++ c ∷ r ≡ m ++ x ∷ b → c ≡ x
+    same [] [] r b l k e = cc
+    same [] (y ∷ m) r b l k e = let f : c ≡ y = cc in absurd (All-head (λ c. Contains identifier_stops c → ⊥) y m k (subst IsStop f p.stop))
+    same (y ∷ n) [] r b l k e = let f : x ≡ y = cc in absurd (All-head (λ c. Contains identifier_stops c → ⊥) y n l (subst IsStop f q.stop))
+    same (y ∷ n) (z ∷ m) r b l k e = same n m r b (All-tail (λ c. Contains identifier_stops c → ⊥) y n l) (All-tail (λ c. Contains identifier_stops c → ⊥) z m k) (ap (drop 1) e)
 
 no_stop_in : (n : List ℕ) (c : ℕ) (r : List ℕ) → IsStop c → Lacks (n ++ c ∷ r) identifier_stops → ⊥
 no_stop_in [] c r stop lacks = All-head (λ c. Contains identifier_stops c → ⊥) c r lacks stop

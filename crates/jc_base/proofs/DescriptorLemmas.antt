@@ -153,12 +153,12 @@ more_fuel (suc f) zero [] p q = refl
 more_fuel (suc f) zero (c ∷ b) p q = absurd (omega arith)
 more_fuel (suc f) (suc g) b p q = by_len (λ n. more_fuel f g (drop n b)) (field_len b) refl
   where
-  by_len : ((n : ℕ) → length (drop n b) ≤ f → length (drop n b) ≤ g → fields_within f (drop n b) ≡ fields_within g (drop n b)) → (o : Option ℕ) → field_len b ≡ o → option_map_or (λ n. take n b ∷ fields_within f (drop n b)) o [] ≡ option_map_or (λ n. take n b ∷ fields_within g (drop n b)) o []
-  by_len less None is = refl
-  by_len less (Some n) is =
-      let some : 0 < n = field_takes_some b n is in
-      let left = length-drop n b in
-      ap (λ rest. take n b ∷ rest) (less n (omega arith) (omega arith))
+    by_len : ((n : ℕ) → length (drop n b) ≤ f → length (drop n b) ≤ g → fields_within f (drop n b) ≡ fields_within g (drop n b)) → (o : Option ℕ) → field_len b ≡ o → option_map_or (λ n. take n b ∷ fields_within f (drop n b)) o [] ≡ option_map_or (λ n. take n b ∷ fields_within g (drop n b)) o []
+    by_len less None is = refl
+    by_len less (Some n) is =
+        let some : 0 < n = field_takes_some b n is in
+        let left = length-drop n b in
+        ap (λ rest. take n b ∷ rest) (less n (omega arith) (omega arith))
 
 pub fields_end : (b : List ℕ) → field_len b ≡ None → fields_of b ≡ []
 unfolding fields_of

@@ -29,8 +29,8 @@ same_end (x ∷ n) (y ∷ name) rest c tail p q stop split next =
 pub run_of : (owed : List Symbol) (text name : List ℕ) (c : ℕ) (rest : List ℕ) → IsCut text name c rest → BeginsWithStop owed → Derives (Identifier ∷ owed) text → IsIdentifier name × Derives owed (c ∷ rest)
 run_of owed text name c rest cut begins d =
     identifier_of owed text (λ n r is split d.
-        let same = same_end n name r c rest is.2 cut.lacks cut.stop (sym split ∙ cut.split) (λ x b e. begins.next x b (subst (Derives owed) e d)) in
-        (subst IsIdentifier same.0 is, subst (Derives owed) same.1 d)) d
+    let same = same_end n name r c rest is.2 cut.lacks cut.stop (sym split ∙ cut.split) (λ x b e. begins.next x b (subst (Derives owed) e d)) in
+    (subst IsIdentifier same.0 is, subst (Derives owed) same.1 d)) d
 
 append_first : (n : List ℕ) (x : ℕ) (b : List ℕ) → Lacks (n ++ x ∷ b) identifier_stops → IsStop x → ⊥
 append_first [] x b lacks stop = All-head (λ c. Contains identifier_stops c → ⊥) x b lacks stop
@@ -40,9 +40,9 @@ pub no_stop_no_name : (text : List ℕ) → Lacks text identifier_stops → HasN
 no_stop_no_name text lacks owed begins d =
     identifier_of owed text (λ n r is split d. by_rest n r split d) d
   where
-  by_rest : (n r : List ℕ) → text ≡ n ++ r → Derives owed r → ⊥
-  by_rest n [] split d = begins.some d
-  by_rest n (x ∷ b) split d = append_first n x b (subst (λ t. Lacks t identifier_stops) split lacks) (begins.next x b d)
+    by_rest : (n r : List ℕ) → text ≡ n ++ r → Derives owed r → ⊥
+    by_rest n [] split d = begins.some d
+    by_rest n (x ∷ b) split d = append_first n x b (subst (λ t. Lacks t identifier_stops) split lacks) (begins.next x b d)
 
 pub no_text_no_name : (text name : List ℕ) (c : ℕ) (rest : List ℕ) → IsCut text name c rest → (IsIdentifier name → ⊥) → HasNoName text
 no_text_no_name text name c rest cut refused owed begins d = refused (run_of owed text name c rest cut begins d).0
@@ -67,8 +67,8 @@ mark_stops m owed stop = record {
 suffixes_some : (owed : List Symbol) → Derives (Many Suffix ∷ Mark 59 ∷ owed) [] → ⊥
 suffixes_some owed d = many_of Suffix (Mark 59 ∷ owed) [] (mark_some 59 owed) (λ d. suffix_some (Many Suffix ∷ Mark 59 ∷ owed) d) d
   where
-  suffix_some : (owed : List Symbol) → Derives (Suffix ∷ owed) [] → ⊥
-  suffix_some owed (expands _ _ _ _ suffix d) = mark_some 46 (SimpleClass ∷ owed) d
+    suffix_some : (owed : List Symbol) → Derives (Suffix ∷ owed) [] → ⊥
+    suffix_some owed (expands _ _ _ _ suffix d) = mark_some 46 (SimpleClass ∷ owed) d
 
 arguments_some : (owed : List Symbol) → Derives (Arguments ∷ owed) [] → ⊥
 arguments_some owed (expands _ _ _ _ arguments d) = mark_some 60 (Argument ∷ Many Argument ∷ Mark 62 ∷ owed) d

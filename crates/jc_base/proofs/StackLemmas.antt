@@ -108,14 +108,14 @@ stack_push stack o owed = fold-append (λ w o. symbols_of o ++ w) owed stack (o 
 pub class_starts : (text : List ℕ) → Derives (ClassSignature ∷ []) text ↔ Derives (Maybe Params ∷ ClassType ∷ Many ClassType ∷ []) text
 class_starts text = (λ d. class_of text d, λ d. expands _ _ _ _ class_signature d)
   where
-  class_of : (text : List ℕ) → Derives (ClassSignature ∷ []) text → Derives (Maybe Params ∷ ClassType ∷ Many ClassType ∷ []) text
-  class_of text (expands _ _ _ _ class_signature d) = d
+    class_of : (text : List ℕ) → Derives (ClassSignature ∷ []) text → Derives (Maybe Params ∷ ClassType ∷ Many ClassType ∷ []) text
+    class_of text (expands _ _ _ _ class_signature d) = d
 
 pub method_starts : (text : List ℕ) → Derives (MethodSignature ∷ []) text ↔ Derives (Maybe Params ∷ Mark 40 ∷ Many JavaType ∷ Mark 41 ∷ Result ∷ Many Throws ∷ []) text
 method_starts text = (λ d. method_of text d, λ d. expands _ _ _ _ method_signature d)
   where
-  method_of : (text : List ℕ) → Derives (MethodSignature ∷ []) text → Derives (Maybe Params ∷ Mark 40 ∷ Many JavaType ∷ Mark 41 ∷ Result ∷ Many Throws ∷ []) text
-  method_of text (expands _ _ _ _ method_signature d) = d
+    method_of : (text : List ℕ) → Derives (MethodSignature ∷ []) text → Derives (Maybe Params ∷ Mark 40 ∷ Many JavaType ∷ Mark 41 ∷ Result ∷ Many Throws ∷ []) text
+    method_of text (expands _ _ _ _ method_signature d) = d
 
 pub repeats : (s : Symbol) (c : ℕ) (rest : List ℕ) → Derives (Many s ∷ []) (c ∷ rest) ↔ Derives (s ∷ Many s ∷ []) (c ∷ rest)
 repeats s c rest = (

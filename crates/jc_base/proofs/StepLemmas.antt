@@ -58,9 +58,9 @@ param_refuses : (c : ℕ) → IsStop c → Refuses (Param ∷ []) c
 param_refuses c stop owed rest d =
     identifier_of (Mark 58 ∷ Maybe ReferenceType ∷ Many Bound ∷ owed) (c ∷ rest) (λ n r is split d. first n r is.1 is.2 split) (param_of owed (c ∷ rest) d)
   where
-  first : (n r : List ℕ) → n ≢ [] → Lacks n identifier_stops → c ∷ rest ≡ n ++ r → ⊥
-  first [] r some lacks split = some refl
-  first (x ∷ n) r some lacks split = let e : c ≡ x = cc in All-head (λ c. Contains identifier_stops c → ⊥) x n lacks (subst IsStop e stop)
+    first : (n r : List ℕ) → n ≢ [] → Lacks n identifier_stops → c ∷ rest ≡ n ++ r → ⊥
+    first [] r some lacks split = some refl
+    first (x ∷ n) r some lacks split = let e : c ≡ x = cc in All-head (λ c. Contains identifier_stops c → ⊥) x n lacks (subst IsStop e stop)
 
 pub more_bounds : (c : ℕ) → c ≡ 58 → Leaves (Many Bound ∷ Many Param ∷ Mark 62 ∷ []) c (both_before (record { 0 = Some entry.Reference; 1 = Some entry.Bounds }))
 more_bounds c e owed rest =
@@ -87,8 +87,8 @@ only_param : (text : List ℕ) (c : ℕ) (rest : List ℕ) → text ≡ c ∷ re
 only_param text c rest is p q owed d =
     subst (Derives (Param ∷ Many Param ∷ Mark 62 ∷ owed)) (sym is)
     (many_of Bound (Many Param ∷ Mark 62 ∷ owed) (c ∷ rest)
-        (λ d. many_of Param (Mark 62 ∷ owed) (c ∷ rest) (mark_of 62 owed c rest (λ e _. absurd (q (sym e)))) (λ d. d) d)
-        (bound_of (Many Bound ∷ Many Param ∷ Mark 62 ∷ owed) c rest (λ e _. absurd (p (sym e)))) (subst (Derives (Many Bound ∷ Many Param ∷ Mark 62 ∷ owed)) is d))
+    (λ d. many_of Param (Mark 62 ∷ owed) (c ∷ rest) (mark_of 62 owed c rest (λ e _. absurd (q (sym e)))) (λ d. d) d)
+    (bound_of (Many Bound ∷ Many Param ∷ Mark 62 ∷ owed) c rest (λ e _. absurd (p (sym e)))) (subst (Derives (Many Bound ∷ Many Param ∷ Mark 62 ∷ owed)) is d))
 
 pub next_param : (text : List ℕ) (c : ℕ) (rest : List ℕ) (answer : Option Step) → text ≡ c ∷ rest → c ≢ 58 → c ≢ 62 → GivesStep (Param ∷ Many Param ∷ Mark 62 ∷ []) text answer → GivesStep (Many Bound ∷ Many Param ∷ Mark 62 ∷ []) text answer
 next_param text c rest None is p q h = λ owed d. h owed (only_param text c rest is p q owed d)
@@ -107,8 +107,8 @@ no_reference_then owed c rest n tail cut other d =
     let more : List Symbol = Many Package ∷ SimpleClass ∷ Many Suffix ∷ Mark 59 ∷ owed in
     reference_of owed c rest
     (λ _ d. many_of Package (SimpleClass ∷ Many Suffix ∷ Mark 59 ∷ owed) rest
-        (λ d. name_end_refuses 58 (omega arith) (omega arith) (omega arith) owed tail (run_of (Maybe Arguments ∷ Many Suffix ∷ Mark 59 ∷ owed) rest n 58 tail cut (name_end_stops owed) (simple_class_of (Many Suffix ∷ Mark 59 ∷ owed) rest d)).1)
-        (λ d. mark_of 47 more 58 tail (λ e _. omega arith) (run_of (Mark 47 ∷ more) rest n 58 tail cut (mark_stops 47 more slash_stops) (package_of more rest d)).1) d)
+    (λ d. name_end_refuses 58 (omega arith) (omega arith) (omega arith) owed tail (run_of (Maybe Arguments ∷ Many Suffix ∷ Mark 59 ∷ owed) rest n 58 tail cut (name_end_stops owed) (simple_class_of (Many Suffix ∷ Mark 59 ∷ owed) rest d)).1)
+    (λ d. mark_of 47 more 58 tail (λ e _. omega arith) (run_of (Mark 47 ∷ more) rest n 58 tail cut (mark_stops 47 more slash_stops) (package_of more rest d)).1) d)
     (λ _ d. mark_of 59 owed 58 tail (λ e _. omega arith) (run_of (Mark 59 ∷ owed) rest n 58 tail cut (mark_stops 59 owed semicolon_stops) d).1)
     (λ e _. other (sym e)) d
 
@@ -154,13 +154,13 @@ no_bounds text c rest is other none owed d =
     let d' = subst (Derives (Many Bound ∷ Many Param ∷ Mark 62 ∷ owed)) is d in
     many_of Bound (Many Param ∷ Mark 62 ∷ owed) (c ∷ rest)
     (λ d. many_of Param (Mark 62 ∷ owed) (c ∷ rest) (mark_of 62 owed c rest (λ e _. other (sym e)))
-        (λ d. identifier_of (Mark 58 ∷ Maybe ReferenceType ∷ Many Bound ∷ Many Param ∷ Mark 62 ∷ owed) (c ∷ rest) (λ n r it split d. named n r it.2 split d) (param_of (Many Param ∷ Mark 62 ∷ owed) (c ∷ rest) d)) d)
+    (λ d. identifier_of (Mark 58 ∷ Maybe ReferenceType ∷ Many Bound ∷ Many Param ∷ Mark 62 ∷ owed) (c ∷ rest) (λ n r it split d. named n r it.2 split d) (param_of (Many Param ∷ Mark 62 ∷ owed) (c ∷ rest) d)) d)
     (bound_of (Many Bound ∷ Many Param ∷ Mark 62 ∷ owed) c rest (λ e _. none ([], rest, record { split = is ∙ ap (λ x. x ∷ rest) (sym e); lacks = All-nil (λ c. Contains identifier_stops c → ⊥); stop = colon_stops }))) d'
   where
-  named : (n r : List ℕ) → Lacks n identifier_stops → c ∷ rest ≡ n ++ r → Derives (Mark 58 ∷ Maybe ReferenceType ∷ Many Bound ∷ Many Param ∷ Mark 62 ∷ owed) r → ⊥
-  named n [] lacks split d = mark_some 58 (Maybe ReferenceType ∷ Many Bound ∷ Many Param ∷ Mark 62 ∷ owed) d
-  named n (x ∷ r) lacks split d =
-      mark_of 58 (Maybe ReferenceType ∷ Many Bound ∷ Many Param ∷ Mark 62 ∷ owed) x r (λ e _. none (n, r, record { split = is ∙ split ∙ ap (λ y. n ++ y ∷ r) (sym e); lacks = lacks; stop = colon_stops })) d
+    named : (n r : List ℕ) → Lacks n identifier_stops → c ∷ rest ≡ n ++ r → Derives (Mark 58 ∷ Maybe ReferenceType ∷ Many Bound ∷ Many Param ∷ Mark 62 ∷ owed) r → ⊥
+    named n [] lacks split d = mark_some 58 (Maybe ReferenceType ∷ Many Bound ∷ Many Param ∷ Mark 62 ∷ owed) d
+    named n (x ∷ r) lacks split d =
+        mark_of 58 (Maybe ReferenceType ∷ Many Bound ∷ Many Param ∷ Mark 62 ∷ owed) x r (λ e _. none (n, r, record { split = is ∙ split ∙ ap (λ y. n ++ y ∷ r) (sym e); lacks = lacks; stop = colon_stops })) d
 
 pub class_bound_present : (text : List ℕ) (c : ℕ) (rest : List ℕ) (answer : Option After) → text ≡ c ∷ rest → c ≢ 62 → (EndsAtColon text → ⊥) → GivesAfter (ReferenceType ∷ Many Bound ∷ Many Param ∷ Mark 62 ∷ []) c answer → GivesRest (Maybe ReferenceType ∷ Many Bound ∷ Many Param ∷ Mark 62 ∷ []) text rest answer
 class_bound_present text c rest None is other none h = λ owed d.

@@ -133,8 +133,8 @@ abbrev pub GivesTop : SigKind → List Owed → List Owed → Option Owed → Ty
 GivesTop kind old new answer =
     MatchOption answer ((c : ℕ) (rest : List ℕ) → ¬ Derives (stack_before old (tail_of kind)) (c ∷ rest))
     (λ entry. (c : ℕ) (rest : List ℕ) →
-        Derives (stack_before old (tail_of kind)) (c ∷ rest)
-        ↔ Derives (symbols_of entry ++ stack_before new (tail_of kind)) (c ∷ rest))
+    Derives (stack_before old (tail_of kind)) (c ∷ rest)
+    ↔ Derives (symbols_of entry ++ stack_before new (tail_of kind)) (c ∷ rest))
 
 -- one step of the stack
 pub record StackStep (kind : SigKind) (old new : List Owed) (text : List ℕ) (step : Step) : Type 0 where

@@ -293,3 +293,6 @@ fn is_wide(text: &[u8]) -> bool
 {
     text == LONG || text == DOUBLE
 }
+
+#[cfg(test)]
+mod tests;

@@ -281,11 +281,7 @@ fn ends_at_colon(text: &[u8]) -> bool
 fn after_variable_name(stop: u8) -> Option<Option<Owed>>
     ensures { GivesNamed (symbols_of Owed.VariableName) stop result }
 {
-    if stop == b';' {
-        Some(None)
-    } else {
-        None
-    }
+    if stop == b';' { Some(None) } else { None }
 }
 
 fn after_simple_name(stop: u8) -> Option<Option<Owed>>
@@ -431,7 +427,7 @@ fn repeated(kind: SigKind) -> Option<Owed>
     ensures { MatchOption result
         ((c : ℕ) (rest : List ℕ) → ¬ Derives (tail_of kind) (c ∷ rest))
         (λ entry. (c : ℕ) (rest : List ℕ) →
-            Derives (tail_of kind) (c ∷ rest) ↔ Derives (symbols_of entry ++ tail_of kind) (c ∷ rest)) }
+        Derives (tail_of kind) (c ∷ rest) ↔ Derives (symbols_of entry ++ tail_of kind) (c ∷ rest)) }
 {
     match kind {
         SigKind::Class => Some(Owed::ClassType),
@@ -500,3 +496,6 @@ pub fn check_signature(alloc: Global, kind: SigKind, text: &[u8]) -> Result<bool
     }
     Ok(stack.is_empty())
 }
+
+#[cfg(test)]
+mod tests;

@@ -16,6 +16,6 @@ pub returns-then-ends_at_colon : goal.returns-then-ends_at_colon
 returns-then-ends_at_colon c = class_bound_absent c.args.text.now c.in_ok-first.first.now c.in_ok-first.rest.now c.bounds.result (c.ends_at_colon.ensures.0 c.if-ends_at_colon.true) c.in_ok-first.ensures.cases.0 c.bounds.ensures
 
 pub returns-else-ends_at_colon : goal.returns-else-ends_at_colon
-returns-else-ends_at_colon c = 
+returns-else-ends_at_colon c =
     c.with_rest.ensures (Maybe ReferenceType ∷ Many Bound ∷ Many Param ∷ Mark 62 ∷ []) c.args.text.now
     (class_bound_present c.args.text.now c.in_ok-first.first.now c.in_ok-first.rest.now c.followed.result c.in_ok-first.ensures.cases.0 c.if-first-eq62.false (λ at. false≢true (sym c.if-ends_at_colon.false ∙ c.ends_at_colon.ensures.1 at)) (c.followed.ensures (ReferenceType ∷ []) c.in_ok-first.first.now c.reference.ensures))

@@ -11,4 +11,4 @@ pub returns : goal.returns
 returns c =
     c.with_rest.ensures (Param ∷ Many Param ∷ Mark 62 ∷ []) c.args.text.now
     (subst (GivesRest (Param ∷ Many Param ∷ Mark 62 ∷ []) c.args.text.now c.in_ok-stop.rest.now) (sym c.alone.ensures.value)
-        (named_gives (Param ∷ Many Param ∷ Mark 62 ∷ []) c.args.text.now c.in_ok-stop.stop c.in_ok-stop.rest.now c.after_param_name.result c.in_ok-stop.ensures c.after_param_name.ensures))
+    (named_gives (Param ∷ Many Param ∷ Mark 62 ∷ []) c.args.text.now c.in_ok-stop.stop c.in_ok-stop.rest.now c.after_param_name.result c.in_ok-stop.ensures c.after_param_name.ensures))

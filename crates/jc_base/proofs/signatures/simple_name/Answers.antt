@@ -11,4 +11,4 @@ pub returns : goal.returns
 returns c =
     c.with_rest.ensures (SimpleClass ∷ Many Suffix ∷ Mark 59 ∷ []) c.args.text.now
     (subst (GivesRest (SimpleClass ∷ Many Suffix ∷ Mark 59 ∷ []) c.args.text.now c.in_ok-stop.rest.now) (sym c.alone.ensures.value)
-        (named_gives (SimpleClass ∷ Many Suffix ∷ Mark 59 ∷ []) c.args.text.now c.in_ok-stop.stop c.in_ok-stop.rest.now c.after_simple_name.result c.in_ok-stop.ensures c.after_simple_name.ensures))
+    (named_gives (SimpleClass ∷ Many Suffix ∷ Mark 59 ∷ []) c.args.text.now c.in_ok-stop.stop c.in_ok-stop.rest.now c.after_simple_name.result c.in_ok-stop.ensures c.after_simple_name.ensures))
