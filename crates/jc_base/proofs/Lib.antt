@@ -6,4 +6,12 @@ pub mod SpelledBytes
 pub mod TextTestLemmas
 pub mod ByteEntries
 pub mod ByteMapLemmas
+pub mod DescriptorLemmas
 pub mod DeviceLemmas
+pub mod MethodLemmas
+pub mod SignatureLemmas
+pub mod OwedLemmas
+pub mod NameRunLemmas
+pub mod CutLemmas
+pub mod StepLemmas
+pub mod StackLemmas

@@ -2,11 +2,17 @@ pub mod Bytes
 pub mod ByteMap
 pub mod CodeUnits
 pub mod Cursor
+pub mod Descriptors
 pub mod Device
+pub mod FieldsInFront
 pub mod FirstUnit
 pub mod MemDevices
+pub mod MethodParts
 pub mod ModifiedUtf8
 pub mod Names
+pub mod Owed
+pub mod Params
+pub mod Signatures
 pub mod StdDevices
 pub mod TextTests
 pub use Rattle.byteorder.specs.Endian

@@ -5,17 +5,20 @@
 pub mod byte_map;
 mod code_units;
 mod cursor;
+mod descriptors;
 mod device;
 mod mem_devices;
 mod modified_utf8;
 mod names;
 mod no_memory;
+mod signatures;
 mod std_devices;
 mod writing;
 
 pub use byte_map::ByteMap;
 pub use code_units::{Units, units_end_at_the_first_wrong_spelling};
 pub use cursor::Cursor;
+pub use descriptors::{FieldDesc, MethodDesc, Params};
 pub use device::{DeviceFault, Input, Output};
 pub use mem_devices::{MemInput, MemOutput};
 pub use modified_utf8::{
@@ -27,5 +30,6 @@ pub use names::{
     texts_are_decided,
 };
 pub use no_memory::NoMemory;
+pub use signatures::{SigKind, check_signature};
 pub use std_devices::{StdInput, StdOutput};
 pub use writing::{write_all, write_parts};

@@ -1,0 +1,65 @@
+-- Descriptors of fields and methods (JVMS 4.3), each with the tree that it stands for.
+use Rattle.std.specs.Prelude.{◌≡◌, ℕ, ◌≤◌, ◌⊎◌, List, [], ◌∷◌, ◌++◌, All, Contains, codes, replicate, sum_by, Option, Some, None, IfSome, if◌then◌else◌, ◌||◌}
+use Rattle.std.specs.List.{concat}
+use Rattle.jc_base.specs.Bytes.{same_bytes}
+use Rattle.jc_base.specs.Names.{IsClassName}
+
+-- the letters of the primitive types (JVMS 4.3.2)
+abbrev pub base_types : List ℕ
+base_types = codes "BCDFIJSZ"
+
+-- the descriptor of a primitive type
+abbrev pub IsBaseType : List ℕ → Type 0
+IsBaseType b = (letter : ℕ) × Contains base_types letter × (b ≡ letter ∷ [])
+
+-- the descriptor of a class or interface
+abbrev pub IsClassType : List ℕ → Type 0
+IsClassType b = (name : List ℕ) × IsClassName name × (b ≡ codes "L" ++ name ++ codes ";")
+
+-- the descriptor of a type that is no array
+abbrev pub IsElementType : List ℕ → Type 0
+IsElementType b = IsBaseType b ⊎ IsClassType b
+
+-- a field's type: how many dimensions it has, and the descriptor of what its arrays hold in the end
+pub record FieldType : Type 0 where
+  pub dims : ℕ
+  pub element : List ℕ
+
+-- how the type is written
+abbrev pub field_text : FieldType → List ℕ
+field_text type = replicate type.dims 91 ++ type.element
+
+-- this text is the descriptor of this field type (JVMS 4.3.2)
+pub record IsField (b : List ℕ) (type : FieldType) : Type 0 where
+  pub few : type.dims ≤ 255
+  pub element : IsElementType type.element
+  pub text : b ≡ field_text type
+
+-- a field descriptor
+abbrev pub IsFieldDescriptor : List ℕ → Type 0
+IsFieldDescriptor b = (type : FieldType) × IsField b type
+
+-- how many slots a parameter with this descriptor takes (JVMS 4.3.3)
+abbrev pub slots_of : List ℕ → ℕ
+slots_of b = if same_bytes b (codes "J") || same_bytes b (codes "D") then 2 else 1
+
+-- a method's type: the descriptors of its parameters and of its result, which is `None` for `void`
+pub record MethodType : Type 0 where
+  pub params : List (List ℕ)
+  pub result : Option (List ℕ)
+
+-- how the result is written
+abbrev pub result_text : Option (List ℕ) → List ℕ
+result_text (Some b) = b
+result_text None = codes "V"
+
+-- this text is the descriptor of this method type (JVMS 4.3.3)
+pub record IsMethod (b : List ℕ) (type : MethodType) : Type 0 where
+  pub params : All IsFieldDescriptor type.params
+  pub result : IfSome type.result IsFieldDescriptor
+  pub few : sum_by slots_of type.params ≤ 255
+  pub text : b ≡ codes "(" ++ concat type.params ++ codes ")" ++ result_text type.result
+
+-- a method descriptor
+abbrev pub IsMethodDescriptor : List ℕ → Type 0
+IsMethodDescriptor b = (type : MethodType) × IsMethod b type

@@ -1,0 +1,28 @@
+-- The parts of a method descriptor, as its reader meets them.
+use Rattle.std.specs.Prelude.{◌≡◌, ℕ, ◌<◌, ◌≤◌, List, ◌++◌, All, length, sum_by, Option, Some, IfSome}
+use Rattle.std.specs.List.{concat}
+use Rattle.jc_base.specs.Descriptors.{IsFieldDescriptor, slots_of, result_text}
+use Rattle.jc_base.specs.FieldsInFront.{field_len, fields_of}
+
+-- the text begins with what is cut off as a descriptor, and the rest follows
+pub record HasInFront (text first rest : List ℕ) : Type 0 where
+  pub some : 0 < length first
+  pub len : field_len text ≡ Some (length first)
+  pub split : text ≡ first ++ rest
+
+-- the parameters of some method
+pub record AreParams (params : List (List ℕ)) : Type 0 where
+  pub each : All IsFieldDescriptor params
+  pub few : sum_by slots_of params ≤ 255
+
+-- the text begins with parameters that take so many slots, and the rest follows
+pub record ReadsParams (text : List ℕ) (slots : ℕ) (rest : List ℕ) : Type 0 where
+  pub each : All IsFieldDescriptor (fields_of text)
+  pub few : slots ≤ 255
+  pub taken : slots ≡ sum_by slots_of (fields_of text)
+  pub split : text ≡ concat (fields_of text) ++ rest
+
+-- the text writes this result
+pub record IsResult (b : List ℕ) (result : Option (List ℕ)) : Type 0 where
+  pub field : IfSome result IsFieldDescriptor
+  pub text : b ≡ result_text result

@@ -1,0 +1,298 @@
+//! Descriptors of fields and methods, the forms in which class files write types (JVMS 4.3).
+
+ghost use Rattle.std.specs.Prelude.{◌≡◌, ◌≢◌, ◌+◌, ◌<◌, ◌≤◌, ◌++◌, ◌↔◌, ◌==◌, ◌||◌, ℕ, List, All, Option, replicate, slice_index, position, Contains, length, codes, sum_by, IsTrue, IsSome, IfSome, IfNone, MatchOption};
+ghost use Rattle.std.specs.Option.{option_copied};
+ghost use Rattle.std.specs.List.{list_any, concat};
+ghost use Rattle.jc_base.specs.Descriptors.{base_types, IsBaseType, IsClassType, IsElementType, IsField, IsFieldDescriptor, field_text, slots_of, result_text, IsMethod, IsMethodDescriptor};
+ghost use Rattle.jc_base.specs.Bytes.{same_bytes};
+ghost use Rattle.jc_base.specs.FieldsInFront.{element_len, field_len, fields_of};
+ghost use Rattle.jc_base.specs.MethodParts.{HasInFront, AreParams, ReadsParams, IsResult};
+
+use crate::names::is_class_name;
+use std::marker::Model;
+
+const MOST_DIMS: usize = 255;
+
+/// A field descriptor, read: the type of a field, a local variable or a parameter (JVMS 4.3.2).
+#[derive(Debug, Drop)]
+pub struct FieldDesc<'a> {
+    dims: u8,
+    element: &'a [u8],
+}
+
+impl<'a> Model for FieldDesc<'a> {
+    ghost use Rattle.jc_base.specs.Descriptors.{FieldType, IsElementType};
+
+    ghost Value = { FieldType };
+
+    ghost view = { λ f. record { dims = f.dims; element = f.element.now } };
+
+    ghost invariant = { λ f. IsElementType f.element.now };
+}
+
+impl<'a> FieldDesc<'a> {
+    /// Reads a whole text. `None` where it is no field descriptor, as with 256 dimensions.
+    pub fn read(text: &'a [u8]) -> Option<FieldDesc<'a>>
+        ensures some { IsSome result ↔ IsFieldDescriptor text.now }
+        ensures tree { IfSome result (IsField text.now) }
+    {
+        let (dims, element) = split_dims(text);
+        if dims > MOST_DIMS {
+            return None;
+        }
+        let dims = dims as u8;
+        if is_element(element) {
+            Some(FieldDesc { dims, element })
+        } else {
+            None
+        }
+    }
+
+    /// How many dimensions the type has: 0 where it is no array.
+    pub fn dims(&self) -> u8
+        ensures { result ≡ self.now.dims }
+    {
+        self.dims
+    }
+
+    /// The descriptor without its `[`: a primitive type's letter, or `L`, a class name and `;`.
+    pub fn element(&self) -> &'a [u8]
+        ensures element { result.now ≡ self.now.element }
+        ensures no_array { IsElementType result.now }
+    {
+        self.element
+    }
+
+    /// How many slots a parameter of this type takes: two where it is a `long` or a `double`.
+    pub fn slots(&self) -> u8
+        ensures { result ≡ slots_of (field_text self.now) }
+    {
+        if self.dims == 0 && is_wide(self.element) {
+            2
+        } else {
+            1
+        }
+    }
+}
+
+/// A method descriptor, read: the types of a method's parameters and of its result (JVMS 4.3.3).
+#[derive(Debug, Drop)]
+pub struct MethodDesc<'a> {
+    params: &'a [u8],
+    result: Option<&'a [u8]>,
+    slots: u8,
+}
+
+impl<'a> Model for MethodDesc<'a> {
+    ghost use Rattle.std.specs.Prelude.{◌≡◌, All, IfSome, sum_by};
+    ghost use Rattle.std.specs.Option.{option_copied};
+    ghost use Rattle.jc_base.specs.Descriptors.{MethodType, IsFieldDescriptor, slots_of};
+    ghost use Rattle.jc_base.specs.FieldsInFront.{fields_of};
+
+    ghost Value = { MethodType };
+
+    ghost view = { λ m. record { params = fields_of m.params.now; result = option_copied m.result } };
+
+    ghost invariant = { λ m. All IsFieldDescriptor (fields_of m.params.now)
+        × IfSome (option_copied m.result) IsFieldDescriptor
+        × (m.slots ≡ sum_by slots_of (fields_of m.params.now)) };
+}
+
+impl<'a> MethodDesc<'a> {
+    ghost use Rattle.jc_base.specs.Params.{params_left};
+
+    /// Reads a whole text. `None` where it is no method descriptor, as with parameters that take
+    /// 256 slots.
+    pub fn read(text: &'a [u8]) -> Option<MethodDesc<'a>>
+        ensures some { IsSome result ↔ IsMethodDescriptor text.now }
+        ensures tree { IfSome result (IsMethod text.now) }
+    {
+        let inner = text.strip_prefix(b"(")?;
+        let (slots, rest) = read_params(inner)?;
+        let result = read_result(rest.strip_prefix(b")")?)?;
+        let params = &inner[..inner.len() - rest.len()];
+        Some(MethodDesc {
+            params,
+            result,
+            slots,
+        })
+    }
+
+    /// The parameters from left to right, each a field descriptor.
+    pub fn params(&self) -> Params<'a>
+        ensures items { params_left result ≡ self.now.params }
+        ensures each { All IsFieldDescriptor self.now.params }
+    {
+        Params { rest: self.params }
+    }
+
+    /// The result's field descriptor, or `None` for `V`.
+    pub fn result(&self) -> Option<&'a [u8]>
+        ensures value { option_copied result ≡ self.now.result }
+        ensures field { IfSome result (λ b. IsFieldDescriptor b.now) }
+    {
+        self.result
+    }
+
+    /// How many slots the parameters take, without the receiver of an instance method.
+    pub fn slots(&self) -> u8
+        ensures { result ≡ sum_by slots_of self.now.params }
+    {
+        self.slots
+    }
+}
+
+/// The parameters of a method descriptor, each a field descriptor.
+#[derive(Clone, Copy, Debug)]
+pub struct Params<'a> {
+    rest: &'a [u8],
+}
+
+impl<'a> Iterator for Params<'a> {
+    ghost use Rattle.std.specs.Iterator.{YieldsFirstBy, item_count};
+    ghost use Rattle.jc_base.specs.Params.{params_left};
+
+    type Item = &'a [u8];
+
+    ghost next_gives = { YieldsFirstBy (λ b. b.now) params_left };
+
+    ghost remaining = { item_count params_left };
+
+    fn next(&mut self) -> Option<&'a [u8]> {
+        let (param, rest) = split_field(self.rest)?;
+        self.rest = rest;
+        Some(param)
+    }
+}
+
+const VOID: &[u8] = b"V";
+
+const LONG: &[u8] = b"J";
+
+const DOUBLE: &[u8] = b"D";
+
+// The slots that the field descriptors in front take, and what comes after them. `None` where one
+// of them is none, or where they take too many slots.
+fn read_params(text: &[u8]) -> Option<(u8, &[u8])>
+    ensures found { IfSome result (λ r. ReadsParams text.now r.0 r.1.now) }
+    ensures none { IfNone result (¬ AreParams (fields_of text.now)) }
+{
+    let mut slots: u8 = 0;
+    let mut rest = text;
+    while let Some((param, after)) = split_field(rest) {
+        slots = slots.checked_add(FieldDesc::read(param)?.slots())?;
+        rest = after;
+    }
+    Some((slots, rest))
+}
+
+// A result's descriptor: `Some(None)` for `V`.
+fn read_result(text: &[u8]) -> Option<Option<&[u8]>>
+    ensures found { IfSome result (λ r. IsResult text.now (option_copied r)) }
+    ensures none { IfNone result ((r : Option (List ℕ)) → ¬ IsResult text.now r) }
+{
+    if text == VOID {
+        return Some(None);
+    }
+    FieldDesc::read(text)?;
+    Some(Some(text))
+}
+
+// The field descriptor in front, which is not judged, and what comes after it.
+fn split_field(text: &[u8]) -> Option<(&[u8], &[u8])>
+    ensures found { IfSome result (λ r. HasInFront text.now r.0.now r.1.now) }
+    ensures none { IfNone result (field_len text.now ≡ None) }
+{
+    let len = field_len(text)?;
+    Some(text.split_at(len))
+}
+
+fn field_len(text: &[u8]) -> Option<usize>
+    ensures value { result ≡ field_len text.now }
+    ensures within { IfSome result (λ n. (0 < n) × (n ≤ length text.now)) }
+{
+    let (dims, element) = split_dims(text);
+    let len = element_len(element)?;
+    Some(dims + len)
+}
+
+#[tactic(auto, unfolding(crate::specs::FieldsInFront::element_len))]
+fn element_len(text: &[u8]) -> Option<usize>
+    ensures value { result ≡ element_len text.now }
+    ensures within { IfSome result (λ n. (0 < n) × (n ≤ length text.now)) }
+{
+    let first = *text.first()?;
+    if first == b'L' {
+        Some(2 + semicolon(&text[1..])?)
+    } else if is_base_letter(first) {
+        Some(1)
+    } else {
+        None
+    }
+}
+
+// Where the first `;` stands.
+fn semicolon(text: &[u8]) -> Option<usize>
+    ensures value { result ≡ position (λ c. c == 59) text.now }
+    ensures within { IfSome result (λ place. place < length text.now) }
+{
+    text.iter().position(|byte| *byte == b';')
+}
+
+// How many `[` stand in front, and what comes after them.
+fn split_dims(text: &[u8]) -> (usize, &[u8])
+    ensures text { text.now ≡ replicate result.0 91 ++ result.1.now }
+    ensures all { slice_index result.1.now 0 ≢ 91 }
+{
+    let mut dims = 0;
+    while dims < text.len() && text[dims] == b'[' {
+        dims += 1;
+    }
+    (dims, &text[dims..])
+}
+
+fn is_element(text: &[u8]) -> bool
+    ensures { IsTrue result ↔ IsElementType text.now }
+{
+    is_base_type(text) || is_class_type(text)
+}
+
+fn is_base_type(text: &[u8]) -> bool
+    ensures { IsTrue result ↔ IsBaseType text.now }
+{
+    text.len() == 1 && is_base_letter(text[0])
+}
+
+fn is_class_type(text: &[u8]) -> bool
+    ensures { IsTrue result ↔ IsClassType text.now }
+{
+    match name_within(text) {
+        Some(name) => is_class_name(name),
+        None => false,
+    }
+}
+
+// What stands between a first `L` and a last `;`.
+fn name_within(text: &[u8]) -> Option<&[u8]>
+    ensures { MatchOption result
+        ((name : List ℕ) → text.now ≢ codes "L" ++ name ++ codes ";")
+        (λ name. text.now ≡ codes "L" ++ name.now ++ codes ";") }
+{
+    text.strip_prefix(b"L")?.strip_suffix(b";")
+}
+
+pub(crate) fn is_base_letter(letter: u8) -> bool
+    ensures test { result ≡ list_any (λ b. b == letter) base_types }
+    ensures base { IsTrue result ↔ Contains base_types letter }
+{
+    b"BCDFIJSZ".contains(&letter)
+}
+
+fn is_wide(text: &[u8]) -> bool
+    ensures { result ≡ (same_bytes text.now (codes "J") || same_bytes text.now (codes "D")) }
+{
+    text == LONG || text == DOUBLE
+}
+
+#[cfg(test)]
+mod tests;
