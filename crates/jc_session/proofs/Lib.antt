@@ -1,8 +1,6 @@
 pub mod ClaimLemmas
 pub mod WinnerLemmas
 pub mod HeldLemmas
-
 pub mod WritingLemmas
 pub mod EscapeLemmas
-
 pub mod LineLemmas

@@ -2,23 +2,20 @@
 //! says which class each names.
 #![tactic(auto)]
 
+mod answer_text;
 mod claims;
-
 mod command;
 mod edit;
+mod escapes;
 mod file;
 mod file_row;
 mod judge;
 mod laws;
+mod lines;
 mod report;
+mod report_text;
 mod rows;
 mod session;
-
-mod answer_text;
-mod escapes;
-mod report_text;
-
-mod lines;
 mod source;
 
 pub use edit::{Done, Edit, EditError};
