@@ -1,4 +1,4 @@
-"""A plain reader of class files, written from the table of refusals alone.
+"""A plain reader of class files, after the table of refusals.
 
 answer(bytes) gives the line that the program prints: `ok` and the name's bytes in hexadecimal, or the
 number and the name of the first refusal that applies.
