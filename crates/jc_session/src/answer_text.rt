@@ -12,7 +12,10 @@ use itoa::Buffer;
 use jc_base::{DeviceFault, Output, write_all, write_parts};
 
 /// Writes what an edit is answered: `ok`, or why it is refused.
-pub(crate) fn write_edit_answer<W: Output>(out: &mut W, answer: Result<Done, EditError>) -> Result<(), DeviceFault>
+pub(crate) fn write_edit_answer<W: Output>(
+    out: &mut W,
+    answer: Result<Done, EditError>,
+) -> Result<(), DeviceFault>
     ensures ok { OnOk result (Appends (W.written out.old) (W.written out.new) (edit_text answer)) }
     ensures front { OnErr result (WritesFront (W.written out.old) (W.written out.new) (edit_text answer)) }
     ensures failures { CountsFault result (W.failures out.old) (W.failures out.new) }
@@ -45,3 +48,6 @@ pub(crate) fn write_unread<W: Output>(out: &mut W, path: &[u8]) -> Result<(), De
     write_path(out, path)?;
     write_all(out, b"\n")
 }
+
+#[cfg(test)]
+mod tests;

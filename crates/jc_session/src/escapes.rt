@@ -140,3 +140,6 @@ fn hex_digit(digit: u8) -> u8
         b'a' + (digit - 10)
     }
 }
+
+#[cfg(test)]
+mod tests;
