@@ -22,6 +22,7 @@ pub use edit::{Done, Edit, EditError};
 pub use file_row::{FileRow, FileState};
 pub use laws::winners_are_least;
 pub use report::Report;
+pub use report_text::{WriteError, write_report};
 pub use rows::Rows;
 pub use session::Session;
 pub use source::SourceError;

@@ -3,14 +3,46 @@
 ghost use Rattle.std.specs.Prelude.{◌≡◌, ◌++◌, codes, OnOk, OnErr};
 ghost use Rattle.std.specs.Io.KnownBytes.{Appends};
 ghost use Rattle.jc_base.specs.Device.{CountsFault, WritesFront};
-ghost use Rattle.jc_session.specs.RowText.{at_text, name_text, path_text, refusal_name, refusal_text, state_text, row_text};
+ghost use Rattle.jc_session.specs.RowText.{at_text, name_text, path_text, refusal_name, refusal_text, state_text, row_text, report_text};
 ghost use Rattle.jc_session.specs.FileRowView.{state_lent, row_lent};
 
 use crate::escapes::{write_name, write_path};
 use crate::file_row::{FileRow, FileState};
+use crate::report::Report;
 use itoa::Buffer;
 use jc_base::{DeviceFault, Output, write_all, write_parts};
 use jc_file::ParseError;
+use thiserror::Error;
+
+/// The output failed.
+#[derive(Clone, Copy, Debug, PartialEq, Eq, Error)]
+#[error("the output failed")]
+pub struct WriteError;
+
+/// Writes a report: the line `[files]`, and one line for each file in the order of the paths. An
+/// output that fails has a beginning of this text.
+pub fn write_report<W: Output>(report: &Report, out: &mut W) -> Result<(), WriteError>
+    ensures ok { OnOk result (Appends (W.written out.old) (W.written out.new) (report_text report.now)) }
+    ensures front { OnErr result (WritesFront (W.written out.old) (W.written out.new) (report_text report.now)) }
+    ensures failures { CountsFault result (W.failures out.old) (W.failures out.new) }
+{
+    match write_sections(out, report) {
+        Ok(()) => Ok(()),
+        Err(_) => Err(WriteError),
+    }
+}
+
+fn write_sections<W: Output>(out: &mut W, report: &Report) -> Result<(), DeviceFault>
+    ensures ok { OnOk result (Appends (W.written out.old) (W.written out.new) (report_text report.now)) }
+    ensures front { OnErr result (WritesFront (W.written out.old) (W.written out.new) (report_text report.now)) }
+    ensures failures { CountsFault result (W.failures out.old) (W.failures out.new) }
+{
+    write_all(out, b"[files]\n")?;
+    for row in report.rows() {
+        write_row(out, &row)?;
+    }
+    Ok(())
+}
 
 /// Writes the row of a file, up to its line feed.
 pub(crate) fn write_row<W: Output>(out: &mut W, row: &FileRow) -> Result<(), DeviceFault>
