@@ -5,8 +5,10 @@ The program parse_trial reads the files once, goes over them N times in memory a
 processor time of N rounds less that of none is the time of the rounds, so neither the start of the
 program nor its input counts. Each figure is the least of several runs.
 
-Usage: run.py. It builds the program by `rt run`, and needs javac 9 to 19.
+Usage: run.py [--jars FOLDER]. With a folder of jars it also measures the readable class files of these.
+It builds the program by `rt run`, and needs javac 9 to 19.
 """
+import argparse
 import os
 import pathlib
 import random
@@ -21,6 +23,7 @@ sys.path.insert(0, str(HERE.parent.parent / "tests" / "parse"))
 import run as trial
 
 RUNS = 9
+ROUNDS = 6
 DOUBLED = (8_000, 16_000, 32_000, 64_000)
 TREE_BYTES = 64_000_000
 # What the rounds over one file go over in all, so that a round's time is well above the clock's step.
@@ -83,22 +86,20 @@ def attributes(count):
     return class_file(attributes=[b"\0\x02\0\0\0\x08" + b"eight by"[:8] for _ in range(count)])
 
 
-def measure_tree(work):
-    rng = random.Random(1)
-    files = trial.compile_all(work, rng)
+def measure_tree(work, files):
     size = sum(map(len, files))
-    rng.shuffle(files)
-    frames = write_frames(work, "tree", files * (TREE_BYTES // size))
-    total = size * (TREE_BYTES // size)
-    print(f"{len(files)} class files of {size} bytes, {TREE_BYTES // size} times over\n")
+    times = max(1, TREE_BYTES // size)
+    random.Random(1).shuffle(files)
+    frames = write_frames(work, "tree", files * times)
+    print(f"\n{len(files)} class files of {size:,} bytes, {times} times over\n")
     print("| | megabytes a second | microseconds a file |")
     print("|---|---|---|")
     read_in = min(processor_seconds(frames, "count", 0)[0] for _ in range(RUNS))
     for what, seconds in (("reading the input alone", read_in),
-                          ("summing the bytes alone", round_seconds([frames], "bytes", [4])[0]),
-                          ("`parse`", round_seconds([frames], "count", [4])[0])):
-        each = seconds / (len(files) * (TREE_BYTES // size))
-        print(f"| {what} | {total / seconds / 1e6:.0f} | {each * 1e6:.2f} |")
+                          ("summing the bytes alone", round_seconds([frames], "bytes", [ROUNDS])[0]),
+                          ("`parse`", round_seconds([frames], "count", [ROUNDS])[0])):
+        each = seconds / (len(files) * times)
+        print(f"| {what} | {size * times / seconds / 1e6:.0f} | {each * 1e6:.2f} |")
 
 
 def measure_doubled(work):
@@ -118,10 +119,16 @@ def measure_doubled(work):
 
 
 def main():
+    arguments = argparse.ArgumentParser()
+    arguments.add_argument("--jars", metavar="FOLDER")
+    options = arguments.parse_args()
     trial.build()
     work = pathlib.Path(tempfile.mkdtemp(prefix="parse-bench-"))
     try:
-        measure_tree(work)
+        measure_tree(work, trial.compile_all(work, random.Random(1)))
+        if options.jars:
+            files = trial.files_of_jars(options.jars)
+            measure_tree(work, [file for file in files if trial.reader.answer(file).startswith("ok ")])
         measure_doubled(work)
     finally:
         shutil.rmtree(work)

@@ -5,10 +5,12 @@ Compiles the sources beside this file for Java 7 and 8, and for each class file 
 cuts of it and changes of it. The program parse_trial and the reader beside this file answer each of
 them, and the answers are compared, places included.
 
-Usage: run.py [--seed N]. It builds the program by `rt run`, and needs javac 9 to 19.
+Usage: run.py [--seed N] [--jars FOLDER]. With a folder of jars it also takes 300 readable class files of
+these, and compares each of the others by itself alone. It builds the program by `rt run`, and needs javac 9 to 19.
 """
 import argparse
 import collections
+import itertools
 import os
 import pathlib
 import random
@@ -16,6 +18,7 @@ import shutil
 import subprocess
 import sys
 import tempfile
+import zipfile
 
 sys.dont_write_bytecode = True
 import reader
@@ -81,6 +84,17 @@ def compile_all(work, rng):
     return [file.read_bytes() for file in files]
 
 
+def files_of_jars(folder):
+    """The different class files in the jars of a folder."""
+    files = {}
+    for path in sorted(pathlib.Path(folder).glob("*.jar")):
+        with zipfile.ZipFile(path) as jar:
+            for name in jar.namelist():
+                if name.endswith(".class"):
+                    files[jar.read(name)] = None
+    return list(files)
+
+
 def replaced(file, place, count, put):
     return file[:place] + put + file[place + count:]
 
@@ -137,10 +151,9 @@ def ask(frames):
     return lines
 
 
-def compare(files, rng):
+def compare(groups):
     kinds, answers, differences = collections.Counter(), collections.Counter(), 0
-    for file in files:
-        named = list(cases(file, rng))
+    for named in groups:
         for (kind, frame), found in zip(named, ask([frame for _, frame in named])):
             wanted = reader.answer(frame)
             kinds[kind] += 1
@@ -154,14 +167,22 @@ def compare(files, rng):
 def main():
     arguments = argparse.ArgumentParser()
     arguments.add_argument("--seed", type=int, default=1)
-    rng = random.Random(arguments.parse_args().seed)
+    arguments.add_argument("--jars", metavar="FOLDER")
+    options = arguments.parse_args()
+    rng = random.Random(options.seed)
     build()
     work = pathlib.Path(tempfile.mkdtemp(prefix="parse-trial-"))
     try:
-        files = compile_all(work, rng)
+        files, others = compile_all(work, rng), []
         unread = sum(not reader.answer(file).startswith("ok ") for file in files)
         print(f"class files {len(files)}, bytes {sum(map(len, files))}, not readable {unread}")
-        kinds, answers, differences = compare(files, rng)
+        if options.jars:
+            others = files_of_jars(options.jars)
+            print(f"class files in jars {len(others)}, bytes {sum(map(len, others))}")
+            files += rng.sample([file for file in others if reader.answer(file).startswith("ok ")], 300)
+        groups = itertools.chain((list(cases(file, rng)) for file in files),
+                                 ([("a file in a jar", file)] for file in others))
+        kinds, answers, differences = compare(groups)
     finally:
         shutil.rmtree(work)
     for title, counts in (("cases", kinds), ("answers", answers)):
