@@ -1,11 +1,11 @@
 -- Plain runs of names and paths.
-use Rattle.std.proofs.Common.{◌≡◌, ◌+◌, ◌<◌, ◌≤◌, ◌++◌, ℕ, zero, suc, Bool, true, false, cond, List, [], ◌∷◌, length, take, drop, Option, Some, None, Result, Ok, Err, refl, sym, ap, ◌∙◌, subst, arith, inl, inr, length-append}
-use Rattle.std.specs.List.{flat_map, prefix_len, AllByRecursion}
+use Rattle.std.proofs.Common.{◌≡◌, ◌<◌, ◌++◌, ℕ, suc, true, false, List, [], ◌∷◌, length, take, drop, Option, Some, None, Result, Ok, Err, refl, sym, ap, ◌∙◌, subst, arith, inl, inr, length-append}
+use Rattle.std.specs.List.{flat_map, prefix_len}
 use Rattle.std.specs.Option.{unwrap_or}
 use Rattle.std.specs.Result.{IsOk, is_err}
 use Rattle.std.proofs.lemmas.Bool.{cases_Bool}
 use Rattle.std.proofs.lemmas.Bool.Decides.{nat_tests}
-use Rattle.jc_base.specs.ModifiedUtf8.{spelling, IsWellSpelled, Spells}
+use Rattle.jc_base.specs.ModifiedUtf8.{IsWellSpelled}
 use Rattle.jc_base.specs.TextTests.{units_of}
 use Rattle.jc_base.specs.CodeUnits.{units_before}
 use Rattle.jc_base.proofs.FirstUnitLemmas.{spelling_in_one}

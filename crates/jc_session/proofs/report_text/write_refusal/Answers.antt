@@ -1,4 +1,3 @@
-use Rattle.std.proofs.Common.{append_assoc, append-nil}
 use Rattle.std.proofs.lemmas.Result.{on_err_weaker}
 use Rattle.jc_base.proofs.DeviceLemmas.{front_of_second}
 use Rattle.jc_session.proofs.report_text.write_refusal.Goals as goal
