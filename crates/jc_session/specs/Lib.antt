@@ -3,6 +3,10 @@ pub mod Rows
 pub mod RowText
 pub mod Lines
 pub mod Commands
+pub mod AnswerText
+pub mod Judged
+pub mod SourceAnswer
+pub mod Replies
 pub mod Answers
 pub use Rattle.jc_file.specs.Outcome
 pub use Rattle.jc_file.specs.Refusal
