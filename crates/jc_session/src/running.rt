@@ -72,3 +72,6 @@ fn line_buffer(alloc: Global) -> Result<Line, RunError>
         Err(_) => Err(RunError::NoMemory),
     }
 }
+
+#[cfg(test)]
+mod tests;

@@ -115,3 +115,6 @@ fn refusal(error: &io::Error) -> SourceError
         _ => SourceError::Unread,
     }
 }
+
+#[cfg(test)]
+mod tests;
