@@ -4,3 +4,4 @@ pub mod HeldLemmas
 pub mod WritingLemmas
 pub mod EscapeLemmas
 pub mod LineLemmas
+pub mod RunLemmas

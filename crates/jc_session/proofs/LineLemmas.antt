@@ -1,5 +1,5 @@
 -- How lines are cut, and that a line over 8,192 bytes is bad whatever follows.
-use Rattle.std.proofs.Common.{◌≡◌, ◌∙◌, ◌+◌, ◌-◌, ◌<◌, ◌≤◌, ◌++◌, ◌||◌, not, ℕ, zero, suc, min, Bool, true, false, cond, is_some, List, [], ◌∷◌, Option, Some, None, length, take, drop, map, get_or, position, refl, sym, ap, subst, arith, nat_lt, ◌==◌, append_assoc, append-nil, length-append, length-take, length-drop, drop-cons, lt-ltb, ltb-true, ltb-false}
+use Rattle.std.proofs.Common.{◌≡◌, ◌∙◌, ◌+◌, ◌-◌, ◌<◌, ◌≤◌, ◌++◌, ◌||◌, not, ℕ, zero, suc, min, Bool, true, false, cond, is_some, IsSome, List, [], ◌∷◌, Option, Some, None, length, take, drop, map, get_or, position, refl, sym, ap, subst, arith, nat_lt, ◌==◌, append_assoc, append-nil, length-append, length-take, length-drop, drop-cons, lt-ltb, ltb-true, ltb-false}
 use Rattle.std.proofs.lemmas.List.{take_all, drop_all, take_min, take-append-le, take-append-drop, get_or-take}
 use Rattle.std.proofs.lemmas.List.Folds.{list_any-append, list_any_none}
 use Rattle.std.proofs.lemmas.List.Sums.{fails_before_first, passes_at_first, split_at_first}
@@ -49,9 +49,10 @@ pub split_at_feed : (xs : List ℕ) → is_some (position is_line_feed xs) ≡ t
 split_at_feed xs there =
     let n = position_or_len is_line_feed xs in
     let within : n < length xs = ltb-true n (length xs) (test_is _ true n there) in
-    let feed : get_or xs n 0 ≡ 10 = eqb-true _ 10 (passes_at_first is_line_feed xs 0 within) in
-    (split_at_first is_line_feed xs 0 within ∙ ap (λ x. take n xs ++ (x ∷ drop (n + 1) xs)) feed,
-    omega (arith, within, length-take n xs, length-drop (n + 1) xs))
+    let feed : get_or xs n 0 ≡ 10 = eqb-true _ 10 (passes_at_first is_line_feed xs 0 within) in (
+      split_at_first is_line_feed xs 0 within ∙ ap (λ x. take n xs ++ (x ∷ drop (n + 1) xs)) feed,
+      omega (arith, within, length-take n xs, length-drop (n + 1) xs),
+    )
 
 -- without one all of them stand before it
 pub all_before_feed : (xs : List ℕ) → is_some (position is_line_feed xs) ≡ false → (before_first is_line_feed xs ≡ xs) × (after_first is_line_feed xs ≡ [])
@@ -238,3 +239,9 @@ pub reading_finds_feed : (start : Option (List Command)) (line ahead longer rest
 reading_finds_feed start line ahead longer rest coming reading there is rest_is =
     let at : HandsOver start true (command_of (take 8193 (line ++ before_first is_line_feed ahead))) (commands_of (after_first is_line_feed ahead) coming) = reading_finds 8193 start line ahead coming (omega arith) reading (sym there) in
     rw (is, rest_is) at
+
+-- no LF is where one is found to be missing
+pub no_feed : (there missed : List ℕ) → missed ≡ there → IsSome (position is_line_feed there) → false ≡ is_some (position is_line_feed missed) → ⊥
+no_feed there missed same is none =
+    let found : IsSome (position is_line_feed missed) = subst (λ l. IsSome (position is_line_feed l)) (sym same) is in
+    cc

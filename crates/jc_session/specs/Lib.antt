@@ -7,8 +7,10 @@ pub mod Files
 pub mod HeldFile
 pub mod Judged
 pub mod Lines
+pub mod Replies
 pub mod RowText
 pub mod Rows
+pub mod SourceAnswer
 pub mod Winners
 pub use Rattle.jc_base.specs.Bytes
 pub use Rattle.jc_base.specs.CodeUnits

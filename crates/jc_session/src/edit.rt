@@ -5,6 +5,7 @@ ghost use Rattle.jc_session.specs.declared.edit.EditError.TheVariants.{NoMemory}
 
 use jc_base::NoMemory;
 use std::alloc::{AllocError, AllocFailed};
+use thiserror::Error;
 
 /// An edit of the files, by paths. Paths and bytes are owned; a refusal drops them.
 #[derive(Debug, Drop)]
@@ -26,19 +27,25 @@ pub struct Done {
 
 /// Why an edit is refused: the first that applies, in the order `BadPath`, `AlreadyThere` or
 /// `NoSuchFile`, `TooLarge`, `TooMany`, and `NoMemory` only where none of them does.
-#[derive(Clone, Copy, Debug, PartialEq, Eq)]
+#[derive(Clone, Copy, Debug, PartialEq, Eq, Error)]
 pub enum EditError {
     /// `Add`: a file stands at the path.
+    #[error("a file stands at the path")]
     AlreadyThere,
     /// `Replace` and `Remove`: no file stands at the path.
+    #[error("no file stands at the path")]
     NoSuchFile,
     /// The bytes are more than 16,777,216.
+    #[error("the file is larger than 16,777,216 bytes")]
     TooLarge,
     /// `Add`: there are 65,535 files.
+    #[error("there are 65,535 files")]
     TooMany,
     /// The path is empty or longer than 4,096 bytes.
+    #[error("the path is empty or longer than 4,096 bytes")]
     BadPath,
     /// Memory was refused.
+    #[error("memory was refused")]
     NoMemory,
 }
 

@@ -2,9 +2,11 @@
 //! says which class each names.
 #![tactic(auto)]
 
+mod answer;
 mod answer_text;
 mod claims;
 mod command;
+mod command_line;
 mod edit;
 mod escapes;
 mod file;
@@ -15,14 +17,19 @@ mod lines;
 mod report;
 mod report_text;
 mod rows;
+mod run_error;
+mod running;
 mod session;
 mod source;
 
+pub use command_line::program;
 pub use edit::{Done, Edit, EditError};
 pub use file_row::{FileRow, FileState};
 pub use laws::winners_are_least;
 pub use report::Report;
 pub use report_text::{WriteError, write_report};
 pub use rows::Rows;
+pub use run_error::{Ended, RunError};
+pub use running::run;
 pub use session::Session;
-pub use source::SourceError;
+pub use source::{FileSource, MemSource, Source, SourceError};

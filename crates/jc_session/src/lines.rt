@@ -1,5 +1,5 @@
 //! An input, line by line.
-ghost use Rattle.std.specs.Prelude.{◌≡◌, ◌+◌, ◌<◌, ◌≤◌, ◌++◌, [], IfOk, IsTrue, OnErr, OnOk, drop, is_some, length, position, take};
+ghost use Rattle.std.specs.Prelude.{◌≡◌, ◌+◌, ◌<◌, ◌≤◌, ◌++◌, [], IfOk, IsSome, IsTrue, OnErr, OnOk, drop, is_some, length, position, take};
 ghost use Rattle.std.specs.List.{after_first, before_first};
 ghost use Rattle.std.specs.Io.KnownBytes.{Consumes, IsAtEnd, Keeps};
 ghost use Rattle.jc_base.specs.Device.{CountsFault};
@@ -131,7 +131,11 @@ impl Ahead {
 /// Reads the next line, and tells whether there is one. What a read hands over stays ahead past the
 /// end of the line, and nothing is read while a whole line is ahead. After an error the front of the
 /// line that was not whole is lost.
-pub(crate) fn read_line<R: Input>(line: &mut Line, ahead: &mut Ahead, input: &mut R) -> Result<bool, DeviceFault>
+pub(crate) fn read_line<R: Input>(
+    line: &mut Line,
+    ahead: &mut Ahead,
+    input: &mut R,
+) -> Result<bool, DeviceFault>
     ensures hands_over { IfOk result (λ is_there. HandsOver
         (commands_of ahead.old (R.remaining input.old))
         is_there
@@ -140,6 +144,9 @@ pub(crate) fn read_line<R: Input>(line: &mut Line, ahead: &mut Ahead, input: &mu
     ensures nearer { IfOk result (λ is_there. IsTrue is_there →
         R.bound input.new + length ahead.new < R.bound input.old + length ahead.old) }
     ensures failures { CountsFault result (R.failures input.old) (R.failures input.new) }
+
+    // A line that is ahead is handed over with no read.
+    ensures ahead { IsSome (position is_line_feed ahead.old) → input.new ≡ input.old }
 {
     line.clear();
     while !take_front(line, ahead) {
