@@ -16,7 +16,10 @@ mod writing;
 
 pub use byte_map::ByteMap;
 pub use cursor::Cursor;
-pub use descriptors::{FieldDesc, MethodDesc, Params};
+pub use descriptors::{
+    FieldDesc, MethodDesc, Params, descriptor_examples, descriptors_are_determined,
+    descriptors_are_well_spelled,
+};
 pub use device::{DeviceFault, Input, Output};
 pub use mem_devices::{MemInput, MemOutput};
 pub use modified_utf8::{
@@ -27,6 +30,8 @@ pub use names::{
     is_class_name, is_method_name, is_unqualified, name_examples, names_are_well_spelled,
 };
 pub use no_memory::NoMemory;
-pub use signatures::{SigKind, check_signature};
+pub use signatures::{
+    SigKind, check_signature, signature_examples, signatures_are_well_spelled,
+};
 pub use std_devices::{StdInput, StdOutput};
 pub use writing::{write_all, write_parts};
