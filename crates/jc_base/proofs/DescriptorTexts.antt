@@ -66,3 +66,8 @@ named_only name other (inl (letter, has, is)) = omega (arith, ap length is, leng
 named_only name other (inr (found, named, is)) =
     other (subst IsClassName (sym (append_cancel_right name found (59 ∷ []) (ap (drop 1) is))) named)
 
+
+pub no_empty_result : (r : Option (List ℕ)) → IfSome r IsFieldDescriptor → result_text r ≡ [] → ⊥
+unfolding field_len
+no_empty_result None field e = omega (arith, ap length e)
+no_empty_result (Some b) field e = none_in_front [] refl (subst IsFieldDescriptor e field)

@@ -1,11 +1,12 @@
 -- Signatures are texts.
-use Rattle.std.proofs.Common.{◌≡◌, ℕ, true, List, [], ◌∷◌, ◌++◌, refl, sym, subst}
-use Rattle.std.specs.List.{Contains, list_all}
+use Rattle.std.proofs.Common.{◌≡◌, ℕ, ◌<◌, true, not, eqb, List, [], ◌∷◌, ◌++◌, length, refl, sym, ap, subst, arith}
+use Rattle.std.specs.List.{Contains, list_all, list_any}
 use Rattle.jc_base.specs.declared.signatures.SigKind.{SigKind}
 use Rattle.jc_base.specs.declared.signatures.SigKind.TheVariants as kind
 use Rattle.jc_base.specs.ModifiedUtf8.{IsWellSpelled}
-use Rattle.jc_base.specs.Signatures.{Symbol, Mark, Identifier, Maybe, Many, ClassSignature, MethodSignature, Result, Throws, Thrown, JavaType, ReferenceType, TypeVariable, ClassType, Package, SimpleClass, Suffix, Arguments, Argument, Params, Param, Bound, Produces, absent, present, no_more, one_more, class_signature, method_signature, result_type, result_void, throws, thrown_class, thrown_variable, base_type, reference_type, class_reference, variable_reference, array_reference, type_variable, class_type, package_name, simple_class, suffix, arguments, any_type, exact_type, extends_type, super_type, params, param, bound, Derives, ends, reads, names, expands, IsIdentifier, IsSignature, start}
-use Rattle.jc_base.proofs.WellSpelledLemmas.{append_spelled, ascii_spelled}
+use Rattle.jc_base.specs.Signatures.{Symbol, Mark, Identifier, Maybe, Many, ClassSignature, MethodSignature, Result, Throws, Thrown, JavaType, ReferenceType, TypeVariable, ClassType, Package, SimpleClass, Suffix, Arguments, Argument, Params, Param, Bound, Produces, absent, present, no_more, one_more, class_signature, method_signature, result_type, result_void, throws, thrown_class, thrown_variable, base_type, reference_type, class_reference, variable_reference, array_reference, type_variable, class_type, package_name, simple_class, suffix, arguments, any_type, exact_type, extends_type, super_type, params, param, bound, Derives, ends, reads, names, expands, IsIdentifier, IsSignature, start, identifier_stops}
+use Rattle.jc_base.proofs.WellSpelledLemmas.{append_spelled, ascii_spelled, is_ascii}
+use Rattle.jc_base.proofs.NamesLemmas.{lacks_by_test}
 use Rattle.jc_base.proofs.DescriptorTexts.{base_spelled}
 
 -- the marks that the symbol holds are texts
@@ -66,3 +67,16 @@ pub signature_spelled : (k : SigKind) (b : List ℕ) → IsSignature k b → IsW
 signature_spelled kind.Class b d = derived_spelled (ClassSignature ∷ []) b d (tt, tt)
 signature_spelled kind.Method b d = derived_spelled (MethodSignature ∷ []) b d (tt, tt)
 signature_spelled kind.Field b d = derived_spelled (ReferenceType ∷ []) b d (tt, tt)
+
+-- ---- derivations of small texts
+
+pub named_by_test : (name : List ℕ) → 0 < length name → list_all is_ascii name ≡ true → list_all (λ c. not (list_any (λ s. eqb s c) identifier_stops)) name ≡ true → IsIdentifier name
+named_by_test name some ascii lacks = (ascii_spelled name ascii, (λ e. omega (arith, ap length e)), lacks_by_test name identifier_stops lacks)
+
+pub class_derived : (name : List ℕ) (owed : List Symbol) (rest : List ℕ) → IsIdentifier name → Derives owed rest → Derives (ClassType ∷ owed) (76 ∷ (name ++ 59 ∷ rest))
+class_derived name owed rest is d =
+    expands _ _ _ _ class_type (reads 76 _ _ (expands _ _ _ _ (no_more Package) (expands _ _ _ _ simple_class
+        (names name _ _ (59 ∷ rest) is refl (expands _ _ _ _ (absent Arguments) (expands _ _ _ _ (no_more Suffix) (reads 59 _ _ d)))))))
+
+pub param_derived : (name : List ℕ) (owed : List Symbol) (rest : List ℕ) → IsIdentifier name → Derives (Maybe ReferenceType ∷ Many Bound ∷ owed) rest → Derives (Param ∷ owed) (name ++ 58 ∷ rest)
+param_derived name owed rest is d = expands _ _ _ _ param (names name _ _ (58 ∷ rest) is refl (reads 58 _ _ d))

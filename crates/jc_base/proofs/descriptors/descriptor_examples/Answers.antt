@@ -1,4 +1,4 @@
-use Rattle.std.proofs.Common.{[], ◌∷◌, ◌++◌, length, replicate, codes, Some, None, inl, inr, refl, sym, ap, ◌∙◌, subst, arith, lit<, lit≤}
+use Rattle.std.proofs.Common.{[], ◌∷◌, ◌++◌, length, get_or, drop, replicate, codes, Some, None, inl, inr, refl, sym, ap, ◌∙◌, subst, arith, lit<, lit≤}
 use Rattle.std.specs.List.{Contains}
 use Rattle.std.proofs.lemmas.List.Elements.{All-from_recursion}
 use Rattle.jc_base.specs.Names.{IsClassName, IsUnqualifiedName}
@@ -6,7 +6,7 @@ use Rattle.jc_base.specs.Descriptors.{IsElementType, IsField, IsFieldDescriptor,
 use Rattle.jc_base.specs.FieldsInFront.{field_len, element_len, fields_of}
 use Rattle.jc_base.proofs.NamesLemmas.{name_by_test, class_name_by_split}
 use Rattle.jc_base.proofs.DescriptorLemmas.{parts_of, element_starts, method_params, after_params}
-use Rattle.jc_base.proofs.DescriptorTexts.{none_in_front, named_only}
+use Rattle.jc_base.proofs.DescriptorTexts.{none_in_front, named_only, no_empty_result}
 use Rattle.jc_base.proofs.descriptors.descriptor_examples.Goals as goal
 
 string_name : IsClassName (codes "java/lang/String")
@@ -51,8 +51,8 @@ returns c = record {
     few = lit≤ tt;
     text = refl;
   };
-  no_result = λ (type, method). ?;
-  void_param = λ (type, method). ?;
+  no_result = λ (type, method). no_empty_result type.result method.result (sym (ap (drop 1) (after_params (codes ")") (codes ")") type refl method)));
+  void_param = λ (type, method). omega (arith, ap (λ b. get_or b 0 0) (after_params (codes "V)V") (codes "V)V") type refl method));
   long = refl;
   longs = refl;
 }
