@@ -1,10 +1,10 @@
 -- Field descriptors: their trees, and where one ends in front of other bytes.
-use Rattle.std.proofs.Common.{◌≡◌, ◌≢◌, ℕ, ◌+◌, ◌-◌, ◌<◌, ◌≤◌, Bool, true, false, cond, eqb, ltb, not, List, [], ◌∷◌, ◌++◌, length, get_or, take, drop, replicate, position, codes, Option, Some, None, inl, inr, ◌⊎◌, zero, suc, refl, sym, ap, ◌∙◌, subst, arith, lit<, append_assoc, length-append, length-drop}
+use Rattle.std.proofs.Common.{◌≡◌, ◌≢◌, ℕ, ◌+◌, ◌<◌, ◌≤◌, Bool, true, false, cond, eqb, ltb, not, List, [], ◌∷◌, ◌++◌, length, get_or, take, drop, replicate, position, Option, Some, None, inl, inr, zero, suc, refl, sym, ap, ◌∙◌, subst, arith, lit<, append_assoc, length-append, length-drop}
 use Rattle.std.specs.Option.{option_map, option_map_or, MatchOption}
 use Rattle.std.specs.Borrow.{Bor}
-use Rattle.std.specs.List.{list_any, All, AllByRecursion, Contains, position_or_len, prefix_len, join_with_byte, concat}
+use Rattle.std.specs.List.{list_any, AllByRecursion, Contains, position_or_len, join_with_byte, concat}
 use Rattle.std.proofs.lemmas.Bool.{false≢true, ne_eqb, eq-eqb, lt-ltb}
-use Rattle.std.proofs.lemmas.List.{append-nil, take_at, drop_at, length-replicate, append_cancel_left}
+use Rattle.std.proofs.lemmas.List.{take_at, drop_at, length-replicate, append_cancel_left}
 use Rattle.std.proofs.lemmas.List.Folds.{list_any_at}
 use Rattle.std.proofs.lemmas.List.Elements.{recursion_from_All, All-weaker}
 use Rattle.jc_base.specs.Names.{name_stops, IsUnqualifiedName, IsClassName}

@@ -1,15 +1,15 @@
 -- Descriptors are texts, and what tells a text from a descriptor by its first bytes.
-use Rattle.std.proofs.Common.{◌≡◌, ◌≢◌, ℕ, ◌+◌, ◌<◌, ◌≤◌, ◌&&◌, Bool, true, false, List, [], ◌∷◌, ◌++◌, length, get_or, drop, replicate, codes, Option, Some, None, IfSome, zero, suc, inl, inr, refl, sym, ap, ◌∙◌, subst, arith, lit<, append_assoc, length-append}
-use Rattle.std.specs.List.{All, AllByRecursion, Contains, concat, list_all}
+use Rattle.std.proofs.Common.{◌≡◌, ℕ, true, List, [], ◌∷◌, ◌++◌, length, drop, replicate, codes, Option, Some, None, IfSome, zero, suc, inl, inr, refl, sym, ap, ◌∙◌, subst, arith, length-append}
+use Rattle.std.specs.List.{AllByRecursion, Contains, concat, list_all}
 use Rattle.std.proofs.lemmas.List.{append_cancel_right, append-nil}
 use Rattle.std.proofs.lemmas.List.Elements.{recursion_from_All}
 use Rattle.jc_base.specs.ModifiedUtf8.{IsWellSpelled}
 use Rattle.jc_base.specs.Names.{IsClassName}
-use Rattle.jc_base.specs.Descriptors.{base_types, IsBaseType, IsClassType, IsElementType, FieldType, IsField, IsFieldDescriptor, MethodType, IsMethod, IsMethodDescriptor, result_text}
-use Rattle.jc_base.specs.FieldsInFront.{field_len, element_len}
+use Rattle.jc_base.specs.Descriptors.{base_types, IsElementType, IsFieldDescriptor, IsMethodDescriptor, result_text}
+use Rattle.jc_base.specs.FieldsInFront.{field_len}
 use Rattle.jc_base.proofs.WellSpelledLemmas.{append_spelled, ascii_spelled, is_ascii}
 use Rattle.jc_base.proofs.NamesLemmas.{class_name_spelled}
-use Rattle.jc_base.proofs.DescriptorLemmas.{field_in_front, method_split, method_params}
+use Rattle.jc_base.proofs.DescriptorLemmas.{field_in_front, method_split}
 
 base_ascii : (c : ℕ) → Contains base_types c → list_all is_ascii (c ∷ []) ≡ true
 base_ascii c (zero, within, is) = ap (λ c. list_all is_ascii (c ∷ [])) (sym is)
@@ -50,8 +50,8 @@ pub method_spelled : (b : List ℕ) → IsMethodDescriptor b → IsWellSpelled b
 method_spelled b (type, method) =
     subst IsWellSpelled (sym (method_split b type method))
     (append_spelled (40 ∷ []) (concat type.params ++ 41 ∷ result_text type.result) (ascii_spelled (40 ∷ []) refl)
-        (append_spelled (concat type.params) (41 ∷ result_text type.result) (params_spelled type.params (recursion_from_All IsFieldDescriptor type.params method.params))
-            (append_spelled (41 ∷ []) (result_text type.result) (ascii_spelled (41 ∷ []) refl) (result_spelled type.result method.result))))
+    (append_spelled (concat type.params) (41 ∷ result_text type.result) (params_spelled type.params (recursion_from_All IsFieldDescriptor type.params method.params))
+    (append_spelled (41 ∷ []) (result_text type.result) (ascii_spelled (41 ∷ []) refl) (result_spelled type.result method.result))))
 
 -- ---- texts that are no descriptors
 
@@ -65,7 +65,6 @@ pub named_only : (name : List ℕ) → (IsClassName name → ⊥) → IsElementT
 named_only name other (inl (letter, has, is)) = omega (arith, ap length is, length-append name (59 ∷ []))
 named_only name other (inr (found, named, is)) =
     other (subst IsClassName (sym (append_cancel_right name found (59 ∷ []) (ap (drop 1) is))) named)
-
 
 pub no_empty_result : (r : Option (List ℕ)) → IfSome r IsFieldDescriptor → result_text r ≡ [] → ⊥
 unfolding field_len

@@ -1,10 +1,10 @@
 -- Signatures are texts.
 use Rattle.std.proofs.Common.{◌≡◌, ℕ, ◌<◌, true, not, eqb, List, [], ◌∷◌, ◌++◌, length, refl, sym, ap, subst, arith}
-use Rattle.std.specs.List.{Contains, list_all, list_any}
+use Rattle.std.specs.List.{list_all, list_any}
 use Rattle.jc_base.specs.declared.signatures.SigKind.{SigKind}
 use Rattle.jc_base.specs.declared.signatures.SigKind.TheVariants as kind
 use Rattle.jc_base.specs.ModifiedUtf8.{IsWellSpelled}
-use Rattle.jc_base.specs.Signatures.{Symbol, Mark, Identifier, Maybe, Many, ClassSignature, MethodSignature, Result, Throws, Thrown, JavaType, ReferenceType, TypeVariable, ClassType, Package, SimpleClass, Suffix, Arguments, Argument, Params, Param, Bound, Produces, absent, present, no_more, one_more, class_signature, method_signature, result_type, result_void, throws, thrown_class, thrown_variable, base_type, reference_type, class_reference, variable_reference, array_reference, type_variable, class_type, package_name, simple_class, suffix, arguments, any_type, exact_type, extends_type, super_type, params, param, bound, Derives, ends, reads, names, expands, IsIdentifier, IsSignature, start, identifier_stops}
+use Rattle.jc_base.specs.Signatures.{Symbol, Mark, Maybe, Many, ClassSignature, MethodSignature, ReferenceType, ClassType, Package, Suffix, Arguments, Param, Bound, Produces, absent, present, no_more, one_more, class_signature, method_signature, result_type, result_void, throws, thrown_class, thrown_variable, base_type, reference_type, class_reference, variable_reference, array_reference, type_variable, class_type, package_name, simple_class, suffix, arguments, any_type, exact_type, extends_type, super_type, params, param, bound, Derives, ends, reads, names, expands, IsIdentifier, IsSignature, identifier_stops}
 use Rattle.jc_base.proofs.WellSpelledLemmas.{append_spelled, ascii_spelled, is_ascii}
 use Rattle.jc_base.proofs.NamesLemmas.{lacks_by_test}
 use Rattle.jc_base.proofs.DescriptorTexts.{base_spelled}
@@ -76,7 +76,7 @@ named_by_test name some ascii lacks = (ascii_spelled name ascii, (λ e. omega (a
 pub class_derived : (name : List ℕ) (owed : List Symbol) (rest : List ℕ) → IsIdentifier name → Derives owed rest → Derives (ClassType ∷ owed) (76 ∷ (name ++ 59 ∷ rest))
 class_derived name owed rest is d =
     expands _ _ _ _ class_type (reads 76 _ _ (expands _ _ _ _ (no_more Package) (expands _ _ _ _ simple_class
-        (names name _ _ (59 ∷ rest) is refl (expands _ _ _ _ (absent Arguments) (expands _ _ _ _ (no_more Suffix) (reads 59 _ _ d)))))))
+    (names name _ _ (59 ∷ rest) is refl (expands _ _ _ _ (absent Arguments) (expands _ _ _ _ (no_more Suffix) (reads 59 _ _ d)))))))
 
 pub param_derived : (name : List ℕ) (owed : List Symbol) (rest : List ℕ) → IsIdentifier name → Derives (Maybe ReferenceType ∷ Many Bound ∷ owed) rest → Derives (Param ∷ owed) (name ++ 58 ∷ rest)
 param_derived name owed rest is d = expands _ _ _ _ param (names name _ _ (58 ∷ rest) is refl (reads 58 _ _ d))

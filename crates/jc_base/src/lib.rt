@@ -30,8 +30,6 @@ pub use names::{
     is_class_name, is_method_name, is_unqualified, name_examples, names_are_well_spelled,
 };
 pub use no_memory::NoMemory;
-pub use signatures::{
-    SigKind, check_signature, signature_examples, signatures_are_well_spelled,
-};
+pub use signatures::{SigKind, check_signature, signature_examples, signatures_are_well_spelled};
 pub use std_devices::{StdInput, StdOutput};
 pub use writing::{write_all, write_parts};

@@ -1,11 +1,10 @@
-use Rattle.std.proofs.Common.{[], ◌∷◌, ◌++◌, length, get_or, drop, replicate, codes, Some, None, inl, inr, refl, sym, ap, ◌∙◌, subst, arith, lit<, lit≤}
-use Rattle.std.specs.List.{Contains}
+use Rattle.std.proofs.Common.{[], ◌∷◌, ◌++◌, length, get_or, drop, replicate, codes, inl, inr, refl, sym, ap, arith, lit<, lit≤}
 use Rattle.std.proofs.lemmas.List.Elements.{All-from_recursion}
 use Rattle.jc_base.specs.Names.{IsClassName, IsUnqualifiedName}
-use Rattle.jc_base.specs.Descriptors.{IsElementType, IsField, IsFieldDescriptor, FieldType, IsMethod}
+use Rattle.jc_base.specs.Descriptors.{IsField, IsFieldDescriptor}
 use Rattle.jc_base.specs.FieldsInFront.{field_len, element_len, fields_of}
 use Rattle.jc_base.proofs.NamesLemmas.{name_by_test, class_name_by_split}
-use Rattle.jc_base.proofs.DescriptorLemmas.{parts_of, element_starts, method_params, after_params}
+use Rattle.jc_base.proofs.DescriptorLemmas.{parts_of, element_starts, after_params}
 use Rattle.jc_base.proofs.DescriptorTexts.{none_in_front, named_only, no_empty_result}
 use Rattle.jc_base.proofs.descriptors.descriptor_examples.Goals as goal
 
