@@ -1,6 +1,6 @@
 -- Cutting a text at the first byte that no identifier has.
-use Rattle.std.proofs.Common.{◌≡◌, ◌≢◌, ℕ, ◌+◌, ◌-◌, ◌<◌, ◌≤◌, Bool, true, false, eqb, ltb, not, cond, ◌||◌, List, [], ◌∷◌, ◌++◌, length, get_or, take, drop, position, Option, Some, None, ◌⊎◌, inl, inr, zero, suc, refl, sym, ap, ◌∙◌, subst, arith, lit<, add-one, drop-cons}
-use Rattle.std.specs.List.{Contains, list_any, All, position_or_len}
+use Rattle.std.proofs.Common.{◌≡◌, ◌≢◌, ℕ, ◌+◌, ◌-◌, ◌<◌, ◌≤◌, Bool, true, false, eqb, ltb, not, cond, ◌||◌, List, [], ◌∷◌, ◌++◌, length, get_or, take, drop, position, Some, None, ◌⊎◌, inl, inr, sym, ap, ◌∙◌, subst, arith, add-one, drop-cons}
+use Rattle.std.specs.List.{Contains, list_any, position_or_len}
 use Rattle.std.proofs.lemmas.Bool.{false≢true, eq-eqb, eqb-true, cases_Bool, ltb-false, not-true}
 use Rattle.std.proofs.lemmas.List.{take_rest, take-append-drop, get_or-take, get_or_default, length-take-le}
 use Rattle.std.proofs.lemmas.List.Sums.{prefix_len_passes}
@@ -9,8 +9,8 @@ use Rattle.std.proofs.lemmas.List.Quantifiers.{position-Some}
 use Rattle.std.proofs.lemmas.List.Elements.{Contains-append_right, All-head, All-tail}
 use Rattle.jc_base.specs.Names.{Lacks}
 use Rattle.jc_base.specs.ModifiedUtf8.{IsWellSpelled}
-use Rattle.jc_base.specs.Signatures.{identifier_stops, Identifier, Symbol, Derives, IsIdentifier}
-use Rattle.jc_base.specs.Owed.{IsStop, IsCut, HasName, HasNoName, EndsAtColon}
+use Rattle.jc_base.specs.Signatures.{identifier_stops}
+use Rattle.jc_base.specs.Owed.{IsStop, IsCut, HasName}
 
 abbrev pub is_stop_byte : ℕ → Bool
 is_stop_byte c = list_any (λ stop. eqb stop c) identifier_stops

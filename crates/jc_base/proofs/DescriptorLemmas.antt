@@ -1,10 +1,10 @@
 -- Field descriptors: their trees, and where one ends in front of other bytes.
-use Rattle.std.proofs.Common.{◌≡◌, ◌≢◌, ℕ, ◌+◌, ◌-◌, ◌<◌, ◌≤◌, Bool, true, false, cond, eqb, ltb, not, List, [], ◌∷◌, ◌++◌, length, get_or, take, drop, replicate, position, codes, Option, Some, None, inl, inr, ◌⊎◌, zero, suc, refl, sym, ap, ◌∙◌, subst, arith, lit<, append_assoc, length-append, length-drop}
+use Rattle.std.proofs.Common.{◌≡◌, ◌≢◌, ℕ, ◌+◌, ◌<◌, ◌≤◌, Bool, true, false, cond, eqb, ltb, not, List, [], ◌∷◌, ◌++◌, length, get_or, take, drop, replicate, position, Option, Some, None, inl, inr, zero, suc, refl, sym, ap, ◌∙◌, subst, arith, lit<, append_assoc, length-append, length-drop}
 use Rattle.std.specs.Option.{option_map, option_map_or, MatchOption}
 use Rattle.std.specs.Borrow.{Bor}
-use Rattle.std.specs.List.{list_any, All, AllByRecursion, Contains, position_or_len, prefix_len, join_with_byte, concat}
+use Rattle.std.specs.List.{list_any, AllByRecursion, Contains, position_or_len, join_with_byte, concat}
 use Rattle.std.proofs.lemmas.Bool.{false≢true, ne_eqb, eq-eqb, lt-ltb}
-use Rattle.std.proofs.lemmas.List.{append-nil, take_at, drop_at, length-replicate, append_cancel_left}
+use Rattle.std.proofs.lemmas.List.{take_at, drop_at, length-replicate, append_cancel_left}
 use Rattle.std.proofs.lemmas.List.Folds.{list_any_at}
 use Rattle.std.proofs.lemmas.List.Elements.{recursion_from_All, All-weaker}
 use Rattle.jc_base.specs.Names.{name_stops, IsUnqualifiedName, IsClassName}
@@ -225,16 +225,20 @@ after_params inner rest type split method =
     append_cancel_left (concat type.params) rest (41 ∷ result_text type.result)
     (ap (λ ps. concat ps ++ rest) (sym (method_params inner type method)) ∙ sym split ∙ ap (drop 1) (method_split (40 ∷ inner) type method))
 
-pub one_method : (b : List ℕ) (t u : MethodType) → IsMethod b t → IsMethod b u → t ≡ u
-one_method b t u p q =
-    let inner = drop 1 b in
-    let at : b ≡ 40 ∷ inner = method_split b t p ∙ ap (λ c. 40 ∷ drop 1 c) (sym (method_split b t p)) in
-    let p' = subst (λ c. IsMethod c t) at p in
-    let q' = subst (λ c. IsMethod c u) at q in
-    let params = sym (method_params inner t p') ∙ method_params inner u q' in
-    let results : result_text t.result ≡ result_text u.result = ap (drop 1) (append_cancel_left (concat t.params) (41 ∷ result_text t.result) (41 ∷ result_text u.result) (ap (drop 1) (sym (method_split b t p) ∙ method_split b u q) ∙ ap (λ ps. concat ps ++ 41 ∷ result_text u.result) (sym params))) in
+one_type : (inner : List ℕ) (t u : MethodType) → IsMethod (40 ∷ inner) t → IsMethod (40 ∷ inner) u → t ≡ u
+one_type inner t u p q =
+    let of_t = method_params inner t p in
+    let params : t.params ≡ u.params = sym of_t ∙ method_params inner u q in
+    let split : inner ≡ concat (fields_of inner) ++ 41 ∷ result_text t.result =
+    ap (drop 1) (method_split (40 ∷ inner) t p) ∙ ap (λ ps. concat ps ++ 41 ∷ result_text t.result) (sym of_t) in
+    let results : result_text t.result ≡ result_text u.result = ap (drop 1) (after_params inner (41 ∷ result_text t.result) u split q) in
     let same = one_result (result_text t.result) t.result u.result (record { field = p.result; text = refl }) (record { field = q.result; text = results }) in
     ap (λ ps. record { params = ps; result = t.result }) params ∙ ap (λ r. record { params = u.params; result = r }) same
+
+pub one_method : (b : List ℕ) (t u : MethodType) → IsMethod b t → IsMethod b u → t ≡ u
+one_method b t u p q =
+    let at : b ≡ 40 ∷ (concat t.params ++ 41 ∷ result_text t.result) = method_split b t p in
+    one_type (concat t.params ++ 41 ∷ result_text t.result) t u (subst (λ c. IsMethod c t) at p) (subst (λ c. IsMethod c u) at q)
 
 pub length_after_dims : (text : List ℕ) (dims : ℕ) (element : List ℕ) → text ≡ replicate dims 91 ++ element → length text ≡ dims + length element
 length_after_dims text dims element is = ap length is ∙ length-append (replicate dims 91) element ∙ ap (λ n. n + length element) (length-replicate dims 91)

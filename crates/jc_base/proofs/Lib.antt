@@ -15,3 +15,5 @@ pub mod NameRunLemmas
 pub mod CutLemmas
 pub mod StepLemmas
 pub mod StackLemmas
+pub mod DescriptorTexts
+pub mod SignatureTexts

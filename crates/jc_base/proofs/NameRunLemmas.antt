@@ -1,17 +1,13 @@
 -- Identifiers within a signature: where one ends, and what follows it.
-use Rattle.std.proofs.Common.{◌≡◌, ◌≢◌, ℕ, ◌+◌, ◌<◌, Bool, true, false, eqb, List, [], ◌∷◌, ◌++◌, length, get_or, take, drop, position, Option, Some, None, ◌⊎◌, inl, inr, zero, suc, refl, sym, ap, ◌∙◌, subst, arith, lit<}
-use Rattle.std.specs.Option.{MatchOption}
-use Rattle.std.specs.List.{Contains, list_any, All}
-use Rattle.std.proofs.lemmas.Bool.{false≢true, eq-eqb}
-use Rattle.std.proofs.lemmas.List.Folds.{list_any_at}
-use Rattle.std.proofs.lemmas.List.Elements.{All-head, All-tail, All-nil, All-cons}
+use Rattle.std.proofs.Common.{◌≡◌, ◌≢◌, ℕ, List, [], ◌∷◌, ◌++◌, drop, Option, Some, None, refl, sym, ap, ◌∙◌, subst, arith, lit<}
+use Rattle.std.specs.List.{Contains}
+use Rattle.std.proofs.lemmas.List.Elements.{All-head, All-tail}
 use Rattle.jc_base.specs.declared.signatures.Owed.{Owed}
 use Rattle.jc_base.specs.declared.signatures.Owed.TheVariants as entry
-use Rattle.jc_base.specs.declared.signatures.After.{After}
 use Rattle.jc_base.specs.Names.{Lacks}
-use Rattle.jc_base.specs.Signatures.{identifier_stops, Symbol, Mark, Identifier, Maybe, Many, ReferenceType, Package, SimpleClass, Suffix, Arguments, Argument, suffix, arguments, Param, Bound, absent, present, no_more, one_more, package_name, simple_class, param, bound, Derives, reads, names, expands, IsIdentifier}
-use Rattle.jc_base.specs.Owed.{symbols_of, before, both_before, Leaves, Refuses, GivesEntry, GivesAfter, IsStop, IsCut, HasName, BeginsWithStop, HasNoName, EndsAtColon, LeavesNamed, RefusesNamed, GivesNamed, LeavesRest, GivesRest, GivesStep}
-use Rattle.jc_base.proofs.SignatureLemmas.{mark_of, maybe_of, many_of, reference_of, suffixes_of, arguments_of, bound_of, simple_class_of, package_of, param_of, identifier_of}
+use Rattle.jc_base.specs.Signatures.{identifier_stops, Symbol, Mark, Identifier, Maybe, Many, ReferenceType, Package, SimpleClass, Suffix, Arguments, Argument, suffix, arguments, Param, Bound, no_more, one_more, package_name, simple_class, param, Derives, reads, names, expands, IsIdentifier}
+use Rattle.jc_base.specs.Owed.{before, Refuses, GivesEntry, IsStop, IsCut, HasName, BeginsWithStop, HasNoName, LeavesNamed, RefusesNamed, GivesNamed}
+use Rattle.jc_base.proofs.SignatureLemmas.{mark_of, maybe_of, many_of, suffixes_of, arguments_of, simple_class_of, package_of, param_of, identifier_of}
 
 -- ---- where a name ends
 

@@ -1,15 +1,14 @@
 -- What the first byte leaves of an entry of the stack.
-use Rattle.std.proofs.Common.{◌≡◌, ◌≢◌, ℕ, List, [], ◌∷◌, ◌++◌, Option, Some, None, refl, sym, ap, ◌∙◌, subst, arith, append_assoc}
-use Rattle.std.specs.Option.{MatchOption}
+use Rattle.std.proofs.Common.{◌≡◌, ◌≢◌, ℕ, List, [], ◌∷◌, ◌++◌, Option, Some, None, refl, sym, subst, arith, append_assoc}
 use Rattle.std.specs.List.{Contains}
 use Rattle.jc_base.specs.declared.signatures.Owed.{Owed}
 use Rattle.jc_base.specs.declared.signatures.Owed.TheVariants as entry
 use Rattle.jc_base.specs.declared.signatures.After.{After}
 use Rattle.jc_base.specs.Descriptors.{base_types}
-use Rattle.jc_base.specs.Signatures.{Symbol, Mark, Identifier, Maybe, Many, Result, Throws, Thrown, JavaType, ReferenceType, TypeVariable, ClassType, Package, SimpleClass, Suffix, Arguments, Argument, Params, Param, Bound, absent, present, no_more, one_more, result_type, result_void, throws, thrown_class, thrown_variable, base_type, reference_type, class_reference, variable_reference, array_reference, type_variable, class_type, suffix, arguments, any_type, exact_type, extends_type, super_type, params, bound, Derives, reads, expands}
-use Rattle.jc_base.specs.Owed.{symbols_of, before, both_before, Leaves, Refuses, GivesEntry, GivesAfter}
+use Rattle.jc_base.specs.Signatures.{Symbol, Mark, Maybe, Many, Result, Throws, Thrown, JavaType, ReferenceType, ClassType, Suffix, Arguments, Argument, Params, Param, absent, present, no_more, one_more, result_type, result_void, throws, thrown_class, thrown_variable, base_type, reference_type, class_reference, variable_reference, array_reference, type_variable, class_type, suffix, arguments, any_type, exact_type, extends_type, super_type, params, Derives, reads, expands}
+use Rattle.jc_base.specs.Owed.{before, both_before, Leaves, Refuses, GivesEntry, GivesAfter}
 use Rattle.jc_base.proofs.DescriptorLemmas.{no_base}
-use Rattle.jc_base.proofs.SignatureLemmas.{mark_of, maybe_of, many_of, class_type_of, variable_of, reference_of, java_of, result_of, params_of, throws_of, thrown_of, suffixes_of, arguments_of, argument_of, bound_of}
+use Rattle.jc_base.proofs.SignatureLemmas.{mark_of, maybe_of, many_of, class_type_of, reference_of, java_of, result_of, params_of, throws_of, thrown_of, suffixes_of, arguments_of, argument_of}
 
 -- a derivation from what begins with a byte that is known
 from_byte : (symbols : List Symbol) (c m : ℕ) (rest : List ℕ) → c ≡ m → Derives symbols (m ∷ rest) → Derives symbols (c ∷ rest)

@@ -1,8 +1,8 @@
 -- What a symbol in front derives, way by way: each lemma goes on with what every way leaves.
-use Rattle.std.proofs.Common.{◌≡◌, ◌≢◌, ℕ, List, [], ◌∷◌, ◌++◌, refl, sym, ap, ◌∙◌, subst, arith}
+use Rattle.std.proofs.Common.{◌≡◌, ℕ, List, [], ◌∷◌, ◌++◌, refl, subst}
 use Rattle.std.specs.List.{Contains}
 use Rattle.jc_base.specs.Descriptors.{base_types}
-use Rattle.jc_base.specs.Signatures.{Symbol, Mark, Identifier, Maybe, Many, ClassSignature, MethodSignature, Result, Throws, Thrown, JavaType, ReferenceType, TypeVariable, ClassType, Package, SimpleClass, Suffix, Arguments, Argument, Params, Param, Bound, Produces, absent, present, no_more, one_more, class_signature, method_signature, result_type, result_void, throws, thrown_class, thrown_variable, base_type, reference_type, class_reference, variable_reference, array_reference, type_variable, class_type, package_name, simple_class, suffix, arguments, any_type, exact_type, extends_type, super_type, params, param, bound, Derives, ends, reads, names, expands, IsIdentifier}
+use Rattle.jc_base.specs.Signatures.{Symbol, Mark, Identifier, Maybe, Many, Result, Throws, Thrown, JavaType, ReferenceType, TypeVariable, ClassType, Package, SimpleClass, Suffix, Arguments, Argument, Params, Param, Bound, absent, present, no_more, one_more, result_type, result_void, throws, thrown_class, thrown_variable, base_type, reference_type, class_reference, variable_reference, array_reference, type_variable, class_type, package_name, simple_class, suffix, arguments, any_type, exact_type, extends_type, super_type, params, param, bound, Derives, reads, names, expands, IsIdentifier}
 
 pub mark_of : {P : Type 0} → (m : ℕ) (owed : List Symbol) (c : ℕ) (rest : List ℕ) → (m ≡ c → Derives owed rest → P) → Derives (Mark m ∷ owed) (c ∷ rest) → P
 mark_of m owed c rest k (reads _ _ _ d) = k refl d

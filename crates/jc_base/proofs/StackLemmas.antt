@@ -1,15 +1,13 @@
 -- The stack of the judge of signatures: each entry takes a byte or more.
-use Rattle.std.proofs.Common.{◌≡◌, ◌≢◌, ℕ, ◌+◌, ◌<◌, ◌≤◌, List, [], ◌∷◌, ◌++◌, length, Option, Some, None, ◌↔◌, fold, refl, sym, ap, ◌∙◌, subst, arith, lit≤, length-append}
-use Rattle.std.specs.Option.{MatchOption}
+use Rattle.std.proofs.Common.{◌≡◌, ◌≢◌, ℕ, ◌+◌, ◌<◌, ◌≤◌, List, [], ◌∷◌, ◌++◌, length, Option, Some, None, ◌↔◌, refl, sym, ap, subst, arith, lit≤, length-append}
 use Rattle.std.proofs.lemmas.List.Sums.{fold-append}
 use Rattle.jc_base.specs.declared.signatures.SigKind.{SigKind}
 use Rattle.jc_base.specs.declared.signatures.SigKind.TheVariants as kind
 use Rattle.jc_base.specs.declared.signatures.Owed.{Owed}
 use Rattle.jc_base.specs.declared.signatures.Owed.TheVariants as entry
-use Rattle.jc_base.specs.declared.signatures.After.{After}
 use Rattle.jc_base.specs.declared.signatures.Step.{Step}
-use Rattle.jc_base.specs.Signatures.{Symbol, Mark, Identifier, Maybe, Many, ClassSignature, MethodSignature, Result, Throws, Thrown, JavaType, ReferenceType, TypeVariable, ClassType, Package, SimpleClass, Suffix, Arguments, Argument, Params, Param, Bound, Produces, absent, present, no_more, one_more, class_signature, method_signature, result_type, result_void, throws, thrown_class, thrown_variable, base_type, reference_type, class_reference, variable_reference, array_reference, type_variable, class_type, package_name, simple_class, suffix, arguments, any_type, exact_type, extends_type, super_type, params, param, bound, Derives, ends, reads, names, expands, IsIdentifier, IsSignature, start}
-use Rattle.jc_base.specs.Owed.{symbols_of, tail_of, before, both_before, stack_before, GivesStep, LeavesRest, GivesTop, GivesStackStep, StackStep, IsJudged}
+use Rattle.jc_base.specs.Signatures.{Symbol, Mark, Maybe, Many, ClassSignature, MethodSignature, Result, Throws, JavaType, ClassType, Params, Produces, absent, present, no_more, one_more, class_signature, method_signature, result_type, result_void, throws, thrown_class, thrown_variable, base_type, reference_type, class_reference, variable_reference, array_reference, type_variable, class_type, package_name, simple_class, suffix, arguments, any_type, exact_type, extends_type, super_type, params, param, bound, Derives, ends, reads, names, expands, IsSignature, start}
+use Rattle.jc_base.specs.Owed.{symbols_of, tail_of, both_before, stack_before, GivesStep, GivesTop, GivesStackStep, StackStep, IsJudged}
 use Rattle.jc_base.proofs.SignatureLemmas.{many_of, nothing_of}
 
 -- the fewest bytes that a symbol derives, 0 or 1

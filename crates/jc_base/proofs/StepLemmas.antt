@@ -1,15 +1,15 @@
 -- What a step leaves of a text.
-use Rattle.std.proofs.Common.{◌≡◌, ◌≢◌, ℕ, ◌+◌, ◌<◌, List, [], ◌∷◌, ◌++◌, length, drop, Option, Some, None, ◌⊎◌, inl, inr, refl, sym, ap, ◌∙◌, subst, arith, lit<, length-append}
-use Rattle.std.specs.Option.{MatchOption, option_map}
-use Rattle.std.specs.List.{Contains, All}
+use Rattle.std.proofs.Common.{◌≡◌, ◌≢◌, ℕ, List, [], ◌∷◌, ◌++◌, length, drop, Option, Some, None, refl, sym, ap, ◌∙◌, subst, arith, lit<, length-append}
+use Rattle.std.specs.Option.{option_map}
+use Rattle.std.specs.List.{Contains}
 use Rattle.std.proofs.lemmas.List.Elements.{All-head, All-tail, All-nil}
 use Rattle.jc_base.specs.declared.signatures.Owed.{Owed}
 use Rattle.jc_base.specs.declared.signatures.Owed.TheVariants as entry
 use Rattle.jc_base.specs.declared.signatures.After.{After}
 use Rattle.jc_base.specs.declared.signatures.Step.{Step}
 use Rattle.jc_base.specs.Names.{Lacks}
-use Rattle.jc_base.specs.Signatures.{identifier_stops, Symbol, Mark, Identifier, Maybe, Many, JavaType, ReferenceType, Package, SimpleClass, Suffix, Arguments, Param, Bound, absent, present, no_more, one_more, bound, Derives, reads, expands}
-use Rattle.jc_base.specs.Owed.{symbols_of, before, both_before, Leaves, Refuses, GivesEntry, GivesAfter, IsStop, IsCut, HasName, BeginsWithStop, HasNoName, EndsAtColon, LeavesNamed, RefusesNamed, GivesNamed, LeavesRest, GivesRest, GivesStep}
+use Rattle.jc_base.specs.Signatures.{identifier_stops, Symbol, Mark, Identifier, Maybe, Many, ReferenceType, Package, SimpleClass, Suffix, Arguments, Param, Bound, absent, present, no_more, one_more, bound, Derives, reads, expands}
+use Rattle.jc_base.specs.Owed.{both_before, Leaves, Refuses, GivesAfter, IsStop, IsCut, HasName, HasNoName, EndsAtColon, GivesNamed, GivesRest, GivesStep}
 use Rattle.jc_base.proofs.SignatureLemmas.{mark_of, maybe_of, many_of, reference_of, bound_of, simple_class_of, package_of, param_of, identifier_of}
 use Rattle.jc_base.proofs.NameRunLemmas.{run_of, mark_some, mark_stops, name_end_stops, name_end_refuses, semicolon_stops, slash_stops, colon_stops, bracket_stops}
 

@@ -7,7 +7,7 @@ use Rattle.jc_base.specs.declared.signatures.Owed.TheVariants as entry
 use Rattle.jc_base.specs.declared.signatures.After.{After}
 use Rattle.jc_base.specs.declared.signatures.Step.{Step}
 use Rattle.jc_base.specs.Names.{Lacks}
-use Rattle.jc_base.specs.Signatures.{Symbol, Mark, Identifier, Maybe, Many, Result, Throws, Thrown, JavaType, ReferenceType, ClassType, Package, SimpleClass, Suffix, Arguments, Argument, Params, Param, Bound, Derives, IsIdentifier, IsSignature, identifier_stops}
+use Rattle.jc_base.specs.Signatures.{Symbol, Mark, Identifier, Maybe, Many, Result, Throws, Thrown, JavaType, ReferenceType, ClassType, Package, SimpleClass, Suffix, Argument, Params, Param, Bound, Derives, IsIdentifier, IsSignature, identifier_stops}
 
 abbrev pub symbols_of : Owed → List Symbol
 symbols_of entry.Class = Maybe Params ∷ ClassType ∷ []

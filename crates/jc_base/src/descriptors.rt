@@ -1,10 +1,11 @@
 //! Descriptors of fields and methods, the forms in which class files write types (JVMS 4.3).
 
-ghost use Rattle.std.specs.Prelude.{◌≡◌, ◌≢◌, ◌+◌, ◌<◌, ◌≤◌, ◌++◌, ◌↔◌, ◌==◌, ◌||◌, ℕ, List, All, Option, replicate, slice_index, position, Contains, length, codes, sum_by, IsTrue, IsSome, IfSome, IfNone, MatchOption};
+ghost use Rattle.std.specs.Prelude.{◌≡◌, ◌≢◌, ◌∷◌, [], ◌+◌, ◌<◌, ◌≤◌, ◌++◌, ◌↔◌, ◌==◌, ◌||◌, ℕ, List, All, Option, replicate, slice_index, position, Contains, length, codes, sum_by, IsTrue, IsSome, IfSome, IfNone, MatchOption};
 ghost use Rattle.std.specs.Option.{option_copied};
 ghost use Rattle.std.specs.List.{list_any, concat};
-ghost use Rattle.jc_base.specs.Descriptors.{base_types, IsBaseType, IsClassType, IsElementType, IsField, IsFieldDescriptor, field_text, slots_of, result_text, IsMethod, IsMethodDescriptor};
+ghost use Rattle.jc_base.specs.Descriptors.{base_types, IsBaseType, IsClassType, IsElementType, IsField, IsFieldDescriptor, field_text, slots_of, result_text, IsMethod, IsMethodDescriptor, FieldType, MethodType};
 ghost use Rattle.jc_base.specs.Bytes.{same_bytes};
+ghost use Rattle.jc_base.specs.ModifiedUtf8.{IsWellSpelled};
 ghost use Rattle.jc_base.specs.FieldsInFront.{element_len, field_len, fields_of};
 ghost use Rattle.jc_base.specs.MethodParts.{HasInFront, AreParams, ReadsParams, IsResult};
 
@@ -164,6 +165,39 @@ impl<'a> Iterator for Params<'a> {
         Some(param)
     }
 }
+
+/// A text is the descriptor of one type at most.
+pub fn descriptors_are_determined()
+    ensures field { (b : List ℕ) (t u : FieldType) → IsField b t → IsField b u → t ≡ u }
+    ensures method { (b : List ℕ) (t u : MethodType) → IsMethod b t → IsMethod b u → t ≡ u }
+{}
+
+/// Descriptors are texts of modified UTF-8.
+pub fn descriptors_are_well_spelled()
+    ensures field { (b : List ℕ) → IsFieldDescriptor b → IsWellSpelled b }
+    ensures method { (b : List ℕ) → IsMethodDescriptor b → IsWellSpelled b }
+{}
+
+/// Some descriptors with their types, and some texts that are none.
+pub fn descriptor_examples()
+    ensures array { IsField (codes "[[Ljava/lang/String;")
+        (record { dims = 2; element = codes "Ljava/lang/String;" }) }
+    ensures most_dims { IsFieldDescriptor (replicate 255 91 ++ codes "I") }
+    ensures too_many_dims { ¬ IsFieldDescriptor (replicate 256 91 ++ codes "I") }
+    ensures void_field { ¬ IsFieldDescriptor (codes "V") }
+    ensures no_name { ¬ IsFieldDescriptor (codes "L;") }
+    ensures empty_part { ¬ IsFieldDescriptor (codes "La//b;") }
+
+    ensures method { IsMethod (codes "(IJ[[Ljava/lang/String;)V")
+        (record { params = codes "I" ∷ codes "J" ∷ codes "[[Ljava/lang/String;" ∷ []; result = None }) }
+    ensures closed_name { IsMethod (codes "(La)b;)V")
+        (record { params = codes "La)b;" ∷ []; result = None }) }
+    ensures no_result { ¬ IsMethodDescriptor (codes "()") }
+    ensures void_param { ¬ IsMethodDescriptor (codes "(V)V") }
+
+    ensures long { slots_of (codes "J") ≡ 2 }
+    ensures longs { slots_of (codes "[J") ≡ 1 }
+{}
 
 const VOID: &[u8] = b"V";
 

@@ -18,7 +18,10 @@ mod writing;
 pub use byte_map::ByteMap;
 pub use code_units::{Units, units_end_at_the_first_wrong_spelling};
 pub use cursor::Cursor;
-pub use descriptors::{FieldDesc, MethodDesc, Params};
+pub use descriptors::{
+    FieldDesc, MethodDesc, Params, descriptor_examples, descriptors_are_determined,
+    descriptors_are_well_spelled,
+};
 pub use device::{DeviceFault, Input, Output};
 pub use mem_devices::{MemInput, MemOutput};
 pub use modified_utf8::{
@@ -30,6 +33,6 @@ pub use names::{
     texts_are_decided,
 };
 pub use no_memory::NoMemory;
-pub use signatures::{SigKind, check_signature};
+pub use signatures::{SigKind, check_signature, signature_examples, signatures_are_well_spelled};
 pub use std_devices::{StdInput, StdOutput};
 pub use writing::{write_all, write_parts};

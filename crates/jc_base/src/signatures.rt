@@ -1,6 +1,7 @@
 //! Signatures, which tell of type variables and parameterized types (JVMS 4.7.9.1).
 
-ghost use Rattle.std.specs.Prelude.{◌≡◌, ◌≢◌, ◌<◌, ◌≤◌, ◌++◌, ◌↔◌, ◌∷◌, [], ◌==◌, ℕ, List, All, position, Contains, Option, length, IsTrue, IfOk, OnOk, IfSome, IfNone, MatchOption};
+ghost use Rattle.std.specs.Prelude.{◌≡◌, ◌≢◌, ◌<◌, ◌≤◌, ◌++◌, ◌↔◌, ◌∷◌, [], ◌==◌, ℕ, codes, List, All, position, Contains, Option, length, IsTrue, IfOk, OnOk, IfSome, IfNone, MatchOption};
+ghost use Rattle.jc_base.specs.declared.signatures.SigKind.{SigKind};
 ghost use Rattle.std.specs.List.{list_any};
 ghost use Rattle.std.specs.Option.{option_map};
 ghost use Rattle.jc_base.specs.ModifiedUtf8.{IsWellSpelled};
@@ -23,6 +24,20 @@ pub enum SigKind {
     /// A field, a formal parameter or a local variable.
     Field,
 }
+
+/// Signatures are texts of modified UTF-8.
+pub fn signatures_are_well_spelled()
+    ensures { (kind : SigKind) (b : List ℕ) → IsSignature kind b → IsWellSpelled b }
+{}
+
+/// Some signatures, and some texts that are none.
+pub fn signature_examples()
+    ensures variable { IsSignature SigKind.Field (codes "TT;") }
+    ensures empty_bound { IsSignature SigKind.Class (codes "<A:Tx:Lo;>Lb;") }
+    ensures base_type { ¬ IsSignature SigKind.Field (codes "I") }
+    ensures nothing { (kind : SigKind) → ¬ IsSignature kind [] }
+    ensures bytes_left { ¬ IsSignature SigKind.Field (codes "TT;x") }
+{}
 
 // What is still owed of a signature: an entry of the stack. `specs/Owed` says which symbols of the
 // grammar each stands for.

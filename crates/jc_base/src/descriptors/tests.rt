@@ -76,7 +76,7 @@ fn a_method_is_read(rt: HostRuntime) {
 #[test]
 fn methods_have_results(rt: HostRuntime) {
     let method = MethodDesc::read(b"(La)b;)[[D").expect(&rt, "a method descriptor");
-    assert_eq!(rt; method.params().count(), 1);
+    assert_eq!(rt; method.params().next(), Some(b"La)b;".as_slice()));
     assert_eq!(rt; method.result(), Some(b"[[D".as_slice()));
     assert_eq!(rt; method.slots(), 1);
 }

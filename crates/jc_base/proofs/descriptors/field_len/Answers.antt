@@ -1,4 +1,4 @@
-use Rattle.std.proofs.Common.{◌+◌, Some, None, sym, ap, ◌∙◌, arith}
+use Rattle.std.proofs.Common.{◌+◌, sym, ap, ◌∙◌, arith}
 use Rattle.std.specs.Option.{option_map}
 use Rattle.jc_base.specs.FieldsInFront.{field_len}
 use Rattle.jc_base.proofs.DescriptorLemmas.{len_after_dims, length_after_dims}

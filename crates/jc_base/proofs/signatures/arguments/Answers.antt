@@ -1,5 +1,5 @@
 use Rattle.std.proofs.Common.{[], ◌∷◌}
-use Rattle.jc_base.specs.Signatures.{Mark, Many, JavaType, Result, ClassType, Argument, Suffix}
+use Rattle.jc_base.specs.Signatures.{Mark, Many, Argument, Suffix}
 use Rattle.jc_base.proofs.OwedLemmas.{many_ends, many_goes_on, argument_refuses_end}
 use Rattle.jc_base.proofs.signatures.arguments.Goals as goal
 

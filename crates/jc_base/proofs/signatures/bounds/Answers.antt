@@ -1,4 +1,4 @@
-use Rattle.std.proofs.Common.{[], ◌∷◌, Some, None, arith}
+use Rattle.std.proofs.Common.{[], ◌∷◌, Some, arith}
 use Rattle.jc_base.specs.Signatures.{Mark, Many, Param, Bound}
 use Rattle.jc_base.specs.declared.signatures.Owed.TheVariants as entry
 use Rattle.jc_base.proofs.StepLemmas.{byte_gives, more_bounds, bounds_end, next_param}

@@ -1,4 +1,4 @@
-use Rattle.std.proofs.Common.{[], ◌∷◌, Some, None, sym, ◌∙◌}
+use Rattle.std.proofs.Common.{[], ◌∷◌, Some, sym, ◌∙◌}
 use Rattle.std.proofs.lemmas.Bool.{false≢true}
 use Rattle.jc_base.specs.Signatures.{Mark, Maybe, Many, ReferenceType, Param, Bound}
 use Rattle.jc_base.specs.declared.signatures.Owed.TheVariants as entry

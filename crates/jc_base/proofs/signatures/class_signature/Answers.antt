@@ -1,5 +1,5 @@
 use Rattle.std.proofs.Common.{[], ◌∷◌}
-use Rattle.jc_base.specs.Signatures.{Mark, Many, JavaType, Result, ClassType, Argument, Suffix}
+use Rattle.jc_base.specs.Signatures.{ClassType}
 use Rattle.jc_base.proofs.OwedLemmas.{params_begin, no_params, class_refuses_params}
 use Rattle.jc_base.proofs.signatures.class_signature.Goals as goal
 

@@ -1,4 +1,3 @@
-use Rattle.std.proofs.Common.{arith}
 use Rattle.jc_base.proofs.OwedLemmas.{class_begins, class_refused}
 use Rattle.jc_base.proofs.signatures.class_type.Goals as goal
 

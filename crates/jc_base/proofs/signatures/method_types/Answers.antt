@@ -1,5 +1,5 @@
 use Rattle.std.proofs.Common.{[], ◌∷◌}
-use Rattle.jc_base.specs.Signatures.{Mark, Many, JavaType, Result, ClassType, Argument, Suffix}
+use Rattle.jc_base.specs.Signatures.{Mark, Many, JavaType, Result}
 use Rattle.jc_base.proofs.OwedLemmas.{mark_begins, mark_refused}
 use Rattle.jc_base.proofs.signatures.method_types.Goals as goal
 

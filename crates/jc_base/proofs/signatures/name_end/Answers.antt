@@ -1,4 +1,3 @@
-use Rattle.std.proofs.Common.{arith}
 use Rattle.jc_base.proofs.OwedLemmas.{arguments_begin, no_arguments}
 use Rattle.jc_base.proofs.signatures.name_end.Goals as goal
 

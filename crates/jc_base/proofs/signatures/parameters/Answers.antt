@@ -1,5 +1,5 @@
 use Rattle.std.proofs.Common.{[], ◌∷◌}
-use Rattle.jc_base.specs.Signatures.{Mark, Many, JavaType, Result, ClassType, Argument, Suffix}
+use Rattle.jc_base.specs.Signatures.{JavaType, Result}
 use Rattle.jc_base.proofs.OwedLemmas.{many_ends, many_goes_on, close_refused}
 use Rattle.jc_base.proofs.signatures.parameters.Goals as goal
 

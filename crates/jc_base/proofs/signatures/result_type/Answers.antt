@@ -1,4 +1,3 @@
-use Rattle.std.proofs.Common.{arith}
 use Rattle.jc_base.proofs.OwedLemmas.{result_is_void, result_is_java}
 use Rattle.jc_base.proofs.signatures.result_type.Goals as goal
 

@@ -1,4 +1,3 @@
-use Rattle.std.proofs.Common.{arith}
 use Rattle.jc_base.proofs.OwedLemmas.{throws_begins, throws_refused}
 use Rattle.jc_base.proofs.signatures.throws.Goals as goal
 

@@ -2,7 +2,6 @@ use Rattle.std.proofs.Common.{[], ◌∷◌, Some, None, refl}
 use Rattle.std.proofs.lemmas.Bool.{false≢true}
 use Rattle.std.proofs.lemmas.Bool.Decides.{Decides-eqb}
 use Rattle.std.proofs.lemmas.Slice.Eq.{strip_prefix_is}
-use Rattle.std.specs.Option.{IsSome}
 use Rattle.jc_base.proofs.MethodLemmas.{method_read, cut_params, no_params, no_close, no_result}
 use Rattle.jc_base.proofs.descriptors.MethodDesc.read.Goals as goal
 

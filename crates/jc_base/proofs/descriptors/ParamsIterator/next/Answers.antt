@@ -1,4 +1,4 @@
-use Rattle.std.proofs.Common.{[], ap, arith, rules, length}
+use Rattle.std.proofs.Common.{ap, rules, length}
 use Rattle.jc_base.proofs.DescriptorLemmas.{fields_end, fields_step}
 use Rattle.jc_base.proofs.descriptors.ParamsIterator.next.Goals as goal
 
