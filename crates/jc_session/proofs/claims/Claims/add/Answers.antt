@@ -1,9 +1,9 @@
-use Rattle.std.proofs.Common.{◌≡◌, ◌&&◌, ◌||◌, false, ℕ, List, Some, None, sym, ap, ◌∙◌}
+use Rattle.std.proofs.Common.{◌≡◌, ◌&&◌, ◌||◌, false, ℕ, List, Some, None, sym, ap, subst, ◌∙◌}
 use Rattle.std.specs.FinMap as fin
 use Rattle.jc_base.specs.Bytes.{same_bytes}
 use Rattle.jc_base.proofs.ByteMapLemmas.{insert_found}
-use Rattle.jc_session.specs.Claims.{has_claim, has_path}
-use Rattle.jc_session.proofs.ClaimLemmas.{on_err_any, has_key-empty, has_key-insert, added}
+use Rattle.jc_session.specs.Claims.{NoneEmpty, has_claim, has_path}
+use Rattle.jc_session.proofs.ClaimLemmas.{on_err_any, has_key-empty, has_key-insert, added, insert_fills, none_empty-insert}
 use Rattle.jc_session.proofs.claims.Claims.add.Goals as goal
 
 pub returns-in_err-insert-clause-err : goal.returns-in_err-insert-clause-err
@@ -33,3 +33,20 @@ returns-clause-ok c =
             ∙ ap (λ b. same_bytes p c.in_ok-path.path.items || b) (has_key-empty p) ∙ ap (λ x. same_bytes p x || false) c.in_ok-path.ensures.items in
     λ n p. ap (λ m. has_claim m n p) (c.in_ok-insert-3.ensures.ok ∙ ap (λ x. fin.insert old x paths) c.in_ok-name.ensures.items)
         ∙ added old name None paths path (sym c.in_default.ensures.value) more n p ∙ ap (λ m. (same_bytes n name && same_bytes p path) || has_claim m n p) c.self.view_is
+
+pub invariant_of-self : goal.invariant_of-self
+invariant_of-self c =
+    let old = c.self.inside.by_name in
+    let name = c.args.name.now in
+    let same : c.insert.new.self ≡ c.in-Some.paths.now = c.in_err-insert.ensures.err in
+    subst NoneEmpty (sym (ap (fin.insert old name) same ∙ insert_found old name c.in-Some.paths.now (sym c.in-Some.ensures.value))) c.self.invariant
+
+pub invariant_of-self-in-Some : goal.invariant_of-self-in-Some
+invariant_of-self-in-Some c =
+    none_empty-insert c.self.inside.by_name c.args.name.now c.insert.new.self c.self.invariant
+    (λ e. insert_fills c.in-Some.paths.now c.in_ok-path.path.items tt (sym c.in_ok-insert.ensures.ok ∙ e))
+
+pub invariant_of-self-2 : goal.invariant_of-self-2
+invariant_of-self-2 c =
+    subst NoneEmpty (sym c.in_ok-insert-3.ensures.ok) (none_empty-insert c.self.inside.by_name c.in_ok-name.name.items c.insert-2.new.self c.self.invariant
+        (λ e. insert_fills c.new-paths.result c.in_ok-path.path.items tt (sym c.in_ok-insert-2.ensures.ok ∙ e)))
