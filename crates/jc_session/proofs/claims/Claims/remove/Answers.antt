@@ -14,11 +14,11 @@ returns-then-is_empty c =
     let old = c.self.inside.by_name in
     let same : c.match-remove.self ≡ c.remove-then-is_empty.new.self = elim c.match-remove.branch [ in-Some-1 w ↦ w.self-is | in-None-1 w ↦ w.self-is ] in
     let less : (p : List ℕ) → fin.contains_key c.remove.new.self p ≡ (not (same_bytes p path) && has_path (Some paths) p) =
-        λ p. ap (λ x. fin.contains_key x p) c.remove.ensures.removed ∙ has_key-remove paths path p in
+    λ p. ap (λ x. fin.contains_key x p) c.remove.ensures.removed ∙ has_key-remove paths path p in
     λ n p. ap (λ x. has_claim x n p) (same ∙ c.remove-then-is_empty.ensures.removed)
-        ∙ emptied old name c.remove.new.self (c.is_empty.ensures.0 c.if-is_empty.true) n p
-        ∙ removed old name (Some paths) c.remove.new.self path (sym c.in-Some.ensures.value) less n p
-        ∙ ap (λ m. not (same_bytes n name && same_bytes p path) && has_claim m n p) c.self.view_is
+    ∙ emptied old name c.remove.new.self (c.is_empty.ensures.0 c.if-is_empty.true) n p
+    ∙ removed old name (Some paths) c.remove.new.self path (sym c.in-Some.ensures.value) less n p
+    ∙ ap (λ m. not (same_bytes n name && same_bytes p path) && has_claim m n p) c.self.view_is
 
 pub returns-else-is_empty : goal.returns-else-is_empty
 returns-else-is_empty c =
@@ -26,9 +26,9 @@ returns-else-is_empty c =
     let path = c.args.path.now in
     let paths = c.in-Some.paths.now in
     let less : (p : List ℕ) → fin.contains_key c.remove.new.self p ≡ (not (same_bytes p path) && has_path (Some paths) p) =
-        λ p. ap (λ x. fin.contains_key x p) c.remove.ensures.removed ∙ has_key-remove paths path p in
+    λ p. ap (λ x. fin.contains_key x p) c.remove.ensures.removed ∙ has_key-remove paths path p in
     λ n p. removed c.self.inside.by_name name (Some paths) c.remove.new.self path (sym c.in-Some.ensures.value) less n p
-        ∙ ap (λ m. not (same_bytes n name && same_bytes p path) && has_claim m n p) c.self.view_is
+    ∙ ap (λ m. not (same_bytes n name && same_bytes p path) && has_claim m n p) c.self.view_is
 
 pub invariant_of-self : goal.invariant_of-self
 invariant_of-self c =
