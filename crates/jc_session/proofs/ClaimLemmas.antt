@@ -1,10 +1,10 @@
 -- Claims after a path was added or taken out.
-use Rattle.std.proofs.Common.{◌≡◌, ℕ, Bool, true, false, cond, not, ◌&&◌, ◌||◌, List, Option, Some, None, Result, Ok, Err, OnErr, is_some, refl, sym, ap, ◌∙◌, ⊎_elim}
+use Rattle.std.proofs.Common.{◌≡◌, ◌≢◌, ℕ, Bool, true, false, cond, not, ◌&&◌, ◌||◌, List, Option, Some, None, Result, Ok, Err, OnErr, is_some, refl, sym, ap, subst, ◌∙◌, ⊎_elim}
 use Rattle.std.specs.FinMap as fin
 use Rattle.std.proofs.lemmas.Bool.{cases_Bool}
 use Rattle.jc_base.specs.Bytes.{bytes_cmp, same_bytes}
-use Rattle.jc_base.proofs.ByteMapLemmas.{get-insert, get-remove, same_bytes_decides}
-use Rattle.jc_session.specs.Claims.{Paths, PathsByName, has_path, has_claim}
+use Rattle.jc_base.proofs.ByteMapLemmas.{get-insert, get-remove, remove-insert, same_bytes_decides, same_bytes_equiv}
+use Rattle.jc_session.specs.Claims.{Paths, PathsByName, NoneEmpty, has_path, has_claim}
 
 -- what holds in any case holds at an error
 pub on_err_any : {T E P : Type 0} (r : Result T E) → P → OnErr r P
@@ -73,3 +73,28 @@ pub emptied : (m : PathsByName) (k : List ℕ) (v : Paths) → v ≡ fin.empty �
 emptied m k v e n p =
     let none : has_claim (fin.insert m k v) n p ≡ cond (same_bytes n k) false (has_claim m n p) = has_claim-insert m k v n p ∙ ap (λ b. cond (same_bytes n k) b (has_claim m n p)) (ap (λ w. fin.contains_key w p) e ∙ has_key-empty p) in
     has_claim-remove (fin.insert m k v) k n p ∙ ap (cond (same_bytes n k) false) none ∙ twice (same_bytes n k) (has_claim m n p) ∙ sym none
+
+-- ---- no name without a path
+
+pub none_empty-empty : NoneEmpty (fin.empty {X = Paths} {R = bytes_cmp})
+none_empty-empty n e = let none : fin.get (fin.empty {X = Paths} {R = bytes_cmp}) n ≡ None = fin.get-empty bytes_cmp n in absurd cc
+
+pub insert_fills : (paths : Paths) (path : List ℕ) (u : Unit {0}) → fin.insert paths path u ≢ fin.empty
+insert_fills paths path u e =
+    let none : fin.contains_key (fin.insert paths path u) path ≡ false = ap (λ m. fin.contains_key m path) e ∙ has_key-empty path in
+    let some : fin.contains_key (fin.insert paths path u) path ≡ true = has_key-insert paths path u path ∙ ap (λ b. b || fin.contains_key paths path) (same_bytes_equiv.refl path) in
+    absurd (let both : false ≡ true = sym none ∙ some in cc)
+
+filled : (b : Bool) (v : Paths) (o : Option Paths) → v ≢ fin.empty → o ≢ Some fin.empty → cond b (Some v) o ≢ Some fin.empty
+filled true v o full rest e = let same : v ≡ fin.empty = cc in full same
+filled false v o full rest e = rest e
+
+dropped : (b : Bool) (o : Option Paths) → o ≢ Some fin.empty → cond b None o ≢ Some fin.empty
+dropped true o rest e = absurd cc
+dropped false o rest e = rest e
+
+pub none_empty-insert : (m : PathsByName) (k : List ℕ) (v : Paths) → NoneEmpty m → v ≢ fin.empty → NoneEmpty (fin.insert m k v)
+none_empty-insert m k v h full n e = filled (same_bytes n k) v (fin.get m n) full (h n) (sym (get-insert m k v n) ∙ e)
+
+pub none_empty-remove : (m : PathsByName) (k : List ℕ) (v : Paths) → NoneEmpty m → NoneEmpty (fin.remove (fin.insert m k v) k)
+none_empty-remove m k v h = subst NoneEmpty (sym (remove-insert m k v)) (λ n e. dropped (same_bytes n k) (fin.get m n) (h n) (sym (get-remove m k n) ∙ e))

@@ -1,5 +1,5 @@
 -- Which files name a class, as a map from names to the paths of the files.
-use Rattle.std.specs.Prelude.{◌≡◌, ℕ, Bool, false, List, [], ◌∷◌, Option, Some, None, Result, Ok, Err}
+use Rattle.std.specs.Prelude.{◌≡◌, ◌≢◌, ℕ, Bool, false, List, [], ◌∷◌, Option, Some, None, Result, Ok, Err}
 use Rattle.std.specs.FinMap as map
 use Rattle.std.specs.FinSet as set
 use Rattle.jc_base.specs.Bytes.{bytes_cmp}
@@ -15,6 +15,10 @@ Paths = set.FinSet bytes_cmp
 -- from the names of classes
 abbrev pub PathsByName : Type 0
 PathsByName = map.FinMap bytes_cmp Paths
+
+-- a name stands only with a path
+abbrev pub NoneEmpty : PathsByName → Type 0
+NoneEmpty claims = (name : List ℕ) → map.get claims name ≢ Some map.empty
 
 abbrev pub has_path : Option Paths → List ℕ → Bool
 has_path None path = false

@@ -26,13 +26,15 @@ impl Model for Claims {
     ghost use Rattle.std.specs.Coded.{coded_list, coded_ℕ};
     ghost use Rattle.std.specs.FinMap as map;
     ghost use Rattle.std.specs.FinSet as set;
-    ghost use Rattle.jc_session.specs.Claims.{PathsByName};
+    ghost use Rattle.jc_session.specs.Claims.{PathsByName, NoneEmpty};
 
     ghost Value = { PathsByName };
 
     ghost coded = { map.code (coded_list coded_ℕ) (set.code (coded_list coded_ℕ)) };
 
     ghost view = { λ a. a.by_name };
+
+    ghost invariant = { λ a. NoneEmpty a.by_name };
 }
 
 impl Claims {

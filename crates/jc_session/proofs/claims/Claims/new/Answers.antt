@@ -1,7 +1,10 @@
-use Rattle.std.proofs.Common.{ap, ◌∙◌}
-use Rattle.jc_session.specs.Claims.{has_claim}
-use Rattle.jc_session.proofs.ClaimLemmas.{has_claim-empty}
+use Rattle.std.proofs.Common.{sym, ap, subst, ◌∙◌}
+use Rattle.jc_session.specs.Claims.{NoneEmpty, has_claim}
+use Rattle.jc_session.proofs.ClaimLemmas.{has_claim-empty, none_empty-empty}
 use Rattle.jc_session.proofs.claims.Claims.new.Goals as goal
 
 pub returns : goal.returns
 returns c = λ n p. ap (λ m. has_claim m n p) c.new.ensures ∙ has_claim-empty n p
+
+pub invariant_of-result : goal.invariant_of-result
+invariant_of-result c = subst NoneEmpty (sym c.new.ensures) none_empty-empty
