@@ -1,12 +1,12 @@
 -- The code units before the first wrong spelling, step by step.
-use Rattle.std.proofs.Common.{◌≡◌, ℕ, zero, suc, ◌+◌, ◌-◌, ◌<◌, ◌≤◌, List, [], ◌∷◌, ◌++◌, length, take, drop, Option, Some, None, refl, sym, ap, ◌∙◌, subst, arith, append_assoc, length-append, length-drop}
+use Rattle.std.proofs.Common.{◌≡◌, ℕ, zero, suc, ◌+◌, ◌-◌, ◌<◌, ◌≤◌, List, [], ◌∷◌, ◌++◌, length, take, drop, Option, Some, None, refl, sym, ap, ◌∙◌, arith, append_assoc, length-append, length-drop}
 use Rattle.std.specs.List.{AllByRecursion}
 use Rattle.std.specs.Option.{option_map_or}
 use Rattle.std.proofs.lemmas.List.{append-nil, take-append-drop, drop_at, take_rest}
 use Rattle.jc_base.specs.FirstUnit.{first_unit}
 use Rattle.jc_base.specs.ModifiedUtf8.{IsUnit, spelling, spelled, Spells, IsLongestFront}
 use Rattle.jc_base.specs.CodeUnits.{units_before_within, units_before}
-use Rattle.jc_base.proofs.FirstUnitLemmas.{StandsFirst, first_found, found_first, spelling_takes_room}
+use Rattle.jc_base.proofs.FirstUnitLemmas.{first_found, found_first, spelling_takes_room}
 use Rattle.jc_base.proofs.WellSpelledLemmas.{one_more}
 
 -- what is found takes room
