@@ -1,15 +1,19 @@
 -- A run, command by command.
-use Rattle.std.proofs.Common.{◌≡◌, ◌∙◌, ◌++◌, ℕ, true, false, List, [], ◌∷◌, Option, Some, None, Result, Ok, Err, map, refl, sym, ap, subst, append_assoc, append-nil}
+use Rattle.std.proofs.Common.{◌≡◌, ◌∙◌, ◌++◌, ℕ, true, false, List, [], ◌∷◌, Option, Some, None, Result, Ok, Err, map, refl, sym, ap, subst, append_assoc, append-nil, length, take}
+use Rattle.std.proofs.lemmas.List.{take_at}
+use Rattle.jc_base.proofs.DeviceLemmas.{front_of_first, front_of_second}
+use Rattle.jc_base.specs.Device.{WritesFront}
 use Rattle.std.proofs.KnownBytes.{Appends-nil, Appends-trans, Appends-kept}
 use Rattle.std.specs.Io.KnownBytes.{Appends, Keeps}
 use Rattle.jc_session.specs.declared.answer.AnswerError.{AnswerError}
+use Rattle.jc_session.specs.declared.answer.AnswerError.TheVariants as errors
 use Rattle.jc_session.specs.declared.answer.Next.TheVariants as next
 use Rattle.jc_session.specs.declared.run_error.Ended.TheVariants as ended
 use Rattle.jc_session.specs.Files.{Files}
 use Rattle.jc_session.specs.Lines.{Command, command_of, lines_of}
 use Rattle.jc_session.specs.Commands.{HandsOver, commands_of}
 use Rattle.jc_session.specs.Answers.{SourceAnswers, Reply, Says, Ends, Lacks, reply, Run, AtEnd, AtEof, WithoutMemory, after_text, run_of}
-use Rattle.jc_session.specs.Replies.{Gives, EndsAs}
+use Rattle.jc_session.specs.Replies.{Gives, EndsAs, WritesSome}
 
 -- a run from a reply on
 abbrev pub goes_on : Files → SourceAnswers → Reply → (Files → SourceAnswers → Run) → Run
@@ -146,3 +150,51 @@ so_far_eof whole held coming rest answers files before now command so_far over =
       subst (Appends before now) (sym (ap (λ r. r.text) owed ∙ append-nil so_far.text)) so_far.said,
       ap (λ r. r.ending) owed,
     )
+
+-- ---- a run that stops
+
+-- nothing is written yet
+pub nothing_yet : (before : Option (List ℕ)) (text : List ℕ) → WritesSome before before text
+nothing_yet before text = (0, Appends-nil before)
+
+-- so much is written
+pub so_far_stops : (whole : Run) (held : List ℕ) (coming : Option (List ℕ)) (answers : Option SourceAnswers) (files : Files) (before now later : Option (List ℕ))
+    → IsSoFar whole held coming answers files before now → Keeps now later → WritesSome before later whole.text
+so_far_stops whole held coming answers files before now later so_far keeps =
+    let rest = (run_over files so_far.source so_far.commands).text in
+    let front : take (length so_far.text) whole.text ≡ so_far.text = ap (λ r. take (length so_far.text) r.text) so_far.owed ∙ take_at so_far.text rest (length so_far.text) refl in
+    (length so_far.text, subst (Appends before later) (sym front) (Appends-kept before now later so_far.text so_far.said keeps))
+
+gave_front : (f : Files) (r : Reply) (new : Files) (source : Option SourceAnswers) (before now : Option (List ℕ)) → Gives f r (Err errors.Write) new source before now
+    → (text : List ℕ) × (files : Files) × (s : SourceAnswers) × (r ≡ Says text files s) × WritesFront before now text
+gave_front f (Says text files s) new source before now gives = (text, files, s, refl, gives.2)
+gave_front f Ends new source before now gives = absurd gives
+gave_front f (Lacks s) new source before now gives = absurd gives
+
+gave_memory : (f : Files) (r : Reply) (new : Files) (source : Option SourceAnswers) (before now : Option (List ℕ)) → Gives f r (Err errors.NoMemory) new source before now → Keeps before now
+gave_memory f (Says text files s) new source before now gives = gives.1
+gave_memory f Ends new source before now gives = absurd gives
+gave_memory f (Lacks s) new source before now gives = gives.2
+
+-- the output failed in the answer to a line
+pub so_far_breaks : (whole : Run) (held : List ℕ) (coming : Option (List ℕ)) (rest : Option (List Command)) (answers rest_answers : Option SourceAnswers) (files new : Files) (before now later : Option (List ℕ)) (command : Command)
+    → IsSoFar whole held coming answers files before now → HandsOver (commands_of held coming) true command rest
+    → ((s : SourceAnswers) → answers ≡ Some s → Gives files (reply files s command) (Err errors.Write) new rest_answers now later)
+    → WritesFront before later whole.text
+so_far_breaks whole held coming rest answers rest_answers files new before now later command so_far over gives =
+    let taken = handed so_far.commands command rest (subst (λ o. HandsOver o true command rest) so_far.left over) in
+    let given = gave_front files (reply files so_far.source command) new rest_answers now later (gives so_far.source so_far.known) in
+    let left = run_over given.1 given.2 taken.0 in
+    let owed = so_far.owed ∙ ap (λ c. after_text so_far.text (run_over files so_far.source c)) taken.2
+    ∙ ap (after_text so_far.text) (over_says files so_far.source command taken.0 given.0 given.1 given.2 given.3) in
+    subst (WritesFront before later) (sym (ap (λ r. r.text) owed))
+    (front_of_second before now later so_far.text (given.0 ++ left.text) so_far.said (front_of_first now later given.0 left.text given.4))
+
+-- memory was refused for a line
+pub so_far_lacks : (whole : Run) (held : List ℕ) (coming : Option (List ℕ)) (answers rest_answers : Option SourceAnswers) (files new : Files) (before now later : Option (List ℕ)) (command : Command)
+    → IsSoFar whole held coming answers files before now
+    → ((s : SourceAnswers) → answers ≡ Some s → Gives files (reply files s command) (Err errors.NoMemory) new rest_answers now later)
+    → WritesSome before later whole.text
+so_far_lacks whole held coming answers rest_answers files new before now later command so_far gives =
+    so_far_stops whole held coming answers files before now later so_far
+    (gave_memory files (reply files so_far.source command) new rest_answers now later (gives so_far.source so_far.known))

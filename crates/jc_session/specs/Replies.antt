@@ -1,5 +1,5 @@
 -- What is done for one line, and for a run.
-use Rattle.std.specs.Prelude.{◌≡◌, ℕ, ◌≤◌, List, Option, Some, Result, Ok, Err}
+use Rattle.std.specs.Prelude.{◌≡◌, ℕ, ◌≤◌, List, take, Option, Some, Result, Ok, Err}
 use Rattle.std.specs.Io.KnownBytes.{Appends, Keeps}
 use Rattle.jc_base.specs.declared.device.DeviceFault.{DeviceFault}
 use Rattle.jc_base.specs.Device.{MoreFaults, WritesFront}
@@ -66,6 +66,16 @@ ending_of ended.Eof = AtEof
 -- all that the run owes was done, and it ended so
 abbrev pub EndsAs : Run → Ended → (new : Files) (before after : Option (List ℕ)) → Type 0
 EndsAs run how new before after = (new ≡ run.files) × Appends before after run.text × (run.ending ≡ ending_of how)
+
+-- a beginning of the text, or all of it, was appended to what is known to be written
+abbrev pub WritesSome : Option (List ℕ) → Option (List ℕ) → List ℕ → Type 0
+WritesSome before after text = (n : ℕ) × Appends before after (take n text)
+
+-- a run that stops has written a beginning of what it owes, and a proper one where the output failed
+abbrev pub StopsIn : Run → RunError → (before after : Option (List ℕ)) → Type 0
+StopsIn run run_errors.Read before after = WritesSome before after run.text
+StopsIn run run_errors.Write before after = WritesFront before after run.text
+StopsIn run run_errors.NoMemory before after = WritesSome before after run.text
 
 -- the number of an error
 abbrev pub run_code : RunError → ℕ

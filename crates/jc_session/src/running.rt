@@ -4,7 +4,7 @@ ghost use Rattle.jc_session.specs.declared.run_error.RunError.TheVariants.{NoMem
 ghost use Rattle.jc_session.specs.Answers.{SourceAnswers, run_of};
 ghost use Rattle.jc_session.specs.Commands.{HandsOver, commands_of};
 ghost use Rattle.jc_session.specs.Lines.{command_of, lines_of};
-ghost use Rattle.jc_session.specs.Replies.{CountsReads, CountsWrites, EndsAs};
+ghost use Rattle.jc_session.specs.Replies.{CountsReads, CountsWrites, EndsAs, StopsIn};
 
 use crate::answer::{AnswerError, Next, answer};
 use crate::command::parse_line;
@@ -27,6 +27,8 @@ pub fn run<S: Source, R: Input, W: Output>(
 ) -> Result<Ended, RunError>
     ensures ended { (bytes : List ℕ) (s : SourceAnswers) → R.remaining input.old ≡ Some bytes → S.answers source.old ≡ Some s
         → IfOk result (λ how. EndsAs (run_of session.old s (lines_of bytes)) how session.new (W.written out.old) (W.written out.new)) }
+    ensures stopped { (bytes : List ℕ) (s : SourceAnswers) → R.remaining input.old ≡ Some bytes → S.answers source.old ≡ Some s
+        → IfErr result (λ e. StopsIn (run_of session.old s (lines_of bytes)) e (W.written out.old) (W.written out.new)) }
     ensures reads { CountsReads result (R.failures input.old) (R.failures input.new) }
     ensures writes { CountsWrites result (W.failures out.old) (W.failures out.new) }
 {
