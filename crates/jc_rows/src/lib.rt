@@ -6,3 +6,5 @@
 mod hex;
 #[cfg(test)]
 mod parse_rows;
+#[cfg(test)]
+mod session_rows;

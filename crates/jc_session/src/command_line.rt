@@ -105,10 +105,12 @@ fn check_words(alloc: Global, words: &[&str]) -> Result<(), Fault> {
 
 fn jclink_command<'a>(alloc: Global) -> Result<Command<'a>, AllocError> {
     let session = Command::new(alloc, "session");
-    Ok(Command::new(alloc, "jclink")
-        .no_binary_name(true)
-        .subcommand_required(true)
-        .subcommand(session)?)
+    Ok(
+        Command::new(alloc, "jclink")
+            .no_binary_name(true)
+            .subcommand_required(true)
+            .subcommand(session)?,
+    )
 }
 
 #[cfg(test)]

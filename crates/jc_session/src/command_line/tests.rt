@@ -31,7 +31,10 @@ fn session(rt: &HostRuntime, lines: &[u8], fails: bool, room: usize) -> Result<O
 fn a_session_without_files_is_not_wrong(rt: HostRuntime) -> Result<(), Fail> {
     let ended = session(&rt, b"report\nadd nowhere\nend\n", true, 100)?;
     assert_eq!(rt; ended.status, 0);
-    assert_eq!(rt; ended.out.as_slice(), b"[files]\nunread nowhere\n".as_slice());
+    assert_eq!(rt;
+        ended.out.as_slice(),
+        b"[files]\nunread nowhere\n".as_slice()
+    );
     assert_eq!(rt; ended.err.as_slice(), b"".as_slice());
     Ok(())
 }
@@ -84,11 +87,17 @@ fn a_failing_device_ends_the_program(rt: HostRuntime) -> Result<(), Fail> {
     let unread = session(&rt, b"what\n", true, 100)?;
     assert_eq!(rt; unread.status, 3);
     assert_eq!(rt; unread.out.as_slice(), b"bad line\n".as_slice());
-    assert_eq!(rt; unread.err.as_slice(), b"jclink: cannot read input\n".as_slice());
+    assert_eq!(rt;
+        unread.err.as_slice(),
+        b"jclink: cannot read input\n".as_slice()
+    );
     let unwritten = session(&rt, b"what\n", false, 4)?;
     assert_eq!(rt; unwritten.status, 3);
     assert_eq!(rt; unwritten.out.as_slice(), b"bad ".as_slice());
-    assert_eq!(rt; unwritten.err.as_slice(), b"jclink: cannot write\n".as_slice());
+    assert_eq!(rt;
+        unwritten.err.as_slice(),
+        b"jclink: cannot write\n".as_slice()
+    );
     Ok(())
 }
 
@@ -97,7 +106,10 @@ fn a_failing_standard_error_changes_nothing(rt: HostRuntime) -> Result<(), Fail>
     let mut input = MemInput::new(b"", true);
     let mut out = MemOutput::new(rt.alloc(), 10)?;
     let mut err = MemOutput::new(rt.alloc(), 5)?;
-    assert_eq!(rt; program(&rt, &["session"], &mut input, &mut out, &mut err), 3);
+    assert_eq!(rt;
+        program(&rt, &["session"], &mut input, &mut out, &mut err),
+        3
+    );
     assert_eq!(rt; err.bytes(), b"jclin".as_slice());
     assert_eq!(rt; program(&rt, &[], &mut input, &mut out, &mut err), 2);
     Ok(())
