@@ -2,7 +2,8 @@
 """Refuses each request for memory of the built program in turn, and compares what it says.
 
 Run from the repository's root, once ./jclink is built: tests/memory/run.py
-Each run with one refusal ends with status 4, `jclink: no memory`, and a beginning of the output that it owes.
+Each run with one refusal ends with status 4, `jclink: no memory`, and a beginning of the output that it owes,
+or gives the whole output, where what was asked for could be done without.
 """
 import os
 import subprocess
@@ -33,9 +34,10 @@ end
 
 
 def run(folder, shim, number):
-    env = {"LD_PRELOAD": str(shim), "REFUSE": str(number)}
+    count = folder / "count"
+    env = {"LD_PRELOAD": str(shim), "REFUSE": str(number), "COUNT": str(count)}
     done = subprocess.run([PROGRAM, "session"], input=LINES, cwd=folder, env=env, capture_output=True, timeout=60)
-    return done.returncode, done.stdout, done.stderr
+    return done.returncode, done.stdout, done.stderr, int(count.read_text())
 
 
 def main():
@@ -46,18 +48,21 @@ def main():
         for path, data in [("a/A.class", CLASS_A), ("x/A.class", CLASS_A), ("cut", CLASS_A[:52])]:
             (folder / path).parent.mkdir(exist_ok=True)
             (folder / path).write_bytes(data)
-        status, owed, said = run(folder, shim, 0)
+        status, owed, said, count = run(folder, shim, 0)
         if status != 1 or said:
             sys.exit(f"with ample memory: status {status}, {said!r}")
-        refused = 0
-        for number in range(1, 100_000):
-            status, out, said = run(folder, shim, number)
-            if status == 1 and out == owed:
-                break
-            if status != 4 or said != b"jclink: no memory\n" or not owed.startswith(out):
+        ended = unfelt = 0
+        for number in range(1, count + 1):
+            status, out, said, _ = run(folder, shim, number)
+            if (status, out, said) == (1, owed, b""):
+                unfelt += 1
+            elif status == 4 and said == b"jclink: no memory\n" and owed.startswith(out):
+                ended += 1
+            else:
                 sys.exit(f"request {number}: status {status}, {said!r}, {out!r}")
-            refused += 1
-        print(f"requests refused in turn: {refused}; each ended with status 4 and a beginning of what is owed")
+        print(f"requests for memory: {count}, each refused in turn")
+        print(f"ended with status 4 and a beginning of what is owed: {ended}")
+        print(f"answered in full without that memory: {unfelt}")
 
 
 if __name__ == "__main__":
