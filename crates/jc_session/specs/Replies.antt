@@ -1,7 +1,6 @@
 -- What is done for one line, and for a run.
 use Rattle.std.specs.Prelude.{◌≡◌, ℕ, ◌≤◌, List, take, Option, Some, Result, Ok, Err}
 use Rattle.std.specs.Io.KnownBytes.{Appends, Keeps}
-use Rattle.jc_base.specs.declared.device.DeviceFault.{DeviceFault}
 use Rattle.jc_base.specs.Device.{MoreFaults, WritesFront}
 use Rattle.jc_session.specs.declared.answer.AnswerError.{AnswerError}
 use Rattle.jc_session.specs.declared.answer.AnswerError.TheVariants as answer_errors
