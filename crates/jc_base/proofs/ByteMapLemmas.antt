@@ -1,9 +1,8 @@
 -- Byte strings in their order, and finite maps keyed by them.
-use Rattle.std.proofs.Common.{◌≡◌, ℕ, Bool, true, false, cond, ◌&&◌, T, List, [], ◌∷◌, map, length, Option, Some, None, refl, sym, ap, subst, ◌∙◌, ⊎_elim, arith}
+use Rattle.std.proofs.Common.{◌≡◌, ℕ, Bool, true, false, cond, ◌&&◌, T, List, [], ◌∷◌, length, Option, Some, None, refl, sym, ap, ◌∙◌, ⊎_elim, arith}
 use Rattle.std.specs.declared.cmp.Ordering.{Ordering}
 use Rattle.std.specs.declared.cmp.Ordering.TheVariants.{Less, Equal, Greater}
 use Rattle.std.specs.Bool.{Decides}
-use Rattle.std.specs.Option.{option_map}
 use Rattle.std.specs.List.{AllByRecursion, Contains}
 use Rattle.std.specs.List.Sorted.{IsStrictlySortedBy}
 use Rattle.std.specs.Map.{lookup, keys_of}
@@ -17,7 +16,6 @@ use Rattle.std.proofs.lemmas.Bool.{cases_Bool, cond-true, cond-false}
 use Rattle.std.proofs.lemmas.Map.Keys.{IsDistinct-from_sorted}
 use Rattle.std.proofs.lemmas.Map.Views.{lookup-from_Contains, Contains-from_lookup}
 use Rattle.jc_base.specs.Bytes.{bytes_cmp, same_bytes}
-use Rattle.jc_base.specs.ByteMap.{mapped}
 
 -- ---- byte strings
 
@@ -158,49 +156,5 @@ module _ {V : Type 0} where
   pub entry_from_get : (m : FinMap bytes_cmp V) (k : List ℕ) (v : V) → fin.get m k ≡ Some v → Contains (fin.entries m) (k, v)
   entry_from_get m k v h = Contains-from_lookup (λ x y t. (same_bytes_decides x y).0 (sym (eq_by_cmp-bytes_cmp x y) ∙ t)) k v (fin.entries m) (sym (find_lookup (fin.entries m) k) ∙ sym (fin.get-entries m k) ∙ h)
 
--- ---- a function of each value
-
-module _ {V W : Type 0} (f : V → W) where
-  -- the entry, with f of its value
-  abbrev with_value : List ℕ × V → List ℕ × W
-  with_value e = (e.0, f e.1)
-
-  below_all-with_value : (k : List ℕ) (es : List (List ℕ × V)) → below_all bytes_cmp k (map with_value es) ≡ below_all bytes_cmp k es
-  below_all-with_value k [] = refl
-  below_all-with_value k (e ∷ es) = ap (λ b. is_lt (bytes_cmp k e.0) && b) (below_all-with_value k es)
-
-  is_sorted-with_value : (es : List (List ℕ × V)) → fin.is_sorted bytes_cmp (map with_value es) ≡ fin.is_sorted bytes_cmp es
-  is_sorted-with_value [] = refl
-  is_sorted-with_value (e ∷ es) = λ i. below_all-with_value e.0 es i && is_sorted-with_value es i
-
-  option_map-cond : (b : Bool) (x y : Option V) → option_map f (cond b x y) ≡ cond b (option_map f x) (option_map f y)
-  option_map-cond true x y = refl
-  option_map-cond false x y = refl
-
-  find-with_value : (q : List ℕ) (es : List (List ℕ × V)) → fin.find bytes_cmp q (map with_value es) ≡ option_map f (fin.find bytes_cmp q es)
-  find-with_value q [] = refl
-  find-with_value q (e ∷ es) = ap (cond (eq_by_cmp bytes_cmp q e.0) (Some (f e.1))) (find-with_value q es) ∙ sym (option_map-cond (eq_by_cmp bytes_cmp q e.0) (Some e.1) (fin.find bytes_cmp q es))
-
-  pub get-mapped : (m : FinMap bytes_cmp V) (q : List ℕ) → fin.get (mapped f m) q ≡ option_map f (fin.get m q)
-  unfolding mapped
-  get-mapped m q = fin.get-from_entries bytes_cmp_total (map with_value (fin.entries m)) q ∙ find-with_value q (fin.entries m) ∙ ap (option_map f) (sym (fin.get-entries m q))
-
-  pub entries-mapped : (m : FinMap bytes_cmp V) → fin.entries (mapped f m) ≡ map (λ e. (e.0, f e.1)) (fin.entries m)
-  unfolding mapped
-  entries-mapped m = entries-from_entries (map with_value (fin.entries m)) (subst T (sym (is_sorted-with_value (fin.entries m))) (fin.entries_sorted m))
-
-  pub mapped-empty : mapped f fin.empty ≡ fin.empty
-  mapped-empty = same_map _ _ (λ q. get-mapped fin.empty q ∙ ap (option_map f) (fin.get-empty bytes_cmp q) ∙ sym (fin.get-empty bytes_cmp q))
-
-  pub mapped-insert : (m : FinMap bytes_cmp V) (k : List ℕ) (v : V) → mapped f (fin.insert m k v) ≡ fin.insert (mapped f m) k (f v)
-  mapped-insert m k v = same_map _ _ (λ q.
-      get-mapped _ q ∙ ap (option_map f) (get-insert m k v q) ∙ option_map-cond (same_bytes q k) (Some v) (fin.get m q)
-      ∙ ap (cond (same_bytes q k) (Some (f v))) (sym (get-mapped m q)) ∙ sym (get-insert (mapped f m) k (f v) q))
-
-  pub mapped-remove : (m : FinMap bytes_cmp V) (k : List ℕ) → mapped f (fin.remove m k) ≡ fin.remove (mapped f m) k
-  mapped-remove m k = same_map _ _ (λ q.
-      get-mapped _ q ∙ ap (option_map f) (get-remove m k q) ∙ option_map-cond (same_bytes q k) None (fin.get m q)
-      ∙ ap (cond (same_bytes q k) None) (sym (get-mapped m q)) ∙ sym (get-remove (mapped f m) k q))
-
--- for `grind`, as `using(jc_base::proofs::ByteMapLemmas::byte_maps)`: what a changed map has, a change taken back, and `mapped` after a change
-pub ruleset byte_maps = (get-insert, get-remove, get-mapped, mapped-empty, mapped-insert, mapped-remove, insert-insert, remove-insert, remove_absent)
+-- for `grind`, as `using(jc_base::proofs::ByteMapLemmas::byte_maps)`: what a changed map has, and a change taken back
+pub ruleset byte_maps = (get-insert, get-remove, insert-insert, remove-insert, remove_absent)

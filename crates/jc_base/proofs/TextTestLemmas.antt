@@ -1,15 +1,15 @@
 -- The tests of texts decide what they say.
-use Rattle.std.proofs.Common.{◌≡◌, ◌≢◌, ℕ, zero, suc, ◌+◌, ◌-◌, ◌<◌, ◌≤◌, Bool, true, false, ◌&&◌, not, eqb, List, [], ◌∷◌, ◌++◌, length, get_or, take, drop, Option, Some, None, option_and_then, option_map, is_some, All, refl, sym, ap, ◌∙◌, arith, inl, inr, subst, eq-eqb}
-use Rattle.std.specs.Prelude.{Contains, IsTrue}
-use Rattle.std.specs.List.{flat_map, AllByRecursion, list_all, list_any, slice_split}
-use Rattle.std.proofs.lemmas.Bool.{cases_Bool, eqb-true, ne_eqb, cases_eq}
-use Rattle.std.proofs.lemmas.List.{drop_at, length-append, length-drop, append-nil}
+use Rattle.std.proofs.Common.{◌≡◌, ◌≢◌, ℕ, zero, suc, ◌<◌, ◌≤◌, Bool, true, false, ◌&&◌, not, eqb, List, [], ◌∷◌, ◌++◌, length, drop, Option, Some, None, option_and_then, option_map, is_some, refl, sym, ap, ◌∙◌, arith, inl, inr, subst, eq-eqb}
+use Rattle.std.specs.Prelude.{Contains}
+use Rattle.std.specs.List.{AllByRecursion, list_all, list_any, slice_split}
+use Rattle.std.proofs.lemmas.Bool.{cases_Bool, eqb-true, ne_eqb}
+use Rattle.std.proofs.lemmas.List.{drop_at, length-append}
 use Rattle.std.proofs.lemmas.List.Elements.{recursion_from_All, All-from_recursion}
 use Rattle.jc_base.specs.FirstUnit.{first_unit}
 use Rattle.jc_base.specs.ModifiedUtf8.{IsUnit, spelling, spelled, Spells, IsWellSpelled}
-use Rattle.jc_base.specs.Names.{name_stops, Lacks, IsUnqualifiedName, IsClassName}
+use Rattle.jc_base.specs.Names.{name_stops, IsUnqualifiedName, IsClassName}
 use Rattle.jc_base.specs.TextTests.{units_within, units_of, is_unqualified_text, is_class_text}
-use Rattle.jc_base.proofs.FirstUnitLemmas.{StandsFirst, first_found, found_first, spelling_takes_room, same_units}
+use Rattle.jc_base.proofs.FirstUnitLemmas.{first_found, found_first, spelling_takes_room}
 use Rattle.jc_base.proofs.NamesLemmas.{class_name_by_split, lacks_by_test}
 
 -- the value of a step that did not fail

@@ -3,6 +3,8 @@
 #![tactic(auto)]
 
 #[cfg(test)]
+mod class_a;
+#[cfg(test)]
 mod hex;
 #[cfg(test)]
 mod parse_rows;

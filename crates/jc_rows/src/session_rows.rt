@@ -1,15 +1,12 @@
 //! What a session answers, line by line.
 
+use crate::class_a::{CLASS_A, changed};
 use crate::hex::bytes_of;
 use jc_base::{MemInput, MemOutput};
 use jc_session::{Edit, EditError, Ended, MemSource, Session, SourceError, run};
 use std::alloc::{AllocError, Global};
 use std::process::Abort;
 use std::test::Fail;
-
-/// A class `A` below `java/lang/Object`, with no interface, field, method or attribute.
-const CLASS_A: &str = "cafebabe 0000 0034 0005 07 0002 01 0001 41 07 0004 01 0010
-    6a6176612f6c616e672f4f626a656374 0021 0001 0003 0000 0000 0000 0000";
 
 /// What a source hands over: bytes as hexadecimal text, or nothing.
 type Handed = Option<&'static str>;
@@ -26,16 +23,16 @@ fn source(alloc: Global, handed: &[Handed]) -> Result<MemSource, AllocError> {
 }
 
 /// Runs a new session over the lines, and compares how it ends and what it writes.
-fn check(
+fn check_run(
     rt: &(impl Abort + AllocGlobal),
-    handed: &[Handed],
+    source: MemSource,
     lines: &[u8],
     ended: Ended,
     text: &str,
 ) -> Result<(), Fail> {
     let alloc = rt.alloc();
     let mut session = Session::new(alloc)?;
-    let mut source = source(alloc, handed)?;
+    let mut source = source;
     let mut input = MemInput::new(lines, false);
     let mut out = MemOutput::new(alloc, 10_000)?;
     let how = run(alloc, &mut session, &mut source, &mut input, &mut out);
@@ -44,13 +41,26 @@ fn check(
     Ok(())
 }
 
+fn check(
+    rt: &(impl Abort + AllocGlobal),
+    handed: &[Handed],
+    lines: &[u8],
+    ended: Ended,
+    text: &str,
+) -> Result<(), Fail> {
+    check_run(rt, source(rt.alloc(), handed)?, lines, ended, text)
+}
+
 /// Adds a file with these bytes, and compares its row.
-fn check_row(rt: &(impl Abort + AllocGlobal), bytes: &'static str, row: &str) -> Result<(), Fail> {
+fn check_row(rt: &(impl Abort + AllocGlobal), bytes: Vec<u8>, row: &str) -> Result<(), Fail> {
+    let mut answers = Vec::new(rt.alloc());
+    answers.push(Ok(bytes))?;
     let mut text = String::new(rt.alloc());
     text.push_str("ok\n[files]\nf: ")?;
     text.push_str(row)?;
     text.push_str("\n")?;
-    check(rt, &[Some(bytes)], b"add f\nreport\n", Ended::Eof, &text)
+    let source = MemSource::new(answers);
+    check_run(rt, source, b"add f\nreport\n", Ended::Eof, &text)
 }
 
 #[test]
@@ -111,7 +121,7 @@ fn unreadable_bytes_are_refused_by_number(rt: HostRuntime) -> Result<(), Fail> {
         ("cafebabe 0000 0034 0002 02", "unreadable 4 Tag(10)"),
     ];
     for (bytes, row) in rows {
-        check_row(&rt, bytes, row)?;
+        check_row(&rt, bytes_of(rt.alloc(), bytes)?, row)?;
     }
     Ok(())
 }
@@ -119,49 +129,17 @@ fn unreadable_bytes_are_refused_by_number(rt: HostRuntime) -> Result<(), Fail> {
 #[test]
 fn changes_of_class_a_are_told_apart(rt: HostRuntime) -> Result<(), Fail> {
     let rows = [
-        (
-            "cafebabe 0000 0034 0005 07 0002 01 0001 41 07 0004 01 0010
-             6a6176612f6c616e672f4f626a656374 0021 0001 0003 0000 0000 0000 0000 00",
-            "unreadable 6 Trailing(53)",
-        ),
-        (
-            "cafebabe 0000 0034 0005 07 0002 01 0001 41 07 0004 01 0010
-             6a6176612f6c616e672f4f626a656374 0021 0001 0003 0000 0000 0000 00",
-            "unreadable 7 Short",
-        ),
-        (
-            "cafebabe 0007 0033 0005 07 0002 01 0001 41 07 0004 01 0010
-             6a6176612f6c616e672f4f626a656374 0021 0001 0003 0000 0000 0000 0000",
-            "class A",
-        ),
-        (
-            "cafebabe 0001 0034 0005 07 0002 01 0001 41 07 0004 01 0010
-             6a6176612f6c616e672f4f626a656374 0021 0001 0003 0000 0000 0000 0000",
-            "unreadable 2 Version",
-        ),
-        (
-            "cafebabe 0000 0034 0006 07 0002 01 0001 41 07 0004 01 0010
-             6a6176612f6c616e672f4f626a656374 0021 0001 0003 0000 0000 0000 0000",
-            "unreadable 4 Tag(39)",
-        ),
-        (
-            "cafebabe 0000 0034 0004 07 0002 01 0001 41 07 0004 01 0010
-             6a6176612f6c616e672f4f626a656374 0021 0001 0003 0000 0000 0000 0000",
-            "unreadable 7 Short",
-        ),
-        (
-            "cafebabe 0000 0034 0005 07 0002 01 0001 41 07 0004 01 0010
-             6a6176612f6c616e672f4f626a656374 0021 0002 0003 0000 0000 0000 0000",
-            "unreadable 8 NoName",
-        ),
-        (
-            "cafebabe 0000 0034 0005 07 0002 01 0002 c181 07 0004 01 0010
-             6a6176612f6c616e672f4f626a656374 0021 0001 0003 0000 0000 0000 0000",
-            "unreadable 8 NoName",
-        ),
+        (53, 0, "00", "unreadable 6 Trailing(53)"),
+        (52, 1, "", "unreadable 7 Short"),
+        (4, 4, "0007 0033", "class A"),
+        (4, 4, "0001 0034", "unreadable 2 Version"),
+        (8, 2, "0006", "unreadable 4 Tag(39)"),
+        (8, 2, "0004", "unreadable 7 Short"),
+        (41, 2, "0002", "unreadable 8 NoName"),
+        (13, 4, "01 0002 c181", "unreadable 8 NoName"),
     ];
-    for (bytes, row) in rows {
-        check_row(&rt, bytes, row)?;
+    for (place, count, with, row) in rows {
+        check_row(&rt, changed(rt.alloc(), place, count, with)?, row)?;
     }
     Ok(())
 }
@@ -169,24 +147,12 @@ fn changes_of_class_a_are_told_apart(rt: HostRuntime) -> Result<(), Fail> {
 #[test]
 fn names_print_by_code_units(rt: HostRuntime) -> Result<(), Fail> {
     let rows = [
-        (
-            "cafebabe 0000 0034 0005 07 0002 01 0002 c3a9 07 0004 01 0010
-             6a6176612f6c616e672f4f626a656374 0021 0001 0003 0000 0000 0000 0000",
-            "class \\u00e9",
-        ),
-        (
-            "cafebabe 0000 0034 0005 07 0002 01 0006 eda0bdedb880 07 0004 01 0010
-             6a6176612f6c616e672f4f626a656374 0021 0001 0003 0000 0000 0000 0000",
-            "class \\ud83d\\ude00",
-        ),
-        (
-            "cafebabe 0000 0034 0005 07 0002 01 0002 c080 07 0004 01 0010
-             6a6176612f6c616e672f4f626a656374 0021 0001 0003 0000 0000 0000 0000",
-            "class \\u0000",
-        ),
+        ("01 0002 c3a9", "class \\u00e9"),
+        ("01 0006 eda0bdedb880", "class \\ud83d\\ude00"),
+        ("01 0002 c080", "class \\u0000"),
     ];
-    for (bytes, row) in rows {
-        check_row(&rt, bytes, row)?;
+    for (name, row) in rows {
+        check_row(&rt, changed(rt.alloc(), 13, 4, name)?, row)?;
     }
     Ok(())
 }

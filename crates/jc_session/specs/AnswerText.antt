@@ -1,14 +1,34 @@
--- The texts of answers, each as `Answers` has it in a run.
+-- The texts of answers.
 use Rattle.std.specs.Prelude.{List, ℕ, ◌++◌, Result, Ok, Err, codes, decimal}
 use Rattle.jc_session.specs.declared.edit.Done.{Done}
 use Rattle.jc_session.specs.declared.edit.EditError.{EditError}
+use Rattle.jc_session.specs.declared.edit.EditError.TheVariants as errors
 use Rattle.jc_session.specs.RowText.{path_text}
-use Rattle.jc_session.specs.Answers.{edit_code, edit_error_name}
+
+abbrev pub edit_code : EditError → ℕ
+edit_code errors.AlreadyThere = 1
+edit_code errors.NoSuchFile = 2
+edit_code errors.TooLarge = 3
+edit_code errors.TooMany = 4
+edit_code errors.BadPath = 5
+edit_code errors.NoMemory = 6
+
+abbrev pub edit_error_name : EditError → List ℕ
+edit_error_name errors.AlreadyThere = codes "AlreadyThere"
+edit_error_name errors.NoSuchFile = codes "NoSuchFile"
+edit_error_name errors.TooLarge = codes "TooLarge"
+edit_error_name errors.TooMany = codes "TooMany"
+edit_error_name errors.BadPath = codes "BadPath"
+edit_error_name errors.NoMemory = codes "NoMemory"
+
+-- of an edit that is refused
+abbrev pub refused_text : EditError → List ℕ
+refused_text e = codes "refused " ++ decimal (edit_code e) ++ codes " " ++ edit_error_name e ++ codes "\n"
 
 -- of an edit
 abbrev pub edit_text : Result Done EditError → List ℕ
 edit_text (Ok done) = codes "ok\n"
-edit_text (Err e) = codes "refused " ++ decimal (edit_code e) ++ codes " " ++ edit_error_name e ++ codes "\n"
+edit_text (Err e) = refused_text e
 
 -- of a path whose bytes the source does not hand over
 abbrev pub unread_text : List ℕ → List ℕ

@@ -1,32 +1,16 @@
 -- What a list of lines owes.
-use Rattle.std.specs.Prelude.{ℕ, List, [], ◌∷◌, ◌++◌, Option, Some, None, Result, Ok, Err, codes, decimal}
+use Rattle.std.specs.Prelude.{ℕ, List, [], ◌∷◌, ◌++◌, Option, Some, None, Result, Ok, Err, codes}
 use Rattle.jc_session.specs.declared.edit.EditError.{EditError}
-use Rattle.jc_session.specs.declared.edit.EditError.TheVariants as errors
 use Rattle.jc_session.specs.declared.source.SourceError.{SourceError}
 use Rattle.jc_session.specs.declared.source.SourceError.TheVariants as sources
 use Rattle.jc_session.specs.Files.{Files, Change, Adds, Replaces, Removes, judge, after}
-use Rattle.jc_session.specs.RowText.{path_text, report_text}
+use Rattle.jc_session.specs.RowText.{report_text}
+use Rattle.jc_session.specs.AnswerText.{refused_text, unread_text}
 use Rattle.jc_session.specs.Lines.{Command, Add, Replace, Remove, Report, End, Bad, command_of, lines_of}
 
 -- what a source answers, in order
 abbrev pub SourceAnswers : Type 0
 SourceAnswers = List (Result (List ℕ) SourceError)
-
-abbrev pub edit_code : EditError → ℕ
-edit_code errors.AlreadyThere = 1
-edit_code errors.NoSuchFile = 2
-edit_code errors.TooLarge = 3
-edit_code errors.TooMany = 4
-edit_code errors.BadPath = 5
-edit_code errors.NoMemory = 6
-
-abbrev pub edit_error_name : EditError → List ℕ
-edit_error_name errors.AlreadyThere = codes "AlreadyThere"
-edit_error_name errors.NoSuchFile = codes "NoSuchFile"
-edit_error_name errors.TooLarge = codes "TooLarge"
-edit_error_name errors.TooMany = codes "TooMany"
-edit_error_name errors.BadPath = codes "BadPath"
-edit_error_name errors.NoMemory = codes "NoMemory"
 
 -- what one line is answered, and what is then
 pub data Reply : Type 0 where
@@ -39,7 +23,7 @@ pub data Reply : Type 0 where
 
 abbrev pub judged_reply : Files → SourceAnswers → Change → Option EditError → Reply
 judged_reply f s change None = Says (codes "ok\n") (after f change) s
-judged_reply f s change (Some e) = Says (codes "refused " ++ decimal (edit_code e) ++ codes " " ++ edit_error_name e ++ codes "\n") f s
+judged_reply f s change (Some e) = Says (refused_text e) f s
 
 -- an edit that judge lets pass happens
 abbrev pub edit_reply : Files → SourceAnswers → Change → Reply
@@ -47,9 +31,9 @@ edit_reply f s change = judged_reply f s change (judge f change)
 
 -- the source is asked for the bytes first, and answers Unread with none left
 abbrev pub sourced_reply : Files → SourceAnswers → List ℕ → (List ℕ → Change) → Reply
-sourced_reply f [] path change = Says (codes "unread " ++ path_text path ++ codes "\n") f []
+sourced_reply f [] path change = Says (unread_text path) f []
 sourced_reply f (Ok bytes ∷ s) path change = edit_reply f s (change bytes)
-sourced_reply f (Err sources.Unread ∷ s) path change = Says (codes "unread " ++ path_text path ++ codes "\n") f s
+sourced_reply f (Err sources.Unread ∷ s) path change = Says (unread_text path) f s
 sourced_reply f (Err sources.NoMemory ∷ s) path change = Lacks s
 
 abbrev pub reply : Files → SourceAnswers → Command → Reply

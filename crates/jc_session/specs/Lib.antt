@@ -11,6 +11,7 @@ pub mod Replies
 pub mod RowText
 pub mod Rows
 pub mod SourceAnswer
+pub mod Statuses
 pub mod Winners
 pub use Rattle.jc_base.specs.Bytes
 pub use Rattle.jc_base.specs.CodeUnits

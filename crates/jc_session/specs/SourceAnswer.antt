@@ -2,6 +2,7 @@
 use Rattle.std.specs.Prelude.{◌≡◌, ℕ, List, [], ◌∷◌, Option, Some, None, Result, Ok, Err, ⊤}
 use Rattle.std.specs.declared.vec.Vec.{Vec}
 use Rattle.std.specs.Global.{Global}
+use Rattle.jc_session.specs.declared.source.FileSource.{FileSource}
 use Rattle.jc_session.specs.declared.source.SourceError.{SourceError}
 use Rattle.jc_session.specs.declared.source.SourceError.TheVariants as errors
 use Rattle.jc_session.specs.Answers.{SourceAnswers}
@@ -16,3 +17,7 @@ abbrev pub TakesAnswer : Option SourceAnswers → Result (List ℕ) SourceError 
 TakesAnswer None answer new = ⊤
 TakesAnswer (Some []) answer new = (answer ≡ Err errors.Unread) × (new ≡ Some [])
 TakesAnswer (Some (first ∷ rest)) answer new = (answer ≡ first) × (new ≡ Some rest)
+
+-- the runtime whose files a source reads
+abbrev pub runtime_of : {R : Type 0} → FileSource R → R
+runtime_of source = source.rt.now

@@ -1,6 +1,9 @@
 //! The program, apart from the standard streams: words and devices in, a status out.
 
-ghost use Rattle.std.specs.Prelude.{◌<◌};
+ghost use Rattle.std.specs.Prelude.{◌≡◌, ◌⊎◌, IfErr};
+ghost use Rattle.jc_session.specs.declared.command_line.Fault.TheVariants.{NoMemory, Usage};
+ghost use Rattle.jc_session.specs.Replies.{WritesSome};
+ghost use Rattle.jc_session.specs.Statuses.{CountsInput, CountsOutput, Outcome, Tells, fault_of, fault_status, fault_text, status_of};
 
 use crate::run_error::RunError;
 use crate::running::run;
@@ -22,7 +25,9 @@ enum Fault {
 }
 
 impl Fault {
-    fn line(self) -> &'static [u8] {
+    fn line(self) -> &'static [u8]
+        ensures { result.now ≡ fault_text self }
+    {
         match self {
             Fault::Usage => b"jclink: usage\n",
             Fault::Input => b"jclink: cannot read input\n",
@@ -32,7 +37,7 @@ impl Fault {
     }
 
     fn status(self) -> u8
-        ensures { result < 5 }
+        ensures { result ≡ fault_status self }
     {
         match self {
             Fault::Usage => 2,
@@ -43,6 +48,8 @@ impl Fault {
 }
 
 impl From<RunError> for Fault {
+    ghost from_gives = { λ error fault. fault ≡ fault_of error };
+
     fn from(error: RunError) -> Fault {
         match error {
             RunError::Read => Fault::Input,
@@ -65,16 +72,27 @@ pub fn program<F: Files + AllocGlobal, R: Input, W: Output, E: Output>(
     out: &mut W,
     err: &mut E,
 ) -> u8
-    ensures { result < 5 }
+    ensures { (outcome : Outcome)
+        × (result ≡ status_of outcome)
+        × CountsInput outcome (R.failures input.old) (R.failures input.new)
+        × CountsOutput outcome (W.failures out.old) (W.failures out.new)
+        × Tells outcome (E.written err.old) (E.written err.new) }
 {
     match perform(rt, words, input, out) {
         Ok(true) => 1,
         Ok(false) => 0,
         Err(fault) => {
-            let _ = write_all(err, fault.line());
+            tell(err, fault);
             fault.status()
         }
     }
+}
+
+/// Writes the line of a fault. That it can't be written changes nothing.
+fn tell<E: Output>(err: &mut E, fault: Fault)
+    ensures { WritesSome (E.written err.old) (E.written err.new) (fault_text fault) }
+{
+    let _ = write_all(err, fault.line());
 }
 
 /// Does what the words ask for. Says whether the report held at the end is wrong.
@@ -83,7 +101,10 @@ fn perform<F: Files + AllocGlobal, R: Input, W: Output>(
     words: &[&str],
     input: &mut R,
     out: &mut W,
-) -> Result<bool, Fault> {
+) -> Result<bool, Fault>
+    ensures reads { CountsInput result (R.failures input.old) (R.failures input.new) }
+    ensures writes { CountsOutput result (W.failures out.old) (W.failures out.new) }
+{
     check_words(rt.alloc(), words)?;
     let mut session = Session::new(rt.alloc()).map_err(|_| Fault::NoMemory)?;
     let mut source = FileSource::new(rt);
@@ -92,7 +113,9 @@ fn perform<F: Files + AllocGlobal, R: Input, W: Output>(
 }
 
 /// Whether the words ask for `session`, the one command there is.
-fn check_words(alloc: Global, words: &[&str]) -> Result<(), Fault> {
+fn check_words(alloc: Global, words: &[&str]) -> Result<(), Fault>
+    ensures { IfErr result (λ fault. (fault ≡ Usage) ⊎ (fault ≡ NoMemory)) }
+{
     let command = jclink_command(alloc).map_err(|_| Fault::NoMemory)?;
     match command.try_get_matches_from(words) {
         Ok(_) => Ok(()),

@@ -50,7 +50,7 @@ pub enum EditError {
 }
 
 impl EditError {
-    ghost use Rattle.jc_session.specs.Answers.{edit_code, edit_error_name};
+    ghost use Rattle.jc_session.specs.AnswerText.{edit_code, edit_error_name};
 
     /// The number of the refusal, from 1, in the order of the variants.
     pub fn code(&self) -> u8

@@ -79,8 +79,12 @@ pub struct FileSource<'a, R> {
 }
 
 impl<'a, R: Files + AllocGlobal> FileSource<'a, R> {
+    ghost use Rattle.jc_session.specs.SourceAnswer.{runtime_of};
+
     /// A source over the files of a runtime.
-    pub fn new(rt: &'a R) -> FileSource<'a, R> {
+    pub fn new(rt: &'a R) -> FileSource<'a, R>
+        ensures { runtime_of result ≡ rt.now }
+    {
         FileSource { rt }
     }
 }

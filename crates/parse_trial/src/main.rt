@@ -5,10 +5,8 @@
 //! numbers, 0 for a class; with `bytes N` it sums the bytes themselves N times.
 #![tactic(auto)]
 
-ghost use Rattle.std.specs.Prelude.{◌≡◌};
 ghost use Rattle.jc_file.specs.Reading.{after_sized, sized_value};
 ghost use Rattle.jc_file.specs.Skip.{Lends};
-ghost use Rattle.jc_file.specs.Refusal.{code_of};
 
 use jc_base::Cursor;
 use jc_file::{ClassView, ParseError, parse};
@@ -24,23 +22,6 @@ fn next_frame<'a>(input: &mut Cursor<'a>) -> Option<&'a [u8]>
     input.take(length as usize)
 }
 
-/// The number by which refusals are ordered.
-fn code(error: ParseError) -> u8
-    ensures { result ≡ code_of error }
-{
-    match error {
-        ParseError::Magic => 1,
-        ParseError::Version => 2,
-        ParseError::Count => 3,
-        ParseError::Tag(_) => 4,
-        ParseError::Wide(_) => 5,
-        ParseError::Trailing(_) => 6,
-        ParseError::Short => 7,
-        ParseError::NoName => 8,
-        ParseError::NoMemory => 9,
-    }
-}
-
 fn write_answer<W: Write>(out: &mut W, answer: &Result<ClassView, ParseError>) -> io::Result<()> {
     match answer {
         Ok(view) => {
@@ -50,7 +31,7 @@ fn write_answer<W: Write>(out: &mut W, answer: &Result<ClassView, ParseError>) -
             }
             writeln!(out)
         }
-        Err(error) => writeln!(out, "{} {error:?}", code(*error)),
+        Err(error) => writeln!(out, "{} {error:?}", error.code()),
     }
 }
 
@@ -75,7 +56,7 @@ fn sum_of_answers(alloc: Global, input: &[u8]) -> u64 {
             break;
         };
         if let Err(error) = parse(alloc, frame) {
-            sum = sum.wrapping_add(u64::from(code(error)));
+            sum = sum.wrapping_add(u64::from(error.code()));
         }
     }
     sum

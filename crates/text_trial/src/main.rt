@@ -6,13 +6,18 @@
 //! signatures of classes, methods and fields.
 #![tactic(auto)]
 
+ghost use Rattle.std.specs.Prelude.{◌≡◌, IfSome, drop, take};
+ghost use Rattle.jc_base.specs.Endian.{big_number};
+
 use jc_base::{Cursor, FieldDesc, MethodDesc, NoMemory, SigKind, check_signature};
 use std::alloc::Global;
 use std::io;
 use std::io::{BufWriter, Read, Write};
 
 /// The next frame's bytes, where it is whole.
-fn next_frame<'a>(input: &mut Cursor<'a>) -> Option<&'a [u8]> {
+fn next_frame<'a>(input: &mut Cursor<'a>) -> Option<&'a [u8]>
+    ensures { IfSome result (λ frame. frame.now ≡ take (big_number 4 input.old.rest) (drop 4 input.old.rest)) }
+{
     let length = input.u4()?;
     input.take(length as usize)
 }

@@ -2,7 +2,7 @@ use Rattle.std.proofs.Common.{◌≡◌, ◌++◌, ◌∙◌, ℕ, List, ap, sub
 use Rattle.std.specs.Prelude.{codes, decimal}
 use Rattle.std.proofs.lemmas.Result.{on_err_weaker}
 use Rattle.jc_base.specs.Device.{WritesFront}
-use Rattle.jc_session.specs.Answers.{edit_code, edit_error_name}
+use Rattle.jc_session.specs.AnswerText.{edit_code, edit_error_name}
 use Rattle.jc_session.proofs.answer_text.write_edit_error.Goals as goal
 
 joined_parts : (code name digits word : List ℕ) → code ≡ digits → name ≡ word
