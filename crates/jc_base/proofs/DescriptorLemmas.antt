@@ -201,7 +201,7 @@ close_ends : (b : List ℕ) → field_len (41 ∷ b) ≡ None
 unfolding field_len element_len
 close_ends b = refl
 
-void_is_none : IsFieldDescriptor (86 ∷ []) → ⊥
+pub void_is_none : IsFieldDescriptor (86 ∷ []) → ⊥
 unfolding field_len element_len
 void_is_none field = let no : field_len (86 ∷ []) ≡ None = refl in let yes = field_in_front (86 ∷ []) [] field in absurd (cc)
 

@@ -17,3 +17,4 @@ pub mod StepLemmas
 pub mod StackLemmas
 pub mod DescriptorTexts
 pub mod SignatureTexts
+pub mod DescriptorTestLemmas

@@ -1,10 +1,12 @@
 -- Reading the parameters of a method descriptor from left to right.
-use Rattle.std.proofs.Common.{◌≡◌, ℕ, ◌≢◌, ◌+◌, ◌-◌, ◌≤◌, Option, List, [], ◌∷◌, ◌++◌, length, take, drop, sum_by, None, refl, sym, ap, ◌∙◌, subst, arith, append_assoc, length-append}
+use Rattle.std.proofs.Common.{◌≡◌, ℕ, ◌≢◌, ◌+◌, ◌-◌, ◌<◌, ◌≤◌, ◌||◌, codes, Option, List, [], ◌∷◌, ◌++◌, length, take, drop, sum_by, None, refl, sym, ap, ◌∙◌, subst, arith, append_assoc, length-append}
 use Rattle.std.specs.List.{All, concat}
+use Rattle.std.proofs.lemmas.Bool.{cond_both}
 use Rattle.std.proofs.lemmas.List.{append-nil, take_at}
 use Rattle.std.proofs.lemmas.List.Elements.{recursion_from_All, All-append, All-nil, All-cons, All-tail, All-head}
 use Rattle.std.proofs.lemmas.List.Folds.{concat-append}
 use Rattle.std.proofs.lemmas.List.Sums.{sum_by-append}
+use Rattle.jc_base.specs.Bytes.{same_bytes}
 use Rattle.jc_base.specs.Descriptors.{IsFieldDescriptor, slots_of, result_text, IsMethod, IsMethodDescriptor}
 use Rattle.jc_base.specs.FieldsInFront.{field_len, fields_of}
 use Rattle.jc_base.specs.MethodParts.{HasInFront, AreParams, ReadsParams, IsResult}
@@ -61,6 +63,19 @@ next_param text slots rest param after read front params =
     let taken : slots ≡ sum_by slots_of read.done = read.taken in
     (middle IsFieldDescriptor read.done param (fields_of after) each, omega arith)
 
+takes_slots : (param : List ℕ) → 0 < slots_of param
+takes_slots param = cond_both (same_bytes param (codes "J") || same_bytes param (codes "D")) 2 1 (λ n. 0 < n) (λ _. omega arith) (λ _. omega arith)
+
+-- there are no more parameters than slots
+params_within_slots : (params : List (List ℕ)) → length params ≤ sum_by slots_of params
+params_within_slots [] = omega arith
+params_within_slots (param ∷ params) =
+    let sum : sum_by slots_of (param ∷ params) ≡ 0 + slots_of param + sum_by slots_of params = sum_by-append slots_of (param ∷ []) params in
+    omega (arith, takes_slots param, params_within_slots params, sum)
+
+pub at_most_255 : (params : List (List ℕ)) → AreParams params → length params ≤ 255
+at_most_255 params are = omega (arith, params_within_slots params, are.few)
+
 -- ---- the whole descriptor
 
 -- what was read, cut out of the text, has the same descriptors in front
@@ -87,10 +102,13 @@ method_read text inner rest after slots result at read close written =
     subst (λ qs. IsMethod text (record { params = qs; result = result })) (sym (params_cut inner rest slots read)) whole
 
 pub cut_params : (inner rest : List ℕ) (slots : ℕ) → ReadsParams inner slots rest
-    → All IsFieldDescriptor (fields_of (take (length inner - length rest) inner)) × (slots ≡ sum_by slots_of (fields_of (take (length inner - length rest) inner)))
+    → AreParams (fields_of (take (length inner - length rest) inner)) × (slots ≡ sum_by slots_of (fields_of (take (length inner - length rest) inner)))
 cut_params inner rest slots read =
     let same = sym (params_cut inner rest slots read) in
-    (subst (All IsFieldDescriptor) same read.each, read.taken ∙ ap (sum_by slots_of) same)
+    let taken : slots ≡ sum_by slots_of (fields_of inner) = read.taken in
+    let few : slots ≤ 255 = read.few in
+    let params : AreParams (fields_of inner) = record { each = read.each; few = omega arith } in
+    (subst AreParams same params, taken ∙ ap (sum_by slots_of) same)
 
 pub no_params : (text inner : List ℕ) → text ≡ 40 ∷ inner → ¬ AreParams (fields_of inner) → IsMethodDescriptor text → ⊥
 no_params text inner at none (type, method) =

@@ -1,14 +1,16 @@
 -- The tests of texts decide what they say.
-use Rattle.std.proofs.Common.{◌≡◌, ◌≢◌, ℕ, zero, suc, ◌<◌, ◌≤◌, Bool, true, false, ◌&&◌, not, eqb, List, [], ◌∷◌, ◌++◌, length, drop, Option, Some, None, option_and_then, option_map, is_some, refl, sym, ap, ◌∙◌, arith, inl, inr, subst, eq-eqb}
+use Rattle.std.proofs.Common.{◌≡◌, ◌≢◌, ℕ, zero, suc, ◌<◌, ◌≤◌, Bool, true, false, ◌&&◌, ◌||◌, not, eqb, List, [], ◌∷◌, ◌++◌, length, drop, Option, Some, None, option_and_then, option_map, is_some, refl, sym, ap, ◌∙◌, arith, inl, inr, subst, eq-eqb, codes}
 use Rattle.std.specs.Prelude.{Contains}
 use Rattle.std.specs.List.{AllByRecursion, list_all, list_any, slice_split}
-use Rattle.std.proofs.lemmas.Bool.{cases_Bool, eqb-true, ne_eqb}
+use Rattle.std.proofs.lemmas.Bool.{cases_Bool, eqb-true, ne_eqb, and_parts, and_from, or_cases, or_left, or_right, false≢true, false_from_ne_true}
 use Rattle.std.proofs.lemmas.List.{drop_at, length-append}
 use Rattle.std.proofs.lemmas.List.Elements.{recursion_from_All, All-from_recursion}
+use Rattle.std.proofs.lemmas.Slice.Eq.{bytes_eq-Decides}
+use Rattle.jc_base.specs.Bytes.{same_bytes}
 use Rattle.jc_base.specs.FirstUnit.{first_unit}
 use Rattle.jc_base.specs.ModifiedUtf8.{IsUnit, spelling, spelled, Spells, IsWellSpelled}
-use Rattle.jc_base.specs.Names.{name_stops, IsUnqualifiedName, IsClassName}
-use Rattle.jc_base.specs.TextTests.{units_within, units_of, is_unqualified_text, is_class_text}
+use Rattle.jc_base.specs.Names.{Lacks, name_stops, method_name_stops, IsUnqualifiedName, IsSpecialMethodName, IsMethodName, IsClassName}
+use Rattle.jc_base.specs.TextTests.{units_within, units_of, has_none_of, is_unqualified_text, is_method_name_text, is_class_text}
 use Rattle.jc_base.proofs.FirstUnitLemmas.{first_found, found_first, spelling_takes_room}
 use Rattle.jc_base.proofs.NamesLemmas.{class_name_by_split, lacks_by_test}
 
@@ -17,11 +19,11 @@ then_some : {A B : Type 0} (o : Option A) (f : A → Option B) (y : B) → optio
 then_some None f y e = absurd cc
 then_some (Some x) f y e = (x, refl, e)
 
-map_some : {A B : Type 0} (o : Option A) (f : A → B) (y : B) → option_map f o ≡ Some y → (x : A) × (o ≡ Some x) × (f x ≡ y)
+pub map_some : {A B : Type 0} (o : Option A) (f : A → B) (y : B) → option_map f o ≡ Some y → (x : A) × (o ≡ Some x) × (f x ≡ y)
 map_some None f y e = absurd cc
 map_some (Some x) f y e = (x, refl, cc)
 
-some_is : {A : Type 0} (x y : A) → Some x ≡ Some y → x ≡ y
+pub some_is : {A : Type 0} (x y : A) → Some x ≡ Some y → x ≡ y
 some_is x y e = cc
 
 units_sound : (n : ℕ) (b us : List ℕ) → units_within n b ≡ Some us → Spells us b
@@ -67,15 +69,7 @@ units_decide b us = (
 
 -- ---- tests and facts
 
-and_both : (a b : Bool) → a && b ≡ true → (a ≡ true) × (b ≡ true)
-and_both true b e = (refl, e)
-and_both false b e = absurd cc
-
-both_and : (a b : Bool) → a ≡ true → b ≡ true → a && b ≡ true
-both_and true b p q = q
-both_and false b p q = absurd cc
-
-is_some_of : {A : Type 0} (o : Option A) → is_some o ≡ true → (x : A) × (o ≡ Some x)
+pub is_some_of : {A : Type 0} (o : Option A) → is_some o ≡ true → (x : A) × (o ≡ Some x)
 is_some_of None e = absurd cc
 is_some_of (Some x) e = (x, refl)
 
@@ -93,10 +87,10 @@ any_stop c (s ∷ stops) e =
       | inr miss ↦ let rest = any_stop c stops (let e' = e in let m = miss in rw m at e') in let within = rest.1 in (suc rest.0, omega arith, rest.2)
     ]
 
-not_any : (c : ℕ) → (Contains name_stops c → ⊥) → not (list_any (λ s. eqb s c) name_stops) ≡ true
-not_any c h =
-    elim (cases_Bool (list_any (λ s. eqb s c) name_stops)) [
-      | inl hit ↦ absurd (h (any_stop c name_stops hit))
+not_any : (c : ℕ) (stops : List ℕ) → (Contains stops c → ⊥) → not (list_any (λ s. eqb s c) stops) ≡ true
+not_any c stops h =
+    elim (cases_Bool (list_any (λ s. eqb s c) stops)) [
+      | inl hit ↦ absurd (h (any_stop c stops hit))
       | inr miss ↦ ap not miss
     ]
 
@@ -104,26 +98,51 @@ not_empty : (b : List ℕ) → b ≢ [] → not (eqb (length b) 0) ≡ true
 not_empty [] h = absurd (h refl)
 not_empty (x ∷ b) h = ap not (ne_eqb (suc (length b)) 0 (λ e. absurd (omega arith)))
 
-lacks_test : (b : List ℕ) → AllByRecursion (λ c. Contains name_stops c → ⊥) b → list_all (λ c. not (list_any (λ s. eqb s c) name_stops)) b ≡ true
-lacks_test [] h = refl
-lacks_test (c ∷ b) h = both_and _ _ (not_any c h.0) (lacks_test b h.1)
+lacks_test : (b stops : List ℕ) → AllByRecursion (λ c. Contains stops c → ⊥) b → has_none_of stops b ≡ true
+lacks_test [] stops h = refl
+lacks_test (c ∷ b) stops h = and_from _ _ (not_any c stops h.0) (lacks_test b stops h.1)
+
+has_none_from : (b stops : List ℕ) → Lacks b stops → has_none_of stops b ≡ true
+has_none_from b stops h = lacks_test b stops (recursion_from_All (λ c. Contains stops c → ⊥) b h)
 
 unqualified_fact : (b : List ℕ) → is_unqualified_text b ≡ true → IsUnqualifiedName b
 unqualified_fact b e =
-    let w = and_both (is_some (units_of b)) (not (eqb (length b) 0) && list_all (λ c. not (list_any (λ s. eqb s c) name_stops)) b) e in
-    let l = and_both (not (eqb (length b) 0)) (list_all (λ c. not (list_any (λ s. eqb s c) name_stops)) b) w.1 in
+    let w = and_parts (is_some (units_of b)) (not (eqb (length b) 0) && has_none_of name_stops b) e in
+    let l = and_parts (not (eqb (length b) 0)) (has_none_of name_stops b) w.1 in
     (well_spelled b w.0, (λ nil. absurd (let none = eq-eqb (length b) 0 (ap length nil) in let some = l.0 in cc)), lacks_by_test b name_stops l.1)
 
 unqualified_test : (b : List ℕ) → IsUnqualifiedName b → is_unqualified_text b ≡ true
-unqualified_test b h = both_and _ _ (well_spelled_test b h.0) (both_and _ _ (not_empty b h.1) (lacks_test b (recursion_from_All (λ c. Contains name_stops c → ⊥) b h.2)))
+unqualified_test b h = and_from _ _ (well_spelled_test b h.0) (and_from _ _ (not_empty b h.1) (has_none_from b name_stops h.2))
 
-all_fact : {X : Type 0} (p : X → Bool) (P : X → Type 0) → ((x : X) → p x ≡ true → P x) → (xs : List X) → list_all p xs ≡ true → AllByRecursion P xs
+special_fact : (b : List ℕ) → same_bytes b (codes "<init>") || same_bytes b (codes "<clinit>") ≡ true → IsSpecialMethodName b
+special_fact b e =
+    elim (or_cases (same_bytes b (codes "<init>")) (same_bytes b (codes "<clinit>")) e) [
+      | inl same ↦ inl ((bytes_eq-Decides b (codes "<init>")).0 same)
+      | inr same ↦ inr ((bytes_eq-Decides b (codes "<clinit>")).0 same)
+    ]
+
+special_test : (b : List ℕ) → IsSpecialMethodName b → same_bytes b (codes "<init>") || same_bytes b (codes "<clinit>") ≡ true
+special_test b (inl is) = or_left _ _ ((bytes_eq-Decides b (codes "<init>")).1 is)
+special_test b (inr is) = or_right _ _ ((bytes_eq-Decides b (codes "<clinit>")).1 is)
+
+method_name_fact : (b : List ℕ) → is_method_name_text b ≡ true → IsMethodName b
+method_name_fact b e =
+    elim (or_cases (same_bytes b (codes "<init>") || same_bytes b (codes "<clinit>")) (is_unqualified_text b && has_none_of method_name_stops b) e) [
+      | inl special ↦ inl (special_fact b special)
+      | inr plain ↦ let parts = and_parts (is_unqualified_text b) (has_none_of method_name_stops b) plain in inr (unqualified_fact b parts.0, lacks_by_test b method_name_stops parts.1)
+    ]
+
+method_name_test : (b : List ℕ) → IsMethodName b → is_method_name_text b ≡ true
+method_name_test b (inl special) = or_left _ _ (special_test b special)
+method_name_test b (inr (name, lacks)) = or_right _ _ (and_from _ _ (unqualified_test b name) (has_none_from b method_name_stops lacks))
+
+pub all_fact : {X : Type 0} (p : X → Bool) (P : X → Type 0) → ((x : X) → p x ≡ true → P x) → (xs : List X) → list_all p xs ≡ true → AllByRecursion P xs
 all_fact p P h [] e = tt
-all_fact p P h (x ∷ xs) e = let b = and_both (p x) (list_all p xs) e in (h x b.0, all_fact p P h xs b.1)
+all_fact p P h (x ∷ xs) e = let b = and_parts (p x) (list_all p xs) e in (h x b.0, all_fact p P h xs b.1)
 
-all_test : {X : Type 0} (p : X → Bool) (P : X → Type 0) → ((x : X) → P x → p x ≡ true) → (xs : List X) → AllByRecursion P xs → list_all p xs ≡ true
+pub all_test : {X : Type 0} (p : X → Bool) (P : X → Type 0) → ((x : X) → P x → p x ≡ true) → (xs : List X) → AllByRecursion P xs → list_all p xs ≡ true
 all_test p P h [] a = refl
-all_test p P h (x ∷ xs) a = both_and (p x) (list_all p xs) (h x a.0) (all_test p P h xs a.1)
+all_test p P h (x ∷ xs) a = and_from (p x) (list_all p xs) (h x a.0) (all_test p P h xs a.1)
 
 class_fact : (b : List ℕ) → is_class_text b ≡ true → IsClassName b
 class_fact b e = (class_name_by_split b).0 (All-from_recursion IsUnqualifiedName (slice_split (λ c. eqb c 47) b) (all_fact is_unqualified_text IsUnqualifiedName unqualified_fact (slice_split (λ c. eqb c 47) b) e))
@@ -136,3 +155,14 @@ unqualified_decides b = (unqualified_fact b, unqualified_test b)
 
 pub class_decides : (b : List ℕ) → ((is_class_text b ≡ true) → IsClassName b) × (IsClassName b → (is_class_text b ≡ true))
 class_decides b = (class_fact b, class_test b)
+
+pub method_name_decides : (b : List ℕ) → ((is_method_name_text b ≡ true) → IsMethodName b) × (IsMethodName b → (is_method_name_text b ≡ true))
+method_name_decides b = (method_name_fact b, method_name_test b)
+
+pub spelled_decides : (b : List ℕ) → ((is_some (units_of b) ≡ true) → IsWellSpelled b) × (IsWellSpelled b → (is_some (units_of b) ≡ true))
+spelled_decides b = (well_spelled b, well_spelled_test b)
+
+-- two tests of one fact have one answer
+pub same_answer : {P : Type 0} (a b : Bool) → ((a ≡ true) → P) × (P → (a ≡ true)) → ((b ≡ true) → P) × (P → (b ≡ true)) → a ≡ b
+same_answer true b p q = sym (q.1 (p.0 refl))
+same_answer false b p q = sym (false_from_ne_true b (λ e. false≢true (p.1 (q.0 e))))

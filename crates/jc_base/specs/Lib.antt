@@ -2,6 +2,7 @@ pub mod Bytes
 pub mod ByteMap
 pub mod CodeUnits
 pub mod Cursor
+pub mod DescriptorTests
 pub mod Descriptors
 pub mod Device
 pub mod FieldsInFront

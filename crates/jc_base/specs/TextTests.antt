@@ -1,8 +1,9 @@
 -- Tests that decide what a text is, for definitions that compute. `texts_are_decided` says that they do.
-use Rattle.std.specs.Prelude.{ℕ, zero, suc, Bool, ◌==◌, ◌&&◌, not, List, [], ◌∷◌, length, drop, Option, Some, None, option_and_then, option_map, is_some}
+use Rattle.std.specs.Prelude.{ℕ, zero, suc, Bool, ◌==◌, ◌&&◌, ◌||◌, not, List, [], ◌∷◌, length, drop, Option, Some, None, option_and_then, option_map, is_some, codes}
 use Rattle.std.specs.List.{list_all, list_any, slice_split}
 use Rattle.jc_base.specs.FirstUnit.{first_unit}
-use Rattle.jc_base.specs.Names.{name_stops}
+use Rattle.jc_base.specs.Bytes.{same_bytes}
+use Rattle.jc_base.specs.Names.{name_stops, method_name_stops}
 
 -- the units of a text of at most so many bytes
 unfoldable pub units_within : ℕ → List ℕ → Option (List ℕ)
@@ -15,9 +16,17 @@ units_within (suc n) (x ∷ xs) =
 abbrev pub units_of : List ℕ → Option (List ℕ)
 units_of b = units_within (length b) b
 
+-- none of these characters stands in the text
+abbrev pub has_none_of : List ℕ → List ℕ → Bool
+has_none_of characters b = list_all (λ c. not (list_any (λ s. s == c) characters)) b
+
 abbrev pub is_unqualified_text : List ℕ → Bool
 is_unqualified_text b =
-    is_some (units_of b) && (not (length b == 0) && list_all (λ c. not (list_any (λ s. s == c) name_stops)) b)
+    is_some (units_of b) && (not (length b == 0) && has_none_of name_stops b)
+
+abbrev pub is_method_name_text : List ℕ → Bool
+is_method_name_text b =
+    same_bytes b (codes "<init>") || same_bytes b (codes "<clinit>") || is_unqualified_text b && has_none_of method_name_stops b
 
 -- each part between two `/`
 abbrev pub is_class_text : List ℕ → Bool

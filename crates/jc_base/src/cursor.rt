@@ -53,6 +53,36 @@ impl<'a> Cursor<'a> {
         !self.rest.is_empty()
     }
 
+    /// The bytes that are left, as the slice of the input that they are.
+    pub fn rest(&self) -> &'a [u8]
+        ensures { result.now ≡ self.now.rest }
+    {
+        self.rest
+    }
+
+    /// Another cursor at this place.
+    pub fn fork(&self) -> Cursor<'a>
+        ensures { result ≡ self.now }
+    {
+        Cursor {
+            place: self.place,
+            rest: self.rest,
+        }
+    }
+
+    /// The next `count` bytes, as a cursor at their front that ends with them.
+    pub fn part(&mut self, count: usize) -> Option<Cursor<'a>>
+        ensures some { IsSome result ↔ HasLeft count self.old }
+        ensures place { IfSome result (λ part. part.place ≡ self.old.place) }
+        ensures rest { IfSome result (λ part. part.rest ≡ take count self.old.rest) }
+        ensures moved { IfSome result (λ _. self.new ≡ past count self.old) }
+        ensures none { IfNone result (self.new ≡ self.old) }
+    {
+        let place = self.place;
+        let rest = self.take(count)?;
+        Some(Cursor { place, rest })
+    }
+
     /// The next `count` bytes, as the slice of the input that they are.
     pub fn take(&mut self, count: usize) -> Option<&'a [u8]>
         ensures some { IsSome result ↔ HasLeft count self.old }

@@ -1,9 +1,10 @@
 //! Descriptors of fields and methods, the forms in which class files write types (JVMS 4.3).
 
-ghost use Rattle.std.specs.Prelude.{◌≡◌, ◌≢◌, ◌∷◌, [], ◌+◌, ◌<◌, ◌≤◌, ◌++◌, ◌↔◌, ◌==◌, ◌||◌, ℕ, List, All, Option, replicate, slice_index, position, Contains, length, codes, sum_by, IsTrue, IsSome, IfSome, IfNone, MatchOption};
+ghost use Rattle.std.specs.Prelude.{◌≡◌, ◌≢◌, ◌∷◌, [], ◌+◌, ◌<◌, ◌≤◌, ◌++◌, ◌↔◌, ◌==◌, ◌||◌, ℕ, List, All, Option, Some, replicate, slice_index, position, Contains, length, codes, sum_by, IsTrue, IsSome, IfSome, IfNone, MatchOption};
 ghost use Rattle.std.specs.Option.{option_copied};
 ghost use Rattle.std.specs.List.{list_any, concat};
 ghost use Rattle.jc_base.specs.Descriptors.{base_types, IsBaseType, IsClassType, IsElementType, IsField, IsFieldDescriptor, field_text, slots_of, result_text, IsMethod, IsMethodDescriptor, FieldType, MethodType};
+ghost use Rattle.jc_base.specs.DescriptorTests.{field_type_of, method_type_of};
 ghost use Rattle.jc_base.specs.Bytes.{same_bytes};
 ghost use Rattle.jc_base.specs.ModifiedUtf8.{IsWellSpelled};
 ghost use Rattle.jc_base.specs.FieldsInFront.{element_len, field_len, fields_of};
@@ -36,6 +37,7 @@ impl<'a> FieldDesc<'a> {
     pub fn read(text: &'a [u8]) -> Option<FieldDesc<'a>>
         ensures some { IsSome result ↔ IsFieldDescriptor text.now }
         ensures tree { IfSome result (IsField text.now) }
+        ensures computed { result ≡ field_type_of text.now }
     {
         let (dims, element) = split_dims(text);
         if dims > MOST_DIMS {
@@ -85,16 +87,17 @@ pub struct MethodDesc<'a> {
 }
 
 impl<'a> Model for MethodDesc<'a> {
-    ghost use Rattle.std.specs.Prelude.{◌≡◌, All, IfSome, sum_by};
+    ghost use Rattle.std.specs.Prelude.{◌≡◌, IfSome, sum_by};
     ghost use Rattle.std.specs.Option.{option_copied};
     ghost use Rattle.jc_base.specs.Descriptors.{MethodType, IsFieldDescriptor, slots_of};
     ghost use Rattle.jc_base.specs.FieldsInFront.{fields_of};
+    ghost use Rattle.jc_base.specs.MethodParts.{AreParams};
 
     ghost Value = { MethodType };
 
     ghost view = { λ m. record { params = fields_of m.params.now; result = option_copied m.result } };
 
-    ghost invariant = { λ m. All IsFieldDescriptor (fields_of m.params.now)
+    ghost invariant = { λ m. AreParams (fields_of m.params.now)
         × IfSome (option_copied m.result) IsFieldDescriptor
         × (m.slots ≡ sum_by slots_of (fields_of m.params.now)) };
 }
@@ -107,6 +110,7 @@ impl<'a> MethodDesc<'a> {
     pub fn read(text: &'a [u8]) -> Option<MethodDesc<'a>>
         ensures some { IsSome result ↔ IsMethodDescriptor text.now }
         ensures tree { IfSome result (IsMethod text.now) }
+        ensures computed { result ≡ method_type_of text.now }
     {
         let inner = text.strip_prefix(b"(")?;
         let (slots, rest) = read_params(inner)?;
@@ -123,6 +127,7 @@ impl<'a> MethodDesc<'a> {
     pub fn params(&self) -> Params<'a>
         ensures items { params_left result ≡ self.now.params }
         ensures each { All IsFieldDescriptor self.now.params }
+        ensures few { length self.now.params ≤ 255 }
     {
         Params { rest: self.params }
     }
@@ -147,6 +152,8 @@ impl<'a> MethodDesc<'a> {
 #[derive(Clone, Copy, Debug)]
 pub struct Params<'a> {
     rest: &'a [u8],
+    // Each takes a slot at least.
+    pub ghost few: { length (fields_of rest.now) ≤ 255 },
 }
 
 impl<'a> Iterator for Params<'a> {
@@ -170,6 +177,13 @@ impl<'a> Iterator for Params<'a> {
 pub fn descriptors_are_determined()
     ensures field { (b : List ℕ) (t u : FieldType) → IsField b t → IsField b u → t ≡ u }
     ensures method { (b : List ℕ) (t u : MethodType) → IsMethod b t → IsMethod b u → t ≡ u }
+{}
+
+/// The tests of descriptors that definitions compute with decide what the descriptors' definitions
+/// say.
+pub fn descriptors_are_decided()
+    ensures field { (b : List ℕ) (t : FieldType) → (field_type_of b ≡ Some t) ↔ IsField b t }
+    ensures method { (b : List ℕ) (t : MethodType) → (method_type_of b ≡ Some t) ↔ IsMethod b t }
 {}
 
 /// Descriptors are texts of modified UTF-8.

@@ -19,8 +19,8 @@ pub use byte_map::ByteMap;
 pub use code_units::{Units, units_end_at_the_first_wrong_spelling};
 pub use cursor::Cursor;
 pub use descriptors::{
-    FieldDesc, MethodDesc, Params, descriptor_examples, descriptors_are_determined,
-    descriptors_are_well_spelled,
+    FieldDesc, MethodDesc, Params, descriptor_examples, descriptors_are_decided,
+    descriptors_are_determined, descriptors_are_well_spelled,
 };
 pub use device::{DeviceFault, Input, Output};
 pub use mem_devices::{MemInput, MemOutput};

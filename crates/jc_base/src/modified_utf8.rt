@@ -1,8 +1,9 @@
 //! Modified UTF-8, in which class files write their texts (JVMS 4.4.7).
 
-ghost use Rattle.std.specs.Prelude.{◌≡◌, ℕ, ◌+◌, ◌*◌, ◌<◌, ◌≤◌, ◌↔◌, List, [], ◌∷◌, ◌++◌, length, take, All, Contains, IsOk, IfOk, IfErr, IfSome, OnSome};
+ghost use Rattle.std.specs.Prelude.{◌≡◌, ℕ, ◌+◌, ◌*◌, ◌<◌, ◌≤◌, ◌↔◌, List, [], ◌∷◌, ◌++◌, length, take, All, Contains, IsOk, IfOk, IfErr, IfSome, OnSome, is_ok, is_some};
 ghost use Rattle.jc_base.specs.declared.modified_utf8.UnitsError.TheVariants.{NoMemory};
 ghost use Rattle.jc_base.specs.ModifiedUtf8.{IsUnit, spelling, spelled, Spells, IsWellSpelled, IsLongestFront};
+ghost use Rattle.jc_base.specs.TextTests.{units_of};
 ghost use Rattle.jc_base.specs.FirstUnit.{six_bits, two_byte_unit, three_byte_unit, first_unit};
 
 use std::alloc::{AllocError, Global};
@@ -12,6 +13,7 @@ use std::alloc::{AllocError, Global};
 /// Surrogates may stand alone, and each unit has one spelling: an overlong one is an error.
 pub fn check_units(text: &[u8]) -> Result<(), usize>
     ensures ok { IsOk result ↔ IsWellSpelled text.now }
+    ensures computed { is_ok result ≡ is_some (units_of text.now) }
     ensures place { IfErr result (IsLongestFront text.now) }
 {
     let mut place = 0;

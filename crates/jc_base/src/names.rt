@@ -3,14 +3,15 @@
 ghost use Rattle.std.specs.Prelude.{◌≡◌, ◌↔◌, ℕ, List, Some, Contains, IsTrue, codes};
 ghost use Rattle.jc_base.specs.Names.{Lacks, name_stops, method_name_stops, IsUnqualifiedName, IsSpecialMethodName, IsMethodName, IsClassName};
 ghost use Rattle.jc_base.specs.ModifiedUtf8.{IsWellSpelled, Spells};
-ghost use Rattle.jc_base.specs.TextTests.{units_of, is_unqualified_text, is_class_text};
+ghost use Rattle.jc_base.specs.TextTests.{units_of, is_unqualified_text, is_method_name_text, is_class_text};
 
 use crate::modified_utf8::check_units;
 
 /// Whether `text` is an unqualified name, as a field or a local variable has (JVMS 4.2.2): at least
 /// one character and none of `.`, `;`, `[` and `/`.
 pub fn is_unqualified(text: &[u8]) -> bool
-    ensures { IsTrue result ↔ IsUnqualifiedName text.now }
+    ensures name { IsTrue result ↔ IsUnqualifiedName text.now }
+    ensures computed { result ≡ is_unqualified_text text.now }
 {
     !text.is_empty() && check_units(text).is_ok() && lacks_name_stops(text)
 }
@@ -18,7 +19,8 @@ pub fn is_unqualified(text: &[u8]) -> bool
 /// Whether `text` is a method's name (JVMS 4.2.2): `<init>`, `<clinit>` or an unqualified name
 /// without `<` and `>`.
 pub fn is_method_name(text: &[u8]) -> bool
-    ensures { IsTrue result ↔ IsMethodName text.now }
+    ensures name { IsTrue result ↔ IsMethodName text.now }
+    ensures computed { result ≡ is_method_name_text text.now }
 {
     is_special_method_name(text) || (is_unqualified(text) && lacks_method_name_stops(text))
 }
@@ -26,7 +28,8 @@ pub fn is_method_name(text: &[u8]) -> bool
 /// Whether `text` is a class or interface name in its internal form (JVMS 4.2.1): unqualified names
 /// with `/` between them, as `java/lang/Object`.
 pub fn is_class_name(text: &[u8]) -> bool
-    ensures { IsTrue result ↔ IsClassName text.now }
+    ensures name { IsTrue result ↔ IsClassName text.now }
+    ensures computed { result ≡ is_class_text text.now }
 {
     text.split(|byte| *byte == b'/').all(is_unqualified)
 }
@@ -75,6 +78,7 @@ pub fn names_are_well_spelled()
 pub fn texts_are_decided()
     ensures units { (b us : List ℕ) → (units_of b ≡ Some us) ↔ Spells us b }
     ensures unqualified { (b : List ℕ) → IsTrue (is_unqualified_text b) ↔ IsUnqualifiedName b }
+    ensures method { (b : List ℕ) → IsTrue (is_method_name_text b) ↔ IsMethodName b }
     ensures class { (b : List ℕ) → IsTrue (is_class_text b) ↔ IsClassName b }
 {}
 

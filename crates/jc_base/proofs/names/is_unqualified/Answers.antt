@@ -1,10 +1,11 @@
 use Rattle.std.proofs.Common.{◌∙◌, sym, length, ap}
 use Rattle.std.proofs.lemmas.Bool.{eqb-false}
+use Rattle.jc_base.proofs.TextTestLemmas.{same_answer, unqualified_decides}
 use Rattle.jc_base.proofs.names.is_unqualified.Goals as goal
 use Rattle.jc_base.proofs.names.is_unqualified.Goals.{then-not-is_empty, else-not-is_empty}
 
-pub returns-then-is_ok : goal.returns-then-is_ok
-returns-then-is_ok c =
+pub returns-then-is_ok-clause-name : goal.returns-then-is_ok-clause-name
+returns-then-is_ok-clause-name c =
     elim c.if-not-is_empty.branch [
       | then-not-is_empty w ↦ (
         λ yes. (w.check_units.ensures.ok.0 (sym w.is_ok.ensures.value ∙ sym w.value-is ∙ c.if-is_ok.true), (λ e. eqb-false (length c.args.text.now) 0 (sym c.is_empty.ensures ∙ w.if-not-is_empty.true) (ap length e)), c.lacks_name_stops.ensures.0 yes),
@@ -12,3 +13,6 @@ returns-then-is_ok c =
       )
       | else-not-is_empty w ↦ absurd (cc)
     ]
+
+pub returns-then-is_ok-clause-computed : goal.returns-then-is_ok-clause-computed
+returns-then-is_ok-clause-computed c = same_answer _ _ (returns-then-is_ok-clause-name c) (unqualified_decides c.args.text.now)

@@ -1,6 +1,8 @@
-use Rattle.std.proofs.Common.{refl, sym, ◌∙◌, arith}
+use Rattle.std.proofs.Common.{refl, sym, ◌∙◌, arith, rules}
 use Rattle.std.proofs.lemmas.Bool.{false≢true}
 use Rattle.jc_base.proofs.DescriptorLemmas.{parts_of}
+use Rattle.jc_base.specs.Descriptors.{IsField}
+use Rattle.jc_base.proofs.DescriptorTestLemmas.{same_read, field_decides}
 use Rattle.jc_base.proofs.descriptors.FieldDesc.read.Goals as goal
 
 pub returns-then-dims-gt-MOST_DIMS-clause-some : goal.returns-then-dims-gt-MOST_DIMS-clause-some
@@ -24,3 +26,12 @@ returns-else-is_element-clause-some c = (
       let parts = parts_of c.args.text.now c.split_dims-dims.result.0 c.split_dims-dims.result.1.now c.split_dims-dims.ensures.text c.split_dims-dims.ensures.all field in
       absurd (false≢true (sym c.if-is_element.false ∙ c.is_element.ensures.1 parts.1)),
 )
+
+pub returns-then-dims-gt-MOST_DIMS-clause-computed : goal.returns-then-dims-gt-MOST_DIMS-clause-computed
+returns-then-dims-gt-MOST_DIMS-clause-computed c = same_read (IsField c.args.text.now) _ _ (returns-then-dims-gt-MOST_DIMS-clause-some c) tt (field_decides c.args.text.now)
+
+pub returns-then-is_element-clause-computed : goal.returns-then-is_element-clause-computed
+returns-then-is_element-clause-computed c = same_read (IsField c.args.text.now) _ _ (returns-then-is_element-clause-some c) (search rules) (field_decides c.args.text.now)
+
+pub returns-else-is_element-clause-computed : goal.returns-else-is_element-clause-computed
+returns-else-is_element-clause-computed c = same_read (IsField c.args.text.now) _ _ (returns-else-is_element-clause-some c) tt (field_decides c.args.text.now)

@@ -2,7 +2,10 @@ use Rattle.std.proofs.Common.{[], ◌∷◌, Some, None, refl}
 use Rattle.std.proofs.lemmas.Bool.{false≢true}
 use Rattle.std.proofs.lemmas.Bool.Decides.{Decides-eqb}
 use Rattle.std.proofs.lemmas.Slice.Eq.{strip_prefix_is}
+use Rattle.jc_base.proofs.DescriptorLemmas.{method_split}
 use Rattle.jc_base.proofs.MethodLemmas.{method_read, cut_params, no_params, no_close, no_result}
+use Rattle.jc_base.specs.Descriptors.{MethodType, IsMethod}
+use Rattle.jc_base.proofs.DescriptorTestLemmas.{same_read, method_decides}
 use Rattle.jc_base.proofs.descriptors.MethodDesc.read.Goals as goal
 
 pub returns-in_err-slots-clause-some : goal.returns-in_err-slots-clause-some
@@ -55,3 +58,21 @@ returns-clause-tree c =
     let at = strip_prefix_is Decides-eqb c.args.text.now (40 ∷ []) (Some inner) c.in_ok-inner.ensures.cases in
     let close = strip_prefix_is Decides-eqb rest.now (41 ∷ []) (Some after) c.in_ok-strip_prefix.ensures.cases in
     method_read c.args.text.now inner.now rest.now after.now c.in_ok-slots.slots _ at c.in_ok-slots.ensures.found close c.in_ok-result.ensures.found
+
+pub returns-in_err-inner-clause-computed : goal.returns-in_err-inner-clause-computed
+returns-in_err-inner-clause-computed c =
+    let none : (type : MethodType) → IsMethod c.args.text.now type → ⊥ = λ type method.
+    strip_prefix_is Decides-eqb c.args.text.now (40 ∷ []) None c.in_err-inner.ensures.cases _ (method_split c.args.text.now type method) in
+    same_read (IsMethod c.args.text.now) _ _ (rw c.from_residual.ensures (λ e. absurd (false≢true e), λ found. absurd (none found.0 found.1))) (rw c.from_residual.ensures tt) (method_decides c.args.text.now)
+
+pub returns-in_err-slots-clause-computed : goal.returns-in_err-slots-clause-computed
+returns-in_err-slots-clause-computed c = same_read (IsMethod c.args.text.now) _ _ (returns-in_err-slots-clause-some c) (rw c.from_residual-in_err-slots.ensures tt) (method_decides c.args.text.now)
+
+pub returns-in_err-strip_prefix-clause-computed : goal.returns-in_err-strip_prefix-clause-computed
+returns-in_err-strip_prefix-clause-computed c = same_read (IsMethod c.args.text.now) _ _ (returns-in_err-strip_prefix-clause-some c) (rw c.from_residual-in_err-strip_prefix.ensures tt) (method_decides c.args.text.now)
+
+pub returns-in_err-result-clause-computed : goal.returns-in_err-result-clause-computed
+returns-in_err-result-clause-computed c = same_read (IsMethod c.args.text.now) _ _ (returns-in_err-result-clause-some c) (rw c.from_residual-in_err-result.ensures tt) (method_decides c.args.text.now)
+
+pub returns-clause-computed : goal.returns-clause-computed
+returns-clause-computed c = same_read (IsMethod c.args.text.now) _ _ (returns-clause-some c) (returns-clause-tree c) (method_decides c.args.text.now)

@@ -1,4 +1,4 @@
-use Rattle.std.proofs.Common.{ap, rules, length}
+use Rattle.std.proofs.Common.{ap, rules, length, arith}
 use Rattle.jc_base.proofs.DescriptorLemmas.{fields_end, fields_step}
 use Rattle.jc_base.proofs.descriptors.ParamsIterator.next.Goals as goal
 
@@ -13,3 +13,8 @@ returns-clause-steps c = fields_step c.args.self.now.rest.now _ _ c.in_ok-param.
 pub returns-clause-goes : goal.returns-clause-goes
 returns-clause-goes c =
     let shorter = ap length (fields_step c.args.self.now.rest.now _ _ c.in_ok-param.ensures.found) in search rules
+
+pub invariant_of-self : goal.invariant_of-self
+invariant_of-self c =
+    let shorter = ap length (fields_step c.args.self.now.rest.now _ _ c.in_ok-param.ensures.found) in
+    record { few = omega (arith, shorter, c.args.self.now.few) }
