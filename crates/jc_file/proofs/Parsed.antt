@@ -7,6 +7,8 @@ use Rattle.jc_file.specs.ClassFile.{ClassFile}
 use Rattle.jc_file.specs.Reading.{Parts, parts_at, class_value}
 use Rattle.jc_file.specs.Refusal.{IsLayoutOf, IsNamed, IsReadable, IsRefusal}
 use Rattle.jc_file.specs.Skip.{Fails}
+use Rattle.jc_file.specs.Tables.{HasVersion}
+use Rattle.jc_file.specs.declared.version.Version.{Version}
 use Rattle.jc_file.specs.Stored.{Holds}
 use Rattle.jc_file.proofs.Numbers.{IsBytes}
 use Rattle.jc_file.proofs.PoolSteps.{fails_is}
@@ -35,6 +37,11 @@ pub record IsParsed (b : List ℕ) (found : Parts) : Type 0 where
   pub this_class : found.numbers.this_class ≡ (class_value b found.places found.tail).this_class
   pub super_class : found.numbers.super_class ≡ (class_value b found.places found.tail).super_class
   pub is_layout : IsLayoutOf (class_value b found.places found.tail) b
+
+-- the version is that of the class file
+pub version_is : (b : List ℕ) (v : Version) (places : List (Option ℕ)) (tail : ℕ) → HasVersion (start b) v → (v.major ≡ (class_value b places tail).major) × (v.minor ≡ (class_value b places tail).minor)
+unfolding class_value
+version_is b v places tail h = (h.major, h.minor)
 
 pub parsed : (b : List ℕ) (found : Parts) (new : Reading) → IsBytes b → parts_at (start b) ≡ Ok (found, new) → IsParsed b found
 unfolding class_value

@@ -51,7 +51,7 @@ module _ {X : Type 0} {bytes : X → List ℕ} {Fits : X → Type 0} {after_one 
         ap suc (subst (λ (ys : List ℕ). length (each_value after_one value n ys) ≡ n) (sym left) others.2),
       )
 
-  each_again : Reads bytes Fits after_one value → (table : List X) (rest : List ℕ) → AllByRecursion Fits table
+  pub each_again : Reads bytes Fits after_one value → (table : List X) (rest : List ℕ) → AllByRecursion Fits table
       → (after_each after_one (length table) (flat_map bytes table ++ rest) ≡ Some rest) × (each_value after_one value (length table) (flat_map bytes table ++ rest) ≡ table)
   unfolding after_each each_value
   each_again reads [] rest fits = (refl, refl)
@@ -185,15 +185,22 @@ then_same : {A B : Type 0} (f g : A → Option B) → ((x : A) → f x ≡ g x) 
 then_same f g h None = refl
 then_same f g h (Some x) = h x
 
-each_index : (n : ℕ) (xs : List ℕ) → after_each (after 2) n xs ≡ after (2 * n) xs
+pub each_size : (k n : ℕ) (xs : List ℕ) → after_each (after k) n xs ≡ after (k * n) xs
 unfolding after_each
-each_index zero xs = sym (after_front 0 xs (omega arith))
-each_index (suc n) xs =
-    let k : 2 + 2 * n ≡ 2 * suc n = omega arith in
-    then_same (after_each (after 2) n) (after (2 * n)) (each_index n) (after 2 xs) ∙ sym (after_sum 2 (2 * n) xs) ∙ ap (λ (m : ℕ). after m xs) k
+each_size k zero xs = sym (ap (λ (m : ℕ). after m xs) (omega arith) ∙ after_front 0 xs (omega arith))
+each_size k (suc n) xs =
+    let size : k + k * n ≡ k * suc n = omega arith in
+    then_same (after_each (after k) n) (after (k * n)) (each_size k n) (after k xs) ∙ sym (after_sum k (k * n) xs) ∙ ap (λ (m : ℕ). after m xs) size
+
+-- a table of entries of one size, gone over at once
+abbrev pub after_all : ℕ → List ℕ → Option (List ℕ)
+after_all k xs = option_and_then (after (k * big_number 2 xs)) (after 2 xs)
+
+pub table_of_size : (k : ℕ) (xs : List ℕ) → after_table (after k) xs ≡ after_all k xs
+table_of_size k xs = then_same (after_each (after k) (big_number 2 xs)) (after (k * big_number 2 xs)) (each_size k (big_number 2 xs)) (after 2 xs)
 
 pub indexes_are : (xs : List ℕ) → after_indexes xs ≡ after_table (after 2) xs
-indexes_are xs = sym (then_same (after_each (after 2) (big_number 2 xs)) (after (2 * big_number 2 xs)) (each_index (big_number 2 xs)) (after 2 xs))
+indexes_are xs = sym (table_of_size 2 xs)
 
 pub reads_indexes : Reads (counted index_bytes) (FitsTable IsIndex) after_indexes (table_value (after 2) index_value)
 reads_indexes =

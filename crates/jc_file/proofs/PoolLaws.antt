@@ -177,3 +177,16 @@ pub pool_take : (indexes : ℕ) (old : Reading) (found : List (Option ℕ) × Re
 pool_take indexes old found fits e =
     let t = entries_take indexes false indexes old found fits (omega arith) e in
     subst (λ (ps : List (Option ℕ)). TakesPool indexes old ps found.1) (sym t.split) t.pool
+
+-- ---- how many indexes there are
+
+slots_of : (wide : Bool) (places : List (Option ℕ)) (n : ℕ) → length places ≡ n → suc (length (second_index wide ++ places)) ≡ cond wide 2 1 + n
+slots_of true places n e = omega (arith, e)
+slots_of false places n e = omega (arith, e)
+
+pub length-places_of : (constants : List Constant) (place : ℕ) → length (places_of place constants) ≡ all_slots constants
+unfolding places_of
+length-places_of [] place = refl
+length-places_of (c ∷ cs) place =
+    let next = place + length (constant_bytes c) in
+    slots_of (is_wide (kind_of c)) (places_of next cs) (all_slots cs) (length-places_of cs next)

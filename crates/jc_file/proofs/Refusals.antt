@@ -47,7 +47,7 @@ trailing_applies b pool rest fits head read behind some =
     let front : layout c ≡ take at b = sym (ap (take at) w.0.parts ∙ take_at (layout c) rest at (sym here)) in
     (omega (arith, here, len), c, record { fits = w.0.fits; bytes = front })
 
-good_of : (b : List ℕ) (found : ℕ × Reading) → head_at (start b) ≡ Ok found → IsGoodHead b × ◌≡◌ {A = ℕ × Reading} (count_in b, old_pool b) found
+pub good_of : (b : List ℕ) (found : ℕ × Reading) → head_at (start b) ≡ Ok found → IsGoodHead b × ◌≡◌ {A = ℕ × Reading} (count_in b, old_pool b) found
 good_of b found e =
     elim (head_is b) [
       | too_short lt h ↦ absurd (let impossible = sym h ∙ e in cc)
@@ -113,9 +113,19 @@ found_by b pool rest fits head read behind none =
       numbers = ap numbers_value w.1.rest;
     }
 
-pub parts_found : (b : List ℕ) (found : Parts × Reading) → IsBytes b → parts_at (start b) ≡ Ok found → IsFound b found.0
+-- bytes that were gone over to their end
+pub record IsGoneOver (b : List ℕ) (found : Parts × Reading) : Type 0 where
+  pub head : IsGoodHead b
+  pub pool : List (Option ℕ) × Reading
+  pub read : pool_at (count_in b) (old_pool b) ≡ Ok pool
+  pub rest : List ℕ
+  pub behind : after_tail pool.1.rest ≡ Some rest
+  pub none : length rest ≡ 0
+  pub same : ◌≡◌ {A = Parts × Reading} (parts_of pool, moved_to pool.1 rest) found
+
+pub gone_over : (b : List ℕ) (found : Parts × Reading) → parts_at (start b) ≡ Ok found → IsGoneOver b found
 unfolding parts_at last_at
-parts_found b found fits h =
+gone_over b found h =
     let a = bind_ok (head_at (start b)) (λ head. pool_at head.0 head.1 >>= λ pool. last_at pool.1 >>= λ last. last_of pool last) found h in
     let g = good_of b a.0 a.1 in
     let read : (pool_at (count_in b) (old_pool b) >>= λ pool. last_at pool.1 >>= λ last. last_of pool last) ≡ Ok found =
@@ -124,12 +134,21 @@ parts_found b found fits h =
     let last = bind_ok (last_at pool.0.1) (last_of pool.0) found pool.2 in
     let rest = bind_ok (or_refusal (after_tail pool.0.1.rest) errors.Short) (λ rest. unless (not (eqb (length rest) 0)) (errors.Trailing (moved_to pool.0.1 rest).place) >>= λ at_end. Ok (numbers_value pool.0.1.rest, moved_to pool.0.1 rest)) last.0 last.1 in
     let end = bind_ok (unless (not (eqb (length rest.0) 0)) (errors.Trailing (moved_to pool.0.1 rest.0).place)) (λ at_end. Ok (numbers_value pool.0.1.rest, moved_to pool.0.1 rest.0)) last.0 rest.2 in
-    let none : length rest.0 ≡ 0 = eqb-true _ _ (not_false _ (unless_ok _ _ _ end.1)) in
-    let whole = found_by b pool.0 rest.0 fits g.0 pool.1 (or_ok _ _ _ rest.1) none in
     let same_last : ◌≡◌ {A = Numbers × Reading} (numbers_value pool.0.1.rest, moved_to pool.0.1 rest.0) last.0 = ok_is _ _ end.2 in
-    let same : ◌≡◌ {A = Parts × Reading} (parts_of pool.0, moved_to pool.0.1 rest.0) found =
-    ap (λ (x : Numbers × Reading). (record { places = pool.0.0; tail = pool.0.1.place; numbers = x.0 }, x.1)) same_last ∙ ok_is _ _ last.2 in
-    subst (λ (x : Parts × Reading). IsFound b x.0) same whole
+    record {
+      head = g.0;
+      pool = pool.0;
+      read = pool.1;
+      rest = rest.0;
+      behind = or_ok _ _ _ rest.1;
+      none = eqb-true _ _ (not_false _ (unless_ok _ _ _ end.1));
+      same = ap (λ (x : Numbers × Reading). (record { places = pool.0.0; tail = pool.0.1.place; numbers = x.0 }, x.1)) same_last ∙ ok_is _ _ last.2;
+    }
+
+pub parts_found : (b : List ℕ) (found : Parts × Reading) → IsBytes b → parts_at (start b) ≡ Ok found → IsFound b found.0
+parts_found b found fits h =
+    let g = gone_over b found h in
+    subst (λ (x : Parts × Reading). IsFound b x.0) g.same (found_by b g.pool g.rest fits g.head g.read g.behind g.none)
 
 -- ---- nothing earlier applies
 

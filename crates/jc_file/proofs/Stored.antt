@@ -6,13 +6,14 @@ use Rattle.std.proofs.lemmas.List.{take_at, drop_at, drop-drop, length-drop, app
 use Rattle.jc_base.specs.Endian.{big_number}
 use Rattle.jc_file.specs.declared.constant_pool.ConstantIndex.{ConstantIndex}
 use Rattle.jc_file.specs.ConstantPool as pool
-use Rattle.jc_file.specs.ConstantPool.{Constant, kind_of, tag_of, kind_of_tag, is_wide, body_bytes, constant_bytes, FitsConstant}
-use Rattle.jc_file.specs.ClassFile.{ClassFile, tail_bytes, layout, FitsClassFile, second_index, places_of, constant_from_first, constant_at}
+use Rattle.jc_file.specs.ConstantPool.{Constant, kind_of, tag_of, kind_of_tag, is_wide, body_bytes, constant_bytes, FitsConstant, utf8_text}
+use Rattle.jc_file.specs.ClassFile.{ClassFile, tail_bytes, layout, FitsClassFile, all_slots, second_index, places_of, constant_from_first, constant_at}
 use Rattle.jc_file.specs.Reading.{after, constant_read}
 use Rattle.jc_file.specs.Stored.{place_at, Holds, IsLent}
-use Rattle.jc_file.proofs.Numbers.{after_front, after_text}
+use Rattle.jc_file.specs.Lookups.{utf8_at}
+use Rattle.jc_file.proofs.Numbers.{after_front, after_text, then_some}
 use Rattle.jc_file.proofs.FirstConstant.{first_byte, kind_of_its_tag}
-use Rattle.jc_file.proofs.PoolLaws.{pool_bytes}
+use Rattle.jc_file.proofs.PoolLaws.{pool_bytes, length-places_of}
 use Rattle.jc_file.proofs.Constants.{body_again}
 use Rattle.jc_file.proofs.Classes.{whole_again}
 
@@ -82,6 +83,10 @@ unfolding place_from
 found bytes places c index h =
     ap (λ (b : List ℕ). read_at b (place_at places index)) (sym h.layout) ∙ ap (λ (ps : List (Option ℕ)). read_at (layout c) (place_at ps index)) h.are_places ∙ found_in c index.0 h.fits
 
+-- there is a place for each index, and one for 0
+pub holds_count : (bytes : List ℕ) (places : List (Option ℕ)) (c : ClassFile) → Holds bytes places c → length places ≡ 1 + all_slots c.constants
+holds_count bytes places c h = omega (arith, ap length h.are_places, length-places_of c.constants 10)
+
 -- ---- texts at their places
 
 -- a constant begins at the place of its index
@@ -145,3 +150,25 @@ lent c index text fits e =
       begins = b.is_at;
       part = ap (take (length text)) (sym (drop-drop 3 b.at (layout c)) ∙ ap (drop 3) b.stands ∙ front) ∙ take_at text b.rest (length text) refl;
     }
+
+utf8_is : (k : Constant) (text : List ℕ) → utf8_text k ≡ Some text → k ≡ pool.Utf8 text
+utf8_is (pool.Utf8 t) text e = ap (λ (xs : List ℕ). pool.Utf8 xs) (some_is t text e)
+utf8_is (pool.Integer x) text e = absurd cc
+utf8_is (pool.Float x) text e = absurd cc
+utf8_is (pool.Long x) text e = absurd cc
+utf8_is (pool.Double x) text e = absurd cc
+utf8_is (pool.Class x) text e = absurd cc
+utf8_is (pool.String x) text e = absurd cc
+utf8_is (pool.Fieldref x y) text e = absurd cc
+utf8_is (pool.Methodref x y) text e = absurd cc
+utf8_is (pool.InterfaceMethodref x y) text e = absurd cc
+utf8_is (pool.NameAndType x y) text e = absurd cc
+utf8_is (pool.MethodHandle x y) text e = absurd cc
+utf8_is (pool.MethodType x) text e = absurd cc
+utf8_is (pool.InvokeDynamic x y) text e = absurd cc
+
+-- the text that a look-up finds
+pub text_lies : (c : ClassFile) (index : ConstantIndex) (text : List ℕ) → FitsClassFile c → utf8_at c index ≡ Some text → IsLent c index text
+text_lies c index text fits e =
+    let found = then_some (constant_at c index) utf8_text text e in
+    lent c index text fits (found.1 ∙ ap (λ (k : Constant). Some k) (utf8_is found.0 text found.2))

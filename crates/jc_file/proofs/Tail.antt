@@ -1,10 +1,15 @@
 -- What stands behind the constants: what is read is what was spelled, and what was spelled is read again.
-use Rattle.std.proofs.Common.{◌≡◌, ℕ, ◌^◌, ◌<◌, List, [], ◌++◌, drop, Option, Some, option_and_then, unwrap_or, sym, ap, subst, ◌∙◌, append_assoc}
+use Rattle.std.proofs.Common.{◌≡◌, ℕ, ◌^◌, ◌<◌, ◌+◌, List, [], ◌++◌, length, drop, Option, Some, option_and_then, unwrap_or, sym, ap, subst, ◌∙◌, append_assoc, arith}
+use Rattle.jc_base.specs.Cursor.{Reading}
 use Rattle.jc_base.specs.Endian.{big_number}
+use Rattle.jc_file.specs.declared.skip.Tables.{Tables}
+use Rattle.jc_file.specs.declared.table.Table.{Table}
 use Rattle.jc_file.specs.declared.constant_pool.ConstantIndex.{ConstantIndex}
 use Rattle.jc_file.specs.ConstantPool.{index_bytes, IsIndex}
 use Rattle.jc_file.specs.ClassFile.{ClassFile, Attribute, Member, counted, attribute_bytes, member_bytes, tail_bytes, FitsTable, FitsAttribute, FitsMember}
 use Rattle.jc_file.specs.Reading.{after, index_value, table_value, after_table, after_attribute, attribute_value, after_member, member_value, after_indexes, after_members, after_tail, fields_at, methods_at, attributes_at, class_with}
+use Rattle.jc_file.specs.Skip.{KeepsEnd}
+use Rattle.jc_file.specs.Tables.{LendsTable, StandsAt, HasTables}
 use Rattle.jc_file.proofs.Numbers.{IsBytes, Takes, Takes-then, after_some, then_some, takes_three, again_three, three_bytes}
 use Rattle.jc_file.proofs.Parts.{reads_table, reads_attribute, reads_member, reads_indexes}
 
@@ -78,6 +83,33 @@ tail_takes xs rest fits e =
     (subst (λ (ys : List ℕ). Taken xs a.0 b.0 ys (attributes_at xs) rest) (sym is_c)
     (subst (λ (ys : List ℕ). Taken xs a.0 b.0 c.0 ys rest) (sym is_d) here)))
 
+-- the tables, each behind the one before it
+pub record HasTail (xs rest : List ℕ) : Type 0 where
+  pub interfaces : after_indexes (drop 6 xs) ≡ Some (fields_at xs)
+  pub fields : after_members (fields_at xs) ≡ Some (methods_at xs)
+  pub methods : after_members (methods_at xs) ≡ Some (attributes_at xs)
+  pub attributes : after_table after_attribute (attributes_at xs) ≡ Some rest
+
+pub has_tail : (xs rest : List ℕ) → after_tail xs ≡ Some rest → HasTail xs rest
+unfolding after_tail
+has_tail xs rest e =
+    let d = then_some (option_and_then after_members (option_and_then after_members (option_and_then after_indexes (after 6 xs)))) (after_table after_attribute) rest e in
+    let c = then_some (option_and_then after_members (option_and_then after_indexes (after 6 xs))) after_members d.0 d.1 in
+    let b = then_some (option_and_then after_indexes (after 6 xs)) after_members c.0 c.1 in
+    let a = then_some (after 6 xs) after_indexes b.0 b.1 in
+    let to_b : after_indexes (drop 6 xs) ≡ Some b.0 = ap after_indexes (after_some 6 xs a.0 a.1).left ∙ a.2 in
+    let is_b : fields_at xs ≡ b.0 = ap left_of to_b in
+    let to_c : after_members (fields_at xs) ≡ Some c.0 = ap after_members is_b ∙ b.2 in
+    let is_c : methods_at xs ≡ c.0 = ap left_of to_c in
+    let to_d : after_members (methods_at xs) ≡ Some d.0 = ap after_members is_c ∙ c.2 in
+    let is_d : attributes_at xs ≡ d.0 = ap left_of to_d in
+    record {
+      interfaces = to_b ∙ ap (λ (ys : List ℕ). Some ys) (sym is_b);
+      fields = to_c ∙ ap (λ (ys : List ℕ). Some ys) (sym is_c);
+      methods = to_d ∙ ap (λ (ys : List ℕ). Some ys) (sym is_d);
+      attributes = ap (after_table after_attribute) is_d ∙ d.2;
+    }
+
 -- the bytes behind the constants are read again
 pub record IsTailAgain (c : ClassFile) (rest : List ℕ) : Type 0 where
   pub left : after_tail (tail_bytes c ++ rest) ≡ Some rest
@@ -124,4 +156,30 @@ tail_again c rest fits =
       left = ap after_tail regrouped ∙ ap (option_and_then (after_table after_attribute)) to_d ∙ attributes.0;
       same = ap (λ (t : List ℕ). class_with c.minor c.major c.constants t) regrouped
           ∙ same_class c head.first head.second head.third (ap interfaces_in head.behind ∙ interfaces.1) (ap members_in is_f ∙ fields.1) (ap members_in is_m ∙ methods.1) (ap attributes_in is_d ∙ attributes.1);
+    }
+
+-- ---- where the tables stand
+
+stands : (after_it : List ℕ → Option (List ℕ)) (tail old new : Reading) (xs : List ℕ) (t : Table) → xs ≡ old.rest → KeepsEnd tail old → LendsTable after_it old (Some t) new → StandsAt xs (tail.place + length tail.rest) t
+stands after_it tail old new xs t same keeps h =
+    let place : t.cursor.place ≡ old.place + 2 = ap (λ (r : Reading). r.place) h.3 in
+    record {
+      count = h.2 ∙ ap (big_number 2) (sym same);
+      rest = ap (λ (r : Reading). r.rest) h.3 ∙ ap (drop 2) (sym same);
+      place = omega (arith, place, keeps, ap length same);
+    }
+
+pub has_tables : (tail a b c d new : Reading) (t : Tables) → after 6 tail.rest ≡ Some a.rest → KeepsEnd tail a → LendsTable after_indexes a (Some t.interfaces) b → LendsTable after_members b (Some t.fields) c → LendsTable after_members c (Some t.methods) d
+    → LendsTable (after_table after_attribute) d (Some t.attributes) new → HasTables tail t
+has_tables tail a b c d new t numbers keeps interfaces fields methods attributes =
+    let xs = tail.rest in
+    let is_a : drop 6 xs ≡ a.rest = (after_some 6 xs a.rest numbers).left in
+    let is_b : fields_at xs ≡ b.rest = ap (λ (ys : List ℕ). left_of (after_indexes ys)) is_a ∙ ap left_of interfaces.0 in
+    let is_c : methods_at xs ≡ c.rest = ap (λ (ys : List ℕ). left_of (after_members ys)) is_b ∙ ap left_of fields.0 in
+    let is_d : attributes_at xs ≡ d.rest = ap (λ (ys : List ℕ). left_of (after_members ys)) is_c ∙ ap left_of methods.0 in
+    record {
+      interfaces = stands after_indexes tail a b (drop 6 xs) t.interfaces is_a keeps interfaces;
+      fields = stands after_members tail b c (fields_at xs) t.fields is_b (interfaces.1 ∙ keeps) fields;
+      methods = stands after_members tail c d (methods_at xs) t.methods is_c (fields.1 ∙ interfaces.1 ∙ keeps) methods;
+      attributes = stands (after_table after_attribute) tail d new (attributes_at xs) t.attributes is_d (methods.1 ∙ fields.1 ∙ interfaces.1 ∙ keeps) attributes;
     }

@@ -1,10 +1,20 @@
 //! Laws of the definitions: functions without a body, whose contracts are the laws.
 
-ghost use Rattle.std.specs.Prelude.{◌≡◌, ◌↔◌, ◌++◌, [], ◌∷◌, ℕ, List, Ok, Err, take, codes};
+ghost use Rattle.std.specs.Prelude.{◌≡◌, ◌↔◌, ◌++◌, [], ◌∷◌, ℕ, List, Some, Ok, Err, take, codes};
+ghost use Rattle.std.specs.List.Sorted.{IsStrictlySortedBy};
+ghost use Rattle.jc_file.specs.declared.fault.Fault.{Fault};
+ghost use Rattle.jc_file.specs.Faults.{faults, places};
+ghost use Rattle.jc_file.specs.FaultOrder.{fault_cmp};
 ghost use Rattle.jc_file.specs.Examples.{class_a, class_a_data, head, constants, tail};
 ghost use Rattle.jc_file.specs.declared.parse_error.ParseError.{ParseError};
 ghost use Rattle.jc_file.specs.ClassFile.{ClassFile, layout, FitsClassFile};
 ghost use Rattle.jc_file.specs.Refusal.{Applies, IsLayoutOf, IsReadable, IsRefusal};
+ghost use Rattle.jc_file.specs.Attributes.{Code, IsCodeOf, code_in, exceptions_in, AreExceptionsOf, Bootstrap, bootstraps_in, AreBootstrapsOf, all_attributes};
+ghost use Rattle.std.specs.List.{Contains};
+ghost use Rattle.jc_file.specs.declared.constant_pool.ConstantIndex.{ConstantIndex};
+ghost use Rattle.jc_file.specs.Lookups.{utf8_at};
+ghost use Rattle.jc_file.specs.Places.{PlacedAttribute};
+ghost use Rattle.jc_file.specs.Stored.{IsLent, HasBytesAt};
 ghost use Rattle.jc_file.specs.Outcome.{AreBytes, NamesClass, class_named};
 
 use jc_base::texts_are_decided;
@@ -16,6 +26,21 @@ pub fn outcomes_are_exact()
 {
     texts_are_decided();
 }
+
+/// What is read in the bytes of a `Code`, an `Exceptions` or a `BootstrapMethods` attribute is the one
+/// well-formed content that they are.
+pub fn attributes_are_read()
+    ensures code { (b : List ℕ) (k : Code) → AreBytes b → (code_in b ≡ Some k) ↔ IsCodeOf b k }
+    ensures exceptions { (b : List ℕ) (names : List ConstantIndex) → AreBytes b → (exceptions_in b ≡ Some names) ↔ AreExceptionsOf b names }
+    ensures bootstraps { (b : List ℕ) (methods : List Bootstrap) → AreBytes b → (bootstraps_in b ≡ Some methods) ↔ AreBootstrapsOf b methods }
+{}
+
+/// The text of a constant is the part of the file at the constant's place, and the bytes of an
+/// attribute are the part behind its place, its name and its length, of an attribute of a `Code` too.
+pub fn texts_lie_in_the_layout()
+    ensures texts { (c : ClassFile) (index : ConstantIndex) (text : List ℕ) → FitsClassFile c → utf8_at c index ≡ Some text → IsLent c index text }
+    ensures attributes { (c : ClassFile) (a : PlacedAttribute) → FitsClassFile c → Contains (all_attributes c) a → HasBytesAt (layout c) a }
+{}
 
 /// No class file's bytes are a proper front of another's, a class file has its bytes alone, and at
 /// most one refusal is the first that applies.
@@ -44,3 +69,10 @@ pub fn parsing_examples()
 {
     outcomes_are_exact();
 }
+
+/// The faults of a class file stand by rule and then by place, each once, and there is one for each
+/// place of each rule.
+pub fn faults_are_exact()
+    ensures rising { (c : ClassFile) → IsStrictlySortedBy fault_cmp (faults c) }
+    ensures exact { (c : ClassFile) (fault : Fault) → Contains (faults c) fault ↔ Contains (places c fault.rule) fault.place }
+{}

@@ -1,6 +1,6 @@
 //! Looking constants up by their index, in bytes that were gone over.
 
-ghost use Rattle.std.specs.Prelude.{◌≡◌, drop};
+ghost use Rattle.std.specs.Prelude.{◌≡◌, ◌+◌, ◌≤◌, drop, length};
 ghost use Rattle.std.specs.Option.{option_map};
 ghost use Rattle.jc_file.specs.Reading.{after, after_body, after_sized, body_value, constant_read, index_value, sized_value};
 ghost use Rattle.jc_base.specs.Endian.{big_number};
@@ -10,6 +10,7 @@ ghost use Rattle.jc_file.specs.Stored.{place_at, Holds};
 ghost use Rattle.jc_file.specs.View.{constant_of};
 
 use crate::constant_pool::{Constant, ConstantIndex, ConstantKind};
+use byteorder::{BigEndian, ByteOrder};
 use jc_base::Cursor;
 
 /// Where the constant of an index begins, if one does.
@@ -82,10 +83,18 @@ fn read_text<'a>(cursor: &mut Cursor<'a>) -> Option<&'a [u8]>
     cursor.take(length as usize)
 }
 
-fn read_index(cursor: &mut Cursor) -> Option<ConstantIndex>
+pub(crate) fn read_index(cursor: &mut Cursor) -> Option<ConstantIndex>
     ensures { Lends (λ index. index) (after 2) index_value cursor.old result cursor.new }
 {
     Some(ConstantIndex(cursor.u2()?))
+}
+
+/// The index that stands so many bytes behind the front.
+pub(crate) fn index_at(bytes: &[u8], at: usize) -> ConstantIndex
+    requires { at + 2 ≤ length bytes.now }
+    ensures { result ≡ index_value (drop at bytes.now) }
+{
+    ConstantIndex(BigEndian::read_u16(&bytes[at..]))
 }
 
 /// A number of eight bytes, by its two halves (JVMS 4.4.5).

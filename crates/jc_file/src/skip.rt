@@ -3,23 +3,29 @@
 ghost use Rattle.std.specs.Prelude.{◌≡◌, ◌<◌, IfOk};
 ghost use Rattle.jc_file.specs.Reading.{after, after_attribute, after_member, after_table, after_indexes, after_tail, after_body};
 ghost use Rattle.jc_file.specs.Reading.{first_constant, entry_at, entry, pool_at, head_at, last_at, parts_at, numbers_value, is_accepted};
+ghost use Rattle.std.specs.Prelude.{IfSome};
 ghost use Rattle.jc_file.specs.Skip.{MovesBehind, Lends, Takes};
 ghost use Rattle.jc_file.specs.Parts.{parts, numbers};
+ghost use Rattle.jc_file.specs.Tables.{LendsTable, HasVersion, HasTables, TablesAtTail};
 
 use crate::constant_pool::{ConstantIndex, ConstantKind};
 use crate::parse_error::ParseError;
 use crate::pool::read_pair;
+use crate::table::Table;
+use crate::version::Version;
 use jc_base::Cursor;
 use std::alloc::Global;
 
 const MAGIC: u32 = 0xcafebabe;
 
-/// Where the constants of a class file begin, by index, the place behind them, and the numbers there.
+/// Where the constants of a class file begin, by index, the place behind them, and what stands there.
 #[derive(Drop)]
-pub(crate) struct Parts {
+pub(crate) struct Parts<'a> {
     pub(crate) offsets: Vec<Option<usize>>,
     pub(crate) tail: usize,
+    pub(crate) version: Version,
     pub(crate) numbers: Numbers,
+    pub(crate) tables: Tables<'a>,
 }
 
 /// The numbers behind the constants.
@@ -30,39 +36,58 @@ pub(crate) struct Numbers {
     pub(crate) super_class: ConstantIndex,
 }
 
+/// The tables behind those numbers.
+#[derive(Drop)]
+pub(crate) struct Tables<'a> {
+    pub(crate) interfaces: Table<'a>,
+    pub(crate) fields: Table<'a>,
+    pub(crate) methods: Table<'a>,
+    pub(crate) attributes: Table<'a>,
+}
+
 /// Goes over a whole class file.
 #[tactic(auto, unfolding(crate::specs::Reading::parts_at))]
-pub(crate) fn skip_class(alloc: Global, cursor: &mut Cursor) -> Result<Parts, ParseError>
-    ensures { Takes parts parts_at cursor.old result cursor.new }
+pub(crate) fn skip_class<'a>(
+    alloc: Global,
+    cursor: &mut Cursor<'a>,
+) -> Result<Parts<'a>, ParseError>
+    ensures parts { Takes parts parts_at cursor.old result cursor.new }
+    ensures version { IfOk result (λ parts. HasVersion cursor.old parts.version) }
+    ensures tables { IfOk result (TablesAtTail cursor.old) }
 {
-    let count = skip_head(cursor)?;
+    let (version, count) = skip_head(cursor)?;
     let offsets = skip_pool(alloc, count, cursor)?;
     let tail = cursor.place();
-    let numbers = read_last(cursor)?;
+    let (numbers, tables) = read_last(cursor)?;
     Ok(Parts {
         offsets,
         tail,
+        version,
         numbers,
+        tables,
     })
 }
 
-/// Past what stands behind the constants, which are the last bytes: the numbers at its front.
+/// Past what stands behind the constants, which are the last bytes: the numbers at its front, and
+/// the tables.
 #[tactic(auto, unfolding(crate::specs::Reading::last_at))]
-fn read_last(cursor: &mut Cursor) -> Result<Numbers, ParseError>
-    ensures { Takes numbers last_at cursor.old result cursor.new }
+fn read_last<'a>(cursor: &mut Cursor<'a>) -> Result<(Numbers, Tables<'a>), ParseError>
+    ensures numbers { Takes (λ last. numbers last.0) last_at cursor.old result cursor.new }
+    ensures tables { IfOk result (λ last. HasTables cursor.old last.1) }
 {
-    let numbers = read_tail(cursor).ok_or(ParseError::Short)?;
+    let (numbers, tables) = read_tail(cursor).ok_or(ParseError::Short)?;
     if cursor.has_left() {
         return Err(ParseError::Trailing(cursor.place()));
     }
-    Ok(numbers)
+    Ok((numbers, tables))
 }
 
-/// Past what stands before the constants: their count, which is not 0.
+/// Past what stands before the constants: the version, and their count, which is not 0.
 #[tactic(auto, unfolding(crate::specs::Reading::head_at))]
-fn skip_head(cursor: &mut Cursor) -> Result<u16, ParseError>
-    ensures head { Takes (λ count. count) head_at cursor.old result cursor.new }
-    ensures some { IfOk result (λ count. 0 < count) }
+fn skip_head(cursor: &mut Cursor) -> Result<(Version, u16), ParseError>
+    ensures head { Takes (λ head. head.1) head_at cursor.old result cursor.new }
+    ensures version { IfOk result (λ head. HasVersion cursor.old head.0) }
+    ensures some { IfOk result (λ head. 0 < head.1) }
 {
     if cursor.u4().ok_or(ParseError::Short)? != MAGIC {
         return Err(ParseError::Magic);
@@ -76,7 +101,7 @@ fn skip_head(cursor: &mut Cursor) -> Result<u16, ParseError>
     if count == 0 {
         return Err(ParseError::Count);
     }
-    Ok(count)
+    Ok((Version { major, minor }, count))
 }
 
 fn is_accepted_version(major: u16, minor: u16) -> bool
@@ -85,17 +110,24 @@ fn is_accepted_version(major: u16, minor: u16) -> bool
     major == 51 || major == 52 && minor == 0
 }
 
-/// Past what stands behind the constants: the numbers at its front.
+/// Past what stands behind the constants: the numbers at its front, and the tables.
 #[tactic(auto, unfolding(crate::specs::Reading::after_tail))]
-fn read_tail(cursor: &mut Cursor) -> Option<Numbers>
-    ensures { Lends numbers after_tail numbers_value cursor.old result cursor.new }
+fn read_tail<'a>(cursor: &mut Cursor<'a>) -> Option<(Numbers, Tables<'a>)>
+    ensures numbers { Lends (λ tail. numbers tail.0) after_tail numbers_value cursor.old result cursor.new }
+    ensures tables { IfSome result (λ tail. HasTables cursor.old tail.1) }
 {
     let numbers = read_numbers(cursor)?;
-    skip_indexes(cursor)?;
-    skip_members(cursor)?;
-    skip_members(cursor)?;
-    skip_attributes(cursor)?;
-    Some(numbers)
+    let interfaces = skip_indexes(cursor)?;
+    let fields = skip_members(cursor)?;
+    let methods = skip_members(cursor)?;
+    let attributes = skip_attributes(cursor)?;
+    let tables = Tables {
+        interfaces,
+        fields,
+        methods,
+        attributes,
+    };
+    Some((numbers, tables))
 }
 
 fn read_numbers(cursor: &mut Cursor) -> Option<Numbers>
@@ -110,22 +142,30 @@ fn read_numbers(cursor: &mut Cursor) -> Option<Numbers>
     })
 }
 
-fn skip_indexes(cursor: &mut Cursor) -> Option<()>
-    ensures { MovesBehind after_indexes cursor.old result cursor.new }
+pub(crate) fn skip_indexes<'a>(cursor: &mut Cursor<'a>) -> Option<Table<'a>>
+    ensures { LendsTable after_indexes cursor.old result cursor.new }
 {
     let count = cursor.u2()?;
+    let first = cursor.fork();
     cursor.take(2 * count as usize)?;
-    Some(())
+    Some(Table {
+        left: count,
+        cursor: first,
+    })
 }
 
-fn skip_members(cursor: &mut Cursor) -> Option<()>
-    ensures { MovesBehind (after_table after_member) cursor.old result cursor.new }
+fn skip_members<'a>(cursor: &mut Cursor<'a>) -> Option<Table<'a>>
+    ensures { LendsTable (after_table after_member) cursor.old result cursor.new }
 {
     let count = cursor.u2()?;
+    let first = cursor.fork();
     for _ in 0..count {
         skip_member(cursor)?;
     }
-    Some(())
+    Some(Table {
+        left: count,
+        cursor: first,
+    })
 }
 
 #[tactic(auto, unfolding(crate::specs::Reading::after_member))]
@@ -133,17 +173,23 @@ fn skip_member(cursor: &mut Cursor) -> Option<()>
     ensures { MovesBehind after_member cursor.old result cursor.new }
 {
     cursor.take(6)?;
-    skip_attributes(cursor)
+    skip_attributes(cursor)?;
+    Some(())
 }
 
-fn skip_attributes(cursor: &mut Cursor) -> Option<()>
-    ensures { MovesBehind (after_table after_attribute) cursor.old result cursor.new }
+/// Past a table of attributes.
+pub(crate) fn skip_attributes<'a>(cursor: &mut Cursor<'a>) -> Option<Table<'a>>
+    ensures { LendsTable (after_table after_attribute) cursor.old result cursor.new }
 {
     let count = cursor.u2()?;
+    let first = cursor.fork();
     for _ in 0..count {
         skip_attribute(cursor)?;
     }
-    Some(())
+    Some(Table {
+        left: count,
+        cursor: first,
+    })
 }
 
 #[tactic(auto, unfolding(crate::specs::Reading::after_attribute))]

@@ -2,16 +2,25 @@
 
 ghost use Rattle.std.specs.Prelude.{◌≡◌, ◌⊎◌, ℕ, List, IfOk, IfErr, IfSome, IfNone};
 ghost use Rattle.jc_file.specs.declared.parse_error.ParseError.TheVariants.{NoMemory};
+ghost use Rattle.std.specs.Prelude.{◌+◌, ◌<◌, ◌^◌, length};
 ghost use Rattle.std.specs.Option.{option_copied, option_map};
-ghost use Rattle.jc_file.specs.ClassFile.{ClassFile, class_text_at, constant_at};
+ghost use Rattle.jc_file.specs.ClassFile.{ClassFile, all_slots, class_text_at, constant_at};
+ghost use Rattle.jc_file.specs.Lookups.{utf8_at};
+ghost use Rattle.jc_file.specs.Places.{fields_in, methods_in, attributes_in};
 ghost use Rattle.jc_file.specs.View.{constant_of};
 ghost use Rattle.jc_file.specs.Stored.{Holds, IsLent};
 ghost use Rattle.jc_file.specs.Refusal.{IsLayoutOf, IsNamed, IsReadable, IsRefusal};
 
+use crate::attribute_kind::Holder;
+use crate::attributes::Attributes;
 use crate::constant_pool::{Constant, ConstantIndex};
+use crate::indexes::Indexes;
+use crate::interfaces::Interfaces;
+use crate::members::Members;
 use crate::parse_error::ParseError;
 use crate::pool::entry;
-use crate::skip::{Numbers, skip_class};
+use crate::skip::{Numbers, Tables, skip_class};
+use crate::version::Version;
 use jc_base::{Cursor, is_class_name};
 use std::alloc::Global;
 use std::marker::Model;
@@ -22,7 +31,9 @@ pub struct ClassView<'a> {
     bytes: &'a [u8],
     offsets: Vec<Option<usize>>,
     tail: usize,
+    version: Version,
     numbers: Numbers,
+    tables: Tables<'a>,
     name: &'a [u8],
 }
 
@@ -57,12 +68,115 @@ impl<'a> ClassView<'a> {
         self.numbers.flags
     }
 
+    /// The index of the class's own Class constant.
+    pub(crate) fn this_class(&self) -> ConstantIndex
+        ensures { result ≡ self.now.this_class }
+    {
+        self.numbers.this_class
+    }
+
+    /// The index of the superclass's Class constant, or 0.
+    pub(crate) fn super_class(&self) -> ConstantIndex
+        ensures { result ≡ self.now.super_class }
+    {
+        self.numbers.super_class
+    }
+
     /// The text of the superclass's Class constant; `None` where super_class names none, as in
     /// `java/lang/Object`, whose super_class is 0.
     pub fn super_name(&self) -> Option<&'a [u8]>
         ensures { option_copied result ≡ class_text_at self.now self.now.super_class }
     {
-        class_text(self.bytes, &self.offsets, self.numbers.super_class)
+        self.class_text(self.numbers.super_class)
+    }
+
+    /// The version of the format that the file is in: 51 with any minor, or 52.0.
+    pub fn version(&self) -> Version
+        ensures major { result.major ≡ self.now.major }
+        ensures minor { result.minor ≡ self.now.minor }
+    {
+        self.version
+    }
+
+    /// One more than the greatest index of a constant: constant_pool_count (JVMS 4.1).
+    pub fn constant_count(&self) -> u16
+        ensures { result ≡ 1 + all_slots self.now.constants }
+    {
+        self.offsets.as_slice().len() as u16
+    }
+
+    /// The names of the interfaces that it extends or implements; `None` for one whose entry names no
+    /// class.
+    pub fn interfaces(&self) -> Interfaces<'_, 'a>
+        ensures left { result ≡ record { class = self.now; left = self.now.interfaces } }
+        ensures few { length self.now.interfaces < 2 ^ 16 }
+    {
+        Interfaces {
+            class: self,
+            table: self.tables.interfaces.fork(),
+        }
+    }
+
+    /// The entries of those interfaces.
+    pub(crate) fn interface_indexes(&self) -> Indexes<'a>
+        ensures left { result ≡ self.now.interfaces }
+        ensures few { length self.now.interfaces < 2 ^ 16 }
+    {
+        Indexes {
+            table: self.tables.interfaces.fork(),
+        }
+    }
+
+    /// The fields, in the order of the file (JVMS 4.5).
+    pub fn fields(&self) -> Members<'_, 'a>
+        ensures left { result ≡ record { class = self.now; left = fields_in self.now } }
+        ensures few { length self.now.fields < 2 ^ 16 }
+    {
+        Members {
+            class: self,
+            holder: Holder::Field,
+            table: self.tables.fields.fork(),
+        }
+    }
+
+    /// The methods, constructors and initializers too, in the order of the file (JVMS 4.6).
+    pub fn methods(&self) -> Members<'_, 'a>
+        ensures left { result ≡ record { class = self.now; left = methods_in self.now } }
+        ensures few { length self.now.methods < 2 ^ 16 }
+    {
+        Members {
+            class: self,
+            holder: Holder::Method,
+            table: self.tables.methods.fork(),
+        }
+    }
+
+    /// The attributes of the class itself.
+    pub fn attributes(&self) -> Attributes<'_, 'a>
+        ensures { result ≡ record { class = self.now; left = attributes_in self.now } }
+    {
+        Attributes {
+            class: self,
+            holder: Holder::Class,
+            table: self.tables.attributes.fork(),
+        }
+    }
+
+    /// The text of the `Utf8` constant of an index.
+    pub(crate) fn utf8(&self, index: ConstantIndex) -> Option<&'a [u8]>
+        ensures { option_copied result ≡ utf8_at self.now index }
+    {
+        let Constant::Utf8(text) = entry(self.bytes, &self.offsets, index)? else {
+            return None;
+        };
+        Some(text)
+    }
+
+    /// The text of the Class constant of an index.
+    pub(crate) fn class_text(&self, index: ConstantIndex) -> Option<&'a [u8]>
+        ensures { option_copied result ≡ class_text_at self.now index }
+    {
+        class_text(self.bytes, &self.offsets, index)
     }
 
     /// The constant of an index; `None` for 0, for one past the last, and for the second index of a
@@ -92,7 +206,9 @@ pub fn parse<'a>(alloc: Global, bytes: &'a [u8]) -> Result<ClassView<'a>, ParseE
         bytes,
         offsets: parts.offsets,
         tail: parts.tail,
+        version: parts.version,
         numbers: parts.numbers,
+        tables: parts.tables,
         name,
     })
 }

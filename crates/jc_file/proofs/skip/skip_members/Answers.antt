@@ -1,4 +1,4 @@
-use Rattle.std.proofs.Common.{◌∙◌}
+use Rattle.std.proofs.Common.{rules, ◌∙◌}
 use Rattle.jc_file.specs.Reading.{after_member, after_table}
 use Rattle.jc_file.proofs.Tables.{each_more, each_cut, each_done}
 use Rattle.jc_file.proofs.skip.skip_members.Goals as goal
@@ -15,4 +15,4 @@ loop-preserved c =
 
 pub returns : goal.returns
 returns c =
-    (each_done after_member c.in_ok-count.count c.loop.counter c.loop.cursor.rest (after_table after_member c.args.cursor.now.rest) c.loop-test.false c.loop.invariant.0, c.loop.invariant.1)
+    (each_done after_member c.in_ok-count.count c.loop.counter c.loop.cursor.rest (after_table after_member c.args.cursor.now.rest) c.loop-test.false c.loop.invariant.0, c.loop.invariant.1, search rules, search rules)

@@ -1,0 +1,10 @@
+-- The faults of attributes against a rule.
+use Rattle.std.specs.Prelude.{List, map, filter}
+use Rattle.jc_file.specs.declared.fault.Fault.{Fault}
+use Rattle.jc_file.specs.declared.fault.FormatRule.{FormatRule}
+use Rattle.jc_file.specs.ClassFile.{ClassFile}
+use Rattle.jc_file.specs.Places.{PlacedAttribute}
+use Rattle.jc_file.specs.RuleTests.{attribute_breaks, fault_at}
+
+abbrev pub faults_in : FormatRule → ClassFile → List PlacedAttribute → List Fault
+faults_in rule c attributes = map (fault_at rule) (map (λ a. a.place) (filter (attribute_breaks rule c) attributes))

@@ -1,0 +1,82 @@
+//! The format faults of a class file (JVMS 4.1 to 4.8).
+
+ghost use Rattle.std.specs.Prelude.{◌≡◌, ◌++◌, OnOk, IfOk};
+ghost use Rattle.jc_file.specs.Faults.{faults, faults_against};
+
+use crate::attribute_faults::add_attribute_faults;
+use crate::bootstraps::breaks_f27;
+use crate::class_faults::{add_class_fault, add_interface_faults};
+use crate::class_rules::{breaks_f12, breaks_f13};
+use crate::constant_faults::{add_constant_faults, add_untold_faults};
+use crate::fault::{Fault, FormatRule};
+use crate::member_faults::{add_field_faults, add_method_faults};
+use crate::repeated::{add_repeated_fields, add_repeated_methods};
+use crate::text_table::TextTable;
+use crate::view::ClassView;
+use jc_base::NoMemory;
+use std::alloc::Global;
+
+/// All places of a class file where a rule of the format is broken, by rule and then by place.
+///
+/// Answers `NoMemory` only where memory was refused.
+pub fn format_faults(alloc: Global, class: &ClassView) -> Result<Vec<Fault>, NoMemory>
+    ensures { IfOk result (λ found. found.items ≡ faults class.now) }
+{
+    let texts = TextTable::new(alloc, class)?;
+    find_faults(alloc, &texts)
+}
+
+#[tactic(auto, unfolding(crate::specs::Faults::faults))]
+fn find_faults(alloc: Global, texts: &TextTable) -> Result<Vec<Fault>, NoMemory>
+    ensures { IfOk result (λ found. found.items ≡ faults texts.now) }
+{
+    let mut faults = Vec::new(alloc);
+    for rule in FormatRule::ALL {
+        add_faults(alloc, &mut faults, texts, rule)?;
+    }
+    Ok(faults)
+}
+
+/// Adds the faults against a rule.
+#[tactic(auto, unfolding(crate::specs::RuleTests::constant_breaks, crate::specs::RuleTests::field_breaks, crate::specs::RuleTests::method_breaks, crate::specs::RuleTests::attribute_breaks))]
+fn add_faults(
+    alloc: Global,
+    faults: &mut Vec<Fault>,
+    texts: &TextTable,
+    rule: FormatRule,
+) -> Result<(), NoMemory>
+    ensures { OnOk result (faults.new.items ≡ faults.old.items ++ faults_against texts.now rule) }
+{
+    let class = texts.class();
+    match rule {
+        FormatRule::F1
+        | FormatRule::F2
+        | FormatRule::F3
+        | FormatRule::F4
+        | FormatRule::F5
+        | FormatRule::F6
+        | FormatRule::F7
+        | FormatRule::F8
+        | FormatRule::F9
+        | FormatRule::F10 => add_constant_faults(faults, texts, rule),
+        FormatRule::F11 => add_untold_faults(faults, texts, rule),
+        FormatRule::F12 => add_class_fault(faults, breaks_f12(class), rule),
+        FormatRule::F13 => add_class_fault(faults, breaks_f13(class), rule),
+        FormatRule::F14 => add_interface_faults(faults, texts, rule),
+        FormatRule::F15 | FormatRule::F16 | FormatRule::F17 | FormatRule::F25 => {
+            add_field_faults(faults, texts, rule)
+        }
+        FormatRule::F18 => add_repeated_fields(alloc, faults, class, rule),
+        FormatRule::F19
+        | FormatRule::F20
+        | FormatRule::F21
+        | FormatRule::F23
+        | FormatRule::F24
+        | FormatRule::F26 => add_method_faults(faults, texts, rule),
+        FormatRule::F22 => add_repeated_methods(alloc, faults, class, rule),
+        FormatRule::F27 => add_class_fault(faults, breaks_f27(class), rule),
+        FormatRule::F28 | FormatRule::F29 | FormatRule::F30 => {
+            add_attribute_faults(faults, class, rule)
+        }
+    }
+}
