@@ -1,0 +1,52 @@
+#!/usr/bin/env python3
+"""Refuses each request for memory of view_trial in turn while it looks for format faults.
+
+Run from the repository's root, once crates/view_trial is built (rt run): tests/memory/faults.py
+The line of the file that is being judged is then a refusal for want of memory, and the line of any other
+file is as it is with ample memory; or the program ends with an error before it answers.
+"""
+import subprocess
+import sys
+import tempfile
+from pathlib import Path
+
+TOP = Path(__file__).resolve().parent.parent.parent
+PROGRAM = TOP / "crates/view_trial/out/view_trial"
+FRAMES = (TOP / "crates/view_trial/stdin").read_bytes()
+LACKS = ("no memory", "refused 9 NoMemory")
+
+
+def run(folder, shim, number):
+    count = folder / "count"
+    env = {"LD_PRELOAD": str(shim), "REFUSE": str(number), "COUNT": str(count)}
+    done = subprocess.run([PROGRAM, "faults"], input=FRAMES, cwd=folder, env=env, capture_output=True, timeout=60)
+    return done.returncode, done.stdout.decode().splitlines(), int(count.read_text())
+
+
+def main():
+    with tempfile.TemporaryDirectory() as name:
+        folder = Path(name)
+        shim = folder / "refuse.so"
+        subprocess.run(["cc", "-shared", "-fPIC", "-O1", "-o", shim, TOP / "tests/memory/refuse.c", "-ldl"], check=True)
+        status, owed, count = run(folder, shim, 0)
+        if status != 0:
+            sys.exit(f"with ample memory: status {status}")
+        ended = refused = unfelt = 0
+        for number in range(1, count + 1):
+            status, lines, _ = run(folder, shim, number)
+            wrong = [(mine, full) for mine, full in zip(lines, owed) if mine != full]
+            if status != 0:
+                ended += 1
+            elif len(lines) == len(owed) and not wrong:
+                unfelt += 1
+            elif len(lines) == len(owed) and len(wrong) == 1 and wrong[0][0] in LACKS:
+                refused += 1
+            else:
+                sys.exit(f"request {number}: {lines!r}")
+        print(f"requests for memory: {count}, each refused in turn")
+        print(f"one file refused for want of memory, the others as ever: {refused}")
+        print(f"the program ended with an error: {ended}; answered in full without that memory: {unfelt}")
+
+
+if __name__ == "__main__":
+    main()
