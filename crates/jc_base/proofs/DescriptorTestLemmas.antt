@@ -169,9 +169,6 @@ field_text_fact b e = let type = is_some_of (field_type_of b) e in (type.0, fiel
 field_text_test : (b : List ℕ) → IsFieldDescriptor b → is_field_text b ≡ true
 field_text_test b (type, field) = ap is_some (field_test b type field)
 
-pub field_text_decides : (b : List ℕ) → ((is_field_text b ≡ true) → IsFieldDescriptor b) × (IsFieldDescriptor b → (is_field_text b ≡ true))
-field_text_decides b = (field_text_fact b, field_text_test b)
-
 -- ---- results
 
 result_fact : (b : List ℕ) (r : Option (List ℕ)) → result_of b ≡ Some r → IsResult b r

@@ -1,12 +1,12 @@
 -- What the first byte leaves of an entry of the stack.
-use Rattle.std.proofs.Common.{◌≡◌, ◌≢◌, ℕ, List, [], ◌∷◌, ◌++◌, Option, Some, None, refl, sym, subst, arith, append_assoc}
+use Rattle.std.proofs.Common.{◌≡◌, ◌≢◌, ℕ, List, [], ◌∷◌, ◌++◌, Option, Some, None, refl, sym, subst, arith}
 use Rattle.std.specs.List.{Contains}
 use Rattle.jc_base.specs.declared.signatures.Owed.{Owed}
 use Rattle.jc_base.specs.declared.signatures.Owed.TheVariants as entry
 use Rattle.jc_base.specs.declared.signatures.After.{After}
 use Rattle.jc_base.specs.Descriptors.{base_types}
 use Rattle.jc_base.specs.Signatures.{Symbol, Mark, Maybe, Many, Result, Throws, Thrown, JavaType, ReferenceType, ClassType, Suffix, Arguments, Argument, Params, Param, absent, present, no_more, one_more, result_type, result_void, throws, thrown_class, thrown_variable, base_type, reference_type, class_reference, variable_reference, array_reference, type_variable, class_type, suffix, arguments, any_type, exact_type, extends_type, super_type, params, Derives, reads, expands}
-use Rattle.jc_base.specs.Owed.{before, both_before, Leaves, Refuses, GivesEntry, GivesAfter}
+use Rattle.jc_base.specs.Owed.{before, Leaves, Refuses, GivesEntry, GivesAfter}
 use Rattle.jc_base.proofs.DescriptorLemmas.{no_base}
 use Rattle.jc_base.proofs.SignatureLemmas.{mark_of, maybe_of, many_of, class_type_of, reference_of, java_of, result_of, params_of, throws_of, thrown_of, suffixes_of, arguments_of, argument_of}
 
@@ -124,18 +124,6 @@ many_goes_on s symbols m c (Some after) other h = λ owed rest. (
   λ d. many_of s (Mark m ∷ (symbols ++ owed)) (c ∷ rest) (λ d. absurd (mark_refused symbols m c other owed rest d)) (λ d. (h owed rest).0 d) d,
   λ d. expands _ _ _ _ (one_more s) ((h owed rest).1 d),
 )
-
-pub alone_gives : (symbols : List Symbol) (c : ℕ) (entry : Option Owed) → Leaves symbols c (before entry) → Leaves symbols c (both_before (record { 0 = entry; 1 = None }))
-alone_gives symbols c entry h = h
-
-pub followed_gives : (symbols more : List Symbol) (c : ℕ) (f : List Symbol → List Symbol) → Leaves symbols c f → Leaves (symbols ++ more) c (λ owed. f (more ++ owed))
-followed_gives symbols more c f h owed rest = (
-  λ d. (h (more ++ owed) rest).0 (subst (λ w. Derives w (c ∷ rest)) (append_assoc symbols more owed) d),
-  λ d. subst (λ w. Derives w (c ∷ rest)) (sym (append_assoc symbols more owed)) ((h (more ++ owed) rest).1 d),
-)
-
-pub followed_refuses : (symbols more : List Symbol) (c : ℕ) → Refuses symbols c → Refuses (symbols ++ more) c
-followed_refuses symbols more c h owed rest d = h (more ++ owed) rest (subst (λ w. Derives w (c ∷ rest)) (append_assoc symbols more owed) d)
 
 -- ---- what may stand in front of a signature
 

@@ -1,6 +1,5 @@
 -- The stack of the judge of signatures: each entry takes a byte or more.
 use Rattle.std.proofs.Common.{◌≡◌, ◌≢◌, ℕ, ◌+◌, ◌<◌, ◌≤◌, List, [], ◌∷◌, ◌++◌, length, Option, Some, None, ◌↔◌, refl, sym, ap, subst, arith, lit≤, length-append}
-use Rattle.std.proofs.lemmas.List.Sums.{fold-append}
 use Rattle.jc_base.specs.declared.signatures.SigKind.{SigKind}
 use Rattle.jc_base.specs.declared.signatures.SigKind.TheVariants as kind
 use Rattle.jc_base.specs.declared.signatures.Owed.{Owed}
@@ -98,9 +97,6 @@ stack_takes (o ∷ stack) owed = omega (arith, stack_takes stack (symbols_of o +
 pub stack_fits : (stack : List Owed) (owed : List Symbol) (b : List ℕ) → Derives (stack_before stack owed) b → length stack ≤ length b
 stack_fits stack owed b d = omega (arith, stack_takes stack owed, least (stack_before stack owed) b d)
 
-pub stack_push : (stack : List Owed) (o : Owed) (owed : List Symbol) → stack_before (stack ++ o ∷ []) owed ≡ symbols_of o ++ stack_before stack owed
-stack_push stack o owed = fold-append (λ w o. symbols_of o ++ w) owed stack (o ∷ [])
-
 -- ---- the beginning and the end
 
 pub class_starts : (text : List ℕ) → Derives (ClassSignature ∷ []) text ↔ Derives (Maybe Params ∷ ClassType ∷ Many ClassType ∷ []) text
@@ -142,22 +138,6 @@ no_top k old new [] some top d = omega arith
 no_top k old new (c ∷ rest) some top d = top c rest d
 
 -- ---- the judge
-
-pub judge_starts : (k : SigKind) (text : List ℕ) (first : Owed) (stack : List Owed) → 0 < length text → ((t : List ℕ) → IsSignature k t ↔ Derives (symbols_of first ++ tail_of k) t) → stack ≡ [] ++ first ∷ [] → IsJudged k text stack text
-judge_starts k text first stack some is pushed = record {
-  same = subst (λ s. IsSignature k text ↔ Derives (stack_before s (tail_of k)) text) (sym pushed) (is text);
-  room = omega (arith, ap length pushed);
-}
-
-pub judge_goes_on : (k : SigKind) (text : List ℕ) (old mid new : List Owed) (rest : List ℕ) (step : Step) → IsJudged k text old rest → StackStep k old mid rest step
-    → ((owed : List Symbol) → stack_before new owed ≡ both_before step.after (stack_before mid owed)) → length new ≤ length step.rest.now → IsJudged k text new step.rest.now
-judge_goes_on k text old mid new rest step judged stepped pushed room = record {
-  same = (
-    λ d. subst (λ w. Derives w step.rest.now) (sym (pushed (tail_of k))) (stepped.same.0 (judged.same.0 d)),
-    λ d. judged.same.1 (stepped.same.1 (subst (λ w. Derives w step.rest.now) (pushed (tail_of k)) d)),
-  );
-  room = room;
-}
 
 pub judge_refuses : (k : SigKind) (text : List ℕ) (old mid new : List Owed) (rest : List ℕ) (step : Step) → IsJudged k text old rest → StackStep k old mid rest step
     → ((owed : List Symbol) → stack_before new owed ≡ both_before step.after (stack_before mid owed)) → length step.rest.now < length new → IsSignature k text → ⊥

@@ -53,11 +53,6 @@ numbered_next rule test n next place is_broken x xs left before after all is_lef
     let known : before ++ map (fault_at rule) (numbered test n (x ∷ xs)) ≡ all = ap (λ ys. before ++ map (fault_at rule) (numbered test n ys)) (sym is_left) ∙ so_far in
     ap (λ k. after ++ map (fault_at rule) (numbered test k xs)) goes ∙ numbered_step rule test n x xs before after all added known
 
--- at the start, of what is looked up for each
-pub numbered_start : {X Y : Type 0} (rule : FormatRule) (test : Y → Bool) (f : X → Y) (n : ℕ) (left : List Y) (xs : List X) (before : List Fault) → n ≡ 0 → left ≡ map f xs → before ++ map (fault_at rule) (numbered test n left) ≡ before ++ map (fault_at rule) (those_with (λ x. test (f x)) xs)
-numbered_start rule test f n left xs before none is_left =
-    ap (λ r. before ++ map (fault_at rule) r) (ap (λ k. numbered test k left) none ∙ ap (numbered test 0) is_left ∙ those_with-map test f xs)
-
 -- at the start, of the items themselves
 pub numbered_begins : {X : Type 0} (rule : FormatRule) (test : X → Bool) (n : ℕ) (left xs : List X) (before : List Fault) → n ≡ 0 → left ≡ xs → before ++ map (fault_at rule) (numbered test n left) ≡ before ++ map (fault_at rule) (those_with test xs)
 numbered_begins rule test n left xs before none is_left =

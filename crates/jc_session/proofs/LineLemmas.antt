@@ -155,9 +155,6 @@ KeepsCommands-refl : (known : Option (List Command)) → KeepsCommands known kno
 KeepsCommands-refl None = tt
 KeepsCommands-refl (Some commands) = refl
 
-pub reading_begins : (ahead : List ℕ) (coming : Option (List ℕ)) → IsReading (commands_of ahead coming) [] ahead coming
-reading_begins ahead coming = record { same = KeepsCommands-refl (commands_of ahead coming); whole = refl }
-
 -- all that was ahead was moved to the line
 moved : (n : ℕ) (line ahead : List ℕ) (coming : Option (List ℕ)) → 8192 < n → lacks_feed (line ++ ahead)
     → KeepsCommands (commands_of (line ++ ahead) coming) (commands_of (take n (line ++ ahead)) coming)

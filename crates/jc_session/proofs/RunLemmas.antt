@@ -152,10 +152,6 @@ so_far_eof whole held coming rest answers files before now command so_far over =
 
 -- ---- a run that stops
 
--- nothing is written yet
-pub nothing_yet : (before : Option (List ℕ)) (text : List ℕ) → WritesSome before before text
-nothing_yet before text = (0, Appends-nil before)
-
 -- so much is written
 pub so_far_stops : (whole : Run) (held : List ℕ) (coming : Option (List ℕ)) (answers : Option SourceAnswers) (files : Files) (before now later : Option (List ℕ))
     → IsSoFar whole held coming answers files before now → Keeps now later → WritesSome before later whole.text

@@ -1,7 +1,7 @@
 -- A text that is written part by part.
-use Rattle.std.proofs.Common.{◌≡◌, ◌++◌, ℕ, List, [], Option, refl, sym, ap, ◌∙◌, subst, append_assoc}
+use Rattle.std.proofs.Common.{◌≡◌, ◌++◌, ℕ, List, [], Option, sym, ap, ◌∙◌, subst, append_assoc}
 use Rattle.std.proofs.lemmas.List.{append-nil}
-use Rattle.std.proofs.KnownBytes.{Appends-nil, Appends-trans}
+use Rattle.std.proofs.KnownBytes.{Appends-trans}
 use Rattle.std.specs.Io.KnownBytes.{Appends}
 use Rattle.jc_base.specs.Device.{WritesFront}
 use Rattle.jc_base.proofs.DeviceLemmas.{front_of_first, front_of_second}
@@ -12,9 +12,6 @@ pub record HasWritten (old now : Option (List ℕ)) (text left : List ℕ) : Typ
   pub written : Appends old now done
   pub split : text ≡ done ++ left
 
-pub nothing_written : (old : Option (List ℕ)) (text : List ℕ) → HasWritten old old text text
-nothing_written old text = record { done = []; written = Appends-nil old; split = refl }
-
 -- a further part
 pub part_written : (old mid new : Option (List ℕ)) (text left part rest : List ℕ) → HasWritten old mid text left → left ≡ part ++ rest → Appends mid new part
     → HasWritten old new text rest
@@ -23,10 +20,6 @@ part_written old mid new text left part rest so_far is more = record {
   written = Appends-trans old mid new so_far.done part so_far.written more;
   split = so_far.split ∙ ap (λ l. so_far.done ++ l) is ∙ sym (append_assoc so_far.done part rest);
 }
-
--- the last part
-pub whole_written : (old mid new : Option (List ℕ)) (text left : List ℕ) → HasWritten old mid text left → Appends mid new left → Appends old new text
-whole_written old mid new text left so_far more = subst (Appends old new) (sym so_far.split) (Appends-trans old mid new so_far.done left so_far.written more)
 
 -- with nothing left
 pub all_written : (old new : Option (List ℕ)) (text left : List ℕ) → HasWritten old new text left → left ≡ [] → Appends old new text
