@@ -5,29 +5,27 @@ Run from the repository's root, once crates/view_trial is built (rt run): tests/
 The line of the file that is being judged is then a refusal for want of memory, and the line of any other
 file is as it is with ample memory; or the program ends with an error before it answers.
 """
-import subprocess
 import sys
 import tempfile
 from pathlib import Path
 
-TOP = Path(__file__).resolve().parent.parent.parent
-PROGRAM = TOP / "crates/view_trial/out/view_trial"
-FRAMES = (TOP / "crates/view_trial/stdin").read_bytes()
+sys.dont_write_bytecode = True
+import refusing
+
+PROGRAM = refusing.TOP / "crates/view_trial/out/view_trial"
+FRAMES = (refusing.TOP / "crates/view_trial/stdin").read_bytes()
 LACKS = ("no memory", "refused 9 NoMemory")
 
 
 def run(folder, shim, number):
-    count = folder / "count"
-    env = {"LD_PRELOAD": str(shim), "REFUSE": str(number), "COUNT": str(count)}
-    done = subprocess.run([PROGRAM, "faults"], input=FRAMES, cwd=folder, env=env, capture_output=True, timeout=60)
-    return done.returncode, done.stdout.decode().splitlines(), int(count.read_text())
+    status, out, _, count = refusing.run([PROGRAM, "faults"], FRAMES, folder, shim, number)
+    return status, out.decode().splitlines(), count
 
 
 def main():
     with tempfile.TemporaryDirectory() as name:
         folder = Path(name)
-        shim = folder / "refuse.so"
-        subprocess.run(["cc", "-shared", "-fPIC", "-O1", "-o", shim, TOP / "tests/memory/refuse.c", "-ldl"], check=True)
+        shim = refusing.make_shim(folder)
         status, owed, count = run(folder, shim, 0)
         if status != 0:
             sys.exit(f"with ample memory: status {status}")

@@ -5,14 +5,14 @@ Run from the repository's root, once ./jclink is built: tests/memory/run.py
 Each run with one refusal ends with status 4, `jclink: no memory`, and a beginning of the output that it owes,
 or gives the whole output, where what was asked for could be done without.
 """
-import os
-import subprocess
 import sys
 import tempfile
 from pathlib import Path
 
-TOP = Path(__file__).resolve().parents[2]
-PROGRAM = TOP / "crates/jclink/out/jclink"
+sys.dont_write_bytecode = True
+import refusing
+
+PROGRAM = refusing.TOP / "crates/jclink/out/jclink"
 
 CLASS_A = bytes.fromhex(
     "cafebabe00000034000507000201000141070004010010"
@@ -34,17 +34,13 @@ end
 
 
 def run(folder, shim, number):
-    count = folder / "count"
-    env = {"LD_PRELOAD": str(shim), "REFUSE": str(number), "COUNT": str(count)}
-    done = subprocess.run([PROGRAM, "session"], input=LINES, cwd=folder, env=env, capture_output=True, timeout=60)
-    return done.returncode, done.stdout, done.stderr, int(count.read_text())
+    return refusing.run([PROGRAM, "session"], LINES, folder, shim, number)
 
 
 def main():
     with tempfile.TemporaryDirectory() as name:
         folder = Path(name)
-        shim = folder / "refuse.so"
-        subprocess.run(["cc", "-shared", "-fPIC", "-O1", "-o", shim, TOP / "tests/memory/refuse.c", "-ldl"], check=True)
+        shim = refusing.make_shim(folder)
         for path, data in [("a/A.class", CLASS_A), ("x/A.class", CLASS_A), ("cut", CLASS_A[:52])]:
             (folder / path).parent.mkdir(exist_ok=True)
             (folder / path).write_bytes(data)

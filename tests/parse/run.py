@@ -40,10 +40,10 @@ SPELLINGS = [bytes.fromhex(text) for text in (
     "00 80 bf c081 c1bf c2 c241 e08080 e09fbf e28241 e282 ef f0908080 f8 ff").split()]
 
 
-def build():
-    with open(CRATE / "stdin", "rb") as frames:
-        done = subprocess.run(["rt", "run"], cwd=CRATE, stdin=frames, capture_output=True, check=False)
-    if done.returncode != 0 or not PROGRAM.exists():
+def build(crate=CRATE):
+    with open(crate / "stdin", "rb") as frames:
+        done = subprocess.run(["rt", "run"], cwd=crate, stdin=frames, capture_output=True, check=False)
+    if done.returncode != 0 or not (crate / "out" / crate.name).exists():
         sys.exit("the program was not built:\n" + done.stderr.decode())
 
 

@@ -38,10 +38,7 @@ COMPILATIONS = [
 
 
 def build():
-    with open(CRATE / "stdin", "rb") as frames:
-        done = subprocess.run(["rt", "run"], cwd=CRATE, stdin=frames, capture_output=True, check=False)
-    if done.returncode != 0 or not PROGRAM.exists():
-        sys.exit("the program was not built:\n" + done.stderr.decode())
+    parse_run.build(CRATE)
 
 
 def text_of(word):

@@ -15,7 +15,7 @@ use Rattle.jc_file.specs.FormatRules.{breaks_f1, breaks_f2, breaks_f3, breaks_f4
 
 -- ---- places, rising
 
--- the numbers below n that pass, counted from first
+-- of n numbers from first on, those that pass
 abbrev pub passing : (ℕ → Bool) → ℕ → ℕ → List ℕ
 passing test first n = filter test (range_with_len first n)
 

@@ -150,7 +150,7 @@ breaks_f12 c =
 abbrev pub is_object : List ℕ → Bool
 is_object name = same_bytes name (codes "java/lang/Object")
 
--- the class is named so
+-- the Class entry at the index names `java/lang/Object`
 abbrev pub names_object : ClassFile → ConstantIndex → Bool
 names_object c index = passes is_object (class_text_at c index)
 
@@ -168,7 +168,7 @@ breaks_f13 c = if c.super_class.0 == 0 then not (names_object c c.this_class) ||
 abbrev pub breaks_f14 : ClassFile → ConstantIndex → Bool
 breaks_f14 c index = lacks is_class_text (class_text_at c index)
 
--- two of them, or one that isn't well-formed, of a list of arguments of which each is of a kind that a bootstrap method takes
+-- a constant that a bootstrap method takes (JVMS 4.7.23)
 abbrev pub is_argument : Constant → Bool
 is_argument constant =
     is_kind kinds.String constant || is_kind kinds.Class constant || is_kind kinds.Integer constant || is_kind kinds.Long constant
@@ -177,6 +177,7 @@ is_argument constant =
 abbrev pub is_bootstrap : ClassFile → Bootstrap → Bool
 is_bootstrap c m = is_entry c kinds.MethodHandle m.method && list_all (λ index. passes is_argument (constant_at c index)) m.arguments
 
+-- two of them, or one that isn't well-formed
 abbrev pub breaks_f27 : ClassFile → Bool
 breaks_f27 c =
     nat_le 2 (length (bootstrap_attributes c))

@@ -1,8 +1,7 @@
 //! A class file as a borrowed view (JVMS 4.1).
 
-ghost use Rattle.std.specs.Prelude.{◌≡◌, ◌⊎◌, ℕ, List, IfOk, IfErr, IfSome, IfNone};
+ghost use Rattle.std.specs.Prelude.{◌≡◌, ◌⊎◌, ◌+◌, ◌<◌, ◌^◌, ℕ, List, length, IfOk, IfErr, IfSome, IfNone};
 ghost use Rattle.jc_file.specs.declared.parse_error.ParseError.TheVariants.{NoMemory};
-ghost use Rattle.std.specs.Prelude.{◌+◌, ◌<◌, ◌^◌, length};
 ghost use Rattle.std.specs.Option.{option_copied, option_map};
 ghost use Rattle.jc_file.specs.ClassFile.{ClassFile, all_slots, class_text_at, constant_at};
 ghost use Rattle.jc_file.specs.Lookups.{utf8_at};
