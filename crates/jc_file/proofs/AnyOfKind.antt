@@ -1,11 +1,11 @@
 -- Those of a holder's attributes that are recognised as of a kind, with their places and without.
 use Rattle.std.proofs.Common.{◌≡◌, ℕ, ◌+◌, Bool, true, false, cond, ◌&&◌, ◌||◌, List, [], ◌∷◌, length, refl, ap}
 use Rattle.std.specs.List.{list_any}
-use Rattle.jc_file.specs.declared.attribute_kind.AttributeKind.{AttributeKind}
-use Rattle.jc_file.specs.declared.attribute_kind.Holder.{Holder}
-use Rattle.jc_file.specs.ClassFile.{Attribute, ClassFile, attribute_bytes}
-use Rattle.jc_file.specs.Attributes.{is_recognised, of_kind}
-use Rattle.jc_file.specs.Places.{PlacedMember, attributes_from, member_attributes}
+use Rattle.jc_view.specs.declared.attribute_kind.AttributeKind.{AttributeKind}
+use Rattle.jc_view.specs.declared.attribute_kind.Holder.{Holder}
+use Rattle.jc_view.specs.ClassFile.{Attribute, ClassFile, attribute_bytes}
+use Rattle.jc_view.specs.Attributes.{is_recognised, of_kind}
+use Rattle.jc_view.specs.Places.{PlacedMember, attributes_from, member_attributes}
 use Rattle.jc_file.specs.Recognised.{any_of}
 
 any_step : {X : Type 0} (test : X → Bool) (b : Bool) (x : X) (xs : List X) (rest : Bool) → rest ≡ list_any test xs → ((b && test x) || rest) ≡ list_any test (cond b (x ∷ xs) xs)

@@ -3,12 +3,12 @@ use Rattle.std.proofs.Common.{◌≡◌, Bool, true, false, cond, List, [], ◌�
 use Rattle.std.specs.Option.{option_map, option_map_or}
 use Rattle.jc_file.specs.declared.fault.Fault.{Fault}
 use Rattle.jc_file.specs.declared.fault.FormatRule.{FormatRule}
-use Rattle.jc_file.specs.ClassFile.{ClassFile}
-use Rattle.jc_file.specs.Places.{PlacedAttribute}
-use Rattle.jc_file.specs.Attributes.{Code, code_of, code_attributes, with_inner}
+use Rattle.jc_view.specs.ClassFile.{ClassFile}
+use Rattle.jc_view.specs.Places.{PlacedAttribute}
+use Rattle.jc_view.specs.Attributes.{Code, code_of, code_attributes, with_inner}
 use Rattle.jc_file.specs.RuleTests.{attribute_breaks, fault_at}
 use Rattle.jc_file.specs.AttributeFaults.{faults_in}
-use Rattle.jc_file.specs.Lent.{LentAttribute, LentCode, lent_code}
+use Rattle.jc_view.specs.Lent.{LentAttribute, LentCode, lent_code}
 
 -- what is inside, where it was lent
 inside : (lent : LentAttribute) (o : Option Code) (k : LentCode) → option_map (lent_code lent) o ≡ Some k → (option_map_or (code_attributes lent.attribute) o [] ≡ code_attributes k.attribute k.code) × (lent.class ≡ k.class)

@@ -3,19 +3,19 @@ use Rattle.std.proofs.Common.{◌≡◌, ◌≢◌, ℕ, Bool, true, false, ◌|
 use Rattle.std.specs.Bool.{Decides}
 use Rattle.std.specs.List.{Contains, list_any}
 use Rattle.std.proofs.lemmas.Bool.Decides.{Decides-at}
-use Rattle.jc_file.specs.declared.constant_pool.ConstantKind.TheVariants as kinds
-use Rattle.jc_file.specs.declared.attribute_kind.AttributeKind.{AttributeKind}
-use Rattle.jc_file.specs.declared.attribute_kind.AttributeKind.TheVariants as attributes
-use Rattle.jc_file.specs.ConstantPool as pool
-use Rattle.jc_file.specs.ConstantPool.{Constant, kind_of, IsIndex}
-use Rattle.jc_file.specs.ClassFile.{Attribute, ClassFile}
-use Rattle.jc_file.specs.Lookups.{utf8_at}
-use Rattle.jc_file.specs.Places.{PlacedAttribute}
-use Rattle.jc_file.specs.Attributes.{is_recognised, of_kind, all_attributes}
+use Rattle.jc_view.specs.declared.constant_pool.ConstantKind.TheVariants as kinds
+use Rattle.jc_view.specs.declared.attribute_kind.AttributeKind.{AttributeKind}
+use Rattle.jc_view.specs.declared.attribute_kind.AttributeKind.TheVariants as attributes
+use Rattle.jc_view.specs.ConstantPool as pool
+use Rattle.jc_view.specs.ConstantPool.{Constant, kind_of, IsIndex}
+use Rattle.jc_view.specs.ClassFile.{Attribute, ClassFile}
+use Rattle.jc_view.specs.Lookups.{utf8_at}
+use Rattle.jc_view.specs.Places.{PlacedAttribute}
+use Rattle.jc_view.specs.Attributes.{is_recognised, of_kind, all_attributes}
 use Rattle.jc_file.proofs.Decisions.{map_has, has_map, neg, both, either, equal, one_of, kept, keeps, none_found}
 use Rattle.jc_file.proofs.LookupDecisions.{entry_decided, text_at, recognised_decided}
 use Rattle.std.proofs.Common.{filter}
-use Rattle.jc_file.specs.declared.attribute_kind.Holder.{Holder}
+use Rattle.jc_view.specs.declared.attribute_kind.Holder.{Holder}
 use Rattle.jc_file.specs.Faults.{attributes_with}
 use Rattle.jc_file.specs.FormatRules.{breaks_f28, is_sized, is_missized, breaks_f29, first_index, second_index, breaks_f30}
 use Rattle.jc_file.specs.Violations.{IsEntry, IsRecognised, BreaksF28, fixed_lengths, BreaksF29, IsSized, BreaksF30, AtAttribute}

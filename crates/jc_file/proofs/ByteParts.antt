@@ -3,9 +3,9 @@ use Rattle.std.proofs.Common.{ℕ, List, [], ◌∷◌, ◌++◌, length, refl, 
 use Rattle.std.specs.List.{flat_map, Contains}
 use Rattle.std.proofs.lemmas.List.{take_at, drop_at}
 use Rattle.jc_base.specs.Endian.{big_bytes}
-use Rattle.jc_file.specs.ConstantPool.{constant_bytes, index_bytes}
-use Rattle.jc_file.specs.ClassFile.{Attribute, Member, ClassFile, counted, attribute_bytes, member_bytes, head_bytes, tail_bytes, layout}
-use Rattle.jc_file.proofs.Numbers.{IsBytes, IsBytes-drop, IsBytes-take}
+use Rattle.jc_view.specs.ConstantPool.{constant_bytes, index_bytes}
+use Rattle.jc_view.specs.ClassFile.{Attribute, Member, ClassFile, counted, attribute_bytes, member_bytes, head_bytes, tail_bytes, layout}
+use Rattle.jc_view.proofs.Numbers.{IsBytes, IsBytes-drop, IsBytes-take}
 use Rattle.jc_file.proofs.Decisions.{first_or}
 use Rattle.jc_file.proofs.MemberViolations.{HaveBytes}
 

@@ -3,17 +3,17 @@ use Rattle.std.proofs.Common.{◌≡◌, length, refl, sym, subst, codes}
 use Rattle.std.specs.Bool.{Decides}
 use Rattle.std.specs.List.{Contains, list_any}
 use Rattle.std.proofs.lemmas.Bool.Decides.{Decides-at}
-use Rattle.jc_file.specs.declared.constant_pool.ConstantIndex.{ConstantIndex}
-use Rattle.jc_file.specs.declared.constant_pool.ConstantKind.{ConstantKind}
-use Rattle.jc_file.specs.declared.constant_pool.ConstantKind.TheVariants as kinds
-use Rattle.jc_file.specs.declared.attribute_kind.AttributeKind.TheVariants as attributes
-use Rattle.jc_file.specs.declared.attribute_kind.Holder.TheVariants as holders
-use Rattle.jc_file.specs.ConstantPool as pool
-use Rattle.jc_file.specs.ConstantPool.{Constant, kind_of, IsIndex}
-use Rattle.jc_file.specs.ClassFile.{ClassFile, constant_at}
+use Rattle.jc_view.specs.declared.constant_pool.ConstantIndex.{ConstantIndex}
+use Rattle.jc_view.specs.declared.constant_pool.ConstantKind.{ConstantKind}
+use Rattle.jc_view.specs.declared.constant_pool.ConstantKind.TheVariants as kinds
+use Rattle.jc_view.specs.declared.attribute_kind.AttributeKind.TheVariants as attributes
+use Rattle.jc_view.specs.declared.attribute_kind.Holder.TheVariants as holders
+use Rattle.jc_view.specs.ConstantPool as pool
+use Rattle.jc_view.specs.ConstantPool.{Constant, kind_of, IsIndex}
+use Rattle.jc_view.specs.ClassFile.{ClassFile, constant_at}
 use Rattle.jc_file.specs.AccessFlags as flags
-use Rattle.jc_file.specs.Lookups.{is_kind}
-use Rattle.jc_file.specs.Attributes.{is_recognised, Bootstrap, AreBootstrapsOf, bootstraps_in}
+use Rattle.jc_view.specs.Lookups.{is_kind}
+use Rattle.jc_view.specs.Attributes.{is_recognised, Bootstrap, AreBootstrapsOf, bootstraps_in}
 use Rattle.jc_file.proofs.Decisions.{like, neg, both, either, one_of_three, one_of_four, chosen, equal, at_most, has, every, one_of, one_where, kept, none_fits}
 use Rattle.jc_file.proofs.LookupDecisions.{TextsDecided, kind_decided, entry_decided, same_text, has_class_text, no_class_text, is_set}
 use Rattle.jc_file.specs.FormatRules.{breaks_f12, names_object, breaks_f13, breaks_f14, is_argument, is_bootstrap, bootstrap_attributes, breaks_f27}

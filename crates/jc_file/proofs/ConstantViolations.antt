@@ -7,12 +7,12 @@ use Rattle.std.proofs.lemmas.Bool.{false≢true, cases_eq, cases_lt, eq-eqb, ne_
 use Rattle.jc_base.specs.Endian.{big_number}
 use Rattle.jc_base.specs.Descriptors.{MethodType, IsMethod}
 use Rattle.jc_base.specs.DescriptorTests.{begins_with, method_type_of}
-use Rattle.jc_file.specs.declared.constant_pool.ConstantIndex.{ConstantIndex}
-use Rattle.jc_file.specs.declared.constant_pool.ConstantKind.TheVariants as kinds
-use Rattle.jc_file.specs.ConstantPool as pool
-use Rattle.jc_file.specs.ConstantPool.{Constant, kind_of, tag_of, kind_of_tag, utf8_text, class_entry}
-use Rattle.jc_file.specs.ClassFile.{ClassFile, Attribute, all_slots, slots, constant_at, constant_from_first}
-use Rattle.jc_file.specs.Lookups.{utf8_at}
+use Rattle.jc_view.specs.declared.constant_pool.ConstantIndex.{ConstantIndex}
+use Rattle.jc_view.specs.declared.constant_pool.ConstantKind.TheVariants as kinds
+use Rattle.jc_view.specs.ConstantPool as pool
+use Rattle.jc_view.specs.ConstantPool.{Constant, kind_of, tag_of, kind_of_tag, utf8_text, class_entry}
+use Rattle.jc_view.specs.ClassFile.{ClassFile, Attribute, all_slots, slots, constant_at, constant_from_first}
+use Rattle.jc_view.specs.Lookups.{utf8_at}
 use Rattle.jc_file.specs.Faults.{constants_with}
 use Rattle.jc_file.specs.FormatRules.{returns_value, lacks_member_entries, breaks_f1, breaks_f2, breaks_f3, breaks_f4, fails_beside, breaks_f5, breaks_f6, breaks_f7, fits_handle, breaks_f8, is_name_amiss, breaks_f9, breaks_f10, bootstrap_attributes, told_count, is_told, breaks_f11}
 use Rattle.jc_file.specs.Violations.{IsEntry, ReturnsValue, LacksMemberEntries, BreaksF1, BreaksF2, BreaksF3, BreaksF4, MisfitsName, BreaksF5, BreaksF6, IsBracketed, BreaksF7, FitsHandle, BreaksF8, IsNameAmiss, BreaksF9, BreaksF10, Tells, BreaksF11, AtConstant}

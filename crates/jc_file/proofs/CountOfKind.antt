@@ -2,11 +2,11 @@
 use Rattle.std.proofs.Common.{◌≡◌, ◌∙◌, ℕ, suc, ◌+◌, true, false, length, Option, Some, None, is_some, nat_lt, nat_le, refl, ap, sym, arith}
 use Rattle.std.proofs.lemmas.Bool.{lt-ltb, le-leb}
 use Rattle.std.proofs.lemmas.List.{length-map}
-use Rattle.jc_file.specs.declared.attribute_kind.AttributeKind.{AttributeKind}
-use Rattle.jc_file.specs.ClassFile.{ClassFile}
-use Rattle.jc_file.specs.Places.{PlacedMember, member_attributes}
-use Rattle.jc_file.specs.Attributes.{of_kind}
-use Rattle.jc_file.specs.Lent.{AttributesLeft, LentAttribute}
+use Rattle.jc_view.specs.declared.attribute_kind.AttributeKind.{AttributeKind}
+use Rattle.jc_view.specs.ClassFile.{ClassFile}
+use Rattle.jc_view.specs.Places.{PlacedMember, member_attributes}
+use Rattle.jc_view.specs.Attributes.{of_kind}
+use Rattle.jc_view.specs.Lent.{AttributesLeft, LentAttribute}
 use Rattle.jc_file.specs.Recognised.{of_kind_left, GivesOfKind}
 use Rattle.jc_file.proofs.OfKind.{in_place, of_kind_placed}
 

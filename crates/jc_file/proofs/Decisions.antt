@@ -6,7 +6,7 @@ use Rattle.std.specs.List.{All, AllByRecursion, Contains, list_all, list_any, ra
 use Rattle.std.proofs.lemmas.Bool.{true≢false, false≢true, leb-true, le-leb, cases_Bool, cases_eq, cond-true, cond-false}
 use Rattle.std.proofs.lemmas.Bool.Decides.{not_from_Decides, Decides-at, Decides-not, Decides-and, Decides-or, Decides-eqb, Decides-ltb}
 use Rattle.std.proofs.lemmas.List.Elements.{All-from_recursion, recursion_from_All}
-use Rattle.jc_file.specs.Lookups.{passes, fails, lacks}
+use Rattle.jc_view.specs.Lookups.{passes, fails, lacks}
 use Rattle.jc_file.specs.Faults.{passing, only_if, those_with}
 use Rattle.jc_file.specs.Violations.{AtNumber}
 use Rattle.std.proofs.lemmas.Option.{slice_get_within, get_or_from_slice_get}

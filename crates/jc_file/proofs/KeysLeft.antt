@@ -1,10 +1,10 @@
 -- The keys of the members that are left.
 use Rattle.std.proofs.Common.{◌≡◌, ◌∙◌, List, [], ◌∷◌, map, Some, refl, ap, sym}
-use Rattle.jc_file.specs.declared.attribute_kind.Holder.{Holder}
-use Rattle.jc_file.specs.ClassFile.{ClassFile, Member, member_bytes}
+use Rattle.jc_view.specs.declared.attribute_kind.Holder.{Holder}
+use Rattle.jc_view.specs.ClassFile.{ClassFile, Member, member_bytes}
 use Rattle.std.specs.Prelude.{ℕ, suc, ◌+◌, length}
-use Rattle.jc_file.specs.Places.{PlacedMember, members_from}
-use Rattle.jc_file.specs.Lent.{MembersLeft, LentMember, GivesMember}
+use Rattle.jc_view.specs.Places.{PlacedMember, members_from}
+use Rattle.jc_view.specs.Lent.{MembersLeft, LentMember, GivesMember}
 use Rattle.jc_file.specs.Faults.{key_of, repeated}
 use Rattle.jc_file.specs.Repeated.{keys_left}
 

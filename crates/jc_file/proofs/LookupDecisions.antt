@@ -9,22 +9,22 @@ use Rattle.jc_base.specs.Names.{IsUnqualifiedName, IsMethodName, IsClassName}
 use Rattle.jc_base.specs.Descriptors.{FieldType, MethodType, IsField, IsFieldDescriptor, IsMethod, IsMethodDescriptor}
 use Rattle.jc_base.specs.TextTests.{units_of, is_unqualified_text, is_class_text, is_method_name_text}
 use Rattle.jc_base.specs.DescriptorTests.{field_type_of, is_field_text, method_type_of, is_method_text}
-use Rattle.jc_file.specs.declared.constant_pool.ConstantIndex.{ConstantIndex}
-use Rattle.jc_file.specs.declared.constant_pool.ConstantKind.{ConstantKind}
-use Rattle.jc_file.specs.ConstantPool as pool
-use Rattle.jc_file.specs.ConstantPool.{Constant, kind_of, tag_of, kind_of_tag, utf8_text, class_entry}
-use Rattle.jc_file.specs.ClassFile.{Attribute, ClassFile, constant_at, class_text_at}
-use Rattle.jc_file.specs.Lookups.{utf8_at, is_kind, is_entry, name_and_type, signature_entry, name_and_type_at, name_of, descriptor_of, passes, fails, lacks}
+use Rattle.jc_view.specs.declared.constant_pool.ConstantIndex.{ConstantIndex}
+use Rattle.jc_view.specs.declared.constant_pool.ConstantKind.{ConstantKind}
+use Rattle.jc_view.specs.ConstantPool as pool
+use Rattle.jc_view.specs.ConstantPool.{Constant, kind_of, tag_of, kind_of_tag, utf8_text, class_entry}
+use Rattle.jc_view.specs.ClassFile.{Attribute, ClassFile, constant_at, class_text_at}
+use Rattle.jc_view.specs.Lookups.{utf8_at, is_kind, is_entry, name_and_type, signature_entry, name_and_type_at, name_of, descriptor_of, passes, fails, lacks}
 use Rattle.jc_file.specs.FormatRules.{is_array_text}
 use Rattle.jc_file.specs.Violations.{IsEntry, NamesKind, HasText, HasClassText, Has, IsRecognised, Refers, HasName, HasDescriptor, IsArrayDescriptor}
-use Rattle.jc_file.proofs.FirstConstant.{kind_of_its_tag}
+use Rattle.jc_view.proofs.FirstConstant.{kind_of_its_tag}
 use Rattle.jc_file.proofs.Decisions.{like, neg, both, flag, equal, below, has, has_by, lacks_is, Finds, some_found, none_found, fits_found, none_fits, fails_is}
-use Rattle.jc_file.proofs.Numbers.{then_some}
+use Rattle.jc_view.proofs.Numbers.{then_some}
 use Rattle.jc_base.specs.Bytes.{same_bytes}
 use Rattle.jc_file.specs.AccessFlags.{has as has_flag}
-use Rattle.jc_file.specs.declared.attribute_kind.AttributeKind.{AttributeKind}
-use Rattle.jc_file.specs.declared.attribute_kind.Holder.{Holder}
-use Rattle.jc_file.specs.Attributes.{is_recognised, belongs_to, attribute_name}
+use Rattle.jc_view.specs.declared.attribute_kind.AttributeKind.{AttributeKind}
+use Rattle.jc_view.specs.declared.attribute_kind.Holder.{Holder}
+use Rattle.jc_view.specs.Attributes.{is_recognised, belongs_to, attribute_name}
 
 -- ---- entries
 

@@ -9,18 +9,18 @@ use Rattle.std.proofs.lemmas.Bool.{cases_Bool, cond-true, cond-false}
 use Rattle.jc_base.specs.Bytes.{same_bytes}
 use Rattle.jc_base.specs.Descriptors.{MethodType, IsMethod, slots_of}
 use Rattle.jc_base.specs.DescriptorTests.{method_type_of}
-use Rattle.jc_file.specs.declared.constant_pool.ConstantKind.{ConstantKind}
-use Rattle.jc_file.specs.declared.constant_pool.ConstantKind.TheVariants as kinds
-use Rattle.jc_file.specs.declared.attribute_kind.AttributeKind.TheVariants as attributes
-use Rattle.jc_file.specs.declared.attribute_kind.Holder.TheVariants as holders
-use Rattle.jc_file.specs.ConstantPool as pool
-use Rattle.jc_file.specs.ConstantPool.{Constant, kind_of, IsIndex}
-use Rattle.jc_file.specs.ClassFile.{Attribute, Member, ClassFile}
+use Rattle.jc_view.specs.declared.constant_pool.ConstantKind.{ConstantKind}
+use Rattle.jc_view.specs.declared.constant_pool.ConstantKind.TheVariants as kinds
+use Rattle.jc_view.specs.declared.attribute_kind.AttributeKind.TheVariants as attributes
+use Rattle.jc_view.specs.declared.attribute_kind.Holder.TheVariants as holders
+use Rattle.jc_view.specs.ConstantPool as pool
+use Rattle.jc_view.specs.ConstantPool.{Constant, kind_of, IsIndex}
+use Rattle.jc_view.specs.ClassFile.{Attribute, Member, ClassFile}
 use Rattle.jc_file.specs.AccessFlags as flags
-use Rattle.jc_file.specs.Reading.{index_value}
-use Rattle.jc_file.specs.Lookups.{utf8_at}
-use Rattle.jc_file.specs.Attributes.{is_recognised, IsCodeOf, code_in, AreExceptionsOf, exceptions_in, AreBootstrapsOf, bootstraps_in}
-use Rattle.jc_file.proofs.Numbers.{IsBytes}
+use Rattle.jc_view.specs.Reading.{index_value}
+use Rattle.jc_view.specs.Lookups.{utf8_at}
+use Rattle.jc_view.specs.Attributes.{is_recognised, IsCodeOf, code_in, AreExceptionsOf, exceptions_in, AreBootstrapsOf, bootstraps_in}
+use Rattle.jc_view.proofs.Numbers.{IsBytes}
 use Rattle.jc_file.proofs.Decisions.{like, neg, both, either, all_four, one_of_three, one_of_four, one_of_five, one_of_six, chosen, equal, below, at_most, Has as HasValue, has_by, every, one_of, one_where, passing_has, one_on, first_or, kept, Finds, none_found, fits_found, none_fits, missing_or_fits}
 use Rattle.jc_file.proofs.LookupDecisions.{TextsDecided, entry_decided, text_at, has_text, no_text, field_decided, same_text, is_set}
 use Rattle.jc_file.specs.Faults.{key_of, same_key, has_key, repeated}

@@ -7,10 +7,10 @@ use Rattle.std.proofs.lemmas.Bool.Decides.{same_from_decides}
 use Rattle.indexmap.specs.IndexSet.{insert_key}
 use Rattle.jc_base.specs.Bytes.{same_bytes}
 use Rattle.jc_base.proofs.ByteMapLemmas.{same_bytes_decides}
-use Rattle.jc_file.specs.declared.constant_pool.ConstantIndex.{ConstantIndex}
+use Rattle.jc_view.specs.declared.constant_pool.ConstantIndex.{ConstantIndex}
 use Rattle.jc_file.specs.declared.text_numbers.TextNumbers.{TextNumbers}
-use Rattle.jc_file.specs.ClassFile.{ClassFile, Member}
-use Rattle.jc_file.specs.Lookups.{utf8_at}
+use Rattle.jc_view.specs.ClassFile.{ClassFile, Member}
+use Rattle.jc_view.specs.Lookups.{utf8_at}
 use Rattle.jc_file.specs.Faults.{key_of, same_key}
 use Rattle.jc_file.specs.TextNumbers.{number_of, IsNumberAt, AreNumbers, KeepsNumbers, IsNumbered, same_numbers, IsNumberedKey}
 use Rattle.jc_file.proofs.Noted.{any_inserted, same_key_equiv}

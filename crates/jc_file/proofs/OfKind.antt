@@ -1,14 +1,14 @@
 -- The attributes of a kind, and how many methods the bootstrap methods tell.
 use Rattle.std.proofs.Common.{◌≡◌, ◌∙◌, ℕ, ◌+◌, Bool, true, false, cond, nat_lt, List, [], ◌∷◌, length, map, filter, refl, ap, sym, arith}
-use Rattle.jc_file.specs.declared.attribute_kind.AttributeKind.{AttributeKind}
-use Rattle.jc_file.specs.declared.attribute_kind.AttributeKind.TheVariants as kinds
-use Rattle.jc_file.specs.declared.attribute_kind.Holder.{Holder}
-use Rattle.jc_file.specs.declared.attribute_kind.Holder.TheVariants as holders
-use Rattle.jc_file.specs.ClassFile.{Attribute, ClassFile, attribute_bytes}
-use Rattle.jc_file.specs.Places.{PlacedAttribute, attributes_from, attributes_in, attributes_place}
-use Rattle.jc_file.specs.Attributes.{is_recognised, of_kind}
+use Rattle.jc_view.specs.declared.attribute_kind.AttributeKind.{AttributeKind}
+use Rattle.jc_view.specs.declared.attribute_kind.AttributeKind.TheVariants as kinds
+use Rattle.jc_view.specs.declared.attribute_kind.Holder.{Holder}
+use Rattle.jc_view.specs.declared.attribute_kind.Holder.TheVariants as holders
+use Rattle.jc_view.specs.ClassFile.{Attribute, ClassFile, attribute_bytes}
+use Rattle.jc_view.specs.Places.{PlacedAttribute, attributes_from, attributes_in, attributes_place}
+use Rattle.jc_view.specs.Attributes.{is_recognised, of_kind}
 use Rattle.jc_file.specs.FormatRules.{is_told, bootstrap_attributes}
-use Rattle.jc_file.specs.Lent.{AttributesLeft}
+use Rattle.jc_view.specs.Lent.{AttributesLeft}
 use Rattle.jc_file.specs.Recognised.{of_kind_left, told_by}
 
 -- a placed attribute, as it is

@@ -6,9 +6,9 @@ use Rattle.indexmap.specs.IndexSet.{insert_key}
 use Rattle.jc_file.specs.declared.fault.Fault.{Fault}
 use Rattle.jc_file.specs.declared.fault.FormatRule.{FormatRule}
 use Rattle.jc_file.specs.declared.text_numbers.TextNumbers.{TextNumbers}
-use Rattle.jc_file.specs.ClassFile.{ClassFile}
-use Rattle.jc_file.specs.Places.{PlacedMember}
-use Rattle.jc_file.specs.Lent.{MembersLeft, LentMember, GivesMember}
+use Rattle.jc_view.specs.ClassFile.{ClassFile}
+use Rattle.jc_view.specs.Places.{PlacedMember}
+use Rattle.jc_view.specs.Lent.{MembersLeft, LentMember, GivesMember}
 use Rattle.jc_file.specs.Faults.{key_of, same_key, repeated}
 use Rattle.jc_file.specs.RuleTests.{fault_at}
 use Rattle.jc_file.specs.Repeated.{repeats, keys_left}

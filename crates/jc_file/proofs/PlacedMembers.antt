@@ -1,10 +1,10 @@
 -- Members with their places and without.
 use Rattle.std.proofs.Common.{◌≡◌, ℕ, suc, ◌+◌, ◌<◌, ◌^◌, List, [], ◌∷◌, length, map, refl, ap}
 use Rattle.std.specs.List.{AllByRecursion}
-use Rattle.jc_file.specs.declared.attribute_kind.Holder.{Holder}
-use Rattle.jc_file.specs.ClassFile.{Member, ClassFile, member_bytes}
-use Rattle.jc_file.specs.Places.{PlacedMember, members_from}
-use Rattle.jc_file.specs.Lent.{MembersLeft}
+use Rattle.jc_view.specs.declared.attribute_kind.Holder.{Holder}
+use Rattle.jc_view.specs.ClassFile.{Member, ClassFile, member_bytes}
+use Rattle.jc_view.specs.Places.{PlacedMember, members_from}
+use Rattle.jc_view.specs.Lent.{MembersLeft}
 
 -- the members without their places
 abbrev pub members_of : List PlacedMember → List Member

@@ -7,12 +7,12 @@ use Rattle.std.proofs.lemmas.Bool.{cases_Bool, ne_eqb, le-ltb, ltb-true, ltb-fal
 use Rattle.std.proofs.lemmas.Option.{slice_get-get_or, slice_get_past, slice_get-map}
 use Rattle.std.proofs.lemmas.List.FromFn.{length-range_with_len, get_or-range_with_len, map-range_with_len_more}
 use Rattle.jc_file.specs.declared.text_table.TextKinds.{TextKinds}
-use Rattle.jc_file.specs.declared.constant_pool.ConstantIndex.{ConstantIndex}
-use Rattle.jc_file.specs.ConstantPool.{Constant, utf8_text}
-use Rattle.jc_file.specs.ClassFile.{ClassFile, slots, all_slots, constant_at, constant_from_first}
-use Rattle.jc_file.specs.Lookups.{utf8_at}
+use Rattle.jc_view.specs.declared.constant_pool.ConstantIndex.{ConstantIndex}
+use Rattle.jc_view.specs.ConstantPool.{Constant, utf8_text}
+use Rattle.jc_view.specs.ClassFile.{ClassFile, slots, all_slots, constant_at, constant_from_first}
+use Rattle.jc_view.specs.Lookups.{utf8_at}
 use Rattle.jc_file.specs.TextKinds.{kinds_at, all_kinds, text_kinds}
-use Rattle.jc_file.proofs.PoolLaws.{slots_is}
+use Rattle.jc_view.proofs.PoolLaws.{slots_is}
 
 -- behind the last constant there is none
 past_all : (constants : List Constant) (i : ℕ) → all_slots constants ≤ i → constant_from_first constants i ≡ None

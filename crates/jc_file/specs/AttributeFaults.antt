@@ -2,8 +2,8 @@
 use Rattle.std.specs.Prelude.{List, map, filter}
 use Rattle.jc_file.specs.declared.fault.Fault.{Fault}
 use Rattle.jc_file.specs.declared.fault.FormatRule.{FormatRule}
-use Rattle.jc_file.specs.ClassFile.{ClassFile}
-use Rattle.jc_file.specs.Places.{PlacedAttribute}
+use Rattle.jc_view.specs.ClassFile.{ClassFile}
+use Rattle.jc_view.specs.Places.{PlacedAttribute}
 use Rattle.jc_file.specs.RuleTests.{attribute_breaks, fault_at}
 
 abbrev pub faults_in : FormatRule → ClassFile → List PlacedAttribute → List Fault

@@ -8,19 +8,19 @@ use Rattle.jc_base.specs.Descriptors as descriptors
 use Rattle.jc_base.specs.Descriptors.{slots_of}
 use Rattle.jc_base.specs.TextTests.{units_of, is_unqualified_text, is_class_text, is_method_name_text}
 use Rattle.jc_base.specs.DescriptorTests.{begins_with, field_type_of, is_field_text, method_type_of, is_method_text}
-use Rattle.jc_file.specs.declared.constant_pool.ConstantIndex.{ConstantIndex}
-use Rattle.jc_file.specs.declared.constant_pool.ConstantKind.{ConstantKind}
-use Rattle.jc_file.specs.declared.constant_pool.ConstantKind.TheVariants as kinds
-use Rattle.jc_file.specs.declared.attribute_kind.AttributeKind.{AttributeKind}
-use Rattle.jc_file.specs.declared.attribute_kind.AttributeKind.TheVariants as attributes
-use Rattle.jc_file.specs.declared.attribute_kind.Holder.TheVariants as holders
-use Rattle.jc_file.specs.ConstantPool.{Constant, Utf8, Class, String, Fieldref, Methodref, InterfaceMethodref, NameAndType, MethodHandle, MethodType, InvokeDynamic}
-use Rattle.jc_file.specs.ClassFile.{Attribute, Member, ClassFile, class_text_at, constant_at}
+use Rattle.jc_view.specs.declared.constant_pool.ConstantIndex.{ConstantIndex}
+use Rattle.jc_view.specs.declared.constant_pool.ConstantKind.{ConstantKind}
+use Rattle.jc_view.specs.declared.constant_pool.ConstantKind.TheVariants as kinds
+use Rattle.jc_view.specs.declared.attribute_kind.AttributeKind.{AttributeKind}
+use Rattle.jc_view.specs.declared.attribute_kind.AttributeKind.TheVariants as attributes
+use Rattle.jc_view.specs.declared.attribute_kind.Holder.TheVariants as holders
+use Rattle.jc_view.specs.ConstantPool.{Constant, Utf8, Class, String, Fieldref, Methodref, InterfaceMethodref, NameAndType, MethodHandle, MethodType, InvokeDynamic}
+use Rattle.jc_view.specs.ClassFile.{Attribute, Member, ClassFile, class_text_at, constant_at}
 use Rattle.jc_file.specs.AccessFlags.{public, private, protected, static, final, super, synchronized, volatile, bridge, transient, native, interface, abstract, strict, enum, annotation, has, has_two_accesses}
-use Rattle.jc_file.specs.Reading.{index_value}
-use Rattle.jc_file.specs.Lookups.{utf8_at, is_kind, is_entry, name_of, descriptor_of, fails, lacks, passes}
-use Rattle.jc_file.specs.Places.{PlacedAttribute}
-use Rattle.jc_file.specs.Attributes.{is_recognised, of_kind, code_in, exceptions_in, Bootstrap, bootstraps_in}
+use Rattle.jc_view.specs.Reading.{index_value}
+use Rattle.jc_view.specs.Lookups.{utf8_at, is_kind, is_entry, name_of, descriptor_of, fails, lacks, passes}
+use Rattle.jc_view.specs.Places.{PlacedAttribute}
+use Rattle.jc_view.specs.Attributes.{is_recognised, of_kind, code_in, exceptions_in, Bootstrap, bootstraps_in}
 
 -- ---- texts
 

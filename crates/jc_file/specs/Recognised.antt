@@ -2,11 +2,11 @@
 use Rattle.std.specs.Prelude.{◌≡◌, ℕ, Bool, ◌&&◌, List, [], ◌∷◌, filter, Option}
 use Rattle.std.specs.List.{list_any}
 use Rattle.std.specs.Option.{MatchOption}
-use Rattle.jc_file.specs.declared.attribute_kind.AttributeKind.{AttributeKind}
-use Rattle.jc_file.specs.ClassFile.{Attribute, ClassFile}
-use Rattle.jc_file.specs.Places.{PlacedAttribute}
-use Rattle.jc_file.specs.Attributes.{is_recognised}
-use Rattle.jc_file.specs.Lent.{AttributesLeft, LentAttribute}
+use Rattle.jc_view.specs.declared.attribute_kind.AttributeKind.{AttributeKind}
+use Rattle.jc_view.specs.ClassFile.{Attribute, ClassFile}
+use Rattle.jc_view.specs.Places.{PlacedAttribute}
+use Rattle.jc_view.specs.Attributes.{is_recognised}
+use Rattle.jc_view.specs.Lent.{AttributesLeft, LentAttribute}
 use Rattle.jc_file.specs.FormatRules.{told_count}
 
 -- those of a kind that are left

@@ -1,7 +1,7 @@
 -- Members that repeat an earlier one, gone through one after the other.
 use Rattle.std.specs.Prelude.{ℕ, ◌+◌, Bool, false, ◌||◌, cond, List, [], ◌∷◌, ◌++◌, map, Option}
 use Rattle.std.specs.Option.{option_map_or}
-use Rattle.jc_file.specs.Lent.{MembersLeft}
+use Rattle.jc_view.specs.Lent.{MembersLeft}
 use Rattle.jc_file.specs.Faults.{key_of}
 
 -- the numbers, from n on, of the keys that were seen or that an earlier one is equal to

@@ -9,8 +9,8 @@ use Rattle.jc_base.specs.DescriptorTests.{is_field_text, is_method_text, method_
 use Rattle.jc_file.specs.declared.text_table.TextKinds.{TextKinds}
 use Rattle.jc_file.specs.declared.text_table.TextTable.TheInside as table
 use Rattle.jc_file.specs.declared.text_table.Text.TheInside as text
-use Rattle.jc_file.specs.ClassFile.{ClassFile, all_slots}
-use Rattle.jc_file.specs.Lookups.{utf8_at}
+use Rattle.jc_view.specs.ClassFile.{ClassFile, all_slots}
+use Rattle.jc_view.specs.Lookups.{utf8_at}
 use Rattle.jc_file.specs.FormatRules.{is_array_text, returns_value}
 
 -- how many slots the parameters of a method descriptor take

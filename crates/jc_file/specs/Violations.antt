@@ -5,21 +5,21 @@ use Rattle.jc_base.specs.Endian.{big_number}
 use Rattle.jc_base.specs.ModifiedUtf8.{IsWellSpelled}
 use Rattle.jc_base.specs.Names.{IsUnqualifiedName, IsMethodName, IsClassName}
 use Rattle.jc_base.specs.Descriptors.{FieldType, MethodType, IsField, IsFieldDescriptor, IsMethod, IsMethodDescriptor, slots_of}
-use Rattle.jc_file.specs.declared.constant_pool.ConstantIndex.{ConstantIndex}
-use Rattle.jc_file.specs.declared.constant_pool.ConstantKind.{ConstantKind}
-use Rattle.jc_file.specs.declared.constant_pool.ConstantKind.TheVariants as kinds
-use Rattle.jc_file.specs.declared.attribute_kind.AttributeKind.{AttributeKind}
-use Rattle.jc_file.specs.declared.attribute_kind.AttributeKind.TheVariants as attributes
-use Rattle.jc_file.specs.declared.attribute_kind.Holder.{Holder}
+use Rattle.jc_view.specs.declared.constant_pool.ConstantIndex.{ConstantIndex}
+use Rattle.jc_view.specs.declared.constant_pool.ConstantKind.{ConstantKind}
+use Rattle.jc_view.specs.declared.constant_pool.ConstantKind.TheVariants as kinds
+use Rattle.jc_view.specs.declared.attribute_kind.AttributeKind.{AttributeKind}
+use Rattle.jc_view.specs.declared.attribute_kind.AttributeKind.TheVariants as attributes
+use Rattle.jc_view.specs.declared.attribute_kind.Holder.{Holder}
 use Rattle.jc_file.specs.declared.fault.FormatRule.{FormatRule}
 use Rattle.jc_file.specs.declared.fault.FormatRule.TheVariants as rules
-use Rattle.jc_file.specs.ConstantPool.{Constant, Utf8, Class, String, Fieldref, Methodref, InterfaceMethodref, NameAndType, MethodHandle, MethodType as MethodTypeEntry, InvokeDynamic, kind_of}
-use Rattle.jc_file.specs.ClassFile.{Attribute, Member, ClassFile, constant_at}
+use Rattle.jc_view.specs.ConstantPool.{Constant, Utf8, Class, String, Fieldref, Methodref, InterfaceMethodref, NameAndType, MethodHandle, MethodType as MethodTypeEntry, InvokeDynamic, kind_of}
+use Rattle.jc_view.specs.ClassFile.{Attribute, Member, ClassFile, constant_at}
 use Rattle.jc_file.specs.AccessFlags.{public, private, protected, static, final, super, synchronized, volatile, bridge, transient, native, interface, abstract, strict, enum, annotation, has}
-use Rattle.jc_file.specs.Reading.{index_value}
-use Rattle.jc_file.specs.Lookups.{signature_entry}
-use Rattle.jc_file.specs.Places.{PlacedAttribute}
-use Rattle.jc_file.specs.Attributes.{attribute_name, belongs_to, Code, IsCodeOf, AreExceptionsOf, Bootstrap, AreBootstrapsOf, all_attributes}
+use Rattle.jc_view.specs.Reading.{index_value}
+use Rattle.jc_view.specs.Lookups.{signature_entry}
+use Rattle.jc_view.specs.Places.{PlacedAttribute}
+use Rattle.jc_view.specs.Attributes.{attribute_name, belongs_to, Code, IsCodeOf, AreExceptionsOf, Bootstrap, AreBootstrapsOf, all_attributes}
 use Rattle.jc_file.specs.FormatRules.{bootstrap_attributes, values_of, codes_of, exceptions_of, first_index, second_index}
 
 -- ---- what stands in the constants

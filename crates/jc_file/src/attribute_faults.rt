@@ -2,19 +2,17 @@
 
 ghost use Rattle.std.specs.Prelude.{◌≡◌, ◌++◌, [], ◌∷◌, map, cond, OnOk};
 ghost use Rattle.std.specs.List.{flat_map};
-ghost use Rattle.jc_file.specs.Places.{member_attributes};
-ghost use Rattle.jc_file.specs.Attributes.{with_inner};
+ghost use Rattle.jc_view.specs.Places.{member_attributes};
+ghost use Rattle.jc_view.specs.Attributes.{with_inner};
 ghost use Rattle.jc_file.specs.Faults.{attributes_with};
 ghost use Rattle.jc_file.specs.RuleTests.{attribute_breaks, fault_at};
 ghost use Rattle.jc_file.specs.AttributeFaults.{faults_in};
 
 use crate::attribute_rules::attribute_breaks;
-use crate::attributes::{Attribute, Attributes};
 use crate::fault::{Fault, FormatRule};
 use crate::fault_list::add_if;
-use crate::members::Members;
-use crate::view::ClassView;
 use jc_base::NoMemory;
+use jc_view::{Attribute, Attributes, ClassView, Members};
 
 /// Adds the faults of the attributes against a rule over attributes.
 pub(crate) fn add_attribute_faults(

@@ -1,19 +1,15 @@
 //! The rules over attributes (JVMS 4.7).
 
 ghost use Rattle.std.specs.Prelude.{◌≡◌, ◌||◌, ◌&&◌, not};
-ghost use Rattle.jc_file.specs.declared.attribute_kind.AttributeKind.TheVariants as attributes;
-ghost use Rattle.jc_file.specs.declared.constant_pool.ConstantKind.TheVariants as kinds;
+ghost use Rattle.jc_view.specs.declared.attribute_kind.AttributeKind.TheVariants as attributes;
+ghost use Rattle.jc_view.specs.declared.constant_pool.ConstantKind.TheVariants as kinds;
 ghost use Rattle.jc_file.specs.RuleTests.{attribute_breaks};
-ghost use Rattle.jc_file.specs.Lookups.{is_entry};
+ghost use Rattle.jc_view.specs.Lookups.{is_entry};
 ghost use Rattle.jc_file.specs.FormatRules.{is_sized, is_missized, first_index, second_index, lacks_method, breaks_f28, breaks_f29, breaks_f30};
 
-use crate::attribute_kind::AttributeKind;
-use crate::attributes::Attribute;
-use crate::constant_pool::{ConstantIndex, ConstantKind};
 use crate::fault::FormatRule;
 use crate::lookups::is_entry;
-use crate::pool::index_at;
-use crate::view::ClassView;
+use jc_view::{Attribute, AttributeKind, ClassView, ConstantIndex, ConstantKind, index_at};
 
 /// Whether an attribute breaks a rule over attributes; no other rule is broken by one.
 #[tactic(auto, unfolding(crate::specs::RuleTests::attribute_breaks))]

@@ -3,23 +3,22 @@
 ghost use Rattle.std.specs.Prelude.{◌≡◌, length, nat_lt, if◌then◌else◌};
 ghost use Rattle.jc_base.specs.Endian.{big_number};
 ghost use Rattle.std.specs.List.{list_all};
-ghost use Rattle.jc_file.specs.ClassFile.{constant_at};
-ghost use Rattle.jc_file.specs.View.{constant_of};
-ghost use Rattle.jc_file.specs.Reading.{after_table, table_value};
-ghost use Rattle.jc_file.specs.Skip.{Lends};
-ghost use Rattle.jc_file.specs.Lookups.{passes};
-ghost use Rattle.jc_file.specs.Attributes.{after_bootstrap, bootstrap_value, bootstraps_in};
+ghost use Rattle.jc_view.specs.ClassFile.{constant_at};
+ghost use Rattle.jc_view.specs.View.{constant_of};
+ghost use Rattle.jc_view.specs.Reading.{after_table, table_value};
+ghost use Rattle.jc_view.specs.Skip.{Lends};
+ghost use Rattle.jc_view.specs.Lookups.{passes};
+ghost use Rattle.jc_view.specs.Attributes.{after_bootstrap, bootstrap_value, bootstraps_in};
 ghost use Rattle.jc_file.specs.FormatRules.{bootstrap_attributes, breaks_f27, is_argument, is_bootstrap};
 ghost use Rattle.jc_file.specs.Recognised.{told_by};
 
-use crate::attribute_kind::AttributeKind;
-use crate::constant_pool::{Constant, ConstantIndex, ConstantKind};
-use crate::indexes::{Indexes, read_indexes};
 use crate::lookups::is_entry;
-use crate::pool::read_index;
 use crate::recognised::next_of_kind;
-use crate::view::ClassView;
 use jc_base::Cursor;
+use jc_view::{
+    AttributeKind, ClassView, Constant, ConstantIndex, ConstantKind, Indexes, read_index,
+    read_indexes,
+};
 
 /// How many methods the class's only `BootstrapMethods` tells; 0 where there is none, or a second.
 pub(crate) fn told_methods(class: &ClassView) -> u16
@@ -80,7 +79,7 @@ fn read_bootstraps(class: &ClassView, cursor: &mut Cursor) -> Option<bool>
 }
 
 /// Whether the bootstrap method that stands here is well-formed.
-#[tactic(auto, unfolding(crate::specs::Attributes::after_bootstrap))]
+#[tactic(auto, unfolding(jc_view::specs::Attributes::after_bootstrap))]
 fn read_bootstrap(class: &ClassView, cursor: &mut Cursor) -> Option<bool>
     ensures { Lends (λ is_bootstrap. is_bootstrap) after_bootstrap (λ xs. is_bootstrap class.now (bootstrap_value xs)) cursor.old result cursor.new }
 {

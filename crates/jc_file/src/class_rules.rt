@@ -3,14 +3,13 @@
 ghost use Rattle.std.specs.Prelude.{◌≡◌};
 ghost use Rattle.std.specs.Option.{option_copied};
 ghost use Rattle.jc_base.specs.TextTests.{is_class_text};
-ghost use Rattle.jc_file.specs.Lookups.{lacks};
+ghost use Rattle.jc_view.specs.Lookups.{lacks};
 ghost use Rattle.jc_file.specs.FormatRules.{is_interface, names_object, breaks_f12, breaks_f13, breaks_f13_with, breaks_f14};
 
 use crate::access_flags::{ABSTRACT, ANNOTATION, ENUM, FINAL, INTERFACE, SUPER, has};
-use crate::constant_pool::ConstantIndex;
 use crate::text_table::TextTable;
 use crate::texts::{is_class_text, is_object};
-use crate::view::ClassView;
+use jc_view::{ClassView, ConstantIndex};
 
 pub(crate) fn is_interface(class: &ClassView) -> bool
     ensures { result ≡ is_interface class.now }

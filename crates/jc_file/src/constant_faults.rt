@@ -2,7 +2,7 @@
 
 ghost use Rattle.std.specs.Prelude.{◌≡◌, ◌++◌, map, false, OnOk};
 ghost use Rattle.std.specs.Option.{option_map_or};
-ghost use Rattle.jc_file.specs.ClassFile.{constant_at};
+ghost use Rattle.jc_view.specs.ClassFile.{constant_at};
 ghost use Rattle.jc_file.specs.Faults.{constants_with};
 ghost use Rattle.jc_file.specs.FormatRules.{bootstrap_attributes, breaks_f11};
 ghost use Rattle.jc_file.specs.Recognised.{told_by};

@@ -1,17 +1,17 @@
 //! The rules over constants: which of them break one (JVMS 4.4).
 
 ghost use Rattle.std.specs.Prelude.{◌≡◌};
-ghost use Rattle.jc_file.specs.View.{constant_of};
+ghost use Rattle.jc_view.specs.View.{constant_of};
 ghost use Rattle.jc_file.specs.RuleTests.{constant_breaks};
 ghost use Rattle.jc_file.specs.Recognised.{told_by};
 ghost use Rattle.jc_file.specs.FormatRules.{bootstrap_attributes, lacks_member_entries, fails_beside, is_bad_special, fits_handle, is_name_amiss};
 ghost use Rattle.jc_file.specs.FormatRules.{breaks_f1, breaks_f2, breaks_f3, breaks_f4, breaks_f5, breaks_f6, breaks_f7, breaks_f8, breaks_f9, breaks_f10, breaks_f11};
 
-use crate::constant_pool::{Constant, ConstantIndex, ConstantKind};
 use crate::fault::FormatRule;
 use crate::lookups::{descriptor_of, is_entry, is_kind, name_of};
 use crate::text_table::{Text, TextTable};
 use crate::texts::{begins_with, is_clinit, is_init, is_well_spelled};
+use jc_view::{Constant, ConstantIndex, ConstantKind};
 
 /// Whether a constant breaks a rule over constants, other than that over bootstrap methods.
 #[tactic(auto, unfolding(crate::specs::RuleTests::constant_breaks))]

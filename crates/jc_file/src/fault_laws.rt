@@ -2,17 +2,20 @@
 //! rules mean.
 
 ghost use Rattle.std.specs.Prelude.{◌↔◌, ℕ, List, Contains};
-ghost use Rattle.jc_file.specs.declared.attribute_kind.AttributeKind.{AttributeKind};
-ghost use Rattle.jc_file.specs.declared.attribute_kind.Holder.{Holder};
+ghost use Rattle.jc_view.specs.declared.attribute_kind.AttributeKind.{AttributeKind};
+ghost use Rattle.jc_view.specs.declared.attribute_kind.Holder.{Holder};
 ghost use Rattle.jc_file.specs.declared.fault.FormatRule.{FormatRule};
-ghost use Rattle.jc_file.specs.ClassFile.{Attribute, ClassFile, layout};
-ghost use Rattle.jc_file.specs.Attributes.{of_kind};
-ghost use Rattle.jc_file.specs.Outcome.{AreBytes};
-ghost use Rattle.jc_file.specs.Faults.{places};
+ghost use Rattle.jc_view.specs.ClassFile.{Attribute, ClassFile, layout};
+ghost use Rattle.jc_view.specs.Attributes.{of_kind};
+ghost use Rattle.jc_view.specs.Outcome.{AreBytes};
+ghost use Rattle.std.specs.List.Sorted.{IsStrictlySortedBy};
+ghost use Rattle.jc_file.specs.declared.fault.Fault.{Fault};
+ghost use Rattle.jc_file.specs.FaultOrder.{fault_cmp};
+ghost use Rattle.jc_file.specs.Faults.{faults, places};
 ghost use Rattle.jc_file.specs.Violations.{IsRecognised, Violates};
 
-use crate::laws::attributes_are_read;
 use jc_base::{descriptors_are_decided, texts_are_decided};
+use jc_view::attributes_are_read;
 
 /// A rule is found broken at a place just where it is, in a class file whose bytes are below 256.
 pub fn faults_are_violations()
@@ -26,4 +29,11 @@ pub fn faults_are_violations()
 /// The attributes of a kind are those with its name, where the kind belongs.
 pub fn attributes_are_recognised()
     ensures { (c : ClassFile) (kind : AttributeKind) (holder : Holder) (attributes : List Attribute) (a : Attribute) → Contains (of_kind c kind holder attributes) a ↔ Contains attributes a × IsRecognised c kind holder a }
+{}
+
+/// The faults of a class file stand by rule and then by place, each once, and there is one for each
+/// place of each rule.
+pub fn faults_are_exact()
+    ensures rising { (c : ClassFile) → IsStrictlySortedBy fault_cmp (faults c) }
+    ensures exact { (c : ClassFile) (fault : Fault) → Contains (faults c) fault ↔ Contains (places c fault.rule) fault.place }
 {}

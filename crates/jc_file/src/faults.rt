@@ -12,8 +12,8 @@ use crate::fault::{Fault, FormatRule};
 use crate::member_faults::{add_field_faults, add_method_faults};
 use crate::repeated::{add_repeated_fields, add_repeated_methods};
 use crate::text_table::TextTable;
-use crate::view::ClassView;
 use jc_base::NoMemory;
+use jc_view::ClassView;
 use std::alloc::Global;
 
 /// All places of a class file where a rule of the format is broken, by rule and then by place.

@@ -3,24 +3,20 @@
 ghost use Rattle.std.specs.Prelude.{◌≡◌, codes};
 ghost use Rattle.std.specs.List.{list_any};
 ghost use Rattle.jc_base.specs.Bytes.{same_bytes};
-ghost use Rattle.jc_file.specs.declared.attribute_kind.Holder.TheVariants as holders;
+ghost use Rattle.jc_view.specs.declared.attribute_kind.Holder.TheVariants as holders;
 ghost use Rattle.jc_file.specs.RuleTests.{field_breaks};
-ghost use Rattle.jc_file.specs.Lookups.{utf8_at, passes};
+ghost use Rattle.jc_view.specs.Lookups.{utf8_at, passes};
 ghost use Rattle.jc_file.specs.FormatRules.{are_constant_flags, constant_kind_of, names_other, misfits, values_of, breaks_f15, breaks_f16, breaks_f17, breaks_f25};
 
 use crate::access_flags::{
     ENUM, FINAL, PRIVATE, PROTECTED, PUBLIC, STATIC, TRANSIENT, VOLATILE, has, has_two_accesses,
 };
-use crate::attribute_kind::AttributeKind;
-use crate::attributes::Attribute;
 use crate::class_rules::is_interface;
-use crate::constant_pool::ConstantKind;
 use crate::fault::FormatRule;
 use crate::lookups::is_entry;
-use crate::members::Member;
-use crate::pool::index_at;
 use crate::recognised::has_two;
 use crate::text_table::TextTable;
+use jc_view::{Attribute, AttributeKind, ConstantKind, Member, index_at};
 
 /// Whether a field breaks a rule over fields; no other rule is broken by one.
 #[tactic(auto, unfolding(crate::specs::RuleTests::field_breaks))]

@@ -1,12 +1,11 @@
 //! What an index into the constants leads to.
 
 ghost use Rattle.std.specs.Prelude.{◌≡◌};
-ghost use Rattle.jc_file.specs.Lookups.{is_kind, is_entry, name_and_type, signature_entry, name_and_type_at, name_of, descriptor_of};
-ghost use Rattle.jc_file.specs.View.{constant_of};
+ghost use Rattle.jc_view.specs.Lookups.{is_kind, is_entry, name_and_type, signature_entry, name_and_type_at, name_of, descriptor_of};
+ghost use Rattle.jc_view.specs.View.{constant_of};
 
-use crate::constant_pool::{Constant, ConstantIndex, ConstantKind};
 use crate::text_table::{Text, TextTable};
-use crate::view::ClassView;
+use jc_view::{ClassView, Constant, ConstantIndex, ConstantKind};
 
 pub(crate) fn is_kind(kind: ConstantKind, constant: Constant) -> bool
     ensures { result ≡ is_kind kind (constant_of constant.entry) }

@@ -2,11 +2,11 @@
 
 ghost use Rattle.std.specs.Prelude.{◌≡◌, is_none};
 ghost use Rattle.std.specs.List.{list_all, list_any};
-ghost use Rattle.jc_file.specs.declared.attribute_kind.Holder.TheVariants as holders;
-ghost use Rattle.jc_file.specs.declared.constant_pool.ConstantKind.TheVariants as kinds;
-ghost use Rattle.jc_file.specs.Attributes.{code_in, exceptions_in};
+ghost use Rattle.jc_view.specs.declared.attribute_kind.Holder.TheVariants as holders;
+ghost use Rattle.jc_view.specs.declared.constant_pool.ConstantKind.TheVariants as kinds;
+ghost use Rattle.jc_view.specs.Attributes.{code_in, exceptions_in};
 ghost use Rattle.jc_file.specs.RuleTests.{method_breaks};
-ghost use Rattle.jc_file.specs.Lookups.{is_entry, lacks, passes};
+ghost use Rattle.jc_view.specs.Lookups.{is_entry, lacks, passes};
 ghost use Rattle.jc_base.specs.DescriptorTests.{method_type_of};
 ghost use Rattle.jc_file.specs.FormatRules.{fits_slots, is_named_clinit, is_named_init, has_more_than_abstract, are_bad_interface_flags, has_more_than_constructor, codes_of, exceptions_of};
 ghost use Rattle.jc_file.specs.FormatRules.{breaks_f19, breaks_f20, breaks_f21, breaks_f23, breaks_f24, breaks_f26};
@@ -15,18 +15,14 @@ use crate::access_flags::{
     ABSTRACT, BRIDGE, FINAL, NATIVE, PRIVATE, PROTECTED, PUBLIC, STATIC, STRICT, SYNCHRONIZED, has,
     has_two_accesses,
 };
-use crate::attribute_kind::AttributeKind;
 use crate::class_rules::is_interface;
-use crate::constant_pool::ConstantKind;
 use crate::fault::FormatRule;
-use crate::indexes::{Indexes, read_indexes};
 use crate::lookups::is_entry;
-use crate::members::Member;
 use crate::recognised::{has_one, has_two};
 use crate::text_table::{Text, TextTable};
 use crate::texts::{is_clinit, is_init};
-use crate::view::ClassView;
 use jc_base::Cursor;
+use jc_view::{AttributeKind, ClassView, ConstantKind, Indexes, Member, read_indexes};
 
 /// Whether a method breaks a rule over methods; no other rule is broken by one.
 #[tactic(auto, unfolding(crate::specs::RuleTests::method_breaks))]

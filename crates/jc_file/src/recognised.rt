@@ -1,12 +1,10 @@
 //! The attributes of a kind, one after the other.
 
 ghost use Rattle.std.specs.Prelude.{◌≡◌, length, nat_le, nat_lt};
-ghost use Rattle.jc_file.specs.Attributes.{of_kind};
+ghost use Rattle.jc_view.specs.Attributes.{of_kind};
 ghost use Rattle.jc_file.specs.Recognised.{GivesOfKind};
 
-use crate::attribute_kind::AttributeKind;
-use crate::attributes::{Attribute, Attributes};
-use crate::members::Member;
+use jc_view::{Attribute, AttributeKind, Attributes, Member};
 
 /// The next attribute that is recognised as of a kind.
 pub(crate) fn next_of_kind<'v, 'a>(

@@ -8,14 +8,12 @@ ghost use Rattle.jc_file.specs.Faults.{repeated};
 ghost use Rattle.jc_file.specs.RuleTests.{fault_at};
 ghost use Rattle.jc_file.specs.TextNumbers.{same_numbers, AreNumbers, KeepsNumbers, IsNumberedKey};
 
-use crate::constant_pool::ConstantIndex;
 use crate::fault::{Fault, FormatRule};
 use crate::fault_list::add_if;
-use crate::members::{Member, Members};
 use crate::text_numbers::TextNumbers;
-use crate::view::ClassView;
 use indexmap::IndexSet;
 use jc_base::NoMemory;
+use jc_view::{ClassView, ConstantIndex, Member, Members};
 use std::alloc::Global;
 
 /// The numbers of a name and a descriptor.

@@ -6,9 +6,8 @@ ghost use Rattle.std.specs.Option.{option_flatten};
 ghost use Rattle.jc_base.specs.Bytes.{same_bytes};
 ghost use Rattle.jc_file.specs.TextNumbers.{number_in, IsNumberAt, AreNumbers, KeepsNumbers};
 
-use crate::constant_pool::ConstantIndex;
-use crate::view::ClassView;
 use jc_base::NoMemory;
+use jc_view::{ClassView, ConstantIndex};
 use std::alloc::Global;
 use std::collections::BTreeMap;
 

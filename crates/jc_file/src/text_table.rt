@@ -4,15 +4,14 @@
 ghost use Rattle.std.specs.Prelude.{◌≡◌, IfOk, slice_get, option_and_then};
 ghost use Rattle.jc_base.specs.TextTests.{is_class_text, is_method_name_text, is_unqualified_text};
 ghost use Rattle.jc_base.specs.DescriptorTests.{is_field_text, is_method_text};
-ghost use Rattle.jc_file.specs.ClassFile.{class_text_at};
-ghost use Rattle.jc_file.specs.Lookups.{utf8_at};
+ghost use Rattle.jc_view.specs.ClassFile.{class_text_at};
+ghost use Rattle.jc_view.specs.Lookups.{utf8_at};
 ghost use Rattle.jc_file.specs.FormatRules.{is_array_text, returns_value};
 ghost use Rattle.jc_file.specs.TextKinds.{all_kinds, kinds_at, method_slots_of, text_kinds};
 
-use crate::constant_pool::{Constant, ConstantIndex};
 use crate::texts;
-use crate::view::ClassView;
 use jc_base::NoMemory;
+use jc_view::{ClassView, Constant, ConstantIndex};
 use std::alloc::Global;
 use std::marker::Model;
 
@@ -37,7 +36,7 @@ pub(crate) struct TextTable<'v, 'a> {
 }
 
 impl<'v, 'a> Model for TextTable<'v, 'a> {
-    ghost use Rattle.jc_file.specs.ClassFile.{ClassFile};
+    ghost use Rattle.jc_view.specs.ClassFile.{ClassFile};
 
     ghost Value = { ClassFile };
 

@@ -5,8 +5,8 @@ use Rattle.std.specs.List.{list_any}
 use Rattle.std.specs.Result.{is_ok}
 use Rattle.jc_base.specs.Bytes.{bytes_cmp, same_bytes}
 use Rattle.jc_base.proofs.ByteMapLemmas.{get-insert, get-remove, same_bytes_decides}
-use Rattle.jc_file.specs.declared.parse_error.ParseError.{ParseError}
-use Rattle.jc_file.specs.Outcome.{class_named}
+use Rattle.jc_view.specs.declared.parse_error.ParseError.{ParseError}
+use Rattle.jc_view.specs.Outcome.{class_named}
 use Rattle.jc_session.specs.Files.{Files}
 use Rattle.jc_session.specs.Rows.{Class, Shadowed, names, winner, state_by, state_of, row_of, rows, is_unreadable, is_unreadable_state}
 use Rattle.jc_session.specs.Claims.{PathsByName, has_claim, names_there, names_at, AreClaims, claimed_state, claimed_row}

@@ -3,8 +3,8 @@ use Rattle.std.specs.Prelude.{◌≡◌, ◌≢◌, ℕ, Bool, false, List, [], 
 use Rattle.std.specs.FinMap as map
 use Rattle.std.specs.FinSet as set
 use Rattle.jc_base.specs.Bytes.{bytes_cmp}
-use Rattle.jc_file.specs.declared.parse_error.ParseError.{ParseError}
-use Rattle.jc_file.specs.Outcome.{class_named}
+use Rattle.jc_view.specs.declared.parse_error.ParseError.{ParseError}
+use Rattle.jc_view.specs.Outcome.{class_named}
 use Rattle.jc_session.specs.Files.{Files}
 use Rattle.jc_session.specs.Rows.{FileState, Unreadable, FileRow, names, state_by}
 

@@ -2,7 +2,7 @@
 use Rattle.std.specs.Prelude.{ℕ, List, Result, Ok, Err}
 use Rattle.std.specs.Borrow.{Bor}
 use Rattle.std.specs.declared.vec.Vec.{Vec}
-use Rattle.jc_file.specs.declared.parse_error.ParseError.{ParseError}
+use Rattle.jc_view.specs.declared.parse_error.ParseError.{ParseError}
 
 abbrev pub class_held : {A : Type 0} → Result (Vec ℕ A) ParseError → Result (List ℕ) ParseError
 class_held (Ok name) = Ok name.items

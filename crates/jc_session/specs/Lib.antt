@@ -17,5 +17,5 @@ pub use Rattle.jc_base.specs.Bytes
 pub use Rattle.jc_base.specs.CodeUnits
 pub use Rattle.jc_base.specs.Device
 pub use Rattle.jc_base.specs.TextTests
-pub use Rattle.jc_file.specs.Outcome
-pub use Rattle.jc_file.specs.Refusal
+pub use Rattle.jc_view.specs.Outcome
+pub use Rattle.jc_view.specs.Refusal

@@ -2,9 +2,9 @@
 use Rattle.std.specs.Prelude.{ℕ, ◌+◌, ◌/◌, ◌%◌, Bool, not, ◌==◌, ◌&&◌, nat_le, nat_lt, List, [], ◌∷◌, ◌++◌, if◌then◌else◌, codes, decimal, unwrap_or}
 use Rattle.std.specs.List.{flat_map}
 use Rattle.jc_base.specs.TextTests.{units_of}
-use Rattle.jc_file.specs.declared.parse_error.ParseError.{ParseError}
-use Rattle.jc_file.specs.declared.parse_error.ParseError.TheVariants as errors
-use Rattle.jc_file.specs.Refusal.{code_of}
+use Rattle.jc_view.specs.declared.parse_error.ParseError.{ParseError}
+use Rattle.jc_view.specs.declared.parse_error.ParseError.TheVariants as errors
+use Rattle.jc_view.specs.Refusal.{code_of}
 use Rattle.jc_session.specs.Files.{Files}
 use Rattle.jc_session.specs.Rows.{FileState, Class, Shadowed, Unreadable, FileRow, rows}
 

@@ -2,8 +2,8 @@
 use Rattle.std.specs.Prelude.{ℕ, Bool, true, false, List, [], ◌∷◌, map, Option, Some, None, Result, Ok, Err, if◌then◌else◌}
 use Rattle.std.specs.FinMap.{entries}
 use Rattle.jc_base.specs.Bytes.{same_bytes}
-use Rattle.jc_file.specs.declared.parse_error.ParseError.{ParseError}
-use Rattle.jc_file.specs.Outcome.{class_named}
+use Rattle.jc_view.specs.declared.parse_error.ParseError.{ParseError}
+use Rattle.jc_view.specs.Outcome.{class_named}
 use Rattle.jc_session.specs.Files.{Files}
 
 -- whether the bytes name a class

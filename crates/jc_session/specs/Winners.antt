@@ -3,7 +3,7 @@ use Rattle.std.specs.Prelude.{◌≡◌, ◌≢◌, ℕ, List, Some, Ok}
 use Rattle.std.specs.FinMap as map
 use Rattle.std.specs.declared.cmp.Ordering.TheVariants.{Less}
 use Rattle.jc_base.specs.Bytes.{bytes_cmp}
-use Rattle.jc_file.specs.Outcome.{class_named}
+use Rattle.jc_view.specs.Outcome.{class_named}
 use Rattle.jc_session.specs.Files.{Files}
 
 -- there is a file at the path, and its bytes name the class

@@ -3,7 +3,7 @@
 ghost use Rattle.std.specs.Prelude.{◌≡◌, ◌&&◌, ◌||◌, not, false, ℕ, List, OnOk, OnErr};
 ghost use Rattle.std.specs.Option.{option_map};
 ghost use Rattle.jc_base.specs.Bytes.{same_bytes};
-ghost use Rattle.jc_file.specs.Outcome.{class_named};
+ghost use Rattle.jc_view.specs.Outcome.{class_named};
 ghost use Rattle.jc_session.specs.Claims.{has_claim, first_claim, claimed_state};
 ghost use Rattle.jc_session.specs.FileRowView.{state_lent};
 ghost use Rattle.jc_session.specs.Rows as rows;

@@ -2,7 +2,7 @@
 
 ghost use Rattle.std.specs.Prelude.{◌≡◌, IfOk};
 ghost use Rattle.std.specs.Result.{is_ok};
-ghost use Rattle.jc_file.specs.Outcome.{class_named};
+ghost use Rattle.jc_view.specs.Outcome.{class_named};
 ghost use Rattle.jc_session.specs.HeldFile.{class_held, class_lent};
 ghost use Rattle.jc_session.specs.Rows.{names};
 
@@ -23,7 +23,7 @@ impl Model for File {
 
     ghost Value = { List ℕ };
 
-    ghost use Rattle.jc_file.specs.Outcome.{class_named};
+    ghost use Rattle.jc_view.specs.Outcome.{class_named};
     ghost use Rattle.jc_session.specs.HeldFile.{class_held};
 
     ghost view = { λ file. file.bytes.items };

@@ -5,8 +5,8 @@
 //! numbers, 0 for a class; with `bytes N` it sums the bytes themselves N times.
 #![tactic(auto)]
 
-ghost use Rattle.jc_file.specs.Reading.{after_sized, sized_value};
-ghost use Rattle.jc_file.specs.Skip.{Lends};
+ghost use Rattle.jc_view.specs.Reading.{after_sized, sized_value};
+ghost use Rattle.jc_view.specs.Skip.{Lends};
 
 use jc_base::Cursor;
 use jc_file::{ClassView, ParseError, parse};

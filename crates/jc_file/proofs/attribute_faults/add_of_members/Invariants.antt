@@ -1,7 +1,7 @@
 use Rattle.std.proofs.Common.{◌≡◌, ◌++◌}
 use Rattle.std.specs.List.{flat_map}
-use Rattle.jc_file.specs.Places.{member_attributes}
-use Rattle.jc_file.specs.Attributes.{with_inner}
+use Rattle.jc_view.specs.Places.{member_attributes}
+use Rattle.jc_view.specs.Attributes.{with_inner}
 use Rattle.jc_file.specs.AttributeFaults.{faults_in}
 use Rattle.jc_file.proofs.attribute_faults.add_of_members.Given as goal
 

@@ -1,7 +1,7 @@
 use Rattle.std.proofs.Common.{◌≡◌}
 use Rattle.std.specs.List.{list_all}
-use Rattle.jc_file.specs.ClassFile.{constant_at}
-use Rattle.jc_file.specs.Lookups.{passes}
+use Rattle.jc_view.specs.ClassFile.{constant_at}
+use Rattle.jc_view.specs.Lookups.{passes}
 use Rattle.jc_file.specs.FormatRules.{is_argument}
 use Rattle.jc_file.proofs.bootstraps.are_arguments.Given as goal
 

@@ -1,10 +1,10 @@
 use Rattle.std.proofs.Common.{◌≡◌, ℕ, ◌∙◌, ◌∷◌, [], List, Bool, true, false, not, ◌||◌, nat_le, Option, Some, None, length, map, refl, ap, arith}
 use Rattle.std.specs.List.{list_all, list_any}
-use Rattle.jc_file.specs.ClassFile.{Attribute, ClassFile}
-use Rattle.jc_file.specs.Lookups.{lacks, passes}
-use Rattle.jc_file.specs.Attributes.{bootstraps_in}
+use Rattle.jc_view.specs.ClassFile.{Attribute, ClassFile}
+use Rattle.jc_view.specs.Lookups.{lacks, passes}
+use Rattle.jc_view.specs.Attributes.{bootstraps_in}
 use Rattle.jc_file.specs.FormatRules.{is_bootstrap}
-use Rattle.jc_file.specs.declared.attribute_kind.AttributeKind.TheVariants as kinds
+use Rattle.jc_view.specs.declared.attribute_kind.AttributeKind.TheVariants as kinds
 use Rattle.jc_file.specs.Recognised.{of_kind_left}
 use Rattle.jc_file.proofs.OfKind.{in_place, bootstraps_are}
 use Rattle.jc_file.proofs.bootstraps.breaks_f27.Goals as goal

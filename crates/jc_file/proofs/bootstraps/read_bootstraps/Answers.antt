@@ -1,9 +1,9 @@
 use Rattle.std.proofs.Common.{◌∙◌}
-use Rattle.jc_file.specs.Reading.{after_table}
-use Rattle.jc_file.specs.Attributes.{after_bootstrap, bootstrap_value}
+use Rattle.jc_view.specs.Reading.{after_table}
+use Rattle.jc_view.specs.Attributes.{after_bootstrap, bootstrap_value}
 use Rattle.jc_file.specs.FormatRules.{is_bootstrap}
-use Rattle.jc_file.proofs.Tables.{each_more, each_cut, each_done}
-use Rattle.jc_file.proofs.IndexTables.{all_more, all_done}
+use Rattle.jc_view.proofs.Tables.{each_more, each_cut, each_done}
+use Rattle.jc_view.proofs.IndexTables.{all_more, all_done}
 use Rattle.jc_file.proofs.bootstraps.read_bootstraps.Goals as goal
 
 pub returns-in_err-all : goal.returns-in_err-all

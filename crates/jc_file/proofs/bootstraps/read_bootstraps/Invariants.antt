@@ -1,8 +1,8 @@
 use Rattle.std.proofs.Common.{◌≡◌, ◌-◌, ◌&&◌}
 use Rattle.std.specs.List.{list_all}
-use Rattle.jc_file.specs.Reading.{after_each, each_value, after_table, table_value}
-use Rattle.jc_file.specs.Skip.{KeepsEnd}
-use Rattle.jc_file.specs.Attributes.{after_bootstrap, bootstrap_value}
+use Rattle.jc_view.specs.Reading.{after_each, each_value, after_table, table_value}
+use Rattle.jc_view.specs.Skip.{KeepsEnd}
+use Rattle.jc_view.specs.Attributes.{after_bootstrap, bootstrap_value}
 use Rattle.jc_file.specs.FormatRules.{is_bootstrap}
 use Rattle.jc_file.proofs.bootstraps.read_bootstraps.Given as goal
 

@@ -1,6 +1,6 @@
 use Rattle.std.proofs.Common.{◌≡◌, ◌-◌, ◌++◌, false}
 use Rattle.std.specs.Option.{option_map_or}
-use Rattle.jc_file.specs.ClassFile.{constant_at}
+use Rattle.jc_view.specs.ClassFile.{constant_at}
 use Rattle.jc_file.specs.RuleTests.{constant_breaks, found}
 use Rattle.jc_file.proofs.constant_faults.add_constant_faults.Given as goal
 

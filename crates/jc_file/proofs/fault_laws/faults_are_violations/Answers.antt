@@ -2,8 +2,8 @@ use Rattle.std.proofs.Common.{ℕ}
 use Rattle.std.specs.List.{Contains}
 use Rattle.jc_file.specs.declared.fault.FormatRule.{FormatRule}
 use Rattle.jc_file.specs.declared.fault.FormatRule.TheVariants as rules
-use Rattle.jc_file.specs.ClassFile.{ClassFile, layout}
-use Rattle.jc_file.specs.Outcome.{AreBytes}
+use Rattle.jc_view.specs.ClassFile.{ClassFile, layout}
+use Rattle.jc_view.specs.Outcome.{AreBytes}
 use Rattle.jc_file.specs.Faults.{places}
 use Rattle.jc_file.specs.FormatRules.{breaks_f1, breaks_f2, breaks_f3, breaks_f4, breaks_f5, breaks_f6, breaks_f7, breaks_f8, breaks_f9, breaks_f10, breaks_f11, breaks_f28, breaks_f29, breaks_f30}
 use Rattle.jc_file.specs.Violations.{BreaksF1, BreaksF2, BreaksF3, BreaksF4, BreaksF5, BreaksF6, BreaksF7, BreaksF8, BreaksF9, BreaksF10, BreaksF11, BreaksF28, BreaksF29, BreaksF30, Violates}

@@ -1,7 +1,7 @@
 use Rattle.std.proofs.Common.{◌≡◌, ◌⊎◌, inl, inr, map, refl}
 use Rattle.jc_file.specs.declared.fault.FormatRule.{FormatRule}
 use Rattle.jc_file.specs.declared.fault.FormatRule.TheVariants as rules
-use Rattle.jc_file.specs.ClassFile.{ClassFile}
+use Rattle.jc_view.specs.ClassFile.{ClassFile}
 use Rattle.jc_file.specs.Faults.{attributes_with, faults_against}
 use Rattle.jc_file.specs.RuleTests.{attribute_breaks, fault_at}
 use Rattle.jc_file.proofs.faults.add_faults.Goals as goal

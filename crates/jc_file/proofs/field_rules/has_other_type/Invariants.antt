@@ -1,6 +1,6 @@
 use Rattle.std.proofs.Common.{◌≡◌}
 use Rattle.std.specs.List.{list_any}
-use Rattle.jc_file.specs.declared.attribute_kind.AttributeKind.TheVariants as kinds
+use Rattle.jc_view.specs.declared.attribute_kind.AttributeKind.TheVariants as kinds
 use Rattle.jc_file.specs.FormatRules.{misfits, values_of}
 use Rattle.jc_file.specs.Recognised.{any_of}
 use Rattle.jc_file.proofs.field_rules.has_other_type.Given as goal

@@ -1,8 +1,8 @@
 use Rattle.std.proofs.Common.{length, ◌<◌, ◌^◌, rules, ◌≡◌, ◌++◌, ◌+◌, refl, ap, sym, map}
 use Rattle.std.specs.Iterator.Adapters.{enumerate_source, enumerate_count}
-use Rattle.jc_file.specs.declared.attribute_kind.Holder.TheVariants as holders
+use Rattle.jc_view.specs.declared.attribute_kind.Holder.TheVariants as holders
 use Rattle.jc_file.specs.RuleTests.{method_breaks, fault_at}
-use Rattle.jc_file.specs.Places.{methods_in, methods_place}
+use Rattle.jc_view.specs.Places.{methods_in, methods_place}
 use Rattle.jc_file.proofs.Numbered.{those_with-numbered}
 use Rattle.jc_file.proofs.PlacedMembers.{members_of_all, are_of_all, few_placed}
 use Rattle.jc_file.proofs.member_faults.add_method_faults.Goals as goal

@@ -1,7 +1,7 @@
 use Rattle.std.proofs.Common.{◌≡◌}
 use Rattle.std.specs.List.{list_all}
-use Rattle.jc_file.specs.declared.constant_pool.ConstantKind.TheVariants as kinds
-use Rattle.jc_file.specs.Lookups.{is_entry}
+use Rattle.jc_view.specs.declared.constant_pool.ConstantKind.TheVariants as kinds
+use Rattle.jc_view.specs.Lookups.{is_entry}
 use Rattle.jc_file.proofs.method_rules.are_classes.Given as goal
 
 -- all are classes if those that are left are

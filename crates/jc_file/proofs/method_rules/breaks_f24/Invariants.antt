@@ -1,6 +1,6 @@
 use Rattle.std.proofs.Common.{◌≡◌, is_none}
-use Rattle.jc_file.specs.declared.attribute_kind.AttributeKind.TheVariants as kinds
-use Rattle.jc_file.specs.Attributes.{code_in}
+use Rattle.jc_view.specs.declared.attribute_kind.AttributeKind.TheVariants as kinds
+use Rattle.jc_view.specs.Attributes.{code_in}
 use Rattle.jc_file.specs.FormatRules.{breaks_f24}
 use Rattle.jc_file.specs.Recognised.{any_of}
 use Rattle.jc_file.proofs.method_rules.breaks_f24.Given as goal

@@ -1,9 +1,9 @@
 use Rattle.std.proofs.Common.{◌≡◌}
 use Rattle.std.specs.List.{list_all, list_any}
-use Rattle.jc_file.specs.declared.attribute_kind.AttributeKind.TheVariants as attributes
-use Rattle.jc_file.specs.declared.constant_pool.ConstantKind.TheVariants as kinds
-use Rattle.jc_file.specs.Attributes.{exceptions_in}
-use Rattle.jc_file.specs.Lookups.{is_entry, lacks}
+use Rattle.jc_view.specs.declared.attribute_kind.AttributeKind.TheVariants as attributes
+use Rattle.jc_view.specs.declared.constant_pool.ConstantKind.TheVariants as kinds
+use Rattle.jc_view.specs.Attributes.{exceptions_in}
+use Rattle.jc_view.specs.Lookups.{is_entry, lacks}
 use Rattle.jc_file.specs.FormatRules.{exceptions_of}
 use Rattle.jc_file.specs.Recognised.{any_of}
 use Rattle.jc_file.proofs.method_rules.has_bad_exceptions.Given as goal

@@ -1,6 +1,6 @@
 use Rattle.std.proofs.Common.{◌+◌, sym}
-use Rattle.jc_file.specs.declared.attribute_kind.Holder.TheVariants as holders
-use Rattle.jc_file.specs.Places.{fields_place}
+use Rattle.jc_view.specs.declared.attribute_kind.Holder.TheVariants as holders
+use Rattle.jc_view.specs.Places.{fields_place}
 use Rattle.jc_file.proofs.KeysLeft.{length-members, repeated-members}
 use Rattle.jc_file.proofs.repeated.add_repeated_fields.Goals as goal
 

@@ -1,5 +1,5 @@
 use Rattle.std.proofs.Common.{Ok, ◌≡◌, List, ℕ, sym, ap, ◌∙◌, arith}
-use Rattle.jc_file.specs.Outcome.{class_named}
+use Rattle.jc_view.specs.Outcome.{class_named}
 use Rattle.jc_session.proofs.file.class_of.Goals as goal
 
 pub returns-in_ok-from_slice-in-Ok : goal.returns-in_ok-from_slice-in-Ok

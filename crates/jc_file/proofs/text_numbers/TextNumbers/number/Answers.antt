@@ -1,6 +1,6 @@
 use Rattle.std.proofs.Common.{◌≡◌, ◌∙◌, Some, ap, sym}
 use Rattle.std.specs.Option.{option_copied}
-use Rattle.jc_file.specs.Lookups.{utf8_at}
+use Rattle.jc_view.specs.Lookups.{utf8_at}
 use Rattle.jc_file.proofs.TextsNumbered.{numbers_more}
 use Rattle.jc_file.proofs.text_numbers.TextNumbers.number.Goals as goal
 

@@ -1,5 +1,0 @@
-use Rattle.jc_file.proofs.LayoutLaws.{one_layout, one_class, one_refusal, none_applies}
-use Rattle.jc_file.proofs.laws.layouts_are_apart.Goals as goal
-
-pub returns : goal.returns
-returns c = record { fronts = one_layout; one_record = one_class; refusals = one_refusal; readable = λ b e h. none_applies b e h }

@@ -1,7 +1,0 @@
-use Rattle.std.proofs.Common.{◌≡◌, ◌-◌}
-use Rattle.jc_file.specs.Reading.{after_each, after_member, after_table}
-use Rattle.jc_file.specs.Skip.{KeepsEnd}
-use Rattle.jc_file.proofs.skip.skip_members.Given as goal
-
-abbrev pub invariant-loop : goal.invariant-loop
-invariant-loop l = (after_each after_member (l.count - l.counter) l.cursor.rest ≡ after_table after_member l.fn.cursor.rest) × KeepsEnd l.fn.cursor l.cursor

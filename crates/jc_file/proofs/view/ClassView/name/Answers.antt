@@ -1,8 +1,0 @@
-use Rattle.std.proofs.Common.{subst}
-use Rattle.jc_file.specs.ClassFile.{ClassFile, FitsClassFile}
-use Rattle.jc_file.proofs.Stored.{lent}
-use Rattle.jc_file.proofs.view.ClassView.name.Goals as goal
-
-pub returns-clause-lent : goal.returns-clause-lent
-returns-clause-lent c = λ named.
-    lent c.args.self.now named.entry c.self.inside.name.now (subst (λ (k : ClassFile). FitsClassFile k) c.self.view_is c.self.invariant.holds.fits) named.text

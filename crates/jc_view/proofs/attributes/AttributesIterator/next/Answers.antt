@@ -1,0 +1,48 @@
+use Rattle.std.proofs.Common.{◌≡◌, [], ◌∷◌, length, rules, refl, sym, ap, ◌∙◌}
+use Rattle.jc_view.specs.Places.{PlacedAttribute}
+use Rattle.jc_view.specs.Reading.{after_attribute, attribute_value, each_value}
+use Rattle.jc_view.specs.Lent.{AttributesLeft}
+use Rattle.jc_view.specs.Entries.{placed_attribute, placed_attributes}
+use Rattle.jc_view.proofs.Entries.{none_left, one_is_there, IsStep, step, attributes_step, no_attributes, placed_first}
+use Rattle.jc_view.proofs.attributes.AttributesIterator.next.Goals as goal
+
+pub returns-in_err-self-inside-clause-steps : goal.returns-in_err-self-inside-clause-steps
+returns-in_err-self-inside-clause-steps c =
+    let t = c.self.inside.table in
+    let none : c.args.self.now.left ≡ [] =
+    ap (λ (s : AttributesLeft). s.left) (sym c.self.view_is) ∙ no_attributes c.self.inside.holder t.cursor.place (each_value after_attribute attribute_value t.left t.cursor.rest) (none_left after_attribute attribute_value t.left t.cursor.rest c.in_err-self-inside.ensures) in
+    rw c.from_residual.ensures (refl, (none, none))
+
+-- an attribute that is left is whole
+never_cut : (c : goal.After-from_residual-in_err-entry) → ⊥
+never_cut c = one_is_there after_attribute attribute_value c.self.inside.table.left c.self.inside.table.cursor.rest c.in_ok-self-inside.ensures.0 c.self.invariant c.in_err-entry.ensures
+
+pub invariant_of-self : goal.invariant_of-self
+invariant_of-self c = absurd (never_cut c)
+
+pub returns-in_err-entry-clause-steps : goal.returns-in_err-entry-clause-steps
+returns-in_err-entry-clause-steps c = absurd (never_cut c)
+
+one_step : (c : goal.After-result-1) → IsStep after_attribute attribute_value c.self.inside.table.left c.in_ok-self-inside.field-0 c.self.inside.table.cursor.rest c.read_attribute.new.cursor.rest
+one_step c =
+    step after_attribute attribute_value c.self.inside.table.left c.in_ok-self-inside.field-0 c.self.inside.table.cursor.rest c.read_attribute.new.cursor.rest c.in_ok-self-inside.ensures.0 c.in_ok-self-inside.ensures.1 c.self.invariant c.in_ok-entry.ensures.0
+
+pub invariant_of-self-2 : goal.invariant_of-self-2
+invariant_of-self-2 c = (one_step c).whole
+
+-- the attribute that was read, and those that are left
+first : (c : goal.After-result-1) → c.args.self.now.left ≡ placed_attribute c.self.inside.holder c.in_ok-entry.entry ∷ placed_attributes c.self.inside.holder (record { left = c.in_ok-self-inside.field-0; cursor = c.read_attribute.new.cursor })
+first c =
+    let read = c.in_ok-entry.ensures in
+    let left = placed_attributes c.self.inside.holder (record { left = c.in_ok-self-inside.field-0; cursor = c.read_attribute.new.cursor }) in
+    ap (λ (s : AttributesLeft). s.left) (sym c.self.view_is)
+    ∙ attributes_step c.self.inside.holder c.self.inside.table.left c.in_ok-self-inside.field-0 c.self.inside.table.cursor c.read_attribute.new.cursor (one_step c) read.0 read.1
+    ∙ ap (λ (a : PlacedAttribute). a ∷ left) (placed_first c.self.inside.holder (sym read.3) (sym read.2))
+
+pub returns-clause-steps : goal.returns-clause-steps
+returns-clause-steps c =
+    let class = ap (λ (s : AttributesLeft). s.class) c.self.view_is in
+    (class, (first c, class))
+
+pub returns-clause-goes : goal.returns-clause-goes
+returns-clause-goes c = let shorter = ap length (first c) in search rules

@@ -1,0 +1,5 @@
+use Rattle.jc_view.proofs.LayoutLaws.{one_layout, one_class, one_refusal, none_applies}
+use Rattle.jc_view.proofs.laws.layouts_are_apart.Goals as goal
+
+pub returns : goal.returns
+returns c = record { fronts = one_layout; one_record = one_class; refusals = one_refusal; readable = λ b e h. none_applies b e h }

@@ -1,0 +1,12 @@
+use Rattle.jc_view.specs.ClassFile.{layout}
+use Rattle.jc_view.specs.Attributes.{all_attributes}
+use Rattle.jc_view.specs.Stored.{HasBytesAt}
+use Rattle.jc_view.proofs.Stored.{text_lies}
+use Rattle.jc_view.proofs.Lie.{in_all, all_lie}
+use Rattle.jc_view.proofs.laws.texts_lie_in_the_layout.Goals as goal
+
+pub returns : goal.returns
+returns c = record {
+  texts = λ k index text fits e. text_lies k index text fits e;
+  attributes = λ k a fits within. in_all (HasBytesAt (layout k)) (all_attributes k) a (all_lie k fits) within;
+}

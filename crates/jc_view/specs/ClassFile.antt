@@ -1,0 +1,131 @@
+-- A class file as plain data, and its bytes (JVMS 4.1, 4.4 to 4.7).
+use Rattle.std.specs.Prelude.{◌≡◌, ℕ, ◌+◌, ◌<◌, ◌^◌, ◌⊎◌, Bool, true, false, List, [], ◌∷◌, ◌++◌, length, Option, Some, None, if◌then◌else◌, ◌==◌, nat_lt, ◌-◌, option_and_then}
+use Rattle.std.specs.List.{flat_map, AllByRecursion}
+use Rattle.jc_base.specs.Endian.{big_bytes}
+use Rattle.jc_view.specs.declared.constant_pool.ConstantIndex.{ConstantIndex}
+use Rattle.jc_view.specs.ConstantPool.{Constant, constant_bytes, FitsConstant, kind_of, is_wide, index_bytes, IsIndex, class_entry, utf8_text}
+
+pub record Attribute : Type 0 where
+  pub name : ConstantIndex
+  pub bytes : List ℕ
+
+-- a field or a method
+pub record Member : Type 0 where
+  pub flags : ℕ
+  pub name : ConstantIndex
+  pub descriptor : ConstantIndex
+  pub attributes : List Attribute
+
+pub record ClassFile : Type 0 where
+  pub minor : ℕ
+  pub major : ℕ
+  -- in file order, the first at index 1
+  pub constants : List Constant
+  pub flags : ℕ
+  pub this_class : ConstantIndex
+  pub super_class : ConstantIndex
+  pub interfaces : List ConstantIndex
+  pub fields : List Member
+  pub methods : List Member
+  pub attributes : List Attribute
+
+-- how many indexes a constant takes
+abbrev pub slots : Constant → ℕ
+slots constant = if is_wide (kind_of constant) then 2 else 1
+
+-- how many indexes they take
+abbrev pub all_slots : List Constant → ℕ
+all_slots [] = 0
+all_slots (constant ∷ constants) = slots constant + all_slots constants
+
+-- ---- bytes
+
+-- a table behind its count
+abbrev pub counted : {X : Type 0} → (X → List ℕ) → List X → List ℕ
+counted bytes table = big_bytes 2 (length table) ++ flat_map bytes table
+
+abbrev pub attribute_bytes : Attribute → List ℕ
+attribute_bytes a = index_bytes a.name ++ big_bytes 4 (length a.bytes) ++ a.bytes
+
+abbrev pub member_bytes : Member → List ℕ
+member_bytes m = big_bytes 2 m.flags ++ index_bytes m.name ++ index_bytes m.descriptor ++ counted attribute_bytes m.attributes
+
+abbrev pub magic : ℕ
+magic = 0xcafebabe
+
+-- what stands before the constants
+abbrev pub head_bytes : ClassFile → List ℕ
+head_bytes c = big_bytes 4 magic ++ big_bytes 2 c.minor ++ big_bytes 2 c.major ++ big_bytes 2 (1 + all_slots c.constants)
+
+-- what stands behind the constants
+abbrev pub tail_bytes : ClassFile → List ℕ
+tail_bytes c = big_bytes 2 c.flags ++ index_bytes c.this_class ++ index_bytes c.super_class ++ counted index_bytes c.interfaces ++ counted member_bytes c.fields ++ counted member_bytes c.methods ++ counted attribute_bytes c.attributes
+
+unfoldable pub layout : ClassFile → List ℕ
+layout c = head_bytes c ++ flat_map constant_bytes c.constants ++ tail_bytes c
+
+-- ---- what has a layout
+
+-- a table whose length fits its count
+abbrev pub FitsTable : {X : Type 0} → (X → Type 0) → List X → Type 0
+FitsTable Fits table = (length table < 2 ^ 16) × AllByRecursion Fits table
+
+pub record FitsAttribute (a : Attribute) : Type 0 where
+  pub name : IsIndex a.name
+  pub bytes : length a.bytes < 2 ^ 32
+
+pub record FitsMember (m : Member) : Type 0 where
+  pub flags : m.flags < 2 ^ 16
+  pub name : IsIndex m.name
+  pub descriptor : IsIndex m.descriptor
+  pub attributes : FitsTable FitsAttribute m.attributes
+
+-- major 51 with any minor, and 52.0
+abbrev pub IsAcceptedVersion : ℕ → ℕ → Type 0
+IsAcceptedVersion major minor = (major ≡ 51) ⊎ ((major ≡ 52) × (minor ≡ 0))
+
+pub record FitsClassFile (c : ClassFile) : Type 0 where
+  pub minor : c.minor < 2 ^ 16
+  pub version : IsAcceptedVersion c.major c.minor
+  -- the constants fill the indexes from 1 to the count less 1
+  pub indexes : 1 + all_slots c.constants < 2 ^ 16
+  pub constants : AllByRecursion FitsConstant c.constants
+  pub flags : c.flags < 2 ^ 16
+  pub this_class : IsIndex c.this_class
+  pub super_class : IsIndex c.super_class
+  pub interfaces : FitsTable IsIndex c.interfaces
+  pub fields : FitsTable FitsMember c.fields
+  pub methods : FitsTable FitsMember c.methods
+  pub attributes : FitsTable FitsAttribute c.attributes
+
+-- ---- constants by index
+
+-- the constant at an index that is counted from the first's
+abbrev pub constant_from_first : List Constant → ℕ → Option Constant
+constant_from_first [] i = None
+constant_from_first (constant ∷ constants) i =
+    if i == 0 then Some constant else if nat_lt i (slots constant) then None else constant_from_first constants (i - slots constant)
+
+-- the usable entry at an index, if there is one
+abbrev pub constant_at : ClassFile → ConstantIndex → Option Constant
+constant_at c index = if index.0 == 0 then None else constant_from_first c.constants (index.0 - 1)
+
+-- the second index of a wide constant is unusable
+abbrev pub second_index : Bool → List (Option ℕ)
+second_index true = None ∷ []
+second_index false = []
+
+-- by index, where each of the constants begins that stand from a place on
+unfoldable pub places_of : ℕ → List Constant → List (Option ℕ)
+places_of place [] = []
+places_of place (constant ∷ constants) =
+    Some place ∷ (second_index (is_wide (kind_of constant)) ++ places_of (place + length (constant_bytes constant)) constants)
+
+-- the text of the Class constant of an index
+abbrev pub class_text_at : ClassFile → ConstantIndex → Option (List ℕ)
+class_text_at c index =
+    option_and_then (λ class.
+    option_and_then (λ entry.
+    option_and_then utf8_text (constant_at c entry))
+    (class_entry class))
+    (constant_at c index)

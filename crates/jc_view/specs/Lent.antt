@@ -1,0 +1,54 @@
+-- What a view lends: its members, its attributes and the code of its methods, each with the class that it is of.
+use Rattle.std.specs.Prelude.{◌≡◌, ℕ, List, [], ◌∷◌, map, Option}
+use Rattle.std.specs.Option.{MatchOption}
+use Rattle.jc_view.specs.declared.constant_pool.ConstantIndex.{ConstantIndex}
+use Rattle.jc_view.specs.ClassFile.{ClassFile, class_text_at}
+use Rattle.jc_view.specs.Places.{PlacedAttribute, PlacedMember}
+use Rattle.jc_view.specs.Attributes.{Code}
+
+-- ---- what an iterator has still to give
+
+pub record InterfacesLeft : Type 0 where
+  pub class : ClassFile
+  pub left : List ConstantIndex
+
+pub record MembersLeft : Type 0 where
+  pub class : ClassFile
+  pub left : List PlacedMember
+
+pub record AttributesLeft : Type 0 where
+  pub class : ClassFile
+  pub left : List PlacedAttribute
+
+-- ---- what is given
+
+pub record LentMember : Type 0 where
+  pub class : ClassFile
+  pub member : PlacedMember
+
+pub record LentAttribute : Type 0 where
+  pub class : ClassFile
+  pub attribute : PlacedAttribute
+
+-- the code that stands in an attribute
+pub record LentCode : Type 0 where
+  pub class : ClassFile
+  pub attribute : PlacedAttribute
+  pub code : Code
+
+abbrev pub lent_code : LentAttribute → Code → LentCode
+lent_code lent code = record { class = lent.class; attribute = lent.attribute; code = code }
+
+-- the names of the interfaces
+abbrev pub interface_names : InterfacesLeft → List (Option (List ℕ))
+interface_names interfaces = map (class_text_at interfaces.class) interfaces.left
+
+-- ---- one step of an iterator: the first that is left, of the same class
+
+abbrev pub GivesMember : MembersLeft → Option LentMember → MembersLeft → Type 0
+GivesMember old result new =
+    (new.class ≡ old.class) × MatchOption result ((old.left ≡ []) × (new.left ≡ [])) (λ item. (old.left ≡ item.member ∷ new.left) × (item.class ≡ old.class))
+
+abbrev pub GivesAttribute : AttributesLeft → Option LentAttribute → AttributesLeft → Type 0
+GivesAttribute old result new =
+    (new.class ≡ old.class) × MatchOption result ((old.left ≡ []) × (new.left ≡ [])) (λ item. (old.left ≡ item.attribute ∷ new.left) × (item.class ≡ old.class))

@@ -1,0 +1,59 @@
+-- What an index into the constants leads to.
+use Rattle.std.specs.Prelude.{ℕ, Bool, true, false, not, ◌==◌, List, Option, Some, None, option_and_then}
+use Rattle.std.specs.Option.{option_map_or}
+use Rattle.jc_view.specs.declared.constant_pool.ConstantIndex.{ConstantIndex}
+use Rattle.jc_view.specs.declared.constant_pool.ConstantKind.{ConstantKind}
+use Rattle.jc_view.specs.ConstantPool.{Constant, Fieldref, Methodref, InterfaceMethodref, NameAndType, InvokeDynamic, kind_of, tag_of, utf8_text}
+use Rattle.jc_view.specs.ClassFile.{ClassFile, constant_at}
+
+-- the text of the Utf8 entry
+abbrev pub utf8_at : ClassFile → ConstantIndex → Option (List ℕ)
+utf8_at c index = option_and_then utf8_text (constant_at c index)
+
+abbrev pub is_kind : ConstantKind → Constant → Bool
+is_kind kind constant = tag_of (kind_of constant) == tag_of kind
+
+-- the usable entry is of this kind
+abbrev pub is_entry : ClassFile → ConstantKind → ConstantIndex → Bool
+is_entry c kind index = option_map_or (is_kind kind) (constant_at c index) false
+
+-- the name and the descriptor of a NameAndType
+abbrev pub name_and_type : Constant → Option (ConstantIndex × ConstantIndex)
+name_and_type (NameAndType name descriptor) = Some (name, descriptor)
+name_and_type constant = None
+
+-- the NameAndType of a reference to a member
+abbrev pub signature_entry : Constant → Option ConstantIndex
+signature_entry (Fieldref class entry) = Some entry
+signature_entry (Methodref class entry) = Some entry
+signature_entry (InterfaceMethodref class entry) = Some entry
+signature_entry (InvokeDynamic bootstrap entry) = Some entry
+signature_entry constant = None
+
+abbrev pub name_and_type_at : ClassFile → ConstantIndex → Option (ConstantIndex × ConstantIndex)
+name_and_type_at c index = option_and_then name_and_type (constant_at c index)
+
+-- the name that a reference gives
+abbrev pub name_of : ClassFile → Constant → Option (List ℕ)
+name_of c constant = option_and_then (λ pair. utf8_at c pair.0) (option_and_then (name_and_type_at c) (signature_entry constant))
+
+-- the descriptor that a reference gives
+abbrev pub descriptor_of : ClassFile → Constant → Option (List ℕ)
+descriptor_of c constant = option_and_then (λ pair. utf8_at c pair.1) (option_and_then (name_and_type_at c) (signature_entry constant))
+
+-- ---- tests of what may be missing
+
+-- it is there and doesn't pass
+abbrev pub fails : {X : Type 0} → (X → Bool) → Option X → Bool
+fails test None = false
+fails test (Some x) = not (test x)
+
+-- it is missing, or doesn't pass
+abbrev pub lacks : {X : Type 0} → (X → Bool) → Option X → Bool
+lacks test None = true
+lacks test (Some x) = not (test x)
+
+-- it is there and passes
+abbrev pub passes : {X : Type 0} → (X → Bool) → Option X → Bool
+passes test None = false
+passes test (Some x) = test x

@@ -1,0 +1,82 @@
+-- Which bytes are a readable class file, and why others are not.
+use Rattle.std.specs.Prelude.{◌≡◌, ◌≢◌, ℕ, ◌+◌, ◌-◌, ◌<◌, ◌≤◌, ◌⊎◌, List, ◌∷◌, ◌++◌, length, take, drop, Some}
+use Rattle.std.specs.List.{flat_map, AllByRecursion}
+use Rattle.jc_base.specs.Endian.{big_number}
+use Rattle.jc_base.specs.Names.{IsClassName}
+use Rattle.jc_view.specs.declared.constant_pool.ConstantIndex.{ConstantIndex}
+use Rattle.jc_view.specs.declared.constant_pool.ConstantKind.{ConstantKind}
+use Rattle.jc_view.specs.declared.parse_error.ParseError.{ParseError}
+use Rattle.jc_view.specs.declared.parse_error.ParseError.TheVariants as errors
+use Rattle.jc_view.specs.ConstantPool as pool
+use Rattle.jc_view.specs.ConstantPool.{tag_of, constant_bytes, Constant, FitsConstant}
+use Rattle.jc_view.specs.ClassFile.{ClassFile, magic, layout, FitsClassFile, IsAcceptedVersion, all_slots, constant_at}
+
+-- ---- refusals: what stands in the bytes
+
+-- from a place on stand whole constants, and then a byte where another is owed
+pub record Owes (place : ℕ) (bytes : List ℕ) (indexes at : ℕ) : Type 0 where
+  pub constants : List Constant
+  pub whole : AllByRecursion FitsConstant constants
+  pub tag : ℕ
+  pub rest : List ℕ
+  pub stand : bytes ≡ flat_map constant_bytes constants ++ tag ∷ rest
+  pub here : at ≡ place + length (flat_map constant_bytes constants)
+  -- how many indexes are left
+  pub left : ℕ
+  pub one_at_least : 0 < left
+  pub filled : all_slots constants + left ≡ indexes
+
+abbrev pub IsNoTag : ℕ → Type 0
+IsNoTag tag = (kind : ConstantKind) → tag_of kind ≢ tag
+
+-- the tag of a Long or of a Double
+abbrev pub IsWideTag : ℕ → Type 0
+IsWideTag tag = (tag ≡ 5) ⊎ (tag ≡ 6)
+
+-- the indexes that the constants have to fill
+abbrev pub pool_size : List ℕ → ℕ
+pool_size b = big_number 2 (drop 8 b) - 1
+
+-- the bytes are the layout of this class file
+pub record IsLayoutOf (c : ClassFile) (b : List ℕ) : Type 0 where
+  pub fits : FitsClassFile c
+  pub bytes : layout c ≡ b
+
+-- this_class is a Class constant whose text is a class name (no array)
+pub record IsNamed (c : ClassFile) (name : List ℕ) : Type 0 where
+  pub entry : ConstantIndex
+  pub class : constant_at c c.this_class ≡ Some (pool.Class entry)
+  pub text : constant_at c entry ≡ Some (pool.Utf8 name)
+  pub class_name : IsClassName name
+
+abbrev pub IsReadable : List ℕ → Type 0
+IsReadable b = (c : ClassFile) × IsLayoutOf c b × ((name : List ℕ) × IsNamed c name)
+
+-- what stands in the bytes where a refusal applies
+abbrev pub Applies : ParseError → List ℕ → Type 0
+Applies errors.Magic b = (4 ≤ length b) × (big_number 4 b ≢ magic)
+Applies errors.Version b = (8 ≤ length b) × ¬ IsAcceptedVersion (big_number 2 (drop 6 b)) (big_number 2 (drop 4 b))
+Applies errors.Count b = (10 ≤ length b) × (big_number 2 (drop 8 b) ≡ 0)
+Applies (errors.Tag at) b = (10 ≤ length b) × (o : Owes 10 (drop 10 b) (pool_size b) at) × IsNoTag o.tag
+Applies (errors.Wide at) b = (10 ≤ length b) × (o : Owes 10 (drop 10 b) (pool_size b) at) × (o.left ≡ 1) × IsWideTag o.tag
+Applies (errors.Trailing at) b = (at < length b) × (c : ClassFile) × IsLayoutOf c (take at b)
+Applies errors.Short b = (at : ℕ) (c : ClassFile) → ¬ IsLayoutOf c (take at b)
+Applies errors.NoName b = (c : ClassFile) × IsLayoutOf c b × ((name : List ℕ) → ¬ IsNamed c name)
+Applies errors.NoMemory b = ⊥
+
+-- the number of a refusal, by which refusals are ordered
+abbrev pub code_of : ParseError → ℕ
+code_of errors.Magic = 1
+code_of errors.Version = 2
+code_of errors.Count = 3
+code_of (errors.Tag at) = 4
+code_of (errors.Wide at) = 5
+code_of (errors.Trailing at) = 6
+code_of errors.Short = 7
+code_of errors.NoName = 8
+code_of errors.NoMemory = 9
+
+-- the first refusal that applies
+pub record IsRefusal (b : List ℕ) (e : ParseError) : Type 0 where
+  pub applies : Applies e b
+  pub first : (f : ParseError) → code_of f < code_of e → ¬ Applies f b

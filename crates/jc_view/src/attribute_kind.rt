@@ -1,0 +1,63 @@
+//! The attributes that are recognised (JVMS 4.7).
+
+ghost use Rattle.std.specs.Prelude.{◌≡◌};
+ghost use Rattle.jc_view.specs.Attributes.{attribute_name, belongs_to};
+
+/// What an attribute belongs to.
+#[derive(Clone, Copy, Debug, PartialEq, Eq)]
+pub enum Holder {
+    Class,
+    Field,
+    Method,
+    /// A method's code.
+    Code,
+}
+
+/// The attributes that are recognised, each where the standard defines it (JVMS 4.7, table 4.7-C).
+#[derive(Clone, Copy, Debug, PartialEq, Eq)]
+pub enum AttributeKind {
+    ConstantValue,
+    Code,
+    Exceptions,
+    BootstrapMethods,
+    SourceFile,
+    EnclosingMethod,
+    Signature,
+    Synthetic,
+    Deprecated,
+}
+
+impl AttributeKind {
+    /// The name by which an attribute of this kind is recognised.
+    pub fn name(self) -> &'static [u8]
+        ensures { result.now ≡ attribute_name self }
+    {
+        match self {
+            AttributeKind::ConstantValue => b"ConstantValue",
+            AttributeKind::Code => b"Code",
+            AttributeKind::Exceptions => b"Exceptions",
+            AttributeKind::BootstrapMethods => b"BootstrapMethods",
+            AttributeKind::SourceFile => b"SourceFile",
+            AttributeKind::EnclosingMethod => b"EnclosingMethod",
+            AttributeKind::Signature => b"Signature",
+            AttributeKind::Synthetic => b"Synthetic",
+            AttributeKind::Deprecated => b"Deprecated",
+        }
+    }
+
+    /// Whether an attribute of this kind is recognised in this holder. In a `Code` none is.
+    pub fn belongs_to(self, holder: Holder) -> bool
+        ensures { result ≡ belongs_to self holder }
+    {
+        match self {
+            AttributeKind::ConstantValue => matches!(holder, Holder::Field),
+            AttributeKind::Code | AttributeKind::Exceptions => matches!(holder, Holder::Method),
+            AttributeKind::BootstrapMethods
+            | AttributeKind::SourceFile
+            | AttributeKind::EnclosingMethod => matches!(holder, Holder::Class),
+            AttributeKind::Signature | AttributeKind::Synthetic | AttributeKind::Deprecated => {
+                !matches!(holder, Holder::Code)
+            }
+        }
+    }
+}

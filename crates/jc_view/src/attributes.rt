@@ -1,0 +1,169 @@
+//! Attributes (JVMS 4.7).
+
+ghost use Rattle.std.specs.Prelude.{◌≡◌, IfSome};
+ghost use Rattle.std.specs.Option.{option_copied, option_map};
+ghost use Rattle.jc_base.specs.Cursor.{Reading};
+ghost use Rattle.jc_view.specs.Reading.{after_attribute};
+ghost use Rattle.jc_view.specs.Lookups.{utf8_at};
+ghost use Rattle.jc_view.specs.Attributes.{is_recognised, code_of};
+ghost use Rattle.jc_view.specs.Lent.{LentCode, lent_code};
+ghost use Rattle.jc_view.specs.Entries.{LendsAttribute};
+
+use crate::attribute_kind::{AttributeKind, Holder};
+use crate::code::{Code, read_code};
+use crate::constant_pool::ConstantIndex;
+use crate::constant_reader::read_index;
+use crate::table::Table;
+use crate::view::ClassView;
+use jc_base::Cursor;
+use std::marker::Model;
+
+/// Attributes, in the order of the file. Seen as those that are left, each with its place.
+#[derive(Drop)]
+pub struct Attributes<'v, 'a> {
+    pub(crate) class: &'v ClassView<'a>,
+    pub(crate) holder: Holder,
+    pub(crate) table: Table<'a>,
+}
+
+impl<'v, 'a> Model for Attributes<'v, 'a> {
+    ghost use Rattle.jc_view.specs.Lent.{AttributesLeft};
+
+    ghost Value = { AttributesLeft };
+
+    ghost use Rattle.jc_view.specs.Reading.{after_attribute};
+    ghost use Rattle.jc_view.specs.Tables.{IsWhole};
+    ghost use Rattle.jc_view.specs.Entries.{placed_attributes};
+
+    ghost view = { λ a. record { class = a.class.now; left = placed_attributes a.holder a.table } };
+
+    ghost invariant = { λ a. IsWhole after_attribute a.table };
+}
+
+impl<'v, 'a> Iterator for Attributes<'v, 'a> {
+    ghost use Rattle.std.specs.Iterator.{item_count};
+    ghost use Rattle.jc_view.specs.Lent.{GivesAttribute};
+
+    type Item = Attribute<'v, 'a>;
+
+    ghost next_gives = { GivesAttribute };
+
+    ghost remaining = { item_count (λ it. it.left) };
+
+    fn next(&mut self) -> Option<Attribute<'v, 'a>> {
+        self.table.left = self.table.left.checked_sub(1)?;
+        let entry = read_attribute(&mut self.table.cursor)?;
+        Some(Attribute {
+            class: self.class,
+            holder: self.holder,
+            entry,
+        })
+    }
+}
+
+/// An attribute of a class, a field, a method or a `Code`.
+#[derive(Drop)]
+pub struct Attribute<'v, 'a> {
+    class: &'v ClassView<'a>,
+    holder: Holder,
+    entry: AttributeEntry<'a>,
+}
+
+/// An attribute as it stands in its table.
+#[derive(Drop)]
+pub(crate) struct AttributeEntry<'a> {
+    pub(crate) place: usize,
+    pub(crate) name: ConstantIndex,
+    pub(crate) body: Cursor<'a>,
+}
+
+impl<'v, 'a> Model for Attribute<'v, 'a> {
+    ghost use Rattle.std.specs.Prelude.{◌≡◌, ◌+◌};
+    ghost use Rattle.jc_view.specs.Lent.{LentAttribute};
+
+    ghost Value = { LentAttribute };
+
+    ghost use Rattle.jc_view.specs.Entries.{placed_attribute};
+
+    ghost view = { λ a. record { class = a.class.now; attribute = placed_attribute a.holder a.entry } };
+
+    ghost invariant = { λ a. a.entry.body.place ≡ a.entry.place + 6 };
+}
+
+impl<'v, 'a> Attribute<'v, 'a> {
+    /// The class that it is of.
+    pub fn class(&self) -> &'v ClassView<'a>
+        ensures { result.now ≡ self.now.class }
+    {
+        self.class
+    }
+
+    /// Where the attribute begins in the file, with its name: so many bytes from the file's front.
+    pub fn place(&self) -> usize
+        ensures { result ≡ self.now.attribute.place }
+    {
+        self.entry.place
+    }
+
+    /// Its name; `None` where attribute_name_index names no `Utf8` constant (JVMS 4.7).
+    pub fn name(&self) -> Option<&'a [u8]>
+        ensures { option_copied result ≡ utf8_at self.now.class self.now.attribute.attribute.name }
+    {
+        self.class.utf8(self.entry.name)
+    }
+
+    /// What stands behind its length.
+    pub fn bytes(&self) -> &'a [u8]
+        ensures { result.now ≡ self.now.attribute.attribute.bytes }
+    {
+        self.entry.body.rest()
+    }
+
+    /// Whether it is recognised as of a kind: by its name, in the holder that the kind belongs to.
+    pub fn is(&self, kind: AttributeKind) -> bool
+        ensures { result ≡ is_recognised self.now.class kind self.now.attribute.holder self.now.attribute.attribute }
+    {
+        kind.belongs_to(self.holder) && self.name().is_some_and(|name| name == kind.name())
+    }
+
+    /// The code of a method (JVMS 4.7.3); `None` where this is no `Code` attribute of a method, or no
+    /// well-formed one.
+    pub fn code(&self) -> Option<Code<'v, 'a>>
+        ensures { result ≡ option_map (lent_code self.now) (code_of self.now.class self.now.attribute) }
+    {
+        if !self.is(AttributeKind::Code) {
+            return None;
+        }
+        let body = read_code(&self.entry.body)?;
+        Some(Code {
+            class: self.class,
+            holder: self.holder,
+            entry: self.entry.fork(),
+            body,
+        })
+    }
+}
+
+impl<'a> AttributeEntry<'a> {
+    fn fork(&self) -> AttributeEntry<'a>
+        ensures { result ≡ self.now }
+    {
+        AttributeEntry {
+            place: self.place,
+            name: self.name,
+            body: self.body.fork(),
+        }
+    }
+}
+
+/// The attribute that begins here.
+#[tactic(auto, unfolding(crate::specs::Reading::after_attribute))]
+fn read_attribute<'a>(cursor: &mut Cursor<'a>) -> Option<AttributeEntry<'a>>
+    ensures { LendsAttribute cursor.old result cursor.new }
+{
+    let place = cursor.place();
+    let name = read_index(cursor)?;
+    let length = cursor.u4()?;
+    let body = cursor.part(length as usize)?;
+    Some(AttributeEntry { place, name, body })
+}

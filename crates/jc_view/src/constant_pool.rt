@@ -1,0 +1,127 @@
+//! The constant pool (JVMS 4.4).
+
+ghost use Rattle.std.specs.Prelude.{◌≡◌};
+ghost use Rattle.jc_view.specs.ConstantPool.{kind_of_tag, is_wide, tag_of};
+
+/// An index into the constant pool.
+#[derive(Clone, Copy, Debug, PartialEq, Eq, PartialOrd, Ord, Hash)]
+pub struct ConstantIndex(pub u16);
+
+/// The kinds of constants (JVMS 4.4, table 4.4-A).
+#[derive(Clone, Copy, Debug, PartialEq, Eq)]
+pub enum ConstantKind {
+    Utf8,
+    Integer,
+    Float,
+    Long,
+    Double,
+    Class,
+    String,
+    Fieldref,
+    Methodref,
+    InterfaceMethodref,
+    NameAndType,
+    MethodHandle,
+    MethodType,
+    InvokeDynamic,
+}
+
+/// A constant, whose text is a slice of the file (JVMS 4.4). Numbers are the bits that stand there.
+#[derive(Clone, Copy, Debug)]
+pub enum Constant<'a> {
+    Utf8(&'a [u8]),
+    Integer(u32),
+    Float(u32),
+    Long(u64),
+    Double(u64),
+    Class(ConstantIndex),
+    String(ConstantIndex),
+    Fieldref(ConstantIndex, ConstantIndex),
+    Methodref(ConstantIndex, ConstantIndex),
+    InterfaceMethodref(ConstantIndex, ConstantIndex),
+    NameAndType(ConstantIndex, ConstantIndex),
+    MethodHandle(u8, ConstantIndex),
+    MethodType(ConstantIndex),
+    InvokeDynamic(u16, ConstantIndex),
+}
+
+impl ConstantKind {
+    /// The kind of a tag.
+    pub fn of_tag(tag: u8) -> Option<ConstantKind>
+        ensures { result ≡ kind_of_tag tag }
+    {
+        Some(match tag {
+            1 => ConstantKind::Utf8,
+            3 => ConstantKind::Integer,
+            4 => ConstantKind::Float,
+            5 => ConstantKind::Long,
+            6 => ConstantKind::Double,
+            7 => ConstantKind::Class,
+            8 => ConstantKind::String,
+            9 => ConstantKind::Fieldref,
+            10 => ConstantKind::Methodref,
+            11 => ConstantKind::InterfaceMethodref,
+            12 => ConstantKind::NameAndType,
+            15 => ConstantKind::MethodHandle,
+            16 => ConstantKind::MethodType,
+            18 => ConstantKind::InvokeDynamic,
+            _ => return None,
+        })
+    }
+
+    /// The tag of this kind (JVMS 4.4, table 4.4-A).
+    pub fn tag(self) -> u8
+        ensures { result ≡ tag_of self }
+    {
+        match self {
+            ConstantKind::Utf8 => 1,
+            ConstantKind::Integer => 3,
+            ConstantKind::Float => 4,
+            ConstantKind::Long => 5,
+            ConstantKind::Double => 6,
+            ConstantKind::Class => 7,
+            ConstantKind::String => 8,
+            ConstantKind::Fieldref => 9,
+            ConstantKind::Methodref => 10,
+            ConstantKind::InterfaceMethodref => 11,
+            ConstantKind::NameAndType => 12,
+            ConstantKind::MethodHandle => 15,
+            ConstantKind::MethodType => 16,
+            ConstantKind::InvokeDynamic => 18,
+        }
+    }
+
+    /// Whether a constant of this kind takes two indexes: a `Long` or a `Double` (JVMS 4.4.5).
+    pub fn is_wide(self) -> bool
+        ensures { result ≡ is_wide self }
+    {
+        matches!(self, ConstantKind::Long | ConstantKind::Double)
+    }
+}
+
+impl<'a> Constant<'a> {
+    ghost use Rattle.jc_view.specs.ConstantPool.{kind_of};
+    ghost use Rattle.jc_view.specs.View.{constant_of};
+
+    /// What kind of constant this is.
+    pub fn kind(self) -> ConstantKind
+        ensures { result ≡ kind_of (constant_of self.entry) }
+    {
+        match self {
+            Constant::Utf8(_) => ConstantKind::Utf8,
+            Constant::Integer(_) => ConstantKind::Integer,
+            Constant::Float(_) => ConstantKind::Float,
+            Constant::Long(_) => ConstantKind::Long,
+            Constant::Double(_) => ConstantKind::Double,
+            Constant::Class(_) => ConstantKind::Class,
+            Constant::String(_) => ConstantKind::String,
+            Constant::Fieldref(_, _) => ConstantKind::Fieldref,
+            Constant::Methodref(_, _) => ConstantKind::Methodref,
+            Constant::InterfaceMethodref(_, _) => ConstantKind::InterfaceMethodref,
+            Constant::NameAndType(_, _) => ConstantKind::NameAndType,
+            Constant::MethodHandle(_, _) => ConstantKind::MethodHandle,
+            Constant::MethodType(_) => ConstantKind::MethodType,
+            Constant::InvokeDynamic(_, _) => ConstantKind::InvokeDynamic,
+        }
+    }
+}

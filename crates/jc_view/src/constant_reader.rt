@@ -1,0 +1,131 @@
+//! Looking constants up by their index, in bytes that were gone over.
+
+ghost use Rattle.std.specs.Prelude.{◌≡◌, ◌+◌, ◌≤◌, drop, length};
+ghost use Rattle.std.specs.Option.{option_map};
+ghost use Rattle.jc_view.specs.Reading.{after, after_body, after_sized, body_value, constant_read, index_value, sized_value};
+ghost use Rattle.jc_base.specs.Endian.{big_number};
+ghost use Rattle.jc_view.specs.Skip.{Lends};
+ghost use Rattle.jc_view.specs.ClassFile.{ClassFile, constant_at};
+ghost use Rattle.jc_view.specs.Stored.{place_at, Holds};
+ghost use Rattle.jc_view.specs.View.{constant_of};
+
+use crate::constant_pool::{Constant, ConstantIndex, ConstantKind};
+use byteorder::{BigEndian, ByteOrder};
+use jc_base::Cursor;
+
+/// Where the constant of an index begins, if one does.
+fn place_at(offsets: &[Option<usize>], index: ConstantIndex) -> Option<usize>
+    ensures { result ≡ place_at offsets.now index }
+{
+    *offsets.get(index.0 as usize)?
+}
+
+/// The constant of an index, if a usable one has it.
+pub(crate) fn entry<'a>(
+    bytes: &'a [u8],
+    offsets: &[Option<usize>],
+    index: ConstantIndex,
+) -> Option<Constant<'a>>
+    ensures { (c : ClassFile) → Holds bytes.now offsets.now c → option_map constant_of result ≡ constant_at c index }
+{
+    constant_at(bytes, place_at(offsets, index)?)
+}
+
+/// The constant that begins at a place.
+#[tactic(auto, unfolding(crate::specs::Reading::constant_read))]
+fn constant_at(bytes: &[u8], place: usize) -> Option<Constant<'_>>
+    ensures { option_map constant_of result ≡ constant_read place bytes.now }
+{
+    let mut cursor = Cursor::new(bytes);
+    cursor.take(place)?;
+    let kind = ConstantKind::of_tag(cursor.u1()?)?;
+    read_body(kind, &mut cursor)
+}
+
+/// The constant of a kind whose body stands here.
+fn read_body<'a>(kind: ConstantKind, cursor: &mut Cursor<'a>) -> Option<Constant<'a>>
+    ensures { Lends constant_of (after_body kind) (body_value kind) cursor.old result cursor.new }
+{
+    match kind {
+        ConstantKind::Utf8 => Some(Constant::Utf8(read_text(cursor)?)),
+        ConstantKind::Integer => Some(Constant::Integer(cursor.u4()?)),
+        ConstantKind::Float => Some(Constant::Float(cursor.u4()?)),
+        ConstantKind::Long => Some(Constant::Long(read_u8(cursor)?)),
+        ConstantKind::Double => Some(Constant::Double(read_u8(cursor)?)),
+        ConstantKind::Class => Some(Constant::Class(read_index(cursor)?)),
+        ConstantKind::String => Some(Constant::String(read_index(cursor)?)),
+        ConstantKind::MethodType => Some(Constant::MethodType(read_index(cursor)?)),
+        ConstantKind::Fieldref => {
+            let (class, name_and_type) = read_pair(cursor)?;
+            Some(Constant::Fieldref(class, name_and_type))
+        }
+        ConstantKind::Methodref => {
+            let (class, name_and_type) = read_pair(cursor)?;
+            Some(Constant::Methodref(class, name_and_type))
+        }
+        ConstantKind::InterfaceMethodref => {
+            let (class, name_and_type) = read_pair(cursor)?;
+            Some(Constant::InterfaceMethodref(class, name_and_type))
+        }
+        ConstantKind::NameAndType => {
+            let (name, descriptor) = read_pair(cursor)?;
+            Some(Constant::NameAndType(name, descriptor))
+        }
+        ConstantKind::MethodHandle => read_method_handle(cursor),
+        ConstantKind::InvokeDynamic => read_invoke_dynamic(cursor),
+    }
+}
+
+fn read_text<'a>(cursor: &mut Cursor<'a>) -> Option<&'a [u8]>
+    ensures { Lends (λ text. text.now) (after_sized 2) (sized_value 2) cursor.old result cursor.new }
+{
+    let length = cursor.u2()?;
+    cursor.take(length as usize)
+}
+
+pub fn read_index(cursor: &mut Cursor) -> Option<ConstantIndex>
+    ensures { Lends (λ index. index) (after 2) index_value cursor.old result cursor.new }
+{
+    Some(ConstantIndex(cursor.u2()?))
+}
+
+/// The index that stands so many bytes behind the front.
+pub fn index_at(bytes: &[u8], at: usize) -> ConstantIndex
+    requires { at + 2 ≤ length bytes.now }
+    ensures { result ≡ index_value (drop at bytes.now) }
+{
+    ConstantIndex(BigEndian::read_u16(&bytes[at..]))
+}
+
+/// A number of eight bytes, by its two halves (JVMS 4.4.5).
+fn read_u8(cursor: &mut Cursor) -> Option<u64>
+    ensures { Lends (λ bits. bits) (after 8) (big_number 8) cursor.old result cursor.new }
+{
+    let high = cursor.u4()?;
+    let low = cursor.u4()?;
+    Some(u64::from(high) * (1 << 32) + u64::from(low))
+}
+
+pub(crate) fn read_pair(cursor: &mut Cursor) -> Option<(ConstantIndex, ConstantIndex)>
+    ensures { Lends (λ pair. pair) (after 4) (λ xs. (index_value xs, index_value (drop 2 xs))) cursor.old result cursor.new }
+{
+    let first = read_index(cursor)?;
+    let second = read_index(cursor)?;
+    Some((first, second))
+}
+
+fn read_method_handle<'a>(cursor: &mut Cursor<'a>) -> Option<Constant<'a>>
+    ensures { Lends constant_of (after_body ConstantKind.MethodHandle) (body_value ConstantKind.MethodHandle) cursor.old result cursor.new }
+{
+    let kind = cursor.u1()?;
+    let reference = read_index(cursor)?;
+    Some(Constant::MethodHandle(kind, reference))
+}
+
+fn read_invoke_dynamic<'a>(cursor: &mut Cursor<'a>) -> Option<Constant<'a>>
+    ensures { Lends constant_of (after_body ConstantKind.InvokeDynamic) (body_value ConstantKind.InvokeDynamic) cursor.old result cursor.new }
+{
+    let bootstrap = cursor.u2()?;
+    let name_and_type = read_index(cursor)?;
+    Some(Constant::InvokeDynamic(bootstrap, name_and_type))
+}

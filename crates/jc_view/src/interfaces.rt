@@ -1,0 +1,45 @@
+//! The interfaces that a class names (JVMS 4.1).
+
+use crate::constant_reader::read_index;
+use crate::table::Table;
+use crate::view::ClassView;
+use std::marker::Model;
+
+/// The names of interfaces, in the order of the file; `None` for one whose entry names no class. Seen
+/// as the entries that are left.
+#[derive(Drop)]
+pub struct Interfaces<'v, 'a> {
+    pub(crate) class: &'v ClassView<'a>,
+    pub(crate) table: Table<'a>,
+}
+
+impl<'v, 'a> Model for Interfaces<'v, 'a> {
+    ghost use Rattle.jc_view.specs.Lent.{InterfacesLeft};
+
+    ghost Value = { InterfacesLeft };
+
+    ghost use Rattle.jc_view.specs.Reading.{after, index_value};
+    ghost use Rattle.jc_view.specs.Tables.{entries, IsWhole};
+
+    ghost view = { λ a. record { class = a.class.now; left = entries (after 2) index_value a.table } };
+
+    ghost invariant = { λ a. IsWhole (after 2) a.table };
+}
+
+impl<'v, 'a> Iterator for Interfaces<'v, 'a> {
+    ghost use Rattle.std.specs.Iterator.{YieldsFirstBy, item_count};
+    ghost use Rattle.std.specs.Option.{option_copied};
+    ghost use Rattle.jc_view.specs.Lent.{interface_names};
+
+    type Item = Option<&'a [u8]>;
+
+    ghost next_gives = { YieldsFirstBy option_copied interface_names };
+
+    ghost remaining = { item_count interface_names };
+
+    fn next(&mut self) -> Option<Option<&'a [u8]>> {
+        self.table.left = self.table.left.checked_sub(1)?;
+        let index = read_index(&mut self.table.cursor)?;
+        Some(self.class.class_text(index))
+    }
+}

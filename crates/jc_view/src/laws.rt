@@ -1,0 +1,67 @@
+//! Laws of the definitions: functions without a body, whose contracts are the laws.
+
+ghost use Rattle.std.specs.Prelude.{◌≡◌, ◌↔◌, ◌++◌, [], ◌∷◌, ℕ, List, Some, Ok, Err, take, codes};
+ghost use Rattle.jc_view.specs.Examples.{class_a, class_a_data, head, constants, tail};
+ghost use Rattle.jc_view.specs.declared.parse_error.ParseError.{ParseError};
+ghost use Rattle.jc_view.specs.ClassFile.{ClassFile, layout, FitsClassFile};
+ghost use Rattle.jc_view.specs.Refusal.{Applies, IsLayoutOf, IsReadable, IsRefusal};
+ghost use Rattle.jc_view.specs.Attributes.{Code, IsCodeOf, code_in, exceptions_in, AreExceptionsOf, Bootstrap, bootstraps_in, AreBootstrapsOf, all_attributes};
+ghost use Rattle.std.specs.List.{Contains};
+ghost use Rattle.jc_view.specs.declared.constant_pool.ConstantIndex.{ConstantIndex};
+ghost use Rattle.jc_view.specs.Lookups.{utf8_at};
+ghost use Rattle.jc_view.specs.Places.{PlacedAttribute};
+ghost use Rattle.jc_view.specs.Stored.{IsLent, HasBytesAt};
+ghost use Rattle.jc_view.specs.Outcome.{AreBytes, NamesClass, class_named};
+
+use jc_base::texts_are_decided;
+
+/// The class that bytes name, as a function, and its refusals, are what the definitions say.
+pub fn outcomes_are_exact()
+    ensures named { (b name : List ℕ) → AreBytes b → (class_named b ≡ Ok name) ↔ NamesClass b name }
+    ensures refused { (b : List ℕ) (e : ParseError) → AreBytes b → (class_named b ≡ Err e) ↔ IsRefusal b e }
+{
+    texts_are_decided();
+}
+
+/// What is read in the bytes of a `Code`, an `Exceptions` or a `BootstrapMethods` attribute is the one
+/// well-formed content that they are.
+pub fn attributes_are_read()
+    ensures code { (b : List ℕ) (k : Code) → AreBytes b → (code_in b ≡ Some k) ↔ IsCodeOf b k }
+    ensures exceptions { (b : List ℕ) (names : List ConstantIndex) → AreBytes b → (exceptions_in b ≡ Some names) ↔ AreExceptionsOf b names }
+    ensures bootstraps { (b : List ℕ) (methods : List Bootstrap) → AreBytes b → (bootstraps_in b ≡ Some methods) ↔ AreBootstrapsOf b methods }
+{}
+
+/// The text of a constant is the part of the file at the constant's place, and the bytes of an
+/// attribute are the part behind its place, its name and its length, of an attribute of a `Code` too.
+pub fn texts_lie_in_the_layout()
+    ensures texts { (c : ClassFile) (index : ConstantIndex) (text : List ℕ) → FitsClassFile c → utf8_at c index ≡ Some text → IsLent c index text }
+    ensures attributes { (c : ClassFile) (a : PlacedAttribute) → FitsClassFile c → Contains (all_attributes c) a → HasBytesAt (layout c) a }
+{}
+
+/// No class file's bytes are a proper front of another's, a class file has its bytes alone, and at
+/// most one refusal is the first that applies.
+pub fn layouts_are_apart()
+    ensures fronts { (c d : ClassFile) (rest : List ℕ) → FitsClassFile c → FitsClassFile d → layout c ++ rest ≡ layout d → (rest ≡ []) × (c ≡ d) }
+    ensures one_record { (b : List ℕ) (c d : ClassFile) → IsLayoutOf c b → IsLayoutOf d b → c ≡ d }
+    ensures refusals { (b : List ℕ) (e f : ParseError) → IsRefusal b e → IsRefusal b f → e ≡ f }
+    ensures readable { (b : List ℕ) (e : ParseError) → IsReadable b → ¬ Applies e b }
+{}
+
+/// A class file of 53 bytes, and how bytes near it are refused.
+pub fn parsing_examples()
+    ensures layout { layout class_a_data ≡ class_a }
+    ensures named { NamesClass class_a (codes "A") }
+    ensures empty { IsRefusal [] ParseError.Short }
+    ensures cut { IsRefusal (take 52 class_a) ParseError.Short }
+    ensures more { IsRefusal (class_a ++ 0 ∷ []) (ParseError.Trailing 53) }
+    ensures magic { IsRefusal (0xca ∷ 0xfe ∷ 0xba ∷ 0xbf ∷ []) ParseError.Magic }
+    ensures version { IsRefusal (0xca ∷ 0xfe ∷ 0xba ∷ 0xbe ∷ 0 ∷ 0 ∷ 0 ∷ 0x3d ∷ []) ParseError.Version }
+    ensures count { IsRefusal (head 0 ++ constants ++ tail 1) ParseError.Count }
+    ensures tag { IsRefusal (head 6 ++ constants ++ tail 1) (ParseError.Tag 39) }
+    ensures fewer { IsRefusal (head 4 ++ constants ++ tail 1) ParseError.Short }
+    ensures wide { IsRefusal (head 2 ++ 5 ∷ []) (ParseError.Wide 10) }
+    ensures no_tag { IsRefusal (head 2 ++ 2 ∷ []) (ParseError.Tag 10) }
+    ensures no_name { IsRefusal (head 5 ++ constants ++ tail 2) ParseError.NoName }
+{
+    outcomes_are_exact();
+}

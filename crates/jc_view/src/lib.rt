@@ -1,0 +1,34 @@
+//! Class files of versions 51 and 52 as borrowed views (JVMS 4.1 to 4.7): which bytes are a readable
+//! class file and why others are not, and what a class file has.
+#![tactic(auto)]
+
+mod attribute_kind;
+mod attributes;
+mod code;
+mod constant_pool;
+mod constant_reader;
+mod indexes;
+mod interfaces;
+mod laws;
+mod layout_reader;
+mod members;
+mod parse_error;
+mod table;
+mod version;
+mod view;
+
+pub use attribute_kind::{AttributeKind, Holder};
+pub use attributes::{Attribute, Attributes};
+pub use code::{Code, ExceptionHandler, Handlers};
+pub use constant_pool::{Constant, ConstantIndex, ConstantKind};
+pub use constant_reader::{index_at, read_index};
+pub use indexes::{Indexes, read_indexes};
+pub use interfaces::Interfaces;
+pub use laws::{
+    attributes_are_read, layouts_are_apart, outcomes_are_exact, parsing_examples,
+    texts_lie_in_the_layout,
+};
+pub use members::{Member, Members};
+pub use parse_error::ParseError;
+pub use version::Version;
+pub use view::{ClassView, parse};
