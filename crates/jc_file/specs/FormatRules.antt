@@ -1,5 +1,5 @@
 -- Which constants, classes, fields, methods and attributes break a rule of the format: a test for each rule.
-use Rattle.std.specs.Prelude.{ℕ, Bool, true, false, not, ◌&&◌, ◌||◌, ◌==◌, nat_lt, nat_le, List, [], ◌∷◌, length, drop, sum_by, Option, Some, None, is_some, is_none, if◌then◌else◌, codes}
+use Rattle.std.specs.Prelude.{ℕ, Bool, true, false, not, ◌&&◌, ◌||◌, ◌==◌, nat_lt, nat_le, List, [], ◌∷◌, length, sum_by, Option, Some, None, is_some, is_none, if◌then◌else◌, codes}
 use Rattle.std.specs.List.{list_all, list_any}
 use Rattle.std.specs.Option.{option_map_or}
 use Rattle.jc_base.specs.Bytes.{same_bytes}
@@ -13,14 +13,13 @@ use Rattle.jc_view.specs.declared.constant_pool.ConstantKind.{ConstantKind}
 use Rattle.jc_view.specs.declared.constant_pool.ConstantKind.TheVariants as kinds
 use Rattle.jc_view.specs.declared.attribute_kind.AttributeKind.{AttributeKind}
 use Rattle.jc_view.specs.declared.attribute_kind.AttributeKind.TheVariants as attributes
-use Rattle.jc_view.specs.declared.attribute_kind.Holder.TheVariants as holders
-use Rattle.jc_view.specs.ConstantPool.{Constant, Utf8, Class, String, Fieldref, Methodref, InterfaceMethodref, NameAndType, MethodHandle, MethodType, InvokeDynamic}
+use Rattle.jc_view.specs.ConstantPool.{Constant, Utf8, Class, String, Fieldref, Methodref, InterfaceMethodref, NameAndType, MethodHandle, MethodType, InvokeDynamic, index_value}
 use Rattle.jc_view.specs.ClassFile.{Attribute, Member, ClassFile, class_text_at, constant_at}
 use Rattle.jc_file.specs.AccessFlags.{public, private, protected, static, final, super, synchronized, volatile, bridge, transient, native, interface, abstract, strict, enum, annotation, has, has_two_accesses}
-use Rattle.jc_view.specs.Reading.{index_value}
 use Rattle.jc_view.specs.Lookups.{utf8_at, is_kind, is_entry, name_of, descriptor_of, fails, lacks, passes}
 use Rattle.jc_view.specs.Places.{PlacedAttribute}
-use Rattle.jc_view.specs.Attributes.{is_recognised, of_kind, code_in, exceptions_in, Bootstrap, bootstraps_in}
+use Rattle.jc_view.specs.Attributes.{is_recognised, Bootstrap, bootstrap_attributes, codes_of, exceptions_of, first_index, second_index, values_of}
+use Rattle.jc_view.specs.AttributeReading.{code_in, exceptions_in, bootstraps_in}
 
 -- ---- texts
 
@@ -118,10 +117,6 @@ breaks_f9 c constant = false
 abbrev pub breaks_f10 : ClassFile → Constant → Bool
 breaks_f10 c (MethodType descriptor) = fails is_method_text (utf8_at c descriptor)
 breaks_f10 c constant = false
-
--- the attributes of the class that tell bootstrap methods
-abbrev pub bootstrap_attributes : ClassFile → List Attribute
-bootstrap_attributes c = of_kind c attributes.BootstrapMethods holders.Class c.attributes
 
 -- how many methods one tells, by its first two bytes
 abbrev pub told_count : Attribute → ℕ
@@ -221,9 +216,6 @@ names_other c kind a = length a.bytes == 2 && not (is_entry c kind (index_value 
 abbrev pub misfits : ClassFile → List ℕ → Attribute → Bool
 misfits c descriptor a = option_map_or (λ kind. names_other c kind a) (constant_kind_of descriptor) true
 
-abbrev pub values_of : ClassFile → Member → List Attribute
-values_of c f = of_kind c attributes.ConstantValue holders.Field f.attributes
-
 abbrev pub breaks_f25 : ClassFile → Member → Bool
 breaks_f25 c f =
     has f.flags static
@@ -271,9 +263,6 @@ breaks_f21 c m =
     || is_interface c && are_bad_interface_flags c.major m.flags
     || is_named_init c m && has_more_than_constructor m.flags)
 
-abbrev pub codes_of : ClassFile → Member → List Attribute
-codes_of c m = of_kind c attributes.Code holders.Method m.attributes
-
 abbrev pub breaks_f23 : ClassFile → Member → Bool
 breaks_f23 c m =
     if (has m.flags native || has m.flags abstract) && not (is_named_clinit c m) then nat_lt 0 (length (codes_of c m))
@@ -281,9 +270,6 @@ breaks_f23 c m =
 
 abbrev pub breaks_f24 : ClassFile → Member → Bool
 breaks_f24 c m = list_any (λ a. is_none (code_in a.bytes)) (codes_of c m)
-
-abbrev pub exceptions_of : ClassFile → Member → List Attribute
-exceptions_of c m = of_kind c attributes.Exceptions holders.Method m.attributes
 
 abbrev pub breaks_f26 : ClassFile → Member → Bool
 breaks_f26 c m =
@@ -307,14 +293,6 @@ abbrev pub breaks_f29 : ClassFile → PlacedAttribute → Bool
 breaks_f29 c a =
     is_missized c attributes.ConstantValue 2 a || is_missized c attributes.SourceFile 2 a || is_missized c attributes.Signature 2 a
     || is_missized c attributes.EnclosingMethod 4 a || is_missized c attributes.Synthetic 0 a || is_missized c attributes.Deprecated 0 a
-
--- the index in the first two bytes
-abbrev pub first_index : PlacedAttribute → ConstantIndex
-first_index a = index_value a.attribute.bytes
-
--- the index in the next two
-abbrev pub second_index : PlacedAttribute → ConstantIndex
-second_index a = index_value (drop 2 a.attribute.bytes)
 
 abbrev pub lacks_method : ClassFile → ConstantIndex → Bool
 lacks_method c index = not (index.0 == 0) && not (is_entry c kinds.NameAndType index)

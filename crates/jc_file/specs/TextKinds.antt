@@ -1,6 +1,5 @@
 -- What is known of a text once it was looked at.
-use Rattle.std.specs.Prelude.{ℕ, ◌+◌, List, Option}
-use Rattle.std.specs.Prelude.{◌≡◌, map, sum_by}
+use Rattle.std.specs.Prelude.{ℕ, ◌+◌, List, Option, ◌≡◌, map, sum_by}
 use Rattle.std.specs.List.{range_with_len}
 use Rattle.std.specs.Option.{option_map}
 use Rattle.jc_base.specs.TextTests.{is_class_text, is_method_name_text, is_unqualified_text}

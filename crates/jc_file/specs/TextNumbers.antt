@@ -4,7 +4,7 @@ use Rattle.std.specs.Borrow.{Bor}
 use Rattle.std.specs.BTreeMap.{BTreeMap, get_by}
 use Rattle.jc_base.specs.Bytes.{bytes_cmp}
 use Rattle.jc_view.specs.declared.constant_pool.ConstantIndex.{ConstantIndex}
-use Rattle.jc_file.specs.declared.text_numbers.TextNumbers.{TextNumbers}
+use Rattle.jc_file.specs.declared.faults.text_numbers.TextNumbers.{TextNumbers}
 use Rattle.jc_view.specs.ClassFile.{ClassFile, Member}
 use Rattle.jc_view.specs.Lookups.{utf8_at}
 use Rattle.jc_file.specs.Faults.{key_of}

@@ -13,14 +13,13 @@ use Rattle.jc_view.specs.declared.attribute_kind.AttributeKind.TheVariants as at
 use Rattle.jc_view.specs.declared.attribute_kind.Holder.{Holder}
 use Rattle.jc_file.specs.declared.fault.FormatRule.{FormatRule}
 use Rattle.jc_file.specs.declared.fault.FormatRule.TheVariants as rules
-use Rattle.jc_view.specs.ConstantPool.{Constant, Utf8, Class, String, Fieldref, Methodref, InterfaceMethodref, NameAndType, MethodHandle, MethodType as MethodTypeEntry, InvokeDynamic, kind_of}
+use Rattle.jc_view.specs.ConstantPool.{Constant, Utf8, Class, String, Fieldref, Methodref, InterfaceMethodref, NameAndType, MethodHandle, MethodType as MethodTypeEntry, InvokeDynamic, kind_of, index_value}
 use Rattle.jc_view.specs.ClassFile.{Attribute, Member, ClassFile, constant_at}
 use Rattle.jc_file.specs.AccessFlags.{public, private, protected, static, final, super, synchronized, volatile, bridge, transient, native, interface, abstract, strict, enum, annotation, has}
-use Rattle.jc_view.specs.Reading.{index_value}
 use Rattle.jc_view.specs.Lookups.{signature_entry}
 use Rattle.jc_view.specs.Places.{PlacedAttribute}
-use Rattle.jc_view.specs.Attributes.{attribute_name, belongs_to, Code, IsCodeOf, AreExceptionsOf, Bootstrap, AreBootstrapsOf, all_attributes}
-use Rattle.jc_file.specs.FormatRules.{bootstrap_attributes, values_of, codes_of, exceptions_of, first_index, second_index}
+use Rattle.jc_view.specs.Attributes.{attribute_name, belongs_to, Code, IsCodeOf, AreExceptionsOf, Bootstrap, AreBootstrapsOf, bootstrap_attributes, values_of, codes_of, exceptions_of, first_index, second_index}
+use Rattle.jc_view.specs.AttributeReading.{all_attributes}
 
 -- ---- what stands in the constants
 

@@ -3,14 +3,22 @@
 ghost use Rattle.std.specs.Prelude.{◌≡◌, ◌++◌, OnOk, IfOk};
 ghost use Rattle.jc_file.specs.Faults.{faults, faults_against};
 
-use crate::attribute_faults::add_attribute_faults;
-use crate::bootstraps::breaks_f27;
-use crate::class_faults::{add_class_fault, add_interface_faults};
-use crate::class_rules::{breaks_f12, breaks_f13};
-use crate::constant_faults::{add_constant_faults, add_untold_faults};
+mod attributes;
+mod class;
+mod constants;
+mod list;
+mod members;
+mod repeated;
+mod text_numbers;
+
+use self::attributes::add_attribute_faults;
+use crate::rules::bootstraps::breaks_f27;
+use self::class::{add_class_fault, add_interface_faults};
+use crate::rules::class::{breaks_f12, breaks_f13};
+use self::constants::{add_constant_faults, add_untold_faults};
 use crate::fault::{Fault, FormatRule};
-use crate::member_faults::{add_field_faults, add_method_faults};
-use crate::repeated::{add_repeated_fields, add_repeated_methods};
+use self::members::{add_field_faults, add_method_faults};
+use self::repeated::{add_repeated_fields, add_repeated_methods};
 use crate::text_table::TextTable;
 use jc_base::NoMemory;
 use jc_view::ClassView;

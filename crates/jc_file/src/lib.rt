@@ -2,25 +2,10 @@
 //! where. Reading a class file and what it lends are `jc_view`'s, and stand here under the same names.
 #![tactic(auto)]
 
-mod access_flags;
-mod attribute_faults;
-mod attribute_rules;
-mod bootstraps;
-mod class_faults;
-mod class_rules;
-mod constant_faults;
-mod constant_rules;
 mod fault;
 mod fault_laws;
-mod fault_list;
 mod faults;
-mod field_rules;
-mod lookups;
-mod member_faults;
-mod method_rules;
-mod recognised;
-mod repeated;
-mod text_numbers;
+mod rules;
 mod text_table;
 mod texts;
 

@@ -4,7 +4,7 @@ use Rattle.std.specs.List.{flat_map}
 use Rattle.jc_base.specs.TextTests.{units_of}
 use Rattle.jc_view.specs.declared.parse_error.ParseError.{ParseError}
 use Rattle.jc_view.specs.declared.parse_error.ParseError.TheVariants as errors
-use Rattle.jc_view.specs.Refusal.{code_of}
+use Rattle.jc_view.specs.Refusal.{refusal_number}
 use Rattle.jc_session.specs.Files.{Files}
 use Rattle.jc_session.specs.Rows.{FileState, Class, Shadowed, Unreadable, FileRow, rows}
 
@@ -51,7 +51,7 @@ refusal_name errors.NoName = codes "NoName"
 refusal_name errors.NoMemory = codes "NoMemory"
 
 abbrev pub refusal_text : ParseError → List ℕ
-refusal_text e = decimal (code_of e) ++ codes " " ++ refusal_name e
+refusal_text e = decimal (refusal_number e) ++ codes " " ++ refusal_name e
 
 abbrev pub state_text : FileState → List ℕ
 state_text (Class name) = codes "class " ++ name_text name

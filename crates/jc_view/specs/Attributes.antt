@@ -9,9 +9,8 @@ use Rattle.jc_view.specs.declared.attribute_kind.Holder.{Holder}
 use Rattle.jc_view.specs.declared.attribute_kind.Holder.TheVariants as holders
 use Rattle.jc_view.specs.declared.attribute_kind.AttributeKind.{AttributeKind}
 use Rattle.jc_view.specs.declared.attribute_kind.AttributeKind.TheVariants as kinds
-use Rattle.jc_view.specs.ConstantPool.{IsIndex, index_bytes}
-use Rattle.jc_view.specs.ClassFile.{Attribute, ClassFile, counted, attribute_bytes, FitsTable, FitsAttribute}
-use Rattle.jc_view.specs.Reading.{after, after_table, after_attribute, after_indexes, attribute_value, index_value, table_value}
+use Rattle.jc_view.specs.ConstantPool.{IsIndex, index_bytes, index_value}
+use Rattle.jc_view.specs.ClassFile.{Attribute, ClassFile, counted, attribute_bytes, FitsTable, FitsAttribute, Member}
 use Rattle.jc_view.specs.Lookups.{utf8_at, passes}
 use Rattle.jc_view.specs.Places.{PlacedAttribute, attributes_from, fields_in, methods_in, attributes_in, member_attributes}
 
@@ -108,58 +107,12 @@ pub record IsCodeOf (b : List ℕ) (k : Code) : Type 0 where
   pub fits : FitsCode k
   pub bytes : code_bytes k ≡ b
 
--- ---- as it is read: `attributes_are_read` says that this is what was defined above
-
--- what stands in all of the bytes
-abbrev pub whole : {X : Type 0} → (List ℕ → Option (List ℕ)) → (List ℕ → X) → List ℕ → Option X
-whole after_it value b = option_and_then (λ rest. if length rest == 0 then Some (value b) else None) (after_it b)
-
-abbrev pub handler_value : List ℕ → Handler
-handler_value xs = record { start_pc = big_number 2 xs; end_pc = big_number 2 (drop 2 xs); handler_pc = big_number 2 (drop 4 xs); catch_type = index_value (drop 6 xs) }
-
-abbrev pub code_length : List ℕ → ℕ
-code_length xs = big_number 4 (drop 4 xs)
-
--- behind 1 to 65,535 bytes of code and their count
-abbrev pub after_instructions : List ℕ → Option (List ℕ)
-after_instructions xs =
-    option_and_then (λ rest. if nat_lt 0 (code_length xs) && nat_lt (code_length xs) (2 ^ 16) then after (code_length xs) rest else None) (after 8 xs)
-
-abbrev pub after_handlers : List ℕ → Option (List ℕ)
-after_handlers xs = after_table (after 8) xs
-
-unfoldable pub after_code : List ℕ → Option (List ℕ)
-after_code xs = option_and_then (after_table after_attribute) (option_and_then after_handlers (after_instructions xs))
-
--- where the handlers and the attributes begin, with their counts
-abbrev pub handlers_at : List ℕ → List ℕ
-handlers_at xs = drop (8 + code_length xs) xs
-
-abbrev pub code_attributes_at : List ℕ → List ℕ
-code_attributes_at xs = drop (2 + 8 * big_number 2 (handlers_at xs)) (handlers_at xs)
-
-abbrev pub code_value : List ℕ → Code
-code_value xs = record {
-  max_stack = big_number 2 xs;
-  max_locals = big_number 2 (drop 2 xs);
-  code = take (code_length xs) (drop 8 xs);
-  handlers = table_value (after 8) handler_value (handlers_at xs);
-  attributes = table_value after_attribute attribute_value (code_attributes_at xs);
-}
-
--- the well-formed Code that the bytes are, if they are one
-abbrev pub code_in : List ℕ → Option Code
-code_in b = whole after_code code_value b
-
 -- ---- Exceptions (JVMS 4.7.5)
 
 -- the bytes are this table of indexes
 pub record AreExceptionsOf (b : List ℕ) (exceptions : List ConstantIndex) : Type 0 where
   pub fits : FitsTable IsIndex exceptions
   pub bytes : counted index_bytes exceptions ≡ b
-
-abbrev pub exceptions_in : List ℕ → Option (List ConstantIndex)
-exceptions_in b = whole after_indexes (table_value (after 2) index_value) b
 
 -- ---- BootstrapMethods (JVMS 4.7.23)
 
@@ -179,32 +132,31 @@ pub record AreBootstrapsOf (b : List ℕ) (methods : List Bootstrap) : Type 0 wh
   pub fits : FitsTable FitsBootstrap methods
   pub bytes : counted bootstrap_bytes methods ≡ b
 
-unfoldable pub after_bootstrap : List ℕ → Option (List ℕ)
-after_bootstrap xs = option_and_then after_indexes (after 2 xs)
-
-abbrev pub bootstrap_value : List ℕ → Bootstrap
-bootstrap_value xs = record { method = index_value xs; arguments = table_value (after 2) index_value (drop 2 xs) }
-
-abbrev pub bootstraps_in : List ℕ → Option (List Bootstrap)
-bootstraps_in b = whole (after_table after_bootstrap) (table_value after_bootstrap bootstrap_value) b
-
 -- ---- of a class file
-
--- the well-formed Code that an attribute of a method is
-abbrev pub code_of : ClassFile → PlacedAttribute → Option Code
-code_of c a = if is_recognised c kinds.Code a.holder a.attribute then code_in a.attribute.bytes else None
 
 -- the attributes of a Code that stands in this attribute, behind its name, its length and the count
 abbrev pub code_attributes : PlacedAttribute → Code → List PlacedAttribute
 code_attributes a k = attributes_from holders.Code (a.place + 6 + length (code_front k) + 2) k.attributes
 
--- an attribute, and those inside it
-abbrev pub with_inner : ClassFile → PlacedAttribute → List PlacedAttribute
-with_inner c a = a ∷ option_map_or (code_attributes a) (code_of c a) []
+-- ---- of a class file, by kind
 
--- all attributes, places rising
-abbrev pub all_attributes : ClassFile → List PlacedAttribute
-all_attributes c =
-    flat_map (with_inner c) (flat_map member_attributes (fields_in c))
-    ++ flat_map (with_inner c) (flat_map member_attributes (methods_in c))
-    ++ flat_map (with_inner c) (attributes_in c)
+-- the attributes of the class that tell bootstrap methods
+abbrev pub bootstrap_attributes : ClassFile → List Attribute
+bootstrap_attributes c = of_kind c kinds.BootstrapMethods holders.Class c.attributes
+
+abbrev pub values_of : ClassFile → Member → List Attribute
+values_of c f = of_kind c kinds.ConstantValue holders.Field f.attributes
+
+abbrev pub codes_of : ClassFile → Member → List Attribute
+codes_of c m = of_kind c kinds.Code holders.Method m.attributes
+
+abbrev pub exceptions_of : ClassFile → Member → List Attribute
+exceptions_of c m = of_kind c kinds.Exceptions holders.Method m.attributes
+
+-- the index in the first two bytes
+abbrev pub first_index : PlacedAttribute → ConstantIndex
+first_index a = index_value a.attribute.bytes
+
+-- the index in the next two
+abbrev pub second_index : PlacedAttribute → ConstantIndex
+second_index a = index_value (drop 2 a.attribute.bytes)

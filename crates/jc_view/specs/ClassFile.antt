@@ -110,17 +110,6 @@ constant_from_first (constant ∷ constants) i =
 abbrev pub constant_at : ClassFile → ConstantIndex → Option Constant
 constant_at c index = if index.0 == 0 then None else constant_from_first c.constants (index.0 - 1)
 
--- the second index of a wide constant is unusable
-abbrev pub second_index : Bool → List (Option ℕ)
-second_index true = None ∷ []
-second_index false = []
-
--- by index, where each of the constants begins that stand from a place on
-unfoldable pub places_of : ℕ → List Constant → List (Option ℕ)
-places_of place [] = []
-places_of place (constant ∷ constants) =
-    Some place ∷ (second_index (is_wide (kind_of constant)) ++ places_of (place + length (constant_bytes constant)) constants)
-
 -- the text of the Class constant of an index
 abbrev pub class_text_at : ClassFile → ConstantIndex → Option (List ℕ)
 class_text_at c index =

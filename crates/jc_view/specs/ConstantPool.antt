@@ -1,6 +1,6 @@
 -- Constants, their tags and their bytes (JVMS 4.4).
+use Rattle.jc_base.specs.Endian.{big_number, big_bytes}
 use Rattle.std.specs.Prelude.{ℕ, ◌<◌, ◌^◌, Bool, true, false, List, [], ◌∷◌, ◌++◌, length, Option, Some, None, if◌then◌else◌, ◌==◌}
-use Rattle.jc_base.specs.Endian.{big_bytes}
 use Rattle.jc_view.specs.declared.constant_pool.ConstantIndex.{ConstantIndex}
 use Rattle.jc_view.specs.declared.constant_pool.ConstantKind.{ConstantKind}
 use Rattle.jc_view.specs.declared.constant_pool.ConstantKind.TheVariants as kinds
@@ -98,6 +98,10 @@ constant_bytes constant = tag_of (kind_of constant) ∷ body_bytes constant
 
 abbrev pub IsIndex : ConstantIndex → Type 0
 IsIndex index = index.0 < 2 ^ 16
+
+-- the index at the front of the bytes
+abbrev pub index_value : List ℕ → ConstantIndex
+index_value xs = record { 0 = big_number 2 xs }
 
 -- what has a spelling
 abbrev pub FitsConstant : Constant → Type 0

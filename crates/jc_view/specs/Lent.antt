@@ -1,4 +1,7 @@
 -- What a view lends: its members, its attributes and the code of its methods, each with the class that it is of.
+use Rattle.jc_view.specs.declared.constant_pool.Constant.{Constant}
+use Rattle.jc_view.specs.declared.constant_pool.Constant.TheVariants as lent
+use Rattle.jc_view.specs.ConstantPool as pool
 use Rattle.std.specs.Prelude.{◌≡◌, ℕ, List, [], ◌∷◌, map, Option}
 use Rattle.std.specs.Option.{MatchOption}
 use Rattle.jc_view.specs.declared.constant_pool.ConstantIndex.{ConstantIndex}
@@ -52,3 +55,22 @@ GivesMember old result new =
 abbrev pub GivesAttribute : AttributesLeft → Option LentAttribute → AttributesLeft → Type 0
 GivesAttribute old result new =
     (new.class ≡ old.class) × MatchOption result ((old.left ≡ []) × (new.left ≡ [])) (λ item. (old.left ≡ item.attribute ∷ new.left) × (item.class ≡ old.class))
+
+-- ---- constants
+
+-- a borrowed constant as data
+abbrev pub constant_of : Constant → pool.Constant
+constant_of (lent.Utf8 text) = pool.Utf8 text.now
+constant_of (lent.Integer bits) = pool.Integer bits
+constant_of (lent.Float bits) = pool.Float bits
+constant_of (lent.Long bits) = pool.Long bits
+constant_of (lent.Double bits) = pool.Double bits
+constant_of (lent.Class name) = pool.Class name
+constant_of (lent.String text) = pool.String text
+constant_of (lent.Fieldref class name_and_type) = pool.Fieldref class name_and_type
+constant_of (lent.Methodref class name_and_type) = pool.Methodref class name_and_type
+constant_of (lent.InterfaceMethodref class name_and_type) = pool.InterfaceMethodref class name_and_type
+constant_of (lent.NameAndType name descriptor) = pool.NameAndType name descriptor
+constant_of (lent.MethodHandle kind reference) = pool.MethodHandle kind reference
+constant_of (lent.MethodType descriptor) = pool.MethodType descriptor
+constant_of (lent.InvokeDynamic bootstrap name_and_type) = pool.InvokeDynamic bootstrap name_and_type

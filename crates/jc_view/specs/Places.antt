@@ -1,10 +1,12 @@
 -- Members and attributes, each with the place in the file where it begins: a number of bytes from its front.
-use Rattle.std.specs.Prelude.{ℕ, ◌+◌, List, [], ◌∷◌, length}
-use Rattle.std.specs.List.{flat_map}
+use Rattle.std.specs.Prelude.{◌≡◌, ℕ, ◌+◌, ◌<◌, ◌^◌, ◌⊎◌, Bool, true, false, List, [], ◌∷◌, ◌++◌, length, Option, Some, None, if◌then◌else◌, ◌==◌, nat_lt, ◌-◌, option_and_then, take, drop, slice_get}
+use Rattle.std.specs.List.{flat_map, AllByRecursion}
+use Rattle.jc_base.specs.Endian.{big_bytes}
+use Rattle.jc_view.specs.ConstantPool.{Constant, constant_bytes, FitsConstant, kind_of, is_wide, index_bytes, IsIndex, class_entry, utf8_text}
+use Rattle.jc_view.specs.declared.constant_pool.ConstantIndex.{ConstantIndex}
+use Rattle.jc_view.specs.ClassFile.{ClassFile, layout, FitsClassFile, Attribute, Member, counted, attribute_bytes, member_bytes}
 use Rattle.jc_view.specs.declared.attribute_kind.Holder.{Holder}
 use Rattle.jc_view.specs.declared.attribute_kind.Holder.TheVariants as holders
-use Rattle.jc_view.specs.ConstantPool.{constant_bytes, index_bytes}
-use Rattle.jc_view.specs.ClassFile.{Attribute, Member, ClassFile, counted, attribute_bytes, member_bytes}
 
 -- an attribute of a class, a field, a method or a Code
 pub record PlacedAttribute : Type 0 where
@@ -56,3 +58,29 @@ attributes_in c = attributes_from holders.Class (attributes_place c + 2) c.attri
 -- of a member, behind its flags, name, descriptor and the count
 abbrev pub member_attributes : PlacedMember → List PlacedAttribute
 member_attributes m = attributes_from m.holder (m.place + 8) m.member.attributes
+
+-- ---- constants
+
+-- the second index of a wide constant is unusable
+abbrev pub unusable_index : Bool → List (Option ℕ)
+unusable_index true = None ∷ []
+unusable_index false = []
+
+-- by index, where each of the constants begins that stand from a place on
+unfoldable pub places_of : ℕ → List Constant → List (Option ℕ)
+places_of place [] = []
+places_of place (constant ∷ constants) =
+    Some place ∷ (unusable_index (is_wide (kind_of constant)) ++ places_of (place + length (constant_bytes constant)) constants)
+
+abbrev pub place_at : List (Option ℕ) → ConstantIndex → Option ℕ
+place_at places index = option_and_then (λ place. place) (slice_get places index.0)
+
+-- the text of the Utf8 constant of an index, as the part of the layout at its place: behind a tag and two bytes of length
+pub record IsLent (c : ClassFile) (index : ConstantIndex) (text : List ℕ) : Type 0 where
+  pub place : ℕ
+  pub begins : place_at (None ∷ places_of 10 c.constants) index ≡ Some place
+  pub part : take (length text) (drop (place + 3) (layout c)) ≡ text
+
+-- the bytes of an attribute are the part of these bytes behind its place, its name and its length
+abbrev pub HasBytesAt : List ℕ → PlacedAttribute → Type 0
+HasBytesAt bytes a = take (length a.attribute.bytes) (drop (a.place + 6) bytes) ≡ a.attribute.bytes

@@ -9,7 +9,7 @@ use Rattle.jc_view.specs.declared.constant_pool.ConstantKind.TheVariants as kind
 use Rattle.jc_view.specs.declared.parse_error.ParseError.{ParseError}
 use Rattle.jc_view.specs.declared.parse_error.ParseError.TheVariants as errors
 use Rattle.jc_view.specs.ConstantPool as pool
-use Rattle.jc_view.specs.ConstantPool.{Constant, kind_of_tag, is_wide}
+use Rattle.jc_view.specs.ConstantPool.{Constant, kind_of_tag, is_wide, index_value}
 use Rattle.jc_view.specs.ClassFile.{Attribute, Member, ClassFile, magic}
 
 -- ---- parts that can only be too short: what is left behind one, and its value
@@ -24,9 +24,6 @@ after_sized n xs = option_and_then (after (big_number n xs)) (after n xs)
 
 abbrev pub sized_value : ℕ → List ℕ → List ℕ
 sized_value n xs = take (big_number n xs) (drop n xs)
-
-abbrev pub index_value : List ℕ → ConstantIndex
-index_value xs = record { 0 = big_number 2 xs }
 
 -- so many of one kind, one behind the other
 unfoldable pub after_each : (List ℕ → Option (List ℕ)) → ℕ → List ℕ → Option (List ℕ)

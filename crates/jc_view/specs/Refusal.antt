@@ -65,18 +65,18 @@ Applies errors.NoName b = (c : ClassFile) × IsLayoutOf c b × ((name : List ℕ
 Applies errors.NoMemory b = ⊥
 
 -- the number of a refusal, by which refusals are ordered
-abbrev pub code_of : ParseError → ℕ
-code_of errors.Magic = 1
-code_of errors.Version = 2
-code_of errors.Count = 3
-code_of (errors.Tag at) = 4
-code_of (errors.Wide at) = 5
-code_of (errors.Trailing at) = 6
-code_of errors.Short = 7
-code_of errors.NoName = 8
-code_of errors.NoMemory = 9
+abbrev pub refusal_number : ParseError → ℕ
+refusal_number errors.Magic = 1
+refusal_number errors.Version = 2
+refusal_number errors.Count = 3
+refusal_number (errors.Tag at) = 4
+refusal_number (errors.Wide at) = 5
+refusal_number (errors.Trailing at) = 6
+refusal_number errors.Short = 7
+refusal_number errors.NoName = 8
+refusal_number errors.NoMemory = 9
 
 -- the first refusal that applies
 pub record IsRefusal (b : List ℕ) (e : ParseError) : Type 0 where
   pub applies : Applies e b
-  pub first : (f : ParseError) → code_of f < code_of e → ¬ Applies f b
+  pub first : (f : ParseError) → refusal_number f < refusal_number e → ¬ Applies f b

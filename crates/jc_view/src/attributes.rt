@@ -5,9 +5,10 @@ ghost use Rattle.std.specs.Option.{option_copied, option_map};
 ghost use Rattle.jc_base.specs.Cursor.{Reading};
 ghost use Rattle.jc_view.specs.Reading.{after_attribute};
 ghost use Rattle.jc_view.specs.Lookups.{utf8_at};
-ghost use Rattle.jc_view.specs.Attributes.{is_recognised, code_of};
+ghost use Rattle.jc_view.specs.Attributes.{is_recognised};
+ghost use Rattle.jc_view.specs.AttributeReading.{code_of};
 ghost use Rattle.jc_view.specs.Lent.{LentCode, lent_code};
-ghost use Rattle.jc_view.specs.Entries.{LendsAttribute};
+ghost use Rattle.jc_view.specs.inside.Entries.{LendsAttribute};
 
 use crate::attribute_kind::{AttributeKind, Holder};
 use crate::code::{Code, read_code};
@@ -32,8 +33,8 @@ impl<'v, 'a> Model for Attributes<'v, 'a> {
     ghost Value = { AttributesLeft };
 
     ghost use Rattle.jc_view.specs.Reading.{after_attribute};
-    ghost use Rattle.jc_view.specs.Tables.{IsWhole};
-    ghost use Rattle.jc_view.specs.Entries.{placed_attributes};
+    ghost use Rattle.jc_view.specs.inside.Tables.{IsWhole};
+    ghost use Rattle.jc_view.specs.inside.Entries.{placed_attributes};
 
     ghost view = { λ a. record { class = a.class.now; left = placed_attributes a.holder a.table } };
 
@@ -83,7 +84,7 @@ impl<'v, 'a> Model for Attribute<'v, 'a> {
 
     ghost Value = { LentAttribute };
 
-    ghost use Rattle.jc_view.specs.Entries.{placed_attribute};
+    ghost use Rattle.jc_view.specs.inside.Entries.{placed_attribute};
 
     ghost view = { λ a. record { class = a.class.now; attribute = placed_attribute a.holder a.entry } };
 

@@ -4,10 +4,11 @@ ghost use Rattle.std.specs.Prelude.{◌≡◌, ◌+◌, length, IfSome};
 ghost use Rattle.std.specs.Option.{option_map};
 ghost use Rattle.jc_base.specs.Cursor.{Reading};
 ghost use Rattle.jc_view.specs.Reading.{after, after_attribute};
-ghost use Rattle.jc_view.specs.Attributes.{Code, Handler, code_in, code_front, code_attributes, after_code, after_instructions, code_value, after_handlers, handler_value};
-ghost use Rattle.jc_view.specs.Skip.{Lends};
-ghost use Rattle.jc_view.specs.Tables.{LendsTable};
-ghost use Rattle.jc_view.specs.Entries.{body_code, instructions, instructions_value, IsCodeBody, handler_of};
+ghost use Rattle.jc_view.specs.Attributes.{Code, Handler, code_front, code_attributes};
+ghost use Rattle.jc_view.specs.AttributeReading.{code_in, after_code, after_instructions, code_value, after_handlers, handler_value};
+ghost use Rattle.jc_view.specs.Moves.{Lends};
+ghost use Rattle.jc_view.specs.inside.Tables.{LendsTable};
+ghost use Rattle.jc_view.specs.inside.Entries.{body_code, instructions, instructions_value, IsCodeBody, handler_of};
 
 use crate::attribute_kind::Holder;
 use crate::attributes::{AttributeEntry, Attributes};
@@ -50,7 +51,7 @@ impl<'v, 'a> Model for Code<'v, 'a> {
     ghost Value = { LentCode };
 
     ghost use Rattle.std.specs.Prelude.{◌+◌};
-    ghost use Rattle.jc_view.specs.Entries.{placed_attribute, body_code, IsCodeBody};
+    ghost use Rattle.jc_view.specs.inside.Entries.{placed_attribute, body_code, IsCodeBody};
 
     ghost view = { λ a. record { class = a.class.now; attribute = placed_attribute a.holder a.entry; code = body_code a.body } };
 
@@ -123,8 +124,8 @@ impl<'a> Model for Handlers<'a> {
     ghost Value = { List Handler };
 
     ghost use Rattle.jc_view.specs.Reading.{after};
-    ghost use Rattle.jc_view.specs.Attributes.{handler_value};
-    ghost use Rattle.jc_view.specs.Tables.{entries, IsWhole};
+    ghost use Rattle.jc_view.specs.AttributeReading.{handler_value};
+    ghost use Rattle.jc_view.specs.inside.Tables.{entries, IsWhole};
 
     ghost view = { λ a. entries (after 8) handler_value a.table };
 
@@ -133,7 +134,7 @@ impl<'a> Model for Handlers<'a> {
 
 impl<'a> Iterator for Handlers<'a> {
     ghost use Rattle.std.specs.Iterator.{YieldsFirstBy, item_count};
-    ghost use Rattle.jc_view.specs.Entries.{handler_of};
+    ghost use Rattle.jc_view.specs.inside.Entries.{handler_of};
 
     type Item = ExceptionHandler;
 
@@ -177,7 +178,7 @@ pub(crate) fn read_code<'a>(body: &Cursor<'a>) -> Option<CodeBody<'a>>
 }
 
 /// The well-formed `Code` that begins here.
-#[tactic(auto, unfolding(crate::specs::Attributes::after_code))]
+#[tactic(auto, unfolding(crate::specs::AttributeReading::after_code))]
 fn read_front<'a>(cursor: &mut Cursor<'a>) -> Option<CodeBody<'a>>
     ensures code { Lends body_code after_code code_value cursor.old result cursor.new }
     ensures body { IfSome result (IsCodeBody cursor.old.place) }

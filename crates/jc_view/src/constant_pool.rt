@@ -101,7 +101,7 @@ impl ConstantKind {
 
 impl<'a> Constant<'a> {
     ghost use Rattle.jc_view.specs.ConstantPool.{kind_of};
-    ghost use Rattle.jc_view.specs.View.{constant_of};
+    ghost use Rattle.jc_view.specs.Lent.{constant_of};
 
     /// What kind of constant this is.
     pub fn kind(self) -> ConstantKind

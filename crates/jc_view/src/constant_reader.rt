@@ -2,12 +2,14 @@
 
 ghost use Rattle.std.specs.Prelude.{◌≡◌, ◌+◌, ◌≤◌, drop, length};
 ghost use Rattle.std.specs.Option.{option_map};
-ghost use Rattle.jc_view.specs.Reading.{after, after_body, after_sized, body_value, constant_read, index_value, sized_value};
+ghost use Rattle.jc_view.specs.Reading.{after, after_body, after_sized, body_value, constant_read, sized_value};
+ghost use Rattle.jc_view.specs.ConstantPool.{index_value};
 ghost use Rattle.jc_base.specs.Endian.{big_number};
-ghost use Rattle.jc_view.specs.Skip.{Lends};
+ghost use Rattle.jc_view.specs.Moves.{Lends};
 ghost use Rattle.jc_view.specs.ClassFile.{ClassFile, constant_at};
-ghost use Rattle.jc_view.specs.Stored.{place_at, Holds};
-ghost use Rattle.jc_view.specs.View.{constant_of};
+ghost use Rattle.jc_view.specs.inside.ConstantPlaces.{Holds};
+ghost use Rattle.jc_view.specs.Places.{place_at};
+ghost use Rattle.jc_view.specs.Lent.{constant_of};
 
 use crate::constant_pool::{Constant, ConstantIndex, ConstantKind};
 use byteorder::{BigEndian, ByteOrder};

@@ -1,7 +1,9 @@
 //! Tables of indexes into the constants.
 
-ghost use Rattle.jc_view.specs.Reading.{after, after_indexes, index_value, table_value};
-ghost use Rattle.jc_view.specs.Skip.{Lends};
+ghost use Rattle.jc_view.specs.Reading.{after, after_indexes, table_value};
+
+ghost use Rattle.jc_view.specs.ConstantPool.{index_value};
+ghost use Rattle.jc_view.specs.Moves.{Lends};
 
 use crate::constant_pool::ConstantIndex;
 use crate::constant_reader::read_index;
@@ -22,8 +24,10 @@ impl<'a> Model for Indexes<'a> {
 
     ghost Value = { List ConstantIndex };
 
-    ghost use Rattle.jc_view.specs.Reading.{after, index_value};
-    ghost use Rattle.jc_view.specs.Tables.{entries, IsWhole};
+    ghost use Rattle.jc_view.specs.Reading.{after};
+
+    ghost use Rattle.jc_view.specs.ConstantPool.{index_value};
+    ghost use Rattle.jc_view.specs.inside.Tables.{entries, IsWhole};
 
     ghost view = { λ a. entries (after 2) index_value a.table };
 

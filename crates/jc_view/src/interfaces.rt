@@ -18,8 +18,10 @@ impl<'v, 'a> Model for Interfaces<'v, 'a> {
 
     ghost Value = { InterfacesLeft };
 
-    ghost use Rattle.jc_view.specs.Reading.{after, index_value};
-    ghost use Rattle.jc_view.specs.Tables.{entries, IsWhole};
+    ghost use Rattle.jc_view.specs.Reading.{after};
+
+    ghost use Rattle.jc_view.specs.ConstantPool.{index_value};
+    ghost use Rattle.jc_view.specs.inside.Tables.{entries, IsWhole};
 
     ghost view = { λ a. record { class = a.class.now; left = entries (after 2) index_value a.table } };
 

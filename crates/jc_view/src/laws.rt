@@ -5,12 +5,12 @@ ghost use Rattle.jc_view.specs.Examples.{class_a, class_a_data, head, constants,
 ghost use Rattle.jc_view.specs.declared.parse_error.ParseError.{ParseError};
 ghost use Rattle.jc_view.specs.ClassFile.{ClassFile, layout, FitsClassFile};
 ghost use Rattle.jc_view.specs.Refusal.{Applies, IsLayoutOf, IsReadable, IsRefusal};
-ghost use Rattle.jc_view.specs.Attributes.{Code, IsCodeOf, code_in, exceptions_in, AreExceptionsOf, Bootstrap, bootstraps_in, AreBootstrapsOf, all_attributes};
+ghost use Rattle.jc_view.specs.Attributes.{Code, IsCodeOf, AreExceptionsOf, Bootstrap, AreBootstrapsOf};
+ghost use Rattle.jc_view.specs.AttributeReading.{code_in, exceptions_in, bootstraps_in, all_attributes};
 ghost use Rattle.std.specs.List.{Contains};
 ghost use Rattle.jc_view.specs.declared.constant_pool.ConstantIndex.{ConstantIndex};
 ghost use Rattle.jc_view.specs.Lookups.{utf8_at};
-ghost use Rattle.jc_view.specs.Places.{PlacedAttribute};
-ghost use Rattle.jc_view.specs.Stored.{IsLent, HasBytesAt};
+ghost use Rattle.jc_view.specs.Places.{PlacedAttribute, IsLent, HasBytesAt};
 ghost use Rattle.jc_view.specs.Outcome.{AreBytes, NamesClass, class_named};
 
 use jc_base::texts_are_decided;

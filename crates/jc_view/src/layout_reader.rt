@@ -1,12 +1,11 @@
 //! Moving past the parts of a class file, to see that they are whole.
 
-ghost use Rattle.std.specs.Prelude.{◌≡◌, ◌<◌, IfOk};
-ghost use Rattle.jc_view.specs.Reading.{after, after_attribute, after_member, after_table, after_indexes, after_tail, after_body};
-ghost use Rattle.jc_view.specs.Reading.{first_constant, entry_at, entry, pool_at, head_at, last_at, parts_at, numbers_value, is_accepted};
-ghost use Rattle.std.specs.Prelude.{IfSome};
-ghost use Rattle.jc_view.specs.Skip.{MovesBehind, Lends, Takes};
-ghost use Rattle.jc_view.specs.Parts.{parts, numbers};
-ghost use Rattle.jc_view.specs.Tables.{LendsTable, HasVersion, HasTables, TablesAtTail};
+ghost use Rattle.std.specs.Prelude.{◌≡◌, ◌<◌, IfOk, IfSome};
+ghost use Rattle.jc_view.specs.Reading.{after, after_attribute, after_member, after_table, after_indexes, after_tail, after_body, first_constant, entry_at, entry, pool_at, head_at, last_at, parts_at, numbers_value, is_accepted};
+ghost use Rattle.jc_view.specs.inside.Outcomes.{MovesBehind, Takes};
+ghost use Rattle.jc_view.specs.Moves.{Lends};
+ghost use Rattle.jc_view.specs.inside.PartsFound.{parts, numbers};
+ghost use Rattle.jc_view.specs.inside.Tables.{LendsTable, HasVersion, HasTables, TablesAtTail};
 
 use crate::constant_pool::{ConstantIndex, ConstantKind};
 use crate::parse_error::ParseError;

@@ -4,7 +4,7 @@ ghost use Rattle.std.specs.Prelude.{◌≡◌};
 ghost use Rattle.std.specs.Option.{option_copied};
 ghost use Rattle.jc_view.specs.Lookups.{utf8_at};
 ghost use Rattle.jc_view.specs.Places.{member_attributes};
-ghost use Rattle.jc_view.specs.Entries.{LendsMember};
+ghost use Rattle.jc_view.specs.inside.Entries.{LendsMember};
 
 use crate::attribute_kind::Holder;
 use crate::attributes::Attributes;
@@ -30,8 +30,8 @@ impl<'v, 'a> Model for Members<'v, 'a> {
     ghost Value = { MembersLeft };
 
     ghost use Rattle.jc_view.specs.Reading.{after_member};
-    ghost use Rattle.jc_view.specs.Tables.{IsWhole};
-    ghost use Rattle.jc_view.specs.Entries.{placed_members};
+    ghost use Rattle.jc_view.specs.inside.Tables.{IsWhole};
+    ghost use Rattle.jc_view.specs.inside.Entries.{placed_members};
 
     ghost view = { λ a. record { class = a.class.now; left = placed_members a.holder a.table } };
 
@@ -91,7 +91,7 @@ impl<'v, 'a> Model for Member<'v, 'a> {
 
     ghost Value = { LentMember };
 
-    ghost use Rattle.jc_view.specs.Entries.{placed_member, IsMemberEntry};
+    ghost use Rattle.jc_view.specs.inside.Entries.{placed_member, IsMemberEntry};
 
     ghost view = { λ a. record { class = a.class.now; member = placed_member a.holder a.entry } };
 

@@ -31,11 +31,11 @@ pub enum ParseError {
 }
 
 impl ParseError {
-    ghost use Rattle.jc_view.specs.Refusal.{code_of};
+    ghost use Rattle.jc_view.specs.Refusal.{refusal_number};
 
     /// The number of the refusal, from 1, in the order of the variants.
     pub fn code(&self) -> u8
-        ensures { result ≡ code_of self.now }
+        ensures { result ≡ refusal_number self.now }
     {
         match self {
             ParseError::Magic => 1,

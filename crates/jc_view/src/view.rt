@@ -5,9 +5,9 @@ ghost use Rattle.jc_view.specs.declared.parse_error.ParseError.TheVariants.{NoMe
 ghost use Rattle.std.specs.Option.{option_copied, option_map};
 ghost use Rattle.jc_view.specs.ClassFile.{ClassFile, all_slots, class_text_at, constant_at};
 ghost use Rattle.jc_view.specs.Lookups.{utf8_at};
-ghost use Rattle.jc_view.specs.Places.{fields_in, methods_in, attributes_in};
-ghost use Rattle.jc_view.specs.View.{constant_of};
-ghost use Rattle.jc_view.specs.Stored.{Holds, IsLent};
+ghost use Rattle.jc_view.specs.Places.{fields_in, methods_in, attributes_in, IsLent};
+ghost use Rattle.jc_view.specs.Lent.{constant_of};
+ghost use Rattle.jc_view.specs.inside.ConstantPlaces.{Holds};
 ghost use Rattle.jc_view.specs.Refusal.{IsLayoutOf, IsNamed, IsReadable, IsRefusal};
 
 use crate::attribute_kind::Holder;
@@ -39,13 +39,13 @@ pub struct ClassView<'a> {
 impl<'a> Model for ClassView<'a> {
     ghost use Rattle.std.specs.Option.{option_copied, option_map};
     ghost use Rattle.jc_view.specs.ClassFile.{ClassFile, class_text_at, constant_at};
-    ghost use Rattle.jc_view.specs.View.{constant_of};
+    ghost use Rattle.jc_view.specs.Lent.{constant_of};
 
     ghost Value = { ClassFile };
 
-    ghost use Rattle.jc_view.specs.ClassView.{class_in, IsViewed};
+    ghost use Rattle.jc_view.specs.inside.ClassView.{class_shown, IsViewed};
 
-    ghost view = { class_in };
+    ghost view = { class_shown };
 
     ghost invariant = { IsViewed };
 }

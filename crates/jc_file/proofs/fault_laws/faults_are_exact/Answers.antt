@@ -1,4 +1,4 @@
-use Rattle.jc_file.proofs.FaultLaws.{faults_sorted, fault_placed, placed_fault}
+use Rattle.jc_file.proofs.orders.FaultOrder.{faults_sorted, fault_placed, placed_fault}
 use Rattle.jc_file.proofs.fault_laws.faults_are_exact.Goals as goal
 
 pub returns-clause-rising : goal.returns-clause-rising

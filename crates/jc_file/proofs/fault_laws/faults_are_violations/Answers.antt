@@ -7,13 +7,13 @@ use Rattle.jc_view.specs.Outcome.{AreBytes}
 use Rattle.jc_file.specs.Faults.{places}
 use Rattle.jc_file.specs.FormatRules.{breaks_f1, breaks_f2, breaks_f3, breaks_f4, breaks_f5, breaks_f6, breaks_f7, breaks_f8, breaks_f9, breaks_f10, breaks_f11, breaks_f28, breaks_f29, breaks_f30}
 use Rattle.jc_file.specs.Violations.{BreaksF1, BreaksF2, BreaksF3, BreaksF4, BreaksF5, BreaksF6, BreaksF7, BreaksF8, BreaksF9, BreaksF10, BreaksF11, BreaksF28, BreaksF29, BreaksF30, Violates}
-use Rattle.jc_file.proofs.Decisions.{numbers_decided, only_decided}
-use Rattle.jc_file.proofs.LookupDecisions.{TextsDecided}
-use Rattle.jc_file.proofs.ByteParts.{class_have, method_have}
-use Rattle.jc_file.proofs.ConstantViolations.{constants_decided, f1_decided, f2_decided, f3_decided, f4_decided, f5_decided, f6_decided, f7_decided, f8_decided, f9_decided, f10_decided, f11_decided}
-use Rattle.jc_file.proofs.ClassViolations.{f12_decided, f13_decided, f14_decided, f27_decided}
-use Rattle.jc_file.proofs.MemberViolations.{BytesRead, repeated_decided, f15_decided, f16_decided, f17_decided, f19_decided, f20_decided, f21_decided, f23_decided, f24_decided, f25_decided, f26_decided}
-use Rattle.jc_file.proofs.AttributeViolations.{attributes_decided, f28_decided, f29_decided, f30_decided}
+use Rattle.jc_file.proofs.violations.Decisions.{numbers_decided, only_decided}
+use Rattle.jc_file.proofs.violations.Lookups.{TextsDecided}
+use Rattle.jc_file.proofs.violations.ByteParts.{class_have, method_have}
+use Rattle.jc_file.proofs.violations.Constants.{constants_decided, f1_decided, f2_decided, f3_decided, f4_decided, f5_decided, f6_decided, f7_decided, f8_decided, f9_decided, f10_decided, f11_decided}
+use Rattle.jc_file.proofs.violations.Classes.{f12_decided, f13_decided, f14_decided, f27_decided}
+use Rattle.jc_file.proofs.violations.Members.{BytesRead, repeated_decided, f15_decided, f16_decided, f17_decided, f19_decided, f20_decided, f21_decided, f23_decided, f24_decided, f25_decided, f26_decided}
+use Rattle.jc_file.proofs.violations.Attributes.{attributes_decided, f28_decided, f29_decided, f30_decided}
 use Rattle.jc_file.proofs.fault_laws.faults_are_violations.Goals as goal
 
 texts : goal.After-attributes_are_read → TextsDecided

@@ -1,5 +1,5 @@
 use Rattle.jc_file.specs.Faults.{format_rules, faults_against}
-use Rattle.jc_file.proofs.RulesInOrder.{flat_map_step}
+use Rattle.jc_file.proofs.orders.RulesInOrder.{flat_map_step}
 use Rattle.jc_file.proofs.faults.find_faults.Goals as goal
 
 pub loop-rule-preserved : goal.loop-rule-preserved

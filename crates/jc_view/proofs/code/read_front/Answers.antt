@@ -1,5 +1,5 @@
 use Rattle.jc_view.specs.declared.code.CodeBody.{CodeBody}
-use Rattle.jc_view.proofs.Codes.{code_read, code_body}
+use Rattle.jc_view.proofs.places.CodeEntries.{code_read, code_body}
 use Rattle.jc_view.proofs.code.read_front.Goals as goal
 
 abbrev read : (c : goal.In_ok-attributes) → CodeBody

@@ -1,10 +1,10 @@
 use Rattle.std.proofs.Common.{Some, sym, rules, arith}
 use Rattle.std.proofs.lemmas.Grind.{common_steps}
-use Rattle.jc_view.specs.Attributes.{after_handlers}
+use Rattle.jc_view.specs.AttributeReading.{after_handlers}
 use Rattle.jc_view.specs.declared.table.Table.{Table}
-use Rattle.jc_view.specs.Tables.{LendsTable}
-use Rattle.jc_view.proofs.Parts.{after_all, table_of_size}
-use Rattle.jc_view.proofs.Entries.{lends_same}
+use Rattle.jc_view.specs.inside.Tables.{LendsTable}
+use Rattle.jc_view.proofs.reading.Tables.{after_all, table_of_size}
+use Rattle.jc_view.proofs.places.Entries.{lends_same}
 use Rattle.jc_view.proofs.code.skip_handlers.Goals as goal
 
 pub returns-in_err-take : goal.returns-in_err-take

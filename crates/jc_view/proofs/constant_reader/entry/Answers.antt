@@ -1,5 +1,5 @@
 use Rattle.std.proofs.Common.{ap, ◌∙◌}
-use Rattle.jc_view.proofs.Stored.{read_at, found}
+use Rattle.jc_view.proofs.places.ConstantPlaces.{read_at, found}
 use Rattle.jc_view.proofs.constant_reader.entry.Goals as goal
 
 pub returns-in_err-place_at : goal.returns-in_err-place_at

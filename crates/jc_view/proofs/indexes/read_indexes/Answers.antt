@@ -1,4 +1,4 @@
-use Rattle.jc_view.proofs.IndexTables.{indexes_whole}
+use Rattle.jc_view.proofs.places.IndexTables.{indexes_whole}
 use Rattle.jc_view.proofs.indexes.read_indexes.Goals as goal
 
 pub invariant_of-result : goal.invariant_of-result

@@ -1,5 +1,5 @@
-use Rattle.jc_view.proofs.CodeReading.{code_read_is, code_is_read}
-use Rattle.jc_view.proofs.BootstrapReading.{exceptions_read_are, exceptions_are_read, bootstraps_read_are, bootstraps_are_read}
+use Rattle.jc_view.proofs.reading.Codes.{code_read_is, code_is_read}
+use Rattle.jc_view.proofs.reading.AttributeTables.{exceptions_read_are, exceptions_are_read, bootstraps_read_are, bootstraps_are_read}
 use Rattle.jc_view.proofs.laws.attributes_are_read.Goals as goal
 
 pub returns : goal.returns

@@ -1,4 +1,4 @@
-use Rattle.jc_view.proofs.LayoutLaws.{one_layout, one_class, one_refusal, none_applies}
+use Rattle.jc_view.proofs.refusals.Layouts.{one_layout, one_class, one_refusal, none_applies}
 use Rattle.jc_view.proofs.laws.layouts_are_apart.Goals as goal
 
 pub returns : goal.returns

@@ -1,4 +1,4 @@
-use Rattle.jc_view.proofs.Outcomes.{Decided, named_is, is_named, refused_is, is_refused}
+use Rattle.jc_view.proofs.refusals.ClassNames.{Decided, named_is, is_named, refused_is, is_refused}
 use Rattle.jc_view.proofs.laws.outcomes_are_exact.Goals as goal
 
 decided : (c : goal.After-texts_are_decided) → Decided

@@ -7,7 +7,7 @@ use Rattle.jc_view.specs.ClassFile.{layout}
 use Rattle.jc_view.specs.Reading.{after_each, each_value, after_attribute, after_member, after_tail, first_constant, entry_at, entries_from, head_at, last_at, parts_at, class_value}
 use Rattle.jc_view.specs.Outcome.{name_in, class_named}
 use Rattle.jc_view.specs.Examples.{class_a, head, constants, tail}
-use Rattle.jc_view.proofs.Bytes.{are_bytes}
+use Rattle.jc_view.proofs.refusals.ByteTests.{are_bytes}
 use Rattle.jc_view.proofs.laws.parsing_examples.Goals as goal
 
 pub returns-clause-layout : goal.returns-clause-layout

@@ -1,8 +1,8 @@
 use Rattle.jc_view.specs.ClassFile.{layout}
-use Rattle.jc_view.specs.Attributes.{all_attributes}
-use Rattle.jc_view.specs.Stored.{HasBytesAt}
-use Rattle.jc_view.proofs.Stored.{text_lies}
-use Rattle.jc_view.proofs.Lie.{in_all, all_lie}
+use Rattle.jc_view.specs.AttributeReading.{all_attributes}
+use Rattle.jc_view.specs.Places.{HasBytesAt}
+use Rattle.jc_view.proofs.places.ConstantPlaces.{text_lies}
+use Rattle.jc_view.proofs.places.BytesInLayout.{in_all, all_lie}
 use Rattle.jc_view.proofs.laws.texts_lie_in_the_layout.Goals as goal
 
 pub returns : goal.returns

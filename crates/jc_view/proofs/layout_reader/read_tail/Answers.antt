@@ -1,5 +1,5 @@
 use Rattle.jc_view.specs.declared.layout_reader.Tables.{Tables}
-use Rattle.jc_view.proofs.Tail.{has_tables}
+use Rattle.jc_view.proofs.reading.BehindConstants.{has_tables}
 use Rattle.jc_view.proofs.layout_reader.read_tail.Goals as goal
 
 abbrev read : (c : goal.In_ok-attributes) → Tables

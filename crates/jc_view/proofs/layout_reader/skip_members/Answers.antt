@@ -1,6 +1,6 @@
 use Rattle.std.proofs.Common.{rules, ◌∙◌}
 use Rattle.jc_view.specs.Reading.{after_member, after_table}
-use Rattle.jc_view.proofs.Tables.{each_more, each_cut, each_done}
+use Rattle.jc_view.proofs.reading.TableLoop.{each_more, each_cut, each_done}
 use Rattle.jc_view.proofs.layout_reader.skip_members.Goals as goal
 
 pub returns-in_err-skip_member : goal.returns-in_err-skip_member

@@ -1,6 +1,6 @@
 use Rattle.std.proofs.lemmas.Result.{err_from_is_err_and}
 use Rattle.jc_view.specs.Reading.{pool_at}
-use Rattle.jc_view.proofs.PoolSteps.{pool_more, pool_cut, pool_done}
+use Rattle.jc_view.proofs.reading.PoolLoop.{pool_more, pool_cut, pool_done}
 use Rattle.jc_view.proofs.layout_reader.skip_pool.Goals as goal
 
 pub returns-in_err-offset : goal.returns-in_err-offset

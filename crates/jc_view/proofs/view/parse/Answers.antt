@@ -2,15 +2,15 @@ use Rattle.std.proofs.Common.{◌≡◌, ◌⊎◌, Ok, sym, subst, ap, ◌∙�
 use Rattle.std.proofs.lemmas.Result.{err_from_is_err_and}
 use Rattle.jc_base.specs.Cursor.{Reading}
 use Rattle.jc_view.specs.declared.parse_error.ParseError.TheVariants.{NoMemory, NoName}
-use Rattle.jc_view.specs.Parts.{parts}
+use Rattle.jc_view.specs.inside.PartsFound.{parts}
 use Rattle.jc_view.specs.Reading.{parts_at, class_value}
 use Rattle.jc_view.specs.Refusal.{IsRefusal}
-use Rattle.jc_view.specs.Skip.{Fails}
-use Rattle.jc_view.specs.Tables.{HasVersion, TablesAtTail}
-use Rattle.jc_view.specs.ClassView.{AreTables}
-use Rattle.jc_view.proofs.Whole.{start}
-use Rattle.jc_view.proofs.Parsed.{at_start, holds_at, refused, no_refusal, IsParsed, parsed, version_is, unnamed}
-use Rattle.jc_view.proofs.ClassTables.{tables_found}
+use Rattle.jc_view.specs.inside.Outcomes.{Fails}
+use Rattle.jc_view.specs.inside.Tables.{HasVersion, TablesAtTail}
+use Rattle.jc_view.specs.inside.ClassView.{AreTables}
+use Rattle.jc_view.proofs.reading.Heads.{start}
+use Rattle.jc_view.proofs.refusals.Parsing.{at_start, holds_at, refused, no_refusal, IsParsed, parsed, version_is, unnamed}
+use Rattle.jc_view.proofs.places.ClassTables.{tables_found}
 use Rattle.jc_view.proofs.view.parse.Goals as goal
 
 -- why going over the bytes stopped

@@ -1,5 +1,5 @@
 use Rattle.std.proofs.Common.{arith}
-use Rattle.jc_file.proofs.TextTables.{kinds_more, kinds_done}
+use Rattle.jc_file.proofs.orders.TextTables.{kinds_more, kinds_done}
 use Rattle.jc_file.proofs.text_table.TextTable.new.Goals as goal
 
 pub loop-index-preserved : goal.loop-index-preserved

@@ -1,6 +1,6 @@
 use Rattle.std.proofs.Common.{◌∙◌, ap}
 use Rattle.jc_view.specs.Lookups.{utf8_at}
-use Rattle.jc_file.proofs.TextTables.{text_kept}
+use Rattle.jc_file.proofs.orders.TextTables.{text_kept}
 use Rattle.jc_file.proofs.text_table.TextTable.text.Goals as goal
 
 pub returns-in_err-kinds : goal.returns-in_err-kinds

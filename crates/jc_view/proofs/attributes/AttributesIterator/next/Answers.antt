@@ -2,8 +2,8 @@ use Rattle.std.proofs.Common.{◌≡◌, [], ◌∷◌, length, rules, refl, sym
 use Rattle.jc_view.specs.Places.{PlacedAttribute}
 use Rattle.jc_view.specs.Reading.{after_attribute, attribute_value, each_value}
 use Rattle.jc_view.specs.Lent.{AttributesLeft}
-use Rattle.jc_view.specs.Entries.{placed_attribute, placed_attributes}
-use Rattle.jc_view.proofs.Entries.{none_left, one_is_there, IsStep, step, attributes_step, no_attributes, placed_first}
+use Rattle.jc_view.specs.inside.Entries.{placed_attribute, placed_attributes}
+use Rattle.jc_view.proofs.places.Entries.{none_left, one_is_there, IsStep, step, attributes_step, no_attributes, placed_first}
 use Rattle.jc_view.proofs.attributes.AttributesIterator.next.Goals as goal
 
 pub returns-in_err-self-inside-clause-steps : goal.returns-in_err-self-inside-clause-steps

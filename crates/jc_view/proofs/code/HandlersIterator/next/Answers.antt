@@ -1,8 +1,9 @@
 use Rattle.std.proofs.Common.{◌≡◌, ◌∷◌, length, rules, sym, ap, ◌∙◌}
 use Rattle.jc_view.specs.Reading.{after, each_value}
-use Rattle.jc_view.specs.Attributes.{Handler, handler_value}
-use Rattle.jc_view.specs.Entries.{handler_of}
-use Rattle.jc_view.proofs.Entries.{none_left, one_is_there, step}
+use Rattle.jc_view.specs.Attributes.{Handler}
+use Rattle.jc_view.specs.AttributeReading.{handler_value}
+use Rattle.jc_view.specs.inside.Entries.{handler_of}
+use Rattle.jc_view.proofs.places.Entries.{none_left, one_is_there, step}
 use Rattle.jc_view.proofs.code.HandlersIterator.next.Goals as goal
 
 pub returns-in_err-self-inside-clause-steps : goal.returns-in_err-self-inside-clause-steps

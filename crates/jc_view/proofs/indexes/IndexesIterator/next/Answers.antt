@@ -1,7 +1,8 @@
 use Rattle.std.proofs.Common.{◌≡◌, ◌∷◌, length, rules, sym, ap, ◌∙◌}
 use Rattle.jc_view.specs.declared.constant_pool.ConstantIndex.{ConstantIndex}
-use Rattle.jc_view.specs.Reading.{after, index_value, each_value}
-use Rattle.jc_view.proofs.Entries.{none_left, one_is_there, step}
+use Rattle.jc_view.specs.Reading.{after, each_value}
+use Rattle.jc_view.specs.ConstantPool.{index_value}
+use Rattle.jc_view.proofs.places.Entries.{none_left, one_is_there, step}
 use Rattle.jc_view.proofs.indexes.IndexesIterator.next.Goals as goal
 
 pub returns-in_err-self-inside-clause-steps : goal.returns-in_err-self-inside-clause-steps

@@ -2,9 +2,10 @@ use Rattle.std.proofs.Common.{◌≡◌, ℕ, [], ◌∷◌, List, Option, map, 
 use Rattle.std.specs.Option.{option_copied}
 use Rattle.jc_view.specs.declared.constant_pool.ConstantIndex.{ConstantIndex}
 use Rattle.jc_view.specs.ClassFile.{class_text_at}
-use Rattle.jc_view.specs.Reading.{after, index_value, each_value}
+use Rattle.jc_view.specs.Reading.{after, each_value}
+use Rattle.jc_view.specs.ConstantPool.{index_value}
 use Rattle.jc_view.specs.Lent.{interface_names}
-use Rattle.jc_view.proofs.Entries.{none_left, one_is_there, IsStep, step}
+use Rattle.jc_view.proofs.places.Entries.{none_left, one_is_there, IsStep, step}
 use Rattle.jc_view.proofs.interfaces.InterfacesIterator.next.Goals as goal
 
 pub returns-in_err-self-inside-clause-steps : goal.returns-in_err-self-inside-clause-steps

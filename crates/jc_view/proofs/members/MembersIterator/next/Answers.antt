@@ -2,8 +2,8 @@ use Rattle.std.proofs.Common.{◌≡◌, [], ◌∷◌, length, rules, refl, sym
 use Rattle.jc_view.specs.Places.{PlacedMember}
 use Rattle.jc_view.specs.Reading.{after_member, member_value, each_value}
 use Rattle.jc_view.specs.Lent.{MembersLeft}
-use Rattle.jc_view.specs.Entries.{placed_member, placed_members}
-use Rattle.jc_view.proofs.Entries.{none_left, one_is_there, IsStep, step, members_step, no_members, placed_first_member}
+use Rattle.jc_view.specs.inside.Entries.{placed_member, placed_members}
+use Rattle.jc_view.proofs.places.Entries.{none_left, one_is_there, IsStep, step, members_step, no_members, placed_first_member}
 use Rattle.jc_view.proofs.members.MembersIterator.next.Goals as goal
 
 pub returns-in_err-self-inside-clause-steps : goal.returns-in_err-self-inside-clause-steps

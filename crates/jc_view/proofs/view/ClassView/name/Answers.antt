@@ -1,6 +1,6 @@
 use Rattle.std.proofs.Common.{subst}
 use Rattle.jc_view.specs.ClassFile.{ClassFile, FitsClassFile}
-use Rattle.jc_view.proofs.Stored.{lent}
+use Rattle.jc_view.proofs.places.ConstantPlaces.{lent}
 use Rattle.jc_view.proofs.view.ClassView.name.Goals as goal
 
 pub returns-clause-lent : goal.returns-clause-lent

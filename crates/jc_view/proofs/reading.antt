@@ -1,0 +1,14 @@
+pub mod BigEndian
+pub mod Constants
+pub mod FirstConstant
+pub mod Pools
+pub mod PoolLoop
+pub mod PoolStops
+pub mod Steps
+pub mod Tables
+pub mod TableLoop
+pub mod BehindConstants
+pub mod Heads
+pub mod ClassFiles
+pub mod Codes
+pub mod AttributeTables

@@ -1,0 +1,99 @@
+-- The class that bytes name, as a function, is what the definitions say.
+use Rattle.std.proofs.Common.{◌≡◌, ℕ, List, true, Some, None, option_and_then, Result, Ok, Err, refl, sym, ap, subst, ◌∙◌, inl, inr}
+use Rattle.std.proofs.lemmas.Bool.{cases_Bool}
+use Rattle.jc_base.specs.Names.{IsClassName}
+use Rattle.jc_base.specs.TextTests.{is_class_text}
+use Rattle.jc_base.specs.Cursor.{Reading}
+use Rattle.jc_view.specs.declared.constant_pool.ConstantIndex.{ConstantIndex}
+use Rattle.jc_view.specs.declared.parse_error.ParseError.{ParseError}
+use Rattle.jc_view.specs.declared.parse_error.ParseError.TheVariants as errors
+use Rattle.jc_view.specs.ConstantPool as pool
+use Rattle.jc_view.specs.ConstantPool.{Constant, class_entry, utf8_text}
+use Rattle.jc_view.specs.ClassFile.{ClassFile, constant_at}
+use Rattle.jc_view.specs.Reading.{◌>>=◌, or_refusal, Parts, parts_at, class_value}
+use Rattle.jc_view.specs.Refusal.{IsNamed, IsRefusal}
+use Rattle.jc_view.specs.Outcome.{NamesClass, class_text, name_in, class_named}
+use Rattle.jc_view.proofs.reading.BigEndian.{IsBytes, then_some}
+use Rattle.jc_view.proofs.reading.Steps.{bind_ok, bind_err, or_ok, or_err}
+use Rattle.jc_view.proofs.refusals.FirstRefusal.{is_refusal}
+use Rattle.jc_view.proofs.refusals.Layouts.{is_read, one_class, one_refusal, none_applies}
+use Rattle.jc_view.proofs.refusals.Parsing.{parsed, unnamed}
+use Rattle.jc_view.proofs.reading.Heads.{start}
+
+-- the test for class names, from the base
+abbrev pub Decided : Type 0
+Decided = (b : List ℕ) → ((is_class_text b ≡ true) → IsClassName b) × (IsClassName b → (is_class_text b ≡ true))
+
+is_class_constant : (constant : Constant) (entry : ConstantIndex) → class_entry constant ≡ Some entry → constant ≡ pool.Class entry
+is_class_constant (pool.Class n) entry e = ap (λ (x : ConstantIndex). pool.Class x) cc
+is_class_constant constant entry e = absurd cc
+
+is_text_constant : (constant : Constant) (text : List ℕ) → utf8_text constant ≡ Some text → constant ≡ pool.Utf8 text
+is_text_constant (pool.Utf8 t) text e = ap (λ (x : List ℕ). pool.Utf8 x) cc
+is_text_constant constant text e = absurd cc
+
+class_text_some : (text name : List ℕ) → class_text text ≡ Some name → (is_class_text text ≡ true) × (text ≡ name)
+class_text_some text name e =
+    elim (cases_Bool (is_class_text text)) [
+      | inl hit ↦ (hit, let e' : Some text ≡ Some name = sym (rw hit refl) ∙ e in cc)
+      | inr miss ↦ absurd (let e' : None ≡ Some name = sym (rw miss refl) ∙ e in cc)
+    ]
+
+named_from : Decided → (c : ClassFile) (name : List ℕ) → name_in c ≡ Some name → IsNamed c name
+unfolding name_in
+named_from decided c name e =
+    let a = then_some (constant_at c c.this_class) (λ class. option_and_then (λ entry. option_and_then (λ text. option_and_then class_text (utf8_text text)) (constant_at c entry)) (class_entry class)) name e in
+    let b = then_some (class_entry a.0) (λ entry. option_and_then (λ text. option_and_then class_text (utf8_text text)) (constant_at c entry)) name a.2 in
+    let d = then_some (constant_at c b.0) (λ text. option_and_then class_text (utf8_text text)) name b.2 in
+    let t = then_some (utf8_text d.0) class_text name d.2 in
+    let n = class_text_some t.0 name t.2 in
+    record {
+      entry = b.0;
+      class = a.1 ∙ ap (λ (x : Constant). Some x) (is_class_constant a.0 b.0 b.1);
+      text = d.1 ∙ ap (λ (x : Constant). Some x) (is_text_constant d.0 t.0 t.1) ∙ ap (λ (x : List ℕ). Some (pool.Utf8 x)) n.1;
+      class_name = subst IsClassName n.1 ((decided t.0).0 n.0);
+    }
+
+name_from : Decided → (c : ClassFile) (name : List ℕ) → IsNamed c name → name_in c ≡ Some name
+unfolding name_in
+name_from decided c name h =
+    let test : is_class_text name ≡ true = (decided name).1 h.class_name in
+    let last : class_text name ≡ Some name = rw test refl in
+    ap (option_and_then (λ class. option_and_then (λ entry. option_and_then (λ text. option_and_then class_text (utf8_text text)) (constant_at c entry)) (class_entry class))) h.class
+    ∙ ap (option_and_then (λ text. option_and_then class_text (utf8_text text))) h.text ∙ last
+
+class_in : Parts × Reading → List ℕ → ClassFile
+class_in found b = class_value b found.0.places found.0.tail
+
+pub named_is : Decided → (b name : List ℕ) → IsBytes b → class_named b ≡ Ok name → NamesClass b name
+unfolding class_named
+named_is decided b name fits e =
+    let a = bind_ok (parts_at (start b)) (λ found. or_refusal (name_in (class_value b found.0.places found.0.tail)) errors.NoName) name e in
+    (class_value b a.0.0.places a.0.0.tail, (parsed b a.0.0 a.0.1 fits a.1).is_layout, named_from decided _ name (or_ok _ _ _ a.2))
+
+pub is_named : Decided → (b name : List ℕ) → IsBytes b → NamesClass b name → class_named b ≡ Ok name
+unfolding class_named
+is_named decided b name fits h =
+    let found = is_read b h.0 h.1 in
+    let here = parsed b found.0.0 found.0.1 fits found.1 in
+    let same = one_class b h.0 (class_value b found.0.0.places found.0.0.tail) h.1 here.is_layout in
+    let named = name_from decided (class_value b found.0.0.places found.0.0.tail) name (subst (λ (c : ClassFile). IsNamed c name) same h.2) in
+    ap (λ r. r >>= λ found. or_refusal (name_in (class_value b found.0.places found.0.tail)) errors.NoName) found.1 ∙ ap (λ o. or_refusal o errors.NoName) named
+
+pub refused_is : Decided → (b : List ℕ) (e : ParseError) → IsBytes b → class_named b ≡ Err e → IsRefusal b e
+unfolding class_named
+refused_is decided b e fits h =
+    elim (bind_err (parts_at (start b)) (λ found. or_refusal (name_in (class_value b found.0.places found.0.tail)) errors.NoName) e h) [
+      | inl stops ↦ is_refusal b e fits stops
+      | inr a ↦
+          let o = or_err (name_in (class_value b a.0.0.places a.0.0.tail)) errors.NoName e a.2 in
+          let none : (name : List ℕ) → ¬ IsNamed (class_value b a.0.0.places a.0.0.tail) name = λ name named. absurd (let some = name_from decided (class_value b a.0.0.places a.0.0.tail) name named in let nothing = o.0 in cc) in
+          subst (λ (x : ParseError). IsRefusal b x) o.1 (unnamed b a.0.0 a.0.1 fits a.1 none)
+    ]
+
+is_refused_by : Decided → (b : List ℕ) (e : ParseError) (outcome : Result (List ℕ) ParseError) → IsBytes b → class_named b ≡ outcome → IsRefusal b e → outcome ≡ Err e
+is_refused_by decided b e (Ok name) fits h refusal = absurd (let n = named_is decided b name fits h in none_applies b e (n.0, n.1, (name, n.2)) refusal.applies)
+is_refused_by decided b e (Err d) fits h refusal = ap (λ (x : ParseError). Err x) (one_refusal b d e (refused_is decided b d fits h) refusal)
+
+pub is_refused : Decided → (b : List ℕ) (e : ParseError) → IsBytes b → IsRefusal b e → class_named b ≡ Err e
+is_refused decided b e fits refusal = is_refused_by decided b e (class_named b) fits refl refusal

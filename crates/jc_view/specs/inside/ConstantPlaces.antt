@@ -1,0 +1,11 @@
+-- What the places of the constants tell.
+use Rattle.std.specs.Prelude.{◌≡◌, ℕ, ◌+◌, List, ◌∷◌, length, take, drop, Option, Some, None, slice_get, option_and_then}
+use Rattle.jc_view.specs.declared.constant_pool.ConstantIndex.{ConstantIndex}
+use Rattle.jc_view.specs.Places.{PlacedAttribute, places_of}
+use Rattle.jc_view.specs.ClassFile.{ClassFile, layout, FitsClassFile}
+
+-- the bytes are those of a class file whose constants begin at these places
+pub record Holds (bytes : List ℕ) (places : List (Option ℕ)) (c : ClassFile) : Type 0 where
+  pub fits : FitsClassFile c
+  pub layout : layout c ≡ bytes
+  pub are_places : places ≡ None ∷ places_of 10 c.constants

@@ -1,0 +1,86 @@
+-- What the entries that are read from tables are as data.
+use Rattle.std.specs.Prelude.{◌≡◌, ℕ, ◌+◌, List, length, take, drop, Option, Some, None}
+use Rattle.jc_base.specs.Cursor.{Reading}
+use Rattle.jc_base.specs.Endian.{big_number}
+use Rattle.jc_view.specs.declared.attribute_kind.Holder.{Holder}
+use Rattle.jc_view.specs.declared.attributes.AttributeEntry.{AttributeEntry}
+use Rattle.jc_view.specs.declared.members.MemberEntry.{MemberEntry}
+use Rattle.jc_view.specs.declared.code.CodeBody.{CodeBody}
+use Rattle.jc_view.specs.declared.code.Instructions.{Instructions}
+use Rattle.jc_view.specs.declared.code.ExceptionHandler.{ExceptionHandler}
+use Rattle.jc_view.specs.declared.table.Table.{Table}
+use Rattle.jc_view.specs.ClassFile.{Attribute, Member}
+use Rattle.jc_view.specs.Places.{PlacedAttribute, PlacedMember, attributes_from, members_from}
+use Rattle.jc_view.specs.Reading.{after, after_attribute, attribute_value, after_member, member_value}
+use Rattle.jc_view.specs.Attributes.{Code, Handler, code_front}
+use Rattle.jc_view.specs.AttributeReading.{code_length, handler_value}
+use Rattle.jc_view.specs.Moves.{KeepsEnd}
+use Rattle.jc_view.specs.inside.Tables.{entries, IsWhole}
+
+-- ---- attributes
+
+abbrev pub attribute_of : AttributeEntry → Attribute
+attribute_of a = record { name = a.name; bytes = a.body.rest }
+
+abbrev pub placed_attribute : Holder → AttributeEntry → PlacedAttribute
+placed_attribute holder a = record { holder = holder; place = a.place; attribute = attribute_of a }
+
+-- the attributes of a table that are left
+abbrev pub placed_attributes : Holder → Table → List PlacedAttribute
+placed_attributes holder t = attributes_from holder t.cursor.place (entries after_attribute attribute_value t)
+
+-- Some: the attribute at the old place, and the cursor stands behind it; None: the attribute is cut
+abbrev pub LendsAttribute : Reading → Option AttributeEntry → Reading → Type 0
+LendsAttribute old None new = after_attribute old.rest ≡ None
+LendsAttribute old (Some a) new =
+    (after_attribute old.rest ≡ Some new.rest) × KeepsEnd old new × (attribute_of a ≡ attribute_value old.rest) × (a.place ≡ old.place) × (a.body.place ≡ old.place + 6)
+
+-- ---- members
+
+abbrev pub member_of : MemberEntry → Member
+member_of m = record { flags = m.flags; name = m.name; descriptor = m.descriptor; attributes = entries after_attribute attribute_value m.attributes }
+
+abbrev pub placed_member : Holder → MemberEntry → PlacedMember
+placed_member holder m = record { holder = holder; place = m.place; member = member_of m }
+
+-- its attributes are whole, and stand behind its flags, its name, its descriptor and their count
+pub record IsMemberEntry (m : MemberEntry) : Type 0 where
+  pub whole : IsWhole after_attribute m.attributes
+  pub place : m.attributes.cursor.place ≡ m.place + 8
+
+-- the members of a table that are left
+abbrev pub placed_members : Holder → Table → List PlacedMember
+placed_members holder t = members_from holder t.cursor.place (entries after_member member_value t)
+
+-- Some: the member at the old place, and the cursor stands behind it; None: the member is cut
+abbrev pub LendsMember : Reading → Option MemberEntry → Reading → Type 0
+LendsMember old None new = after_member old.rest ≡ None
+LendsMember old (Some m) new =
+    (after_member old.rest ≡ Some new.rest) × KeepsEnd old new × (member_of m ≡ member_value old.rest) × (m.place ≡ old.place) × IsMemberEntry m
+
+-- ---- code
+
+abbrev pub handler_of : ExceptionHandler → Handler
+handler_of h = record { start_pc = h.start_pc; end_pc = h.end_pc; handler_pc = h.handler_pc; catch_type = h.catch_type }
+
+-- what stands before the exception table: the greatest depths, and the instructions
+abbrev pub instructions : Instructions → ℕ × ℕ × List ℕ
+instructions i = (i.max_stack, i.max_locals, i.bytes.now)
+
+abbrev pub instructions_value : List ℕ → ℕ × ℕ × List ℕ
+instructions_value xs = (big_number 2 xs, big_number 2 (drop 2 xs), take (code_length xs) (drop 8 xs))
+
+abbrev pub body_code : CodeBody → Code
+body_code b = record {
+  max_stack = b.instructions.max_stack;
+  max_locals = b.instructions.max_locals;
+  code = b.instructions.bytes.now;
+  handlers = entries (after 8) handler_value b.handlers;
+  attributes = entries after_attribute attribute_value b.attributes;
+}
+
+-- its tables are whole, and its attributes stand behind what comes before them and their count, where it begins at this place
+pub record IsCodeBody (place : ℕ) (b : CodeBody) : Type 0 where
+  pub handlers : IsWhole (after 8) b.handlers
+  pub attributes : IsWhole after_attribute b.attributes
+  pub attributes_place : b.attributes.cursor.place ≡ place + length (code_front (body_code b)) + 2

@@ -1,0 +1,50 @@
+-- Tables that a cursor goes over, and where those of a class file stand.
+use Rattle.std.specs.Prelude.{◌≡◌, ℕ, ◌+◌, List, length, drop, Option, Some, None, Ok, IsSome}
+use Rattle.jc_base.specs.Cursor.{Reading, past}
+use Rattle.jc_base.specs.Endian.{big_number}
+use Rattle.jc_view.specs.declared.table.Table.{Table}
+use Rattle.jc_view.specs.declared.layout_reader.Parts.{Parts}
+use Rattle.jc_view.specs.declared.layout_reader.Tables.{Tables}
+use Rattle.jc_view.specs.declared.version.Version.{Version}
+use Rattle.jc_view.specs.Reading.{after_each, each_value, fields_at, methods_at, attributes_at, head_at, pool_at}
+use Rattle.jc_view.specs.Moves.{KeepsEnd}
+
+-- the entries that are left
+abbrev pub entries : {X : Type 0} → (List ℕ → Option (List ℕ)) → (List ℕ → X) → Table → List X
+entries after_one value t = each_value after_one value t.left t.cursor.rest
+
+-- they are all there
+abbrev pub IsWhole : (List ℕ → Option (List ℕ)) → Table → Type 0
+IsWhole after_one t = IsSome (after_each after_one t.left t.cursor.rest)
+
+-- Some: the table that begins at the old place, and the cursor stands behind it; None: the table is cut
+abbrev pub LendsTable : (List ℕ → Option (List ℕ)) → Reading → Option Table → Reading → Type 0
+LendsTable after_it old None new = after_it old.rest ≡ None
+LendsTable after_it old (Some t) new = (after_it old.rest ≡ Some new.rest) × KeepsEnd old new × (t.left ≡ big_number 2 old.rest) × (t.cursor ≡ past 2 old)
+
+-- the table begins with its count at the front of these bytes, in a file of this length
+pub record StandsAt (xs : List ℕ) (end : ℕ) (t : Table) : Type 0 where
+  pub count : t.left ≡ big_number 2 xs
+  pub rest : t.cursor.rest ≡ drop 2 xs
+  pub place : t.cursor.place + length xs ≡ end + 2
+
+-- the version that stands behind the magic number
+pub record HasVersion (old : Reading) (v : Version) : Type 0 where
+  pub major : v.major ≡ big_number 2 (drop 6 old.rest)
+  pub minor : v.minor ≡ big_number 2 (drop 4 old.rest)
+
+-- where the tables stand behind the constants
+pub record HasTables (tail : Reading) (t : Tables) : Type 0 where
+  pub interfaces : StandsAt (drop 6 tail.rest) (tail.place + length tail.rest) t.interfaces
+  pub fields : StandsAt (fields_at tail.rest) (tail.place + length tail.rest) t.fields
+  pub methods : StandsAt (methods_at tail.rest) (tail.place + length tail.rest) t.methods
+  pub attributes : StandsAt (attributes_at tail.rest) (tail.place + length tail.rest) t.attributes
+
+-- the tables stand behind the constants that begin where a class file is read
+pub record TablesAtTail (old : Reading) (p : Parts) : Type 0 where
+  pub head : ℕ × Reading
+  pub head_is : head_at old ≡ Ok head
+  pub pool : List (Option ℕ) × Reading
+  pub pool_is : pool_at head.0 head.1 ≡ Ok pool
+  pub tail : p.tail ≡ pool.1.place
+  pub tables : HasTables pool.1 p.tables
