@@ -36,10 +36,6 @@ bridge = 0x0040
 abbrev pub transient : ℕ
 transient = 0x0080
 
--- of a method
-abbrev pub varargs : ℕ
-varargs = 0x0080
-
 abbrev pub native : ℕ
 native = 0x0100
 
@@ -51,9 +47,6 @@ abstract = 0x0400
 
 abbrev pub strict : ℕ
 strict = 0x0800
-
-abbrev pub synthetic : ℕ
-synthetic = 0x1000
 
 abbrev pub annotation : ℕ
 annotation = 0x2000

@@ -16,7 +16,7 @@ use Rattle.jc_view.specs.declared.attribute_kind.AttributeKind.TheVariants as at
 use Rattle.jc_view.specs.ConstantPool.{Constant, Utf8, Class, String, Fieldref, Methodref, InterfaceMethodref, NameAndType, MethodHandle, MethodType, InvokeDynamic, index_value}
 use Rattle.jc_view.specs.ClassFile.{Attribute, Member, ClassFile, class_text_at, constant_at}
 use Rattle.jc_file.specs.AccessFlags.{public, private, protected, static, final, super, synchronized, volatile, bridge, transient, native, interface, abstract, strict, enum, annotation, has, has_two_accesses}
-use Rattle.jc_view.specs.Lookups.{utf8_at, is_kind, is_entry, name_of, descriptor_of, fails, lacks, passes}
+use Rattle.jc_view.specs.Lookups.{utf8_at, is_kind, is_entry, name_of, descriptor_at, name_at, fails, lacks, passes}
 use Rattle.jc_view.specs.Places.{PlacedAttribute}
 use Rattle.jc_view.specs.Attributes.{is_recognised, Bootstrap, bootstrap_attributes, codes_of, exceptions_of, first_index, second_index, values_of}
 use Rattle.jc_view.specs.AttributeReading.{code_in, exceptions_in, bootstraps_in}
@@ -76,10 +76,10 @@ breaks_f5 c (NameAndType name descriptor) = passes (λ text. fails_beside text (
 breaks_f5 c constant = false
 
 abbrev pub breaks_f6 : ClassFile → Constant → Bool
-breaks_f6 c (Fieldref class entry) = fails is_field_text (descriptor_of c (Fieldref class entry))
-breaks_f6 c (Methodref class entry) = fails is_method_text (descriptor_of c (Methodref class entry))
-breaks_f6 c (InterfaceMethodref class entry) = fails is_method_text (descriptor_of c (InterfaceMethodref class entry))
-breaks_f6 c (InvokeDynamic bootstrap entry) = fails is_method_text (descriptor_of c (InvokeDynamic bootstrap entry))
+breaks_f6 c (Fieldref class entry) = fails is_field_text (descriptor_at c entry)
+breaks_f6 c (Methodref class entry) = fails is_method_text (descriptor_at c entry)
+breaks_f6 c (InterfaceMethodref class entry) = fails is_method_text (descriptor_at c entry)
+breaks_f6 c (InvokeDynamic bootstrap entry) = fails is_method_text (descriptor_at c entry)
 breaks_f6 c constant = false
 
 -- a method's name that begins with `<`, and isn't that of a constructor without a result
@@ -87,8 +87,7 @@ abbrev pub is_bad_special : Option (List ℕ) → List ℕ → Bool
 is_bad_special descriptor name = begins_with 60 name && (not (is_init name) || passes returns_value descriptor)
 
 abbrev pub breaks_f7 : ClassFile → Constant → Bool
-breaks_f7 c (Methodref class entry) =
-    passes (is_bad_special (descriptor_of c (Methodref class entry))) (name_of c (Methodref class entry))
+breaks_f7 c (Methodref class entry) = passes (is_bad_special (descriptor_at c entry)) (name_at c entry)
 breaks_f7 c constant = false
 
 -- a reference by a handle of this kind, in a file of this version, may be such an entry (JVMS 4.4.8)
@@ -244,11 +243,14 @@ abbrev pub has_more_than_abstract : ℕ → Bool
 has_more_than_abstract flags =
     has flags private || has flags static || has flags final || has flags synchronized || has flags native || has flags strict
 
+abbrev pub same_answer : Bool → Bool → Bool
+same_answer a b = if a then b else not b
+
 -- an interface's, by the file's version
 abbrev pub are_bad_interface_flags : ℕ → ℕ → Bool
 are_bad_interface_flags major flags =
     has flags protected || has flags final || has flags synchronized || has flags native
-    || (if nat_lt major 52 then not (has flags public && has flags abstract) else not (not (has flags public && has flags private) && (has flags public || has flags private)))
+    || (if nat_lt major 52 then not (has flags public && has flags abstract) else same_answer (has flags public) (has flags private))
 
 -- a constructor has an access flag, VARARGS, STRICT and SYNTHETIC alone
 abbrev pub has_more_than_constructor : ℕ → Bool

@@ -1,14 +1,9 @@
 pub mod AccessFlags
 pub mod FormatRules
 pub mod Faults
-pub mod RuleTests
-pub mod Recognised
-pub mod AttributeFaults
-pub mod TextNumbers
-pub mod TextKinds
 pub mod FaultOrder
-pub mod Repeated
 pub mod Violations
+pub mod inside
 pub use Rattle.jc_base.specs.Bytes
 pub use Rattle.jc_base.specs.Cursor
 pub use Rattle.jc_base.specs.DescriptorTests

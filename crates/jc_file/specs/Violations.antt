@@ -1,6 +1,7 @@
 -- What it means that a rule of the format is broken at a place, in the standard's terms: `faults_are_violations` says that the
 -- tests of FormatRules decide it. A rule over an entry or a text that is missing is not broken, unless it asks for it.
-use Rattle.std.specs.Prelude.{◌≡◌, ◌≢◌, ◌⊎◌, ℕ, ◌<◌, ◌≤◌, List, [], ◌∷◌, length, sum_by, Some, None, slice_get, All, Contains, IsTrue, codes}
+use Rattle.std.specs.Prelude.{◌++◌, ◌≡◌, ◌≢◌, ◌⊎◌, ℕ, ◌<◌, ◌≤◌, List, [], ◌∷◌, length, sum_by, Some, None, slice_get, All, Contains, IsTrue, codes}
+use Rattle.std.specs.List.{flat_map}
 use Rattle.jc_base.specs.Endian.{big_number}
 use Rattle.jc_base.specs.ModifiedUtf8.{IsWellSpelled}
 use Rattle.jc_base.specs.Names.{IsUnqualifiedName, IsMethodName, IsClassName}
@@ -17,9 +18,8 @@ use Rattle.jc_view.specs.ConstantPool.{Constant, Utf8, Class, String, Fieldref, 
 use Rattle.jc_view.specs.ClassFile.{Attribute, Member, ClassFile, constant_at}
 use Rattle.jc_file.specs.AccessFlags.{public, private, protected, static, final, super, synchronized, volatile, bridge, transient, native, interface, abstract, strict, enum, annotation, has}
 use Rattle.jc_view.specs.Lookups.{signature_entry}
-use Rattle.jc_view.specs.Places.{PlacedAttribute}
-use Rattle.jc_view.specs.Attributes.{attribute_name, belongs_to, Code, IsCodeOf, AreExceptionsOf, Bootstrap, AreBootstrapsOf, bootstrap_attributes, values_of, codes_of, exceptions_of, first_index, second_index}
-use Rattle.jc_view.specs.AttributeReading.{all_attributes}
+use Rattle.jc_view.specs.Places.{PlacedAttribute, fields_in, methods_in, attributes_in, member_attributes}
+use Rattle.jc_view.specs.Attributes.{code_attributes, attribute_name, belongs_to, Code, IsCodeOf, AreExceptionsOf, Bootstrap, AreBootstrapsOf, bootstrap_attributes, values_of, codes_of, exceptions_of, first_index, second_index}
 
 -- ---- what stands in the constants
 
@@ -39,17 +39,17 @@ HasText c Is index = (text : List ℕ) × IsEntry c index (Utf8 text) × Is text
 abbrev pub HasClassText : ClassFile → (List ℕ → Type 0) → ConstantIndex → Type 0
 HasClassText c Is index = (name : ConstantIndex) × IsEntry c index (Class name) × HasText c Is name
 
--- the indexes of the name and of the descriptor that the NameAndType of a reference gives
-abbrev pub Refers : ClassFile → Constant → ConstantIndex → ConstantIndex → Type 0
-Refers c reference name descriptor = (entry : ConstantIndex) × (signature_entry reference ≡ Some entry) × IsEntry c entry (NameAndType name descriptor)
+-- the name that the NameAndType at the index gives is so
+abbrev pub GivesName : ClassFile → (List ℕ → Type 0) → ConstantIndex → Type 0
+GivesName c Is entry = (name : ConstantIndex) × (descriptor : ConstantIndex) × IsEntry c entry (NameAndType name descriptor) × HasText c Is name
 
--- the name that a reference gives is so
-abbrev pub HasName : ClassFile → (List ℕ → Type 0) → Constant → Type 0
-HasName c Is reference = (name : ConstantIndex) × (descriptor : ConstantIndex) × Refers c reference name descriptor × HasText c Is name
+-- the descriptor that it gives is so
+abbrev pub GivesDescriptor : ClassFile → (List ℕ → Type 0) → ConstantIndex → Type 0
+GivesDescriptor c Is entry = (name : ConstantIndex) × (descriptor : ConstantIndex) × IsEntry c entry (NameAndType name descriptor) × HasText c Is descriptor
 
--- the descriptor that a reference gives is so
-abbrev pub HasDescriptor : ClassFile → (List ℕ → Type 0) → Constant → Type 0
-HasDescriptor c Is reference = (name : ConstantIndex) × (descriptor : ConstantIndex) × Refers c reference name descriptor × HasText c Is descriptor
+-- the name of the member to which a reference refers is so
+abbrev pub RefersTo : ClassFile → (List ℕ → Type 0) → Constant → Type 0
+RefersTo c Is reference = (entry : ConstantIndex) × (signature_entry reference ≡ Some entry) × GivesName c Is entry
 
 -- ---- texts
 
@@ -116,10 +116,10 @@ BreaksF5 c constant = ⊥
 
 -- a reference has a descriptor of the other sort (JVMS 4.4.2, 4.4.10)
 abbrev pub BreaksF6 : ClassFile → Constant → Type 0
-BreaksF6 c (Fieldref class entry) = HasDescriptor c (λ text. ¬ IsFieldDescriptor text) (Fieldref class entry)
-BreaksF6 c (Methodref class entry) = HasDescriptor c (λ text. ¬ IsMethodDescriptor text) (Methodref class entry)
-BreaksF6 c (InterfaceMethodref class entry) = HasDescriptor c (λ text. ¬ IsMethodDescriptor text) (InterfaceMethodref class entry)
-BreaksF6 c (InvokeDynamic bootstrap entry) = HasDescriptor c (λ text. ¬ IsMethodDescriptor text) (InvokeDynamic bootstrap entry)
+BreaksF6 c (Fieldref class entry) = GivesDescriptor c (λ text. ¬ IsFieldDescriptor text) entry
+BreaksF6 c (Methodref class entry) = GivesDescriptor c (λ text. ¬ IsMethodDescriptor text) entry
+BreaksF6 c (InterfaceMethodref class entry) = GivesDescriptor c (λ text. ¬ IsMethodDescriptor text) entry
+BreaksF6 c (InvokeDynamic bootstrap entry) = GivesDescriptor c (λ text. ¬ IsMethodDescriptor text) entry
 BreaksF6 c constant = ⊥
 
 -- it begins with `<`
@@ -128,8 +128,7 @@ IsBracketed name = (rest : List ℕ) × (name ≡ 60 ∷ rest)
 
 -- a method's name begins with `<`, and is not `<init>`, or returns a value (JVMS 4.4.2)
 abbrev pub BreaksF7 : ClassFile → Constant → Type 0
-BreaksF7 c (Methodref class entry) =
-    HasName c (λ name. IsBracketed name × (¬ IsInit name ⊎ HasDescriptor c ReturnsValue (Methodref class entry))) (Methodref class entry)
+BreaksF7 c (Methodref class entry) = GivesName c (λ name. IsBracketed name × (¬ IsInit name ⊎ GivesDescriptor c ReturnsValue entry)) entry
 BreaksF7 c constant = ⊥
 
 -- a handle of this kind, in a file of this version, may refer to such an entry (JVMS 4.4.8)
@@ -154,7 +153,7 @@ IsNameAmiss kind name =
 -- a handle of its kind may not refer to a method of this name (JVMS 4.4.8)
 abbrev pub BreaksF9 : ClassFile → Constant → Type 0
 BreaksF9 c (MethodHandle kind reference) =
-    (entry : Constant) × IsEntry c reference entry × (FitsHandle c.major kind entry × HasName c (IsNameAmiss kind) entry)
+    (entry : Constant) × IsEntry c reference entry × (FitsHandle c.major kind entry × RefersTo c (IsNameAmiss kind) entry)
 BreaksF9 c constant = ⊥
 
 -- a method type's text is no method descriptor (JVMS 4.4.9)
@@ -388,9 +387,21 @@ AtConstant Breaks c k = (entry : Constant) × IsEntry c (record { 0 = k }) entry
 abbrev pub AtNumber : {X : Type 0} → (X → Type 0) → List X → ℕ → Type 0
 AtNumber {X} Breaks xs n = (x : X) × (slice_get xs n ≡ Some x) × Breaks x
 
+-- the attributes of the fields, of the methods and of the class
+abbrev pub outer_attributes : ClassFile → List PlacedAttribute
+outer_attributes c = flat_map member_attributes (fields_in c) ++ flat_map member_attributes (methods_in c) ++ attributes_in c
+
+-- the attribute stands inside the Code that another is
+abbrev pub IsInside : ClassFile → PlacedAttribute → PlacedAttribute → Type 0
+IsInside c outer a = IsRecognised c attributes.Code outer.holder outer.attribute × (k : Code) × IsCodeOf outer.attribute.bytes k × Contains (code_attributes outer k) a
+
+-- an attribute of the class file: one of those, or one inside a Code
+abbrev pub IsAttributeOf : ClassFile → PlacedAttribute → Type 0
+IsAttributeOf c a = Contains (outer_attributes c) a ⊎ (outer : PlacedAttribute) × Contains (outer_attributes c) outer × IsInside c outer a
+
 -- the attribute that begins at this place breaks a rule
 abbrev pub AtAttribute : (PlacedAttribute → Type 0) → ClassFile → ℕ → Type 0
-AtAttribute Breaks c place = (a : PlacedAttribute) × Contains (all_attributes c) a × (a.place ≡ place) × Breaks a
+AtAttribute Breaks c place = (a : PlacedAttribute) × IsAttributeOf c a × (a.place ≡ place) × Breaks a
 
 -- ---- the rules
 

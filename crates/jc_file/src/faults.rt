@@ -1,7 +1,12 @@
 //! The format faults of a class file (JVMS 4.1 to 4.8).
 
-ghost use Rattle.std.specs.Prelude.{◌≡◌, ◌++◌, OnOk, IfOk};
+ghost use Rattle.std.specs.Prelude.{◌↔◌, ◌≡◌, ◌++◌, OnOk, IfOk};
+ghost use Rattle.std.specs.List.{Contains};
+ghost use Rattle.std.specs.List.Sorted.{IsStrictlySortedBy};
+ghost use Rattle.jc_file.specs.declared.fault.Fault.{Fault};
+ghost use Rattle.jc_file.specs.FaultOrder.{fault_cmp};
 ghost use Rattle.jc_file.specs.Faults.{faults, faults_against};
+ghost use Rattle.jc_file.specs.Violations.{Violates};
 
 mod attributes;
 mod class;
@@ -12,13 +17,14 @@ mod repeated;
 mod text_numbers;
 
 use self::attributes::add_attribute_faults;
-use crate::rules::bootstraps::breaks_f27;
 use self::class::{add_class_fault, add_interface_faults};
-use crate::rules::class::{breaks_f12, breaks_f13};
 use self::constants::{add_constant_faults, add_untold_faults};
-use crate::fault::{Fault, FormatRule};
 use self::members::{add_field_faults, add_method_faults};
 use self::repeated::{add_repeated_fields, add_repeated_methods};
+use crate::fault::{Fault, FormatRule};
+use crate::fault_laws::{faults_are_exact, faults_are_violations};
+use crate::rules::bootstraps::breaks_f27;
+use crate::rules::class::{breaks_f12, breaks_f13};
 use crate::text_table::TextTable;
 use jc_base::NoMemory;
 use jc_view::ClassView;
@@ -28,8 +34,13 @@ use std::alloc::Global;
 ///
 /// Answers `NoMemory` only where memory was refused.
 pub fn format_faults(alloc: Global, class: &ClassView) -> Result<Vec<Fault>, NoMemory>
-    ensures { IfOk result (λ found. found.items ≡ faults class.now) }
+    ensures listed { IfOk result (λ found. found.items ≡ faults class.now) }
+    ensures violated { IfOk result (λ found. (fault : Fault) → Contains found.items fault ↔ Violates fault.rule class.now fault.place) }
+    ensures rising { IfOk result (λ found. IsStrictlySortedBy fault_cmp found.items) }
 {
+    let _file = class.bytes();
+    faults_are_exact();
+    faults_are_violations();
     let texts = TextTable::new(alloc, class)?;
     find_faults(alloc, &texts)
 }
@@ -46,7 +57,7 @@ fn find_faults(alloc: Global, texts: &TextTable) -> Result<Vec<Fault>, NoMemory>
 }
 
 /// Adds the faults against a rule.
-#[tactic(auto, unfolding(crate::specs::RuleTests::constant_breaks, crate::specs::RuleTests::field_breaks, crate::specs::RuleTests::method_breaks, crate::specs::RuleTests::attribute_breaks))]
+#[tactic(auto, unfolding(crate::specs::inside::RuleTests::constant_breaks, crate::specs::inside::RuleTests::field_breaks, crate::specs::inside::RuleTests::method_breaks, crate::specs::inside::RuleTests::attribute_breaks))]
 fn add_faults(
     alloc: Global,
     faults: &mut Vec<Fault>,

@@ -1,16 +1,17 @@
 //! The texts of a class file, each looked at once. Any number of constants and members may name the
 //! same long text.
 
-ghost use Rattle.std.specs.Prelude.{◌≡◌, IfOk, slice_get, option_and_then};
+ghost use Rattle.std.specs.Prelude.{◌≡◌, IfOk, is_some, slice_get, sum_by, option_and_then};
+ghost use Rattle.std.specs.Option.{option_map};
+ghost use Rattle.jc_base.specs.Descriptors.{slots_of};
 ghost use Rattle.jc_base.specs.TextTests.{is_class_text, is_method_name_text, is_unqualified_text};
-ghost use Rattle.jc_base.specs.DescriptorTests.{is_field_text, is_method_text};
+ghost use Rattle.jc_base.specs.DescriptorTests.{is_field_text, is_method_text, method_type_of};
 ghost use Rattle.jc_view.specs.ClassFile.{class_text_at};
 ghost use Rattle.jc_view.specs.Lookups.{utf8_at};
 ghost use Rattle.jc_file.specs.FormatRules.{is_array_text, returns_value};
-ghost use Rattle.jc_file.specs.TextKinds.{all_kinds, kinds_at, method_slots_of, text_kinds};
+ghost use Rattle.jc_file.specs.inside.TextKinds.{all_kinds, kinds_at, method_slots_of, text_kinds};
 
-use crate::texts;
-use jc_base::NoMemory;
+use jc_base::{FieldDesc, MethodDesc, NoMemory, is_class_name, is_method_name, is_unqualified};
 use jc_view::{ClassView, Constant, ConstantIndex};
 use std::alloc::Global;
 use std::marker::Model;
@@ -40,7 +41,7 @@ impl<'v, 'a> Model for TextTable<'v, 'a> {
 
     ghost Value = { ClassFile };
 
-    ghost use Rattle.jc_file.specs.TextKinds.{AreKept};
+    ghost use Rattle.jc_file.specs.inside.TextKinds.{AreKept};
 
     ghost view = { λ t. t.class.now };
 
@@ -59,7 +60,7 @@ impl<'a> Model for Text<'a> {
 
     ghost Value = { List ℕ };
 
-    ghost use Rattle.jc_file.specs.TextKinds.{IsKept};
+    ghost use Rattle.jc_file.specs.inside.TextKinds.{IsKept};
 
     ghost view = { λ t. t.bytes.now };
 
@@ -187,14 +188,25 @@ fn kinds_at(class: &ClassView, index: u16) -> Option<TextKinds>
 fn kinds_of(text: &[u8]) -> TextKinds
     ensures { result ≡ text_kinds text.now }
 {
+    let dims = FieldDesc::read(text).map(|field| field.dims());
+    let method = method_kinds(text);
     TextKinds {
-        is_class: texts::is_class_text(text),
-        is_unqualified: texts::is_unqualified_text(text),
-        is_method_name: texts::is_method_name_text(text),
-        is_field: texts::is_field_text(text),
-        is_array: texts::is_array_text(text),
-        is_method: texts::is_method_text(text),
-        method_slots: texts::method_slots_of(text),
-        returns_value: texts::returns_value(text),
+        is_class: is_class_name(text),
+        is_unqualified: is_unqualified(text),
+        is_method_name: is_method_name(text),
+        is_field: dims.is_some(),
+        is_array: dims.is_some_and(|count| count > 0),
+        is_method: method.is_some(),
+        method_slots: method.map(|(slots, _)| slots),
+        returns_value: method.is_some_and(|(_, returns)| returns),
     }
+}
+
+/// How many slots the parameters of a method descriptor take, and whether it has a result; `None`
+/// where the text is none.
+fn method_kinds(text: &[u8]) -> Option<(u8, bool)>
+    ensures { result ≡ option_map (λ type. (sum_by slots_of type.params, is_some type.result)) (method_type_of text.now) }
+{
+    let method = MethodDesc::read(text)?;
+    Some((method.slots(), method.result().is_some()))
 }

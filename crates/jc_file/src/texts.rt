@@ -4,7 +4,7 @@ ghost use Rattle.std.specs.Prelude.{◌≡◌, is_some};
 ghost use Rattle.jc_base.specs.TextTests.{units_of, is_class_text, is_method_name_text, is_unqualified_text};
 ghost use Rattle.jc_base.specs.DescriptorTests.{begins_with, is_field_text, is_method_text};
 ghost use Rattle.jc_file.specs.FormatRules.{is_array_text, is_init, is_clinit, is_object, returns_value};
-ghost use Rattle.jc_file.specs.TextKinds.{method_slots_of};
+ghost use Rattle.jc_file.specs.inside.TextKinds.{method_slots_of};
 
 use jc_base::{FieldDesc, MethodDesc, check_units, is_class_name, is_method_name, is_unqualified};
 
@@ -20,62 +20,6 @@ pub(crate) fn is_class_text(text: &[u8]) -> bool
     ensures { result ≡ is_class_text text.now }
 {
     is_class_name(text)
-}
-
-/// Whether the text is an unqualified name (JVMS 4.2.2).
-pub(crate) fn is_unqualified_text(text: &[u8]) -> bool
-    ensures { result ≡ is_unqualified_text text.now }
-{
-    is_unqualified(text)
-}
-
-/// Whether the text is a method's name (JVMS 4.2.2).
-pub(crate) fn is_method_name_text(text: &[u8]) -> bool
-    ensures { result ≡ is_method_name_text text.now }
-{
-    is_method_name(text)
-}
-
-/// Whether the text is a field descriptor (JVMS 4.3.2).
-pub(crate) fn is_field_text(text: &[u8]) -> bool
-    ensures { result ≡ is_field_text text.now }
-{
-    FieldDesc::read(text).is_some()
-}
-
-/// Whether the text is a field descriptor of an array.
-pub(crate) fn is_array_text(text: &[u8]) -> bool
-    ensures { result ≡ is_array_text text.now }
-{
-    match FieldDesc::read(text) {
-        Some(descriptor) => descriptor.dims() > 0,
-        None => false,
-    }
-}
-
-/// Whether the text is a method descriptor (JVMS 4.3.3).
-pub(crate) fn is_method_text(text: &[u8]) -> bool
-    ensures { result ≡ is_method_text text.now }
-{
-    MethodDesc::read(text).is_some()
-}
-
-/// Whether the text is a method descriptor whose result is not `V`.
-pub(crate) fn returns_value(text: &[u8]) -> bool
-    ensures { result ≡ returns_value text.now }
-{
-    match MethodDesc::read(text) {
-        Some(descriptor) => descriptor.result().is_some(),
-        None => false,
-    }
-}
-
-/// How many slots the parameters of a method descriptor take, without the receiver of an instance
-/// method; `None` where the text is none.
-pub(crate) fn method_slots_of(text: &[u8]) -> Option<u8>
-    ensures { result ≡ method_slots_of text.now }
-{
-    Some(MethodDesc::read(text)?.slots())
 }
 
 /// Whether the text begins with `byte`.

@@ -110,11 +110,14 @@ constant_from_first (constant ∷ constants) i =
 abbrev pub constant_at : ClassFile → ConstantIndex → Option Constant
 constant_at c index = if index.0 == 0 then None else constant_from_first c.constants (index.0 - 1)
 
+infixl 10 ◌>>=◌
+abbrev ◌>>=◌ : {A B : Type 0} → Option A → (A → Option B) → Option B
+o >>= f = option_and_then f o
+
 -- the text of the Class constant of an index
 abbrev pub class_text_at : ClassFile → ConstantIndex → Option (List ℕ)
-class_text_at c index =
-    option_and_then (λ class.
-    option_and_then (λ entry.
-    option_and_then utf8_text (constant_at c entry))
-    (class_entry class))
-    (constant_at c index)
+class_text_at c index = do
+  class ← constant_at c index
+  entry ← class_entry class
+  text ← constant_at c entry
+  utf8_text text

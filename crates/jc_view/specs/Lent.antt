@@ -2,12 +2,13 @@
 use Rattle.jc_view.specs.declared.constant_pool.Constant.{Constant}
 use Rattle.jc_view.specs.declared.constant_pool.Constant.TheVariants as lent
 use Rattle.jc_view.specs.ConstantPool as pool
+use Rattle.jc_view.specs.declared.code.ExceptionHandler.{ExceptionHandler}
 use Rattle.std.specs.Prelude.{◌≡◌, ℕ, List, [], ◌∷◌, map, Option}
 use Rattle.std.specs.Option.{MatchOption}
 use Rattle.jc_view.specs.declared.constant_pool.ConstantIndex.{ConstantIndex}
 use Rattle.jc_view.specs.ClassFile.{ClassFile, class_text_at}
 use Rattle.jc_view.specs.Places.{PlacedAttribute, PlacedMember}
-use Rattle.jc_view.specs.Attributes.{Code}
+use Rattle.jc_view.specs.Attributes.{Code, Handler}
 
 -- ---- what an iterator has still to give
 
@@ -74,3 +75,8 @@ constant_of (lent.NameAndType name descriptor) = pool.NameAndType name descripto
 constant_of (lent.MethodHandle kind reference) = pool.MethodHandle kind reference
 constant_of (lent.MethodType descriptor) = pool.MethodType descriptor
 constant_of (lent.InvokeDynamic bootstrap name_and_type) = pool.InvokeDynamic bootstrap name_and_type
+
+-- ---- an exception handler, as data
+
+abbrev pub handler_of : ExceptionHandler → Handler
+handler_of h = record { start_pc = h.start_pc; end_pc = h.end_pc; handler_pc = h.handler_pc; catch_type = h.catch_type }

@@ -4,7 +4,7 @@ use Rattle.jc_base.specs.TextTests.{is_class_text}
 use Rattle.jc_view.specs.declared.parse_error.ParseError.{ParseError}
 use Rattle.jc_view.specs.declared.parse_error.ParseError.TheVariants as errors
 use Rattle.jc_view.specs.ConstantPool.{class_entry, utf8_text}
-use Rattle.jc_view.specs.ClassFile.{ClassFile, constant_at}
+use Rattle.jc_view.specs.ClassFile.{ClassFile, class_text_at}
 use Rattle.jc_view.specs.Reading.{◌>>=◌, or_refusal, parts_at, class_value}
 use Rattle.jc_view.specs.Refusal.{IsLayoutOf, IsNamed}
 
@@ -21,14 +21,7 @@ class_text name = if is_class_text name then Some name else None
 
 -- the text of the Class constant that is this_class, where it is a class name
 unfoldable pub name_in : ClassFile → Option (List ℕ)
-name_in c =
-    option_and_then (λ class.
-    option_and_then (λ entry.
-    option_and_then (λ text.
-    option_and_then class_text (utf8_text text))
-    (constant_at c entry))
-    (class_entry class))
-    (constant_at c c.this_class)
+name_in c = option_and_then class_text (class_text_at c c.this_class)
 
 -- the class that bytes name, or the first refusal that applies: `outcomes_are_exact` says so
 unfoldable pub class_named : List ℕ → Result (List ℕ) ParseError

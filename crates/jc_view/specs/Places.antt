@@ -84,3 +84,7 @@ pub record IsLent (c : ClassFile) (index : ConstantIndex) (text : List ℕ) : Ty
 -- the bytes of an attribute are the part of these bytes behind its place, its name and its length
 abbrev pub HasBytesAt : List ℕ → PlacedAttribute → Type 0
 HasBytesAt bytes a = take (length a.attribute.bytes) (drop (a.place + 6) bytes) ≡ a.attribute.bytes
+
+-- the instructions of a Code are the part behind the name, the length, max_stack, max_locals and their own length of the attribute at the place
+abbrev pub HasInstructionsAt : List ℕ → ℕ → List ℕ → Type 0
+HasInstructionsAt bytes place code = take (length code) (drop (place + 14) bytes) ≡ code

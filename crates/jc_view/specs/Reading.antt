@@ -128,17 +128,6 @@ body_value kinds.InvokeDynamic xs = pool.InvokeDynamic (big_number 2 xs) (index_
 abbrev pub constant_value : List ℕ → Constant
 constant_value xs = option_map_or (λ kind. body_value kind (drop 1 xs)) (kind_of_tag (big_number 1 xs)) (pool.Utf8 [])
 
--- the constant at a place, if it is whole
-unfoldable pub constant_read : ℕ → List ℕ → Option Constant
-constant_read place bytes =
-    option_and_then (λ xs.
-    option_and_then (λ body.
-    option_and_then (λ kind.
-    option_and_then (λ rest. Some (body_value kind body)) (after_body kind body))
-    (kind_of_tag (big_number 1 xs)))
-    (after 1 xs))
-    (after place bytes)
-
 -- a reading that goes on where these bytes are left
 abbrev pub moved_to : Reading → List ℕ → Reading
 moved_to reading rest = record { place = reading.place + length reading.rest - length rest; rest = rest }
@@ -236,28 +225,28 @@ head_at reading = do
   Ok (big_number 2 behind_major, moved_to reading behind_count)
 
 -- the numbers behind the constants
-pub record Numbers : Type 0 where
+pub record NumbersRead : Type 0 where
   pub flags : ℕ
   pub this_class : ConstantIndex
   pub super_class : ConstantIndex
 
-abbrev pub numbers_value : List ℕ → Numbers
+abbrev pub numbers_value : List ℕ → NumbersRead
 numbers_value xs = record { flags = big_number 2 xs; this_class = index_value (drop 2 xs); super_class = index_value (drop 4 xs) }
 
 -- what stands behind the constants, where nothing follows it
-unfoldable pub last_at : Reading → Result (Numbers × Reading) ParseError
+unfoldable pub last_at : Reading → Result (NumbersRead × Reading) ParseError
 last_at reading = do
   rest ← or_refusal (after_tail reading.rest) errors.Short
   at_end ← unless (not (length rest == 0)) (errors.Trailing (moved_to reading rest).place)
   Ok (numbers_value reading.rest, moved_to reading rest)
 
 -- by index, where each constant begins, the place behind them, and the numbers there
-pub record Parts : Type 0 where
+pub record PartsRead : Type 0 where
   pub places : List (Option ℕ)
   pub tail : ℕ
-  pub numbers : Numbers
+  pub numbers : NumbersRead
 
-unfoldable pub parts_at : Reading → Result (Parts × Reading) ParseError
+unfoldable pub parts_at : Reading → Result (PartsRead × Reading) ParseError
 parts_at reading = do
   head ← head_at reading
   pool ← pool_at head.0 head.1

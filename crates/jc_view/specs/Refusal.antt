@@ -11,6 +11,13 @@ use Rattle.jc_view.specs.ConstantPool as pool
 use Rattle.jc_view.specs.ConstantPool.{tag_of, constant_bytes, Constant, FitsConstant}
 use Rattle.jc_view.specs.ClassFile.{ClassFile, magic, layout, FitsClassFile, IsAcceptedVersion, all_slots, constant_at}
 
+-- the bytes begin with the magic number, an accepted version and a count that is not 0
+pub record HasHead (b : List ℕ) : Type 0 where
+  pub long : 10 ≤ length b
+  pub is_magic : big_number 4 b ≡ magic
+  pub version : IsAcceptedVersion (big_number 2 (drop 6 b)) (big_number 2 (drop 4 b))
+  pub count : big_number 2 (drop 8 b) ≢ 0
+
 -- ---- refusals: what stands in the bytes
 
 -- from a place on stand whole constants, and then a byte where another is owed

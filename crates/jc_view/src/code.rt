@@ -8,7 +8,8 @@ ghost use Rattle.jc_view.specs.Attributes.{Code, Handler, code_front, code_attri
 ghost use Rattle.jc_view.specs.AttributeReading.{code_in, after_code, after_instructions, code_value, after_handlers, handler_value};
 ghost use Rattle.jc_view.specs.Moves.{Lends};
 ghost use Rattle.jc_view.specs.inside.Tables.{LendsTable};
-ghost use Rattle.jc_view.specs.inside.Entries.{body_code, instructions, instructions_value, IsCodeBody, handler_of};
+ghost use Rattle.jc_view.specs.inside.Entries.{body_code, instructions, instructions_value, IsCodeBody};
+ghost use Rattle.jc_view.specs.Lent.{handler_of};
 
 use crate::attribute_kind::Holder;
 use crate::attributes::{AttributeEntry, Attributes};
@@ -134,7 +135,7 @@ impl<'a> Model for Handlers<'a> {
 
 impl<'a> Iterator for Handlers<'a> {
     ghost use Rattle.std.specs.Iterator.{YieldsFirstBy, item_count};
-    ghost use Rattle.jc_view.specs.inside.Entries.{handler_of};
+    ghost use Rattle.jc_view.specs.Lent.{handler_of};
 
     type Item = ExceptionHandler;
 

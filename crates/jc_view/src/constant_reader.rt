@@ -2,7 +2,8 @@
 
 ghost use Rattle.std.specs.Prelude.{◌≡◌, ◌+◌, ◌≤◌, drop, length};
 ghost use Rattle.std.specs.Option.{option_map};
-ghost use Rattle.jc_view.specs.Reading.{after, after_body, after_sized, body_value, constant_read, sized_value};
+ghost use Rattle.jc_view.specs.Reading.{after, after_body, after_sized, body_value, sized_value};
+ghost use Rattle.jc_view.specs.inside.ConstantRead.{constant_read};
 ghost use Rattle.jc_view.specs.ConstantPool.{index_value};
 ghost use Rattle.jc_base.specs.Endian.{big_number};
 ghost use Rattle.jc_view.specs.Moves.{Lends};
@@ -34,7 +35,7 @@ pub(crate) fn entry<'a>(
 }
 
 /// The constant that begins at a place.
-#[tactic(auto, unfolding(crate::specs::Reading::constant_read))]
+#[tactic(auto, unfolding(crate::specs::inside::ConstantRead::constant_read))]
 fn constant_at(bytes: &[u8], place: usize) -> Option<Constant<'_>>
     ensures { option_map constant_of result ≡ constant_read place bytes.now }
 {

@@ -1,8 +1,9 @@
 //! Moving past the parts of a class file, to see that they are whole.
 
-ghost use Rattle.std.specs.Prelude.{◌≡◌, ◌<◌, IfOk, IfSome};
+ghost use Rattle.std.specs.Prelude.{◌≡◌, ◌<◌, IfOk, IfSome, ◌≢◌, IfErr};
+ghost use Rattle.jc_view.specs.declared.parse_error.ParseError.TheVariants.{NoMemory};
 ghost use Rattle.jc_view.specs.Reading.{after, after_attribute, after_member, after_table, after_indexes, after_tail, after_body, first_constant, entry_at, entry, pool_at, head_at, last_at, parts_at, numbers_value, is_accepted};
-ghost use Rattle.jc_view.specs.inside.Outcomes.{MovesBehind, Takes};
+ghost use Rattle.jc_view.specs.inside.Outcomes.{MovesBehind, Takes, HasGoodHead};
 ghost use Rattle.jc_view.specs.Moves.{Lends};
 ghost use Rattle.jc_view.specs.inside.PartsFound.{parts, numbers};
 ghost use Rattle.jc_view.specs.inside.Tables.{LendsTable, HasVersion, HasTables, TablesAtTail};
@@ -19,17 +20,17 @@ const MAGIC: u32 = 0xcafebabe;
 
 /// Where the constants of a class file begin, by index, the place behind them, and what stands there.
 #[derive(Drop)]
-pub(crate) struct Parts<'a> {
+pub(crate) struct ClassParts<'a> {
     pub(crate) offsets: Vec<Option<usize>>,
     pub(crate) tail: usize,
     pub(crate) version: Version,
-    pub(crate) numbers: Numbers,
-    pub(crate) tables: Tables<'a>,
+    pub(crate) numbers: ClassNumbers,
+    pub(crate) tables: ClassTables<'a>,
 }
 
 /// The numbers behind the constants.
 #[derive(Clone, Copy)]
-pub(crate) struct Numbers {
+pub(crate) struct ClassNumbers {
     pub(crate) flags: u16,
     pub(crate) this_class: ConstantIndex,
     pub(crate) super_class: ConstantIndex,
@@ -37,7 +38,7 @@ pub(crate) struct Numbers {
 
 /// The tables behind those numbers.
 #[derive(Drop)]
-pub(crate) struct Tables<'a> {
+pub(crate) struct ClassTables<'a> {
     pub(crate) interfaces: Table<'a>,
     pub(crate) fields: Table<'a>,
     pub(crate) methods: Table<'a>,
@@ -49,16 +50,17 @@ pub(crate) struct Tables<'a> {
 pub(crate) fn skip_class<'a>(
     alloc: Global,
     cursor: &mut Cursor<'a>,
-) -> Result<Parts<'a>, ParseError>
+) -> Result<ClassParts<'a>, ParseError>
     ensures parts { Takes parts parts_at cursor.old result cursor.new }
     ensures version { IfOk result (λ parts. HasVersion cursor.old parts.version) }
     ensures tables { IfOk result (TablesAtTail cursor.old) }
+    ensures memory { IfErr result (λ e. e ≡ NoMemory → HasGoodHead cursor.old) }
 {
     let (version, count) = skip_head(cursor)?;
     let offsets = skip_pool(alloc, count, cursor)?;
     let tail = cursor.place();
     let (numbers, tables) = read_last(cursor)?;
-    Ok(Parts {
+    Ok(ClassParts {
         offsets,
         tail,
         version,
@@ -70,7 +72,7 @@ pub(crate) fn skip_class<'a>(
 /// Past what stands behind the constants, which are the last bytes: the numbers at its front, and
 /// the tables.
 #[tactic(auto, unfolding(crate::specs::Reading::last_at))]
-fn read_last<'a>(cursor: &mut Cursor<'a>) -> Result<(Numbers, Tables<'a>), ParseError>
+fn read_last<'a>(cursor: &mut Cursor<'a>) -> Result<(ClassNumbers, ClassTables<'a>), ParseError>
     ensures numbers { Takes (λ last. numbers last.0) last_at cursor.old result cursor.new }
     ensures tables { IfOk result (λ last. HasTables cursor.old last.1) }
 {
@@ -87,6 +89,7 @@ fn skip_head(cursor: &mut Cursor) -> Result<(Version, u16), ParseError>
     ensures head { Takes (λ head. head.1) head_at cursor.old result cursor.new }
     ensures version { IfOk result (λ head. HasVersion cursor.old head.0) }
     ensures some { IfOk result (λ head. 0 < head.1) }
+    ensures memory { IfErr result (λ e. e ≢ NoMemory) }
 {
     if cursor.u4().ok_or(ParseError::Short)? != MAGIC {
         return Err(ParseError::Magic);
@@ -111,7 +114,7 @@ fn is_accepted_version(major: u16, minor: u16) -> bool
 
 /// Past what stands behind the constants: the numbers at its front, and the tables.
 #[tactic(auto, unfolding(crate::specs::Reading::after_tail))]
-fn read_tail<'a>(cursor: &mut Cursor<'a>) -> Option<(Numbers, Tables<'a>)>
+fn read_tail<'a>(cursor: &mut Cursor<'a>) -> Option<(ClassNumbers, ClassTables<'a>)>
     ensures numbers { Lends (λ tail. numbers tail.0) after_tail numbers_value cursor.old result cursor.new }
     ensures tables { IfSome result (λ tail. HasTables cursor.old tail.1) }
 {
@@ -120,7 +123,7 @@ fn read_tail<'a>(cursor: &mut Cursor<'a>) -> Option<(Numbers, Tables<'a>)>
     let fields = skip_members(cursor)?;
     let methods = skip_members(cursor)?;
     let attributes = skip_attributes(cursor)?;
-    let tables = Tables {
+    let tables = ClassTables {
         interfaces,
         fields,
         methods,
@@ -129,12 +132,12 @@ fn read_tail<'a>(cursor: &mut Cursor<'a>) -> Option<(Numbers, Tables<'a>)>
     Some((numbers, tables))
 }
 
-fn read_numbers(cursor: &mut Cursor) -> Option<Numbers>
+fn read_numbers(cursor: &mut Cursor) -> Option<ClassNumbers>
     ensures { Lends numbers (after 6) numbers_value cursor.old result cursor.new }
 {
     let flags = cursor.u2()?;
     let (this_class, super_class) = read_pair(cursor)?;
-    Some(Numbers {
+    Some(ClassNumbers {
         flags,
         this_class,
         super_class,

@@ -8,7 +8,8 @@ ghost use Rattle.jc_view.specs.Lookups.{utf8_at};
 ghost use Rattle.jc_view.specs.Places.{fields_in, methods_in, attributes_in, IsLent};
 ghost use Rattle.jc_view.specs.Lent.{constant_of};
 ghost use Rattle.jc_view.specs.inside.ConstantPlaces.{Holds};
-ghost use Rattle.jc_view.specs.Refusal.{IsLayoutOf, IsNamed, IsReadable, IsRefusal};
+ghost use Rattle.jc_view.specs.Outcome.{AreBytes};
+ghost use Rattle.jc_view.specs.Refusal.{HasHead, IsLayoutOf, IsNamed, IsReadable, IsRefusal};
 
 use crate::attribute_kind::Holder;
 use crate::attributes::Attributes;
@@ -18,7 +19,7 @@ use crate::interfaces::Interfaces;
 use crate::members::Members;
 use crate::parse_error::ParseError;
 use crate::constant_reader::entry;
-use crate::layout_reader::{Numbers, Tables, skip_class};
+use crate::layout_reader::{ClassNumbers, ClassTables, skip_class};
 use crate::version::Version;
 use jc_base::{Cursor, is_class_name};
 use std::alloc::Global;
@@ -31,8 +32,8 @@ pub struct ClassView<'a> {
     offsets: Vec<Option<usize>>,
     tail: usize,
     version: Version,
-    numbers: Numbers,
-    tables: Tables<'a>,
+    numbers: ClassNumbers,
+    tables: ClassTables<'a>,
     name: &'a [u8],
 }
 
@@ -51,6 +52,14 @@ impl<'a> Model for ClassView<'a> {
 }
 
 impl<'a> ClassView<'a> {
+    /// The whole file.
+    pub fn bytes(&self) -> &'a [u8]
+        ensures layout { IsLayoutOf self.now result.now }
+        ensures numbers { AreBytes result.now }
+    {
+        self.bytes
+    }
+
     /// The name of the class, in its internal form (JVMS 4.2.1).
     pub fn name(&self) -> &'a [u8]
         ensures named { IsNamed self.now result.now }
@@ -152,7 +161,8 @@ impl<'a> ClassView<'a> {
 
     /// The attributes of the class itself.
     pub fn attributes(&self) -> Attributes<'_, 'a>
-        ensures { result ≡ record { class = self.now; left = attributes_in self.now } }
+        ensures left { result ≡ record { class = self.now; left = attributes_in self.now } }
+        ensures few { length self.now.attributes < 2 ^ 16 }
     {
         Attributes {
             class: self,
@@ -190,11 +200,13 @@ impl<'a> ClassView<'a> {
 /// Reads a class file.
 ///
 /// Refuses bytes that are none by the first cause that applies, and answers `NoMemory` only where
-/// memory was refused.
+/// memory was refused, and never before the constants are reached.
 pub fn parse<'a>(alloc: Global, bytes: &'a [u8]) -> Result<ClassView<'a>, ParseError>
     ensures ok { IfOk result (λ view. IsLayoutOf view bytes.now) }
+    ensures named { IfOk result (λ view. (name : List ℕ) × IsNamed view name) }
     ensures refused { IfErr result (λ e. (e ≡ NoMemory) ⊎ IsRefusal bytes.now e) }
     ensures readable { IsReadable bytes.now → IfErr result (λ e. e ≡ NoMemory) }
+    ensures memory { IfErr result (λ e. e ≡ NoMemory → HasHead bytes.now) }
 {
     let mut cursor = Cursor::new(bytes);
     let parts = skip_class(alloc, &mut cursor)?;
@@ -238,12 +250,7 @@ fn class_name<'a>(
     ensures some { (c : ClassFile) → Holds bytes.now offsets.now c → c.this_class ≡ index → IfSome result (λ name. IsNamed c name.now) }
     ensures none { (c : ClassFile) → Holds bytes.now offsets.now c → c.this_class ≡ index → IfNone result ((name : List ℕ) → ¬ IsNamed c name) }
 {
-    let Constant::Class(text) = entry(bytes, offsets, index)? else {
-        return None;
-    };
-    let Constant::Utf8(name) = entry(bytes, offsets, text)? else {
-        return None;
-    };
+    let name = class_text(bytes, offsets, index)?;
     if is_class_name(name) {
         Some(name)
     } else {

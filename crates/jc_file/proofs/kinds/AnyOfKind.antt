@@ -6,7 +6,7 @@ use Rattle.jc_view.specs.declared.attribute_kind.Holder.{Holder}
 use Rattle.jc_view.specs.ClassFile.{Attribute, ClassFile, attribute_bytes}
 use Rattle.jc_view.specs.Attributes.{is_recognised, of_kind}
 use Rattle.jc_view.specs.Places.{PlacedMember, attributes_from, member_attributes}
-use Rattle.jc_file.specs.Recognised.{any_of}
+use Rattle.jc_file.specs.inside.Recognised.{any_of}
 
 any_step : {X : Type 0} (test : X → Bool) (b : Bool) (x : X) (xs : List X) (rest : Bool) → rest ≡ list_any test xs → ((b && test x) || rest) ≡ list_any test (cond b (x ∷ xs) xs)
 any_step test true x xs rest e = ap (λ r. test x || r) e

@@ -9,7 +9,7 @@ use Rattle.jc_view.specs.Places.{PlacedAttribute, attributes_from, attributes_in
 use Rattle.jc_view.specs.Attributes.{is_recognised, of_kind, bootstrap_attributes}
 use Rattle.jc_file.specs.FormatRules.{is_told}
 use Rattle.jc_view.specs.Lent.{AttributesLeft}
-use Rattle.jc_file.specs.Recognised.{of_kind_left, told_by}
+use Rattle.jc_file.specs.inside.Recognised.{of_kind_left, told_by}
 
 -- a placed attribute, as it is
 abbrev pub in_place : PlacedAttribute → Attribute

@@ -7,7 +7,7 @@ use Rattle.jc_view.specs.ClassFile.{ClassFile}
 use Rattle.jc_view.specs.Places.{PlacedMember, member_attributes}
 use Rattle.jc_view.specs.Attributes.{of_kind}
 use Rattle.jc_view.specs.Lent.{AttributesLeft, LentAttribute}
-use Rattle.jc_file.specs.Recognised.{of_kind_left, GivesOfKind}
+use Rattle.jc_file.specs.inside.Recognised.{of_kind_left, GivesOfKind}
 use Rattle.jc_file.proofs.kinds.AttributesOfKind.{in_place, of_kind_placed}
 
 -- the attributes of a member, as a loop begins to go over them

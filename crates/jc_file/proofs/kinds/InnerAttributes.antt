@@ -7,8 +7,8 @@ use Rattle.jc_view.specs.ClassFile.{ClassFile}
 use Rattle.jc_view.specs.Places.{PlacedAttribute}
 use Rattle.jc_view.specs.Attributes.{Code, code_attributes}
 use Rattle.jc_view.specs.AttributeReading.{code_of, with_inner}
-use Rattle.jc_file.specs.RuleTests.{attribute_breaks, fault_at}
-use Rattle.jc_file.specs.AttributeFaults.{faults_in}
+use Rattle.jc_file.specs.inside.RuleTests.{attribute_breaks, fault_at}
+use Rattle.jc_file.specs.inside.AttributeFaults.{faults_in}
 use Rattle.jc_view.specs.Lent.{LentAttribute, LentCode, lent_code}
 
 -- what is inside, where it was lent

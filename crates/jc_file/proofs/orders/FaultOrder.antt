@@ -16,7 +16,7 @@ use Rattle.jc_view.specs.Places.{PlacedAttribute}
 use Rattle.jc_view.specs.AttributeReading.{all_attributes}
 use Rattle.jc_file.specs.FormatRules.{breaks_f1, breaks_f2, breaks_f3, breaks_f4, breaks_f5, breaks_f6, breaks_f7, breaks_f8, breaks_f9, breaks_f10, breaks_f11, breaks_f12, breaks_f13, breaks_f14, breaks_f15, breaks_f16, breaks_f17, breaks_f19, breaks_f20, breaks_f21, breaks_f23, breaks_f24, breaks_f25, breaks_f26, breaks_f27, breaks_f28, breaks_f29, breaks_f30}
 use Rattle.jc_file.specs.Faults.{passing, constants_with, only_if, those_with, attributes_with, repeated, has_key, key_of, places, format_rules, faults_against, faults}
-use Rattle.jc_file.specs.RuleTests.{fault_at}
+use Rattle.jc_file.specs.inside.RuleTests.{fault_at}
 use Rattle.jc_file.specs.FaultOrder.{rule_number, fault_cmp}
 use Rattle.jc_view.proofs.places.RisingLists.{RisesBy, rises_lower, rises-filter, rises-map, rises-range}
 use Rattle.jc_view.proofs.places.AttributePlaces.{place_of, all_rise, attributes_end}

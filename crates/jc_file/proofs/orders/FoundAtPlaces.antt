@@ -5,7 +5,7 @@ use Rattle.std.proofs.lemmas.List.{map-append}
 use Rattle.std.proofs.lemmas.List.Elements.{filter-append}
 use Rattle.jc_file.specs.declared.fault.FormatRule.{FormatRule}
 use Rattle.jc_file.specs.Faults.{only_if}
-use Rattle.jc_file.specs.RuleTests.{fault_at, found}
+use Rattle.jc_file.specs.inside.RuleTests.{fault_at, found}
 
 range_more : (a n : ℕ) → range_with_len a (n + 1) ≡ range_with_len a n ++ (a + n) ∷ []
 range_more a zero = grind arith

@@ -6,7 +6,7 @@ use Rattle.std.proofs.lemmas.List.{map-append}
 use Rattle.jc_file.specs.declared.fault.Fault.{Fault}
 use Rattle.jc_file.specs.declared.fault.FormatRule.{FormatRule}
 use Rattle.jc_file.specs.Faults.{passing, those_with}
-use Rattle.jc_file.specs.RuleTests.{fault_at, numbered}
+use Rattle.jc_file.specs.inside.RuleTests.{fault_at, numbered}
 
 if_first : (b : Bool) (n : ℕ) (ns : List ℕ) → cond b (n ∷ ns) ns ≡ cond b (n ∷ []) [] ++ ns
 if_first true n ns = refl

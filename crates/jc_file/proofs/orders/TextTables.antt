@@ -11,7 +11,7 @@ use Rattle.jc_view.specs.declared.constant_pool.ConstantIndex.{ConstantIndex}
 use Rattle.jc_view.specs.ConstantPool.{Constant, utf8_text}
 use Rattle.jc_view.specs.ClassFile.{ClassFile, slots, all_slots, constant_at, constant_from_first}
 use Rattle.jc_view.specs.Lookups.{utf8_at}
-use Rattle.jc_file.specs.TextKinds.{kinds_at, all_kinds, text_kinds}
+use Rattle.jc_file.specs.inside.TextKinds.{kinds_at, all_kinds, text_kinds}
 use Rattle.jc_view.proofs.reading.Pools.{slots_is}
 
 -- behind the last constant there is none

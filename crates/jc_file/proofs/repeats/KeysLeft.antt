@@ -6,7 +6,7 @@ use Rattle.std.specs.Prelude.{ℕ, suc, ◌+◌, length}
 use Rattle.jc_view.specs.Places.{PlacedMember, members_from}
 use Rattle.jc_view.specs.Lent.{MembersLeft, LentMember, GivesMember}
 use Rattle.jc_file.specs.Faults.{key_of, repeated}
-use Rattle.jc_file.specs.Repeated.{keys_left}
+use Rattle.jc_file.specs.inside.Repeated.{keys_left}
 
 -- the first that is left, and the others
 pub keys_next : (old new : MembersLeft) (item : LentMember) → GivesMember old (Some item) new → keys_left old ≡ key_of item.class item.member.member ∷ keys_left new

@@ -10,9 +10,9 @@ use Rattle.jc_view.specs.ClassFile.{ClassFile}
 use Rattle.jc_view.specs.Places.{PlacedMember}
 use Rattle.jc_view.specs.Lent.{MembersLeft, LentMember, GivesMember}
 use Rattle.jc_file.specs.Faults.{key_of, same_key, repeated}
-use Rattle.jc_file.specs.RuleTests.{fault_at}
-use Rattle.jc_file.specs.Repeated.{repeats, keys_left}
-use Rattle.jc_file.specs.TextNumbers.{AreNumbers, KeepsNumbers, IsNumbered, same_numbers, IsNumberedKey}
+use Rattle.jc_file.specs.inside.RuleTests.{fault_at}
+use Rattle.jc_file.specs.inside.Repeated.{repeats, keys_left}
+use Rattle.jc_file.specs.inside.TextNumbers.{AreNumbers, KeepsNumbers, IsNumbered, same_numbers, IsNumberedKey}
 use Rattle.jc_file.proofs.repeats.KeysLeft.{keys_next, keys_left-members}
 use Rattle.jc_file.proofs.repeats.RepeatedKeys.{repeats_next, repeats_all}
 use Rattle.jc_file.proofs.repeats.NumberedKeys.{Key, Numbers, zip_kept, with_key, any_with_key, was_noted, numbered_with_key}

@@ -12,7 +12,7 @@ use Rattle.jc_file.specs.declared.faults.text_numbers.TextNumbers.{TextNumbers}
 use Rattle.jc_view.specs.ClassFile.{ClassFile, Member}
 use Rattle.jc_view.specs.Lookups.{utf8_at}
 use Rattle.jc_file.specs.Faults.{key_of, same_key}
-use Rattle.jc_file.specs.TextNumbers.{number_of, IsNumberAt, AreNumbers, KeepsNumbers, IsNumbered, same_numbers, IsNumberedKey}
+use Rattle.jc_file.specs.inside.TextNumbers.{number_of, IsNumberAt, AreNumbers, KeepsNumbers, IsNumbered, same_numbers, IsNumberedKey}
 use Rattle.jc_file.proofs.repeats.KeysSeen.{any_inserted, same_key_equiv}
 
 abbrev pub Key : Type 0

@@ -6,7 +6,7 @@ use Rattle.jc_view.specs.declared.constant_pool.ConstantIndex.{ConstantIndex}
 use Rattle.jc_file.specs.declared.faults.text_numbers.TextNumbers.{TextNumbers}
 use Rattle.jc_view.specs.ClassFile.{ClassFile}
 use Rattle.jc_view.specs.Lookups.{utf8_at}
-use Rattle.jc_file.specs.TextNumbers.{number_of, IsNumberAt, AreNumbers, KeepsNumbers}
+use Rattle.jc_file.specs.inside.TextNumbers.{number_of, IsNumberAt, AreNumbers, KeepsNumbers}
 
 -- what stands in a list once an item is set
 set_cases : {X : Type 0} (xs : List X) (i : ℕ) (v : X) (j : ℕ) (w : X) → slice_get (slice_set xs i v) j ≡ Some w → (slice_get xs j ≡ Some w) ⊎ ((j ≡ i) × (w ≡ v))

@@ -7,8 +7,8 @@ use Rattle.std.proofs.lemmas.List.{map-append, length-append}
 use Rattle.jc_file.specs.declared.fault.Fault.{Fault}
 use Rattle.jc_file.specs.declared.fault.FormatRule.{FormatRule}
 use Rattle.jc_file.specs.Faults.{passing}
-use Rattle.jc_file.specs.RuleTests.{fault_at}
-use Rattle.jc_file.specs.Repeated.{repeats}
+use Rattle.jc_file.specs.inside.RuleTests.{fault_at}
+use Rattle.jc_file.specs.inside.Repeated.{repeats}
 
 or_assoc : (a b c : Bool) → (a || b) || c ≡ (a || (b || c))
 or_assoc true b c = refl

@@ -41,6 +41,12 @@ behind_constants : (c : ClassFile) → IsBytes (layout c) → IsBytes (tail_byte
 unfolding layout
 behind_constants c h = rest_bytes (head_bytes c ++ flat_map constant_bytes c.constants) (tail_bytes c) h
 
+pub field_have : (c : ClassFile) → IsBytes (layout c) → (m : Member) → Contains c.fields m → HaveBytes m.attributes
+field_have c h m there =
+    let to_fields = big_bytes 2 c.flags ++ index_bytes c.this_class ++ index_bytes c.super_class ++ counted index_bytes c.interfaces in
+    let front = front_bytes (to_methods c) (counted member_bytes c.methods) (front_bytes (to_methods c ++ counted member_bytes c.methods) (counted attribute_bytes c.attributes) (behind_constants c h)) in
+    member_have c.fields m there (rest_bytes to_fields (counted member_bytes c.fields) front)
+
 pub class_have : (c : ClassFile) → IsBytes (layout c) → HaveBytes c.attributes
 class_have c h = have_bytes c.attributes (rest_bytes (to_methods c ++ counted member_bytes c.methods) (counted attribute_bytes c.attributes) (behind_constants c h))
 

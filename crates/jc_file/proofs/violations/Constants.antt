@@ -17,7 +17,7 @@ use Rattle.jc_file.specs.Faults.{constants_with}
 use Rattle.jc_file.specs.FormatRules.{returns_value, lacks_member_entries, breaks_f1, breaks_f2, breaks_f3, breaks_f4, fails_beside, breaks_f5, breaks_f6, breaks_f7, fits_handle, breaks_f8, is_name_amiss, breaks_f9, breaks_f10, told_count, is_told, breaks_f11}
 use Rattle.jc_view.specs.Attributes.{bootstrap_attributes}
 use Rattle.jc_file.specs.Violations.{IsEntry, ReturnsValue, LacksMemberEntries, BreaksF1, BreaksF2, BreaksF3, BreaksF4, MisfitsName, BreaksF5, BreaksF6, IsBracketed, BreaksF7, FitsHandle, BreaksF8, IsNameAmiss, BreaksF9, BreaksF10, Tells, BreaksF11, AtConstant}
-use Rattle.jc_file.proofs.violations.Lookups.{TextsDecided, kind_decided, entry_decided, has_text, other_text, spelled_decided, field_decided, method_decided, array_decided, has_name, has_descriptor, other_descriptor, same_text, never}
+use Rattle.jc_file.proofs.violations.Lookups.{TextsDecided, kind_decided, entry_decided, has_text, other_text, spelled_decided, field_decided, method_decided, array_decided, gives_name, gives_descriptor, refers_to, other_descriptor, same_text, never}
 use Rattle.jc_file.proofs.violations.Decisions.{like, neg, both, either, all_three, all_four, one_of_four, equal, below, at_most, has, has_by, has_no, passing_has, fits_found}
 
 -- ---- texts and indexes
@@ -100,10 +100,10 @@ f5_decided tests c (pool.NameAndType name descriptor) = has_text c (beside_decid
 f5_decided tests c constant = never
 
 pub f6_decided : (tests : TextsDecided) (c : ClassFile) (entry : Constant) → Decides (breaks_f6 c entry) (BreaksF6 c entry)
-f6_decided tests c (pool.Fieldref class entry) = other_descriptor c (field_decided tests) (pool.Fieldref class entry)
-f6_decided tests c (pool.Methodref class entry) = other_descriptor c (method_decided tests) (pool.Methodref class entry)
-f6_decided tests c (pool.InterfaceMethodref class entry) = other_descriptor c (method_decided tests) (pool.InterfaceMethodref class entry)
-f6_decided tests c (pool.InvokeDynamic bootstrap entry) = other_descriptor c (method_decided tests) (pool.InvokeDynamic bootstrap entry)
+f6_decided tests c (pool.Fieldref class entry) = other_descriptor c (field_decided tests) entry
+f6_decided tests c (pool.Methodref class entry) = other_descriptor c (method_decided tests) entry
+f6_decided tests c (pool.InterfaceMethodref class entry) = other_descriptor c (method_decided tests) entry
+f6_decided tests c (pool.InvokeDynamic bootstrap entry) = other_descriptor c (method_decided tests) entry
 f6_decided tests c constant = never
 
 bracketed_decided : (name : List ℕ) → Decides (begins_with 60 name) (IsBracketed name)
@@ -122,7 +122,7 @@ returns_decided tests text = fits_found (method_type_of text) (IsMethod text) (t
 
 pub f7_decided : (tests : TextsDecided) (c : ClassFile) (entry : Constant) → Decides (breaks_f7 c entry) (BreaksF7 c entry)
 f7_decided tests c (pool.Methodref class entry) =
-    has_name c (λ name. both (bracketed_decided name) (either (neg (same_text name (codes "<init>"))) (has_descriptor c (returns_decided tests) (pool.Methodref class entry)))) (pool.Methodref class entry)
+    gives_name c (λ name. both (bracketed_decided name) (either (neg (same_text name (codes "<init>"))) (gives_descriptor c (returns_decided tests) entry))) entry
 f7_decided tests c constant = never
 
 -- ---- handles
@@ -144,7 +144,7 @@ amiss_decided kind name = either
     (both (either (both (at_most 5 kind) (at_most kind 7)) (equal kind 9)) (either (same_text name (codes "<init>")) (same_text name (codes "<clinit>"))))
 
 pub f9_decided : (c : ClassFile) (entry : Constant) → Decides (breaks_f9 c entry) (BreaksF9 c entry)
-f9_decided c (pool.MethodHandle kind reference) = has (λ entry. both (handle_decided c.major kind entry) (has_name c (amiss_decided kind) entry)) (constant_at c reference)
+f9_decided c (pool.MethodHandle kind reference) = has (λ entry. both (handle_decided c.major kind entry) (refers_to c (amiss_decided kind) entry)) (constant_at c reference)
 f9_decided c constant = never
 
 pub f10_decided : (tests : TextsDecided) (c : ClassFile) (entry : Constant) → Decides (breaks_f10 c entry) (BreaksF10 c entry)

@@ -1,5 +1,5 @@
 -- What the look-ups of entries, of texts and of references decide.
-use Rattle.std.proofs.Common.{◌≡◌, ℕ, Bool, false, not, List, Some, option_and_then, is_none, sym, ap, ◌∙◌}
+use Rattle.std.proofs.Common.{None, Option, refl, subst, ◌≡◌, ℕ, Bool, false, not, List, Some, option_and_then, is_none, sym, ap, ◌∙◌}
 use Rattle.std.specs.Bool.{Decides}
 use Rattle.std.proofs.lemmas.Bool.{false≢true}
 use Rattle.std.proofs.lemmas.Bool.Decides.{Decides-at}
@@ -14,9 +14,9 @@ use Rattle.jc_view.specs.declared.constant_pool.ConstantKind.{ConstantKind}
 use Rattle.jc_view.specs.ConstantPool as pool
 use Rattle.jc_view.specs.ConstantPool.{Constant, kind_of, tag_of, kind_of_tag, utf8_text, class_entry}
 use Rattle.jc_view.specs.ClassFile.{Attribute, ClassFile, constant_at, class_text_at}
-use Rattle.jc_view.specs.Lookups.{utf8_at, is_kind, is_entry, name_and_type, signature_entry, name_and_type_at, name_of, descriptor_of, passes, fails, lacks}
+use Rattle.jc_view.specs.Lookups.{utf8_at, is_kind, is_entry, name_and_type, signature_entry, name_and_type_at, name_at, descriptor_at, name_of, passes, fails, lacks}
 use Rattle.jc_file.specs.FormatRules.{is_array_text}
-use Rattle.jc_file.specs.Violations.{IsEntry, NamesKind, HasText, HasClassText, Has, IsRecognised, Refers, HasName, HasDescriptor, IsArrayDescriptor}
+use Rattle.jc_file.specs.Violations.{IsEntry, NamesKind, HasText, HasClassText, Has, IsRecognised, GivesName, GivesDescriptor, RefersTo, IsArrayDescriptor}
 use Rattle.jc_view.proofs.reading.FirstConstant.{kind_of_its_tag}
 use Rattle.jc_file.proofs.violations.Decisions.{like, neg, both, flag, equal, below, has, has_by, lacks_is, Finds, some_found, none_found, fits_found, none_fits, fails_is}
 use Rattle.jc_view.proofs.reading.BigEndian.{then_some}
@@ -93,34 +93,46 @@ module _ (tests : TextsDecided) (text : List ℕ) where
 
 -- ---- references
 
-names_at : (c : ClassFile) (r : Constant) (text : List ℕ) (pick : ConstantIndex × ConstantIndex → ConstantIndex)
-    → option_and_then (λ pair. utf8_at c (pick pair)) (option_and_then (name_and_type_at c) (signature_entry r)) ≡ Some text
-    → (pair : ConstantIndex × ConstantIndex) × Refers c r pair.0 pair.1 × IsEntry c (pick pair) (pool.Utf8 text)
-names_at c r text pick e =
-    let found = then_some (option_and_then (name_and_type_at c) (signature_entry r)) (λ pair. utf8_at c (pick pair)) text e in
-    let entry = then_some (signature_entry r) (name_and_type_at c) found.0 found.1 in
-    let pair = then_some (constant_at c entry.0) name_and_type found.0 entry.2 in
-    (found.0, (entry.0, entry.1, pair.1 ∙ ap (λ (x : Constant). Some x) (pair_entry pair.0 found.0 pair.2)), (text_at c (pick found.0) text).0 found.2)
+pair_is : (c : ClassFile) (entry : ConstantIndex) (pair : ConstantIndex × ConstantIndex) → name_and_type_at c entry ≡ Some pair → IsEntry c entry (pool.NameAndType pair.0 pair.1)
+pair_is c entry pair e =
+    let found = then_some (constant_at c entry) name_and_type pair e in
+    found.1 ∙ ap (λ (x : Constant). Some x) (pair_entry found.0 pair found.2)
 
-pair_at : (c : ClassFile) (r : Constant) (name descriptor : ConstantIndex) → Refers c r name descriptor → option_and_then (name_and_type_at c) (signature_entry r) ≡ Some (name, descriptor)
-pair_at c r name descriptor refers = ap (option_and_then (name_and_type_at c)) refers.1 ∙ ap (option_and_then name_and_type) refers.2
+pair_from : (c : ClassFile) (entry name descriptor : ConstantIndex) → IsEntry c entry (pool.NameAndType name descriptor) → name_and_type_at c entry ≡ Some (name, descriptor)
+pair_from c entry name descriptor is = ap (option_and_then name_and_type) is
 
-module _ (c : ClassFile) {test : List ℕ → Bool} {Is : List ℕ → Type 0} (each : (text : List ℕ) → Decides (test text) (Is text)) (r : Constant) where
-  pub has_name : Decides (passes test (name_of c r)) (HasName c Is r)
-  has_name = like
-      (λ h. let found = names_at c r h.0 (λ pair. pair.0) h.1 in (found.0.0, found.0.1, found.1, (h.0, found.2, h.2)))
-      (λ h. (h.3.0, ap (option_and_then (λ pair. utf8_at c pair.0)) (pair_at c r h.0 h.1 h.2) ∙ (text_at c h.0 h.3.0).1 h.3.1, h.3.2))
-      (has each (name_of c r))
+module _ (c : ClassFile) {test : List ℕ → Bool} {Is : List ℕ → Type 0} (each : (text : List ℕ) → Decides (test text) (Is text)) (entry : ConstantIndex) where
+  pub gives_name : Decides (passes test (name_at c entry)) (GivesName c Is entry)
+  gives_name = like
+      (λ h. let found = then_some (name_and_type_at c entry) (λ pair. utf8_at c pair.0) h.0 h.1 in (found.0.0, found.0.1, pair_is c entry found.0 found.1, (h.0, (text_at c found.0.0 h.0).0 found.2, h.2)))
+      (λ h. (h.3.0, ap (option_and_then (λ pair. utf8_at c pair.0)) (pair_from c entry h.0 h.1 h.2) ∙ (text_at c h.0 h.3.0).1 h.3.1, h.3.2))
+      (has each (name_at c entry))
 
-  pub has_descriptor : Decides (passes test (descriptor_of c r)) (HasDescriptor c Is r)
-  has_descriptor = like
-      (λ h. let found = names_at c r h.0 (λ pair. pair.1) h.1 in (found.0.0, found.0.1, found.1, (h.0, found.2, h.2)))
-      (λ h. (h.3.0, ap (option_and_then (λ pair. utf8_at c pair.1)) (pair_at c r h.0 h.1 h.2) ∙ (text_at c h.1 h.3.0).1 h.3.1, h.3.2))
-      (has each (descriptor_of c r))
+  pub gives_descriptor : Decides (passes test (descriptor_at c entry)) (GivesDescriptor c Is entry)
+  gives_descriptor = like
+      (λ h. let found = then_some (name_and_type_at c entry) (λ pair. utf8_at c pair.1) h.0 h.1 in (found.0.0, found.0.1, pair_is c entry found.0 found.1, (h.0, (text_at c found.0.1 h.0).0 found.2, h.2)))
+      (λ h. (h.3.0, ap (option_and_then (λ pair. utf8_at c pair.1)) (pair_from c entry h.0 h.1 h.2) ∙ (text_at c h.1 h.3.0).1 h.3.1, h.3.2))
+      (has each (descriptor_at c entry))
 
 module _ (c : ClassFile) {test : List ℕ → Bool} {Is : List ℕ → Type 0} (each : (text : List ℕ) → Decides (test text) (Is text)) (r : Constant) where
-  pub other_descriptor : Decides (fails test (descriptor_of c r)) (HasDescriptor c (λ text. ¬ Is text) r)
-  other_descriptor = Decides-at (fails test (descriptor_of c r)) (passes (λ text. not (test text)) (descriptor_of c r)) (fails_is test (descriptor_of c r)) (has_descriptor c (λ text. neg (each text)) r)
+  pub refers_to : Decides (passes test (name_of c r)) (RefersTo c Is r)
+  refers_to = by (signature_entry r) refl
+    where
+      by : (o : Option ConstantIndex) → signature_entry r ≡ o → Decides (passes test (name_of c r)) (RefersTo c Is r)
+      by None e = (
+        λ h. absurd (let n : passes test (name_of c r) ≡ false = rw e refl in false≢true (sym n ∙ h)),
+        λ h. absurd (let some = h.1 in let none = e in cc),
+      )
+      by (Some entry) e =
+          let same : passes test (name_of c r) ≡ passes test (name_at c entry) = ap (λ o. passes test (option_and_then (name_at c) o)) e in
+          like
+          (λ h. (entry, e, h))
+          (λ h. subst (λ (i : ConstantIndex). GivesName c Is i) (let here = h.1 in let there = e in cc) h.2)
+          (Decides-at (passes test (name_of c r)) (passes test (name_at c entry)) same (gives_name c each entry))
+
+module _ (c : ClassFile) {test : List ℕ → Bool} {Is : List ℕ → Type 0} (each : (text : List ℕ) → Decides (test text) (Is text)) (entry : ConstantIndex) where
+  pub other_descriptor : Decides (fails test (descriptor_at c entry)) (GivesDescriptor c (λ text. ¬ Is text) entry)
+  other_descriptor = Decides-at (fails test (descriptor_at c entry)) (passes (λ text. not (test text)) (descriptor_at c entry)) (fails_is test (descriptor_at c entry)) (gives_descriptor c (λ text. neg (each text)) entry)
 
 -- ---- more
 

@@ -1,6 +1,7 @@
 -- What the tests of fields and methods decide.
 use Rattle.std.proofs.Common.{◌≡◌, ◌⊎◌, ℕ, zero, suc, ◌<◌, ◌≤◌, Bool, true, false, cond, not, ◌&&◌, ◌||◌, ltb, List, [], ◌∷◌, length, take, Option, Some, None, refl, sym, ap, ◌∙◌, arith, inl, inr, codes, sum_by}
 use Rattle.std.specs.Bool.{Decides}
+use Rattle.std.proofs.lemmas.Bool.Decides.{Decides-at}
 use Rattle.std.proofs.lemmas.Option.{slice_get_within}
 use Rattle.std.proofs.lemmas.List.Elements.{All-contains, All-from_recursion}
 use Rattle.std.specs.List.{AllByRecursion, Contains, slice_get}
@@ -24,7 +25,7 @@ use Rattle.jc_view.proofs.reading.BigEndian.{IsBytes}
 use Rattle.jc_file.proofs.violations.Decisions.{like, neg, both, either, all_four, one_of_three, one_of_four, one_of_five, one_of_six, chosen, equal, below, at_most, Has as HasValue, has_by, every, one_of, one_where, passing_has, one_on, first_or, kept, Finds, none_found, fits_found, none_fits, missing_or_fits}
 use Rattle.jc_file.proofs.violations.Lookups.{TextsDecided, entry_decided, text_at, has_text, no_text, field_decided, same_text, is_set}
 use Rattle.jc_file.specs.Faults.{key_of, same_key, has_key, repeated}
-use Rattle.jc_file.specs.FormatRules.{breaks_f15, breaks_f16, are_constant_flags, breaks_f17, constant_kind_of, names_other, misfits, breaks_f25, breaks_f19, fits_slots, breaks_f20, is_named_clinit, is_named_init, has_more_than_abstract, are_bad_interface_flags, has_more_than_constructor, breaks_f21, breaks_f23, breaks_f24, breaks_f26}
+use Rattle.jc_file.specs.FormatRules.{breaks_f15, breaks_f16, are_constant_flags, breaks_f17, constant_kind_of, names_other, misfits, breaks_f25, breaks_f19, fits_slots, breaks_f20, is_named_clinit, is_named_init, has_more_than_abstract, are_bad_interface_flags, same_answer, has_more_than_constructor, breaks_f21, breaks_f23, breaks_f24, breaks_f26}
 use Rattle.jc_file.specs.Violations.{IsEntry, NamesKind, HasText, Has, IsRepeated, HasTwoAccesses, BreaksF15, BreaksF16, AreConstantFlags, BreaksF17, initializers, Misfits, BreaksF25, BreaksF19, FitsSlots, BreaksF20, HasMoreThanAbstract, HasOneOf, AreBadInterfaceFlags, HasMoreThanConstructor, BreaksF21, BreaksF23, BreaksF24, BreaksF26, IsInit, IsClinit}
 
 -- ---- flags
@@ -152,13 +153,22 @@ from_version major (inr h) = let le = h.0 in inr (λ lt. omega arith, h.1)
 one_decided : (f a b : ℕ) → Decides (not (flags.has f a && flags.has f b) && (flags.has f a || flags.has f b)) (HasOneOf f a b)
 one_decided f a b = like (λ h. (h.1, h.0)) (λ h. (h.1, h.0)) (both (neg (both (is_set f a) (is_set f b))) (either (is_set f a) (is_set f b)))
 
+same_is : (a b : Bool) → same_answer a b ≡ not (not (a && b) && (a || b))
+same_is true true = refl
+same_is true false = refl
+same_is false true = refl
+same_is false false = refl
+
+same_decided : (f a b : ℕ) → Decides (same_answer (flags.has f a) (flags.has f b)) (¬ HasOneOf f a b)
+same_decided f a b = Decides-at _ _ (same_is (flags.has f a) (flags.has f b)) (neg (one_decided f a b))
+
 -- the access of an interface's method, by the file's version
 access_decided : (major f : ℕ)
-    → Decides (cond (ltb major 52) (not (flags.has f flags.public && flags.has f flags.abstract)) (not (not (flags.has f flags.public && flags.has f flags.private) && (flags.has f flags.public || flags.has f flags.private))))
+    → Decides (cond (ltb major 52) (not (flags.has f flags.public && flags.has f flags.abstract)) (same_answer (flags.has f flags.public) (flags.has f flags.private)))
     ((major < 52) × ¬ (Has f flags.public × Has f flags.abstract) ⊎ (52 ≤ major) × ¬ HasOneOf f flags.public flags.private)
 access_decided major f =
     like (by_version major) (from_version major)
-    (chosen (below major 52) (neg (both (is_set f flags.public) (is_set f flags.abstract))) (neg (one_decided f flags.public flags.private)))
+    (chosen (below major 52) (neg (both (is_set f flags.public) (is_set f flags.abstract))) (same_decided f flags.public flags.private))
 
 interface_decided : (major f : ℕ) → Decides (are_bad_interface_flags major f) (AreBadInterfaceFlags major f)
 interface_decided major f =

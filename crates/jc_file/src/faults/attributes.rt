@@ -5,12 +5,12 @@ ghost use Rattle.std.specs.List.{flat_map};
 ghost use Rattle.jc_view.specs.Places.{member_attributes};
 ghost use Rattle.jc_view.specs.AttributeReading.{with_inner};
 ghost use Rattle.jc_file.specs.Faults.{attributes_with};
-ghost use Rattle.jc_file.specs.RuleTests.{attribute_breaks, fault_at};
-ghost use Rattle.jc_file.specs.AttributeFaults.{faults_in};
+ghost use Rattle.jc_file.specs.inside.RuleTests.{attribute_breaks, fault_at};
+ghost use Rattle.jc_file.specs.inside.AttributeFaults.{faults_in};
 
-use crate::rules::attributes::attribute_breaks;
 use crate::fault::{Fault, FormatRule};
 use crate::faults::list::add_if;
+use crate::rules::attributes::attribute_breaks;
 use jc_base::NoMemory;
 use jc_view::{Attribute, Attributes, ClassView, Members};
 

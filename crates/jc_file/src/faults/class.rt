@@ -3,11 +3,11 @@
 ghost use Rattle.std.specs.Prelude.{◌≡◌, ◌++◌, map, OnOk};
 ghost use Rattle.jc_file.specs.Faults.{only_if, those_with};
 ghost use Rattle.jc_file.specs.FormatRules.{breaks_f14};
-ghost use Rattle.jc_file.specs.RuleTests.{fault_at};
+ghost use Rattle.jc_file.specs.inside.RuleTests.{fault_at};
 
-use crate::rules::class::breaks_f14;
 use crate::fault::{Fault, FormatRule};
 use crate::faults::list::add_if;
+use crate::rules::class::breaks_f14;
 use crate::text_table::TextTable;
 use jc_base::NoMemory;
 

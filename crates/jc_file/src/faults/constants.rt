@@ -6,13 +6,13 @@ ghost use Rattle.jc_view.specs.ClassFile.{constant_at};
 ghost use Rattle.jc_file.specs.Faults.{constants_with};
 ghost use Rattle.jc_file.specs.FormatRules.{breaks_f11};
 ghost use Rattle.jc_view.specs.Attributes.{bootstrap_attributes};
-ghost use Rattle.jc_file.specs.Recognised.{told_by};
-ghost use Rattle.jc_file.specs.RuleTests.{constant_breaks, fault_at};
+ghost use Rattle.jc_file.specs.inside.Recognised.{told_by};
+ghost use Rattle.jc_file.specs.inside.RuleTests.{constant_breaks, fault_at};
 
-use crate::rules::bootstraps::told_methods;
-use crate::rules::constants::{breaks_f11, constant_breaks};
 use crate::fault::{Fault, FormatRule};
 use crate::faults::list::add_if;
+use crate::rules::bootstraps::told_methods;
+use crate::rules::constants::{breaks_f11, constant_breaks};
 use crate::text_table::TextTable;
 use jc_base::NoMemory;
 

@@ -2,7 +2,7 @@
 
 ghost use Rattle.std.specs.Prelude.{◌≡◌, ◌++◌, map, OnOk};
 ghost use Rattle.jc_file.specs.Faults.{those_with};
-ghost use Rattle.jc_file.specs.RuleTests.{field_breaks, method_breaks, fault_at};
+ghost use Rattle.jc_file.specs.inside.RuleTests.{field_breaks, method_breaks, fault_at};
 
 use crate::fault::{Fault, FormatRule};
 use crate::faults::list::add_if;

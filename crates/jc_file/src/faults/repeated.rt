@@ -5,8 +5,8 @@ ghost use Rattle.std.specs.List.{list_any};
 ghost use Rattle.std.specs.Option.{option_map_or};
 ghost use Rattle.indexmap.specs.IndexSet.{insert_key};
 ghost use Rattle.jc_file.specs.Faults.{repeated};
-ghost use Rattle.jc_file.specs.RuleTests.{fault_at};
-ghost use Rattle.jc_file.specs.TextNumbers.{same_numbers, AreNumbers, KeepsNumbers, IsNumberedKey};
+ghost use Rattle.jc_file.specs.inside.RuleTests.{fault_at};
+ghost use Rattle.jc_file.specs.inside.TextNumbers.{same_numbers, AreNumbers, KeepsNumbers, IsNumberedKey};
 
 use crate::fault::{Fault, FormatRule};
 use crate::faults::list::add_if;

@@ -4,7 +4,7 @@ ghost use Rattle.std.specs.Prelude.{◌≡◌, ℕ, List, Some, cond, slice_get,
 ghost use Rattle.std.specs.BTreeMap.{IsUnchanged};
 ghost use Rattle.std.specs.Option.{option_flatten};
 ghost use Rattle.jc_base.specs.Bytes.{same_bytes};
-ghost use Rattle.jc_file.specs.TextNumbers.{number_in, IsNumberAt, AreNumbers, KeepsNumbers};
+ghost use Rattle.jc_file.specs.inside.TextNumbers.{number_in, IsNumberAt, AreNumbers, KeepsNumbers};
 
 use jc_base::NoMemory;
 use jc_view::{ClassView, ConstantIndex};

@@ -3,7 +3,7 @@
 ghost use Rattle.std.specs.Prelude.{◌≡◌, ◌||◌, ◌&&◌, not};
 ghost use Rattle.jc_view.specs.declared.attribute_kind.AttributeKind.TheVariants as attributes;
 ghost use Rattle.jc_view.specs.declared.constant_pool.ConstantKind.TheVariants as kinds;
-ghost use Rattle.jc_file.specs.RuleTests.{attribute_breaks};
+ghost use Rattle.jc_file.specs.inside.RuleTests.{attribute_breaks};
 ghost use Rattle.jc_view.specs.Lookups.{is_entry};
 ghost use Rattle.jc_file.specs.FormatRules.{is_sized, is_missized, lacks_method, breaks_f28, breaks_f29, breaks_f30};
 ghost use Rattle.jc_view.specs.Attributes.{first_index, second_index};
@@ -13,7 +13,7 @@ use crate::rules::lookups::is_entry;
 use jc_view::{Attribute, AttributeKind, ClassView, ConstantIndex, ConstantKind, index_at};
 
 /// Whether an attribute breaks a rule over attributes; no other rule is broken by one.
-#[tactic(auto, unfolding(crate::specs::RuleTests::attribute_breaks))]
+#[tactic(auto, unfolding(crate::specs::inside::RuleTests::attribute_breaks))]
 pub(crate) fn attribute_breaks(rule: FormatRule, attribute: &Attribute) -> bool
     ensures { result ≡ attribute_breaks rule attribute.now.class attribute.now.attribute }
 {

@@ -11,7 +11,7 @@ ghost use Rattle.jc_view.specs.Lookups.{passes};
 ghost use Rattle.jc_view.specs.AttributeReading.{after_bootstrap, bootstrap_value, bootstraps_in};
 ghost use Rattle.jc_file.specs.FormatRules.{breaks_f27, is_argument, is_bootstrap};
 ghost use Rattle.jc_view.specs.Attributes.{bootstrap_attributes};
-ghost use Rattle.jc_file.specs.Recognised.{told_by};
+ghost use Rattle.jc_file.specs.inside.Recognised.{told_by};
 
 use crate::rules::lookups::is_entry;
 use crate::rules::recognised::next_of_kind;

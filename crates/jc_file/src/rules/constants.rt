@@ -2,19 +2,19 @@
 
 ghost use Rattle.std.specs.Prelude.{◌≡◌};
 ghost use Rattle.jc_view.specs.Lent.{constant_of};
-ghost use Rattle.jc_file.specs.RuleTests.{constant_breaks};
-ghost use Rattle.jc_file.specs.Recognised.{told_by};
+ghost use Rattle.jc_file.specs.inside.RuleTests.{constant_breaks};
+ghost use Rattle.jc_file.specs.inside.Recognised.{told_by};
 ghost use Rattle.jc_file.specs.FormatRules.{lacks_member_entries, fails_beside, is_bad_special, fits_handle, is_name_amiss, breaks_f1, breaks_f2, breaks_f3, breaks_f4, breaks_f5, breaks_f6, breaks_f7, breaks_f8, breaks_f9, breaks_f10, breaks_f11};
 ghost use Rattle.jc_view.specs.Attributes.{bootstrap_attributes};
 
 use crate::fault::FormatRule;
-use crate::rules::lookups::{descriptor_of, is_entry, is_kind, name_of};
+use crate::rules::lookups::{descriptor_at, is_entry, is_kind, name_at, name_of};
 use crate::text_table::{Text, TextTable};
 use crate::texts::{begins_with, is_clinit, is_init, is_well_spelled};
 use jc_view::{Constant, ConstantIndex, ConstantKind};
 
 /// Whether a constant breaks a rule over constants, other than that over bootstrap methods.
-#[tactic(auto, unfolding(crate::specs::RuleTests::constant_breaks))]
+#[tactic(auto, unfolding(crate::specs::inside::RuleTests::constant_breaks))]
 pub(crate) fn constant_breaks(texts: &TextTable, rule: FormatRule, constant: Constant) -> bool
     ensures { result ≡ constant_breaks rule texts.now (constant_of constant.entry) }
 {
@@ -123,13 +123,13 @@ fn breaks_f6(texts: &TextTable, constant: Constant) -> bool
     ensures { result ≡ breaks_f6 texts.now (constant_of constant.entry) }
 {
     match constant {
-        Constant::Fieldref(_, _) => {
-            descriptor_of(texts, constant).is_some_and(|text| !text.is_field())
+        Constant::Fieldref(_, entry) => {
+            descriptor_at(texts, entry).is_some_and(|text| !text.is_field())
         }
-        Constant::Methodref(_, _)
-        | Constant::InterfaceMethodref(_, _)
-        | Constant::InvokeDynamic(_, _) => {
-            descriptor_of(texts, constant).is_some_and(|text| !text.is_method())
+        Constant::Methodref(_, entry)
+        | Constant::InterfaceMethodref(_, entry)
+        | Constant::InvokeDynamic(_, entry) => {
+            descriptor_at(texts, entry).is_some_and(|text| !text.is_method())
         }
         _ => false,
     }
@@ -139,8 +139,8 @@ fn breaks_f7(texts: &TextTable, constant: Constant) -> bool
     ensures { result ≡ breaks_f7 texts.now (constant_of constant.entry) }
 {
     match constant {
-        Constant::Methodref(_, _) => match name_of(texts, constant) {
-            Some(name) => is_bad_special(descriptor_of(texts, constant), name.bytes()),
+        Constant::Methodref(_, entry) => match name_at(texts, entry) {
+            Some(name) => is_bad_special(descriptor_at(texts, entry), name.bytes()),
             None => false,
         },
         _ => false,

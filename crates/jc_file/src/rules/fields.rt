@@ -4,23 +4,23 @@ ghost use Rattle.std.specs.Prelude.{◌≡◌, codes};
 ghost use Rattle.std.specs.List.{list_any};
 ghost use Rattle.jc_base.specs.Bytes.{same_bytes};
 ghost use Rattle.jc_view.specs.declared.attribute_kind.Holder.TheVariants as holders;
-ghost use Rattle.jc_file.specs.RuleTests.{field_breaks};
+ghost use Rattle.jc_file.specs.inside.RuleTests.{field_breaks};
 ghost use Rattle.jc_view.specs.Lookups.{utf8_at, passes};
 ghost use Rattle.jc_file.specs.FormatRules.{are_constant_flags, constant_kind_of, names_other, misfits, breaks_f15, breaks_f16, breaks_f17, breaks_f25};
 ghost use Rattle.jc_view.specs.Attributes.{values_of};
 
+use crate::fault::FormatRule;
 use crate::rules::access_flags::{
     ENUM, FINAL, PRIVATE, PROTECTED, PUBLIC, STATIC, TRANSIENT, VOLATILE, has, has_two_accesses,
 };
 use crate::rules::class::is_interface;
-use crate::fault::FormatRule;
 use crate::rules::lookups::is_entry;
 use crate::rules::recognised::has_two;
 use crate::text_table::TextTable;
 use jc_view::{Attribute, AttributeKind, ConstantKind, Member, index_at};
 
 /// Whether a field breaks a rule over fields; no other rule is broken by one.
-#[tactic(auto, unfolding(crate::specs::RuleTests::field_breaks))]
+#[tactic(auto, unfolding(crate::specs::inside::RuleTests::field_breaks))]
 pub(crate) fn field_breaks(texts: &TextTable, rule: FormatRule, field: &Member) -> bool
     requires class { field.now.class ≡ texts.now }
     requires holder { field.now.member.holder ≡ holders.Field }

@@ -1,7 +1,7 @@
 //! What an index into the constants leads to.
 
 ghost use Rattle.std.specs.Prelude.{◌≡◌};
-ghost use Rattle.jc_view.specs.Lookups.{is_kind, is_entry, name_and_type, signature_entry, name_and_type_at, name_of, descriptor_of};
+ghost use Rattle.jc_view.specs.Lookups.{is_kind, is_entry, name_and_type, signature_entry, name_and_type_at, name_at, descriptor_at, name_of};
 ghost use Rattle.jc_view.specs.Lent.{constant_of};
 
 use crate::text_table::{Text, TextTable};
@@ -54,18 +54,25 @@ fn name_and_type_at(
     name_and_type(class.constant(index.0)?)
 }
 
-/// The name that a reference gives.
-pub(crate) fn name_of<'a>(texts: &TextTable<'_, 'a>, constant: Constant) -> Option<Text<'a>>
-    ensures { result ≡ name_of texts.now (constant_of constant.entry) }
+/// The name that the `NameAndType` of an index gives.
+pub(crate) fn name_at<'a>(texts: &TextTable<'_, 'a>, entry: ConstantIndex) -> Option<Text<'a>>
+    ensures { result ≡ name_at texts.now entry }
 {
-    let (name, _) = name_and_type_at(texts.class(), signature_entry(constant)?)?;
+    let (name, _) = name_and_type_at(texts.class(), entry)?;
     texts.text(name)
 }
 
-/// The descriptor that a reference gives.
-pub(crate) fn descriptor_of<'a>(texts: &TextTable<'_, 'a>, constant: Constant) -> Option<Text<'a>>
-    ensures { result ≡ descriptor_of texts.now (constant_of constant.entry) }
+/// The descriptor that the `NameAndType` of an index gives.
+pub(crate) fn descriptor_at<'a>(texts: &TextTable<'_, 'a>, entry: ConstantIndex) -> Option<Text<'a>>
+    ensures { result ≡ descriptor_at texts.now entry }
 {
-    let (_, descriptor) = name_and_type_at(texts.class(), signature_entry(constant)?)?;
+    let (_, descriptor) = name_and_type_at(texts.class(), entry)?;
     texts.text(descriptor)
+}
+
+/// The name that a reference gives.
+pub(crate) fn name_of<'a>(texts: &TextTable<'_, 'a>, reference: Constant) -> Option<Text<'a>>
+    ensures { result ≡ name_of texts.now (constant_of reference.entry) }
+{
+    name_at(texts, signature_entry(reference)?)
 }

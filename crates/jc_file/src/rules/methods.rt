@@ -5,18 +5,18 @@ ghost use Rattle.std.specs.List.{list_all, list_any};
 ghost use Rattle.jc_view.specs.declared.attribute_kind.Holder.TheVariants as holders;
 ghost use Rattle.jc_view.specs.declared.constant_pool.ConstantKind.TheVariants as kinds;
 ghost use Rattle.jc_view.specs.AttributeReading.{code_in, exceptions_in};
-ghost use Rattle.jc_file.specs.RuleTests.{method_breaks};
+ghost use Rattle.jc_file.specs.inside.RuleTests.{method_breaks};
 ghost use Rattle.jc_view.specs.Lookups.{is_entry, lacks, passes};
 ghost use Rattle.jc_base.specs.DescriptorTests.{method_type_of};
 ghost use Rattle.jc_file.specs.FormatRules.{fits_slots, is_named_clinit, is_named_init, has_more_than_abstract, are_bad_interface_flags, has_more_than_constructor, breaks_f19, breaks_f20, breaks_f21, breaks_f23, breaks_f24, breaks_f26};
 ghost use Rattle.jc_view.specs.Attributes.{codes_of, exceptions_of};
 
+use crate::fault::FormatRule;
 use crate::rules::access_flags::{
     ABSTRACT, BRIDGE, FINAL, NATIVE, PRIVATE, PROTECTED, PUBLIC, STATIC, STRICT, SYNCHRONIZED, has,
     has_two_accesses,
 };
 use crate::rules::class::is_interface;
-use crate::fault::FormatRule;
 use crate::rules::lookups::is_entry;
 use crate::rules::recognised::{has_one, has_two};
 use crate::text_table::{Text, TextTable};
@@ -25,7 +25,7 @@ use jc_base::Cursor;
 use jc_view::{AttributeKind, ClassView, ConstantKind, Indexes, Member, read_indexes};
 
 /// Whether a method breaks a rule over methods; no other rule is broken by one.
-#[tactic(auto, unfolding(crate::specs::RuleTests::method_breaks))]
+#[tactic(auto, unfolding(crate::specs::inside::RuleTests::method_breaks))]
 pub(crate) fn method_breaks(texts: &TextTable, rule: FormatRule, method: &Member) -> bool
     requires class { method.now.class ≡ texts.now }
     requires holder { method.now.member.holder ≡ holders.Method }

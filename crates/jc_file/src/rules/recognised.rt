@@ -2,7 +2,7 @@
 
 ghost use Rattle.std.specs.Prelude.{◌≡◌, length, nat_le, nat_lt};
 ghost use Rattle.jc_view.specs.Attributes.{of_kind};
-ghost use Rattle.jc_file.specs.Recognised.{GivesOfKind};
+ghost use Rattle.jc_file.specs.inside.Recognised.{GivesOfKind};
 
 use jc_view::{Attribute, AttributeKind, Attributes, Member};
 

@@ -2,14 +2,14 @@
 use Rattle.std.proofs.Common.{◌≡◌, ℕ, zero, suc, ◌+◌, ◌*◌, ◌≤◌, cond, eqb, List, [], ◌∷◌, ◌++◌, length, take, drop, Option, Some, None, option_and_then, unwrap_or, refl, sym, ap, subst, ◌∙◌, append_assoc, arith, length-append}
 use Rattle.std.specs.List.{flat_map, AllByRecursion, Contains}
 use Rattle.std.specs.Option.{option_map_or}
-use Rattle.std.proofs.lemmas.List.{take_at, drop_at, drop-drop, take-append-drop, append-nil, length-take, drop-append-le}
+use Rattle.std.proofs.lemmas.List.{take_at, drop_at, drop-drop, take-append-drop, append-nil, length-take, length-take-le, length-drop, drop-append-le, take-append-le}
 use Rattle.jc_base.specs.Endian.{big_bytes, big_number}
 use Rattle.jc_view.specs.declared.attribute_kind.Holder.{Holder}
 use Rattle.jc_view.specs.declared.attribute_kind.Holder.TheVariants as holders
 use Rattle.jc_view.specs.declared.attribute_kind.AttributeKind.TheVariants as kinds
 use Rattle.jc_view.specs.ConstantPool.{constant_bytes, index_bytes}
 use Rattle.jc_view.specs.ClassFile.{ClassFile, Attribute, Member, counted, attribute_bytes, member_bytes, head_bytes, layout, FitsClassFile, FitsAttribute, FitsMember}
-use Rattle.jc_view.specs.Places.{PlacedAttribute, PlacedMember, attributes_from, members_from, fields_place, methods_place, attributes_place, fields_in, methods_in, attributes_in, member_attributes, HasBytesAt}
+use Rattle.jc_view.specs.Places.{PlacedAttribute, PlacedMember, attributes_from, members_from, fields_place, methods_place, attributes_place, fields_in, methods_in, attributes_in, member_attributes, HasBytesAt, HasInstructionsAt}
 use Rattle.jc_view.specs.Reading.{after, after_sized, sized_value, after_each, each_value, after_table, table_value, after_attribute, attribute_value}
 use Rattle.jc_view.specs.Attributes.{Code, is_recognised, code_front, handler_bytes, code_attributes}
 use Rattle.jc_view.specs.AttributeReading.{code_length, after_instructions, after_handlers, after_code, handlers_at, code_attributes_at, handler_value, code_value, code_in, code_of, with_inner, all_attributes}
@@ -167,6 +167,15 @@ code_cut xs rest e =
       begin = sym (drop-drop 2 (length (code_front (code_value xs))) xs) ∙ ap (drop 2) (whole ∙ sym is_ys);
     }
 
+-- there are as many bytes as its front and its instructions take
+code_fits : (xs rest : List ℕ) → after_code xs ≡ Some rest → 8 + code_length xs ≤ length xs
+unfolding after_code
+code_fits xs rest e =
+    let at_attributes = then_some (option_and_then after_handlers (after_instructions xs)) (after_table after_attribute) rest e in
+    let at_handlers = then_some (after_instructions xs) after_handlers at_attributes.0 at_attributes.1 in
+    let instructions = are_instructions xs at_handlers.0 at_handlers.1 in
+    omega (arith, instructions.size)
+
 some_is : {A : Type 0} (x y : A) → Some x ≡ Some y → x ≡ y
 some_is x y e = cc
 
@@ -186,6 +195,27 @@ code_lies b a here k e =
     ap (λ (m : ℕ). drop m b) place ∙ sym (drop-drop (front + 2) begin b) ∙ ap (drop (front + 2)) over ∙ drop-append-le (front + 2) xs rest inside.long ∙ ap (λ (t : List ℕ). t ++ rest) inside.begin in
     subst (λ (j : Code). AllByRecursion (HasBytesAt b) (code_attributes a j)) is_k
     (read_from b holders.Code (big_number 2 (code_attributes_at xs)) (begin + front + 2) table inside.last rest inside.read stands)
+
+-- the instructions of a Code
+pub instructions_lie : (c : ClassFile) (a : PlacedAttribute) (k : Code) → HasBytesAt (layout c) a → code_of c a ≡ Some k → HasInstructionsAt (layout c) a.place k.code
+instructions_lie c a k here e =
+    let b = layout c in
+    let xs = a.attribute.bytes in
+    let n = code_length xs in
+    let read = (test_is (is_recognised c kinds.Code a.holder a.attribute) (code_in xs) k e).1 in
+    let behind = then_some (after_code xs) (λ rest. cond (eqb (length rest) 0) (Some (code_value xs)) None) k read in
+    let is_k : code_value xs ≡ k = some_is (code_value xs) k (test_is (eqb (length behind.0) 0) (Some (code_value xs)) k behind.2).1 in
+    let fits = code_fits xs behind.0 behind.1 in
+    let rest = drop (length xs) (drop (a.place + 6) b) in
+    let over : drop (a.place + 6) b ≡ xs ++ rest = sym (take-append-drop (length xs) (drop (a.place + 6) b)) ∙ ap (λ (t : List ℕ). t ++ rest) here in
+    let place : a.place + 14 ≡ (a.place + 6) + 8 = omega arith in
+    let stands : drop (a.place + 14) b ≡ drop 8 xs ++ rest =
+    ap (λ (m : ℕ). drop m b) place ∙ sym (drop-drop 8 (a.place + 6) b) ∙ ap (drop 8) over ∙ drop-append-le 8 xs rest (omega (arith, fits)) in
+    let room : n ≤ length (drop 8 xs) = omega (arith, fits, length-drop 8 xs) in
+    let long : length (take n (drop 8 xs)) ≡ n = length-take-le n (drop 8 xs) room in
+    let part : take (length (take n (drop 8 xs))) (drop (a.place + 14) b) ≡ take n (drop 8 xs) =
+    ap (λ (m : ℕ). take m (drop (a.place + 14) b)) long ∙ ap (take n) stands ∙ take-append-le n (drop 8 xs) rest room in
+    subst (λ (j : Code). HasInstructionsAt b a.place j.code) is_k part
 
 inner_lie : (b : List ℕ) (c : ClassFile) (a : PlacedAttribute) → HasBytesAt b a → (found : Option Code) → code_of c a ≡ found → AllByRecursion (HasBytesAt b) (option_map_or (code_attributes a) found [])
 inner_lie b c a here None e = tt

@@ -5,8 +5,8 @@ use Rattle.jc_base.specs.Cursor.{Reading}
 use Rattle.jc_base.specs.Endian.{big_bytes, big_number}
 use Rattle.jc_view.specs.declared.attribute_kind.Holder.{Holder}
 use Rattle.jc_view.specs.declared.attribute_kind.Holder.TheVariants as holders
-use Rattle.jc_view.specs.declared.layout_reader.Parts as skip
-use Rattle.jc_view.specs.declared.layout_reader.Tables.{Tables}
+use Rattle.jc_view.specs.declared.layout_reader.ClassParts as reader
+use Rattle.jc_view.specs.declared.layout_reader.ClassTables.{ClassTables}
 use Rattle.jc_view.specs.declared.table.Table.{Table}
 use Rattle.jc_view.specs.ConstantPool.{constant_bytes, index_bytes, index_value}
 use Rattle.jc_view.specs.ClassFile.{ClassFile, Attribute, Member, counted, attribute_bytes, member_bytes, magic, head_bytes, tail_bytes, layout, all_slots}
@@ -92,7 +92,7 @@ pub record Holds (c : ClassFile) (xs : List ℕ) : Type 0 where
   pub methods : c.methods ≡ members_in (methods_at xs)
   pub attributes : c.attributes ≡ attributes_in (attributes_at xs)
 
-module _ (c : ClassFile) (xs rest : List ℕ) (end : ℕ) (t : Tables) (h : Holds c xs) (tail : HasTail xs rest) (none : length rest ≡ 0) (long : end ≡ length (layout c))
+module _ (c : ClassFile) (xs rest : List ℕ) (end : ℕ) (t : ClassTables) (h : Holds c xs) (tail : HasTail xs rest) (none : length rest ≡ 0) (long : end ≡ length (layout c))
     (interfaces : StandsAt (drop 6 xs) end t.interfaces) (fields : StandsAt (fields_at xs) end t.fields) (methods : StandsAt (methods_at xs) end t.methods) (attributes : StandsAt (attributes_at xs) end t.attributes) where
   attributes_long : length (attributes_at xs) ≡ length (counted attribute_bytes c.attributes)
   attributes_long = omega (arith, none, table_length after_attribute attribute_value attribute_bytes attribute_length (attributes_at xs) rest tail.attributes, ap (λ (as_ : List Attribute). length (counted attribute_bytes as_)) h.attributes)
@@ -136,7 +136,7 @@ holds_value : (b : List ℕ) (places : List (Option ℕ)) (tail : ℕ) → Holds
 unfolding class_value
 holds_value b places tail = record { interfaces = refl; fields = refl; methods = refl; attributes = refl }
 
-pub tables_found : (b : List ℕ) (p : skip.Parts) (new : Reading) → IsBytes b → parts_at (start b) ≡ Ok (parts p, new) → TablesAtTail (start b) p → AreTables (class_value b p.offsets.items p.tail) p.tables
+pub tables_found : (b : List ℕ) (p : reader.ClassParts) (new : Reading) → IsBytes b → parts_at (start b) ≡ Ok (parts p, new) → TablesAtTail (start b) p → AreTables (class_value b p.offsets.items p.tail) p.tables
 tables_found b p new fits read at_tail =
     let over = gone_over b (parts p, new) read in
     let found = parts_found b (parts p, new) fits read in

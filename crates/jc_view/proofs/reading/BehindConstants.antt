@@ -2,7 +2,7 @@
 use Rattle.std.proofs.Common.{◌≡◌, ℕ, ◌^◌, ◌<◌, ◌+◌, List, [], ◌++◌, length, drop, Option, Some, option_and_then, unwrap_or, sym, ap, subst, ◌∙◌, append_assoc, arith}
 use Rattle.jc_base.specs.Cursor.{Reading}
 use Rattle.jc_base.specs.Endian.{big_number}
-use Rattle.jc_view.specs.declared.layout_reader.Tables.{Tables}
+use Rattle.jc_view.specs.declared.layout_reader.ClassTables.{ClassTables}
 use Rattle.jc_view.specs.declared.table.Table.{Table}
 use Rattle.jc_view.specs.declared.constant_pool.ConstantIndex.{ConstantIndex}
 use Rattle.jc_view.specs.ConstantPool.{index_bytes, IsIndex, index_value}
@@ -169,7 +169,7 @@ stands after_it tail old new xs t same keeps h =
       place = omega (arith, place, keeps, ap length same);
     }
 
-pub has_tables : (tail a b c d new : Reading) (t : Tables) → after 6 tail.rest ≡ Some a.rest → KeepsEnd tail a → LendsTable after_indexes a (Some t.interfaces) b → LendsTable after_members b (Some t.fields) c → LendsTable after_members c (Some t.methods) d
+pub has_tables : (tail a b c d new : Reading) (t : ClassTables) → after 6 tail.rest ≡ Some a.rest → KeepsEnd tail a → LendsTable after_indexes a (Some t.interfaces) b → LendsTable after_members b (Some t.fields) c → LendsTable after_members c (Some t.methods) d
     → LendsTable (after_table after_attribute) d (Some t.attributes) new → HasTables tail t
 has_tables tail a b c d new t numbers keeps interfaces fields methods attributes =
     let xs = tail.rest in

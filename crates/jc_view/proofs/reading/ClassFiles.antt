@@ -14,7 +14,8 @@ use Rattle.jc_view.proofs.reading.FirstConstant.{first_byte, kind_of_its_tag, ok
 use Rattle.jc_view.proofs.reading.Pools.{pool_bytes, TakesPool, pool_take, entries_front}
 use Rattle.jc_view.proofs.reading.Constants.{body_again}
 use Rattle.jc_view.proofs.reading.BehindConstants.{tail_takes, FitsTail, tail_again}
-use Rattle.jc_view.proofs.reading.Heads.{IsGoodHead, behind}
+use Rattle.jc_view.proofs.reading.Heads.{behind}
+use Rattle.jc_view.specs.Refusal.{HasHead}
 
 -- ---- constants at their places
 
@@ -132,7 +133,7 @@ by_class b places tail rest h = record { fits = h.fits; parts = h.parts; are_pla
 same_with : (minor major : ℕ) {a x : List Constant} {b y : List ℕ} → a ≡ x → b ≡ y → class_with minor major a b ≡ class_with minor major x y
 same_with minor major e f i = class_with minor major (e i) (f i)
 
-module _ (b : List ℕ) (fits : IsBytes b) (head : IsGoodHead b) (places : List (Option ℕ)) (new : Reading) (rest : List ℕ)
+module _ (b : List ℕ) (fits : IsBytes b) (head : HasHead b) (places : List (Option ℕ)) (new : Reading) (rest : List ℕ)
     (t : TakesPool (big_number 2 (drop 8 b) - 1) (record { place = 10; rest = drop 10 b }) places new) (behind_tail : after_tail new.rest ≡ Some rest) where
   abbrev the_class : ClassFile
   the_class = class_with (big_number 2 (drop 4 b)) (big_number 2 (drop 6 b)) t.constants new.rest
@@ -197,7 +198,7 @@ front_ok : (front : List (Option ℕ)) (read : Result (List (Option ℕ) × Read
 front_ok front (Ok x) found e = (x, refl, ok_is _ found e)
 front_ok front (Err d) found e = absurd cc
 
-pub whole_takes : (b : List ℕ) (pool : List (Option ℕ) × Reading) (rest : List ℕ) → IsBytes b → IsGoodHead b
+pub whole_takes : (b : List ℕ) (pool : List (Option ℕ) × Reading) (rest : List ℕ) → IsBytes b → HasHead b
     → pool_at (big_number 2 (drop 8 b)) (record { place = 10; rest = drop 10 b }) ≡ Ok pool → after_tail pool.1.rest ≡ Some rest
     → IsWhole b pool.0 pool.1.place rest × EndsPool b pool.1
 whole_takes b pool rest fits head read behind_tail =
@@ -212,7 +213,7 @@ whole_takes b pool rest fits head read behind_tail =
 -- ---- what was spelled is read again
 
 pub record IsWholeAgain (c : ClassFile) (rest : List ℕ) : Type 0 where
-  pub head : IsGoodHead (layout c ++ rest)
+  pub head : HasHead (layout c ++ rest)
   pub pool : pool_at (big_number 2 (drop 8 (layout c ++ rest))) (record { place = 10; rest = drop 10 (layout c ++ rest) }) ≡ Ok (None ∷ places_of 10 c.constants, record { place = 10 + length (pool_bytes c.constants); rest = tail_bytes c ++ rest })
   pub behind_ten : drop 10 (layout c ++ rest) ≡ pool_bytes c.constants ++ (tail_bytes c ++ rest)
   pub tail : after_tail (tail_bytes c ++ rest) ≡ Some rest
@@ -244,7 +245,7 @@ module _ (c : ClassFile) (rest : List ℕ) (fits : FitsClassFile c) where
   the_head : IsHeadAgain magic c.minor c.major count behind_head
   the_head = head_again magic c.minor c.major count behind_head (omega arith) fits.minor (major_fits c.major c.minor fits.version) fits.indexes
 
-  good : IsGoodHead text
+  good : HasHead text
   good = record {
     long = the_head.long;
     is_magic = the_head.is_magic;
@@ -279,7 +280,7 @@ module _ (c : ClassFile) (rest : List ℕ) (fits : FitsClassFile c) where
 
   pub whole_again : IsWholeAgain c rest
   whole_again = record {
-    head = subst (λ (b : List ℕ). IsGoodHead b) (sym regrouped) good;
+    head = subst (λ (b : List ℕ). HasHead b) (sym regrouped) good;
     pool = ap (λ (b : List ℕ). pool_at (big_number 2 (drop 8 b)) (record { place = 10; rest = drop 10 b })) regrouped ∙ the_pool;
     behind_ten = ap (drop 10) regrouped ∙ the_head.behind_all;
     tail = (tail_again c rest fits_tail).left;

@@ -9,6 +9,7 @@ use Rattle.jc_view.specs.ClassFile.{magic, IsAcceptedVersion}
 use Rattle.jc_view.specs.Reading.{after, is_accepted, head_at}
 use Rattle.jc_view.proofs.reading.BigEndian.{after_front}
 use Rattle.jc_view.proofs.reading.Tables.{after_short}
+use Rattle.jc_view.specs.Refusal.{HasHead}
 
 -- ---- tests and facts
 
@@ -103,19 +104,13 @@ head_no_count : (b : List ℕ) → 8 ≤ length b → length b < 10 → big_numb
 unfolding head_at
 head_no_count b long lt is_magic version = rw (behind 0 4 b (omega arith), eq-eqb _ _ is_magic, behind 4 2 b (omega arith), behind 6 2 b long, is_accepted_of _ _ version, cut 8 2 b long lt) refl
 
-pub record IsGoodHead (b : List ℕ) : Type 0 where
-  pub long : 10 ≤ length b
-  pub is_magic : big_number 4 b ≡ magic
-  pub version : version_in b
-  pub count : big_number 2 (drop 8 b) ≢ 0
-
 -- a front has no head, or it is wrong, or it is good
 pub data HeadIs (b : List ℕ) : Type 0 where
   too_short : length b < 10 → head_at (start b) ≡ Err errors.Short → HeadIs b
   no_magic : 4 ≤ length b → big_number 4 b ≢ magic → HeadIs b
   no_version : 8 ≤ length b → big_number 4 b ≡ magic → ¬ version_in b → HeadIs b
   no_count : 10 ≤ length b → big_number 4 b ≡ magic → version_in b → big_number 2 (drop 8 b) ≡ 0 → HeadIs b
-  good : IsGoodHead b → HeadIs b
+  good : HasHead b → HeadIs b
 
 pub head_is : (b : List ℕ) → HeadIs b
 head_is b =
@@ -142,5 +137,5 @@ head_is b =
       ]
     ]
 
-pub good_head : (b : List ℕ) → IsGoodHead b → head_at (start b) ≡ Ok (big_number 2 (drop 8 b), record { place = 10; rest = drop 10 b })
+pub good_head : (b : List ℕ) → HasHead b → head_at (start b) ≡ Ok (big_number 2 (drop 8 b), record { place = 10; rest = drop 10 b })
 good_head b h = head_good b h.long h.is_magic h.version h.count

@@ -9,8 +9,8 @@ use Rattle.jc_view.specs.declared.parse_error.ParseError.{ParseError}
 use Rattle.jc_view.specs.declared.parse_error.ParseError.TheVariants as errors
 use Rattle.jc_view.specs.ConstantPool as pool
 use Rattle.jc_view.specs.ConstantPool.{Constant, class_entry, utf8_text}
-use Rattle.jc_view.specs.ClassFile.{ClassFile, constant_at}
-use Rattle.jc_view.specs.Reading.{◌>>=◌, or_refusal, Parts, parts_at, class_value}
+use Rattle.jc_view.specs.ClassFile.{ClassFile, constant_at, class_text_at}
+use Rattle.jc_view.specs.Reading.{◌>>=◌, or_refusal, PartsRead, parts_at, class_value}
 use Rattle.jc_view.specs.Refusal.{IsNamed, IsRefusal}
 use Rattle.jc_view.specs.Outcome.{NamesClass, class_text, name_in, class_named}
 use Rattle.jc_view.proofs.reading.BigEndian.{IsBytes, then_some}
@@ -19,18 +19,11 @@ use Rattle.jc_view.proofs.refusals.FirstRefusal.{is_refusal}
 use Rattle.jc_view.proofs.refusals.Layouts.{is_read, one_class, one_refusal, none_applies}
 use Rattle.jc_view.proofs.refusals.Parsing.{parsed, unnamed}
 use Rattle.jc_view.proofs.reading.Heads.{start}
+use Rattle.jc_view.proofs.places.ConstantPlaces.{class_text_is, class_text_from}
 
 -- the test for class names, from the base
 abbrev pub Decided : Type 0
 Decided = (b : List ℕ) → ((is_class_text b ≡ true) → IsClassName b) × (IsClassName b → (is_class_text b ≡ true))
-
-is_class_constant : (constant : Constant) (entry : ConstantIndex) → class_entry constant ≡ Some entry → constant ≡ pool.Class entry
-is_class_constant (pool.Class n) entry e = ap (λ (x : ConstantIndex). pool.Class x) cc
-is_class_constant constant entry e = absurd cc
-
-is_text_constant : (constant : Constant) (text : List ℕ) → utf8_text constant ≡ Some text → constant ≡ pool.Utf8 text
-is_text_constant (pool.Utf8 t) text e = ap (λ (x : List ℕ). pool.Utf8 x) cc
-is_text_constant constant text e = absurd cc
 
 class_text_some : (text name : List ℕ) → class_text text ≡ Some name → (is_class_text text ≡ true) × (text ≡ name)
 class_text_some text name e =
@@ -42,16 +35,14 @@ class_text_some text name e =
 named_from : Decided → (c : ClassFile) (name : List ℕ) → name_in c ≡ Some name → IsNamed c name
 unfolding name_in
 named_from decided c name e =
-    let a = then_some (constant_at c c.this_class) (λ class. option_and_then (λ entry. option_and_then (λ text. option_and_then class_text (utf8_text text)) (constant_at c entry)) (class_entry class)) name e in
-    let b = then_some (class_entry a.0) (λ entry. option_and_then (λ text. option_and_then class_text (utf8_text text)) (constant_at c entry)) name a.2 in
-    let d = then_some (constant_at c b.0) (λ text. option_and_then class_text (utf8_text text)) name b.2 in
-    let t = then_some (utf8_text d.0) class_text name d.2 in
-    let n = class_text_some t.0 name t.2 in
+    let a = then_some (class_text_at c c.this_class) class_text name e in
+    let found = class_text_is c c.this_class a.0 a.1 in
+    let n = class_text_some a.0 name a.2 in
     record {
-      entry = b.0;
-      class = a.1 ∙ ap (λ (x : Constant). Some x) (is_class_constant a.0 b.0 b.1);
-      text = d.1 ∙ ap (λ (x : Constant). Some x) (is_text_constant d.0 t.0 t.1) ∙ ap (λ (x : List ℕ). Some (pool.Utf8 x)) n.1;
-      class_name = subst IsClassName n.1 ((decided t.0).0 n.0);
+      entry = found.0;
+      class = found.1;
+      text = found.2 ∙ ap (λ (x : List ℕ). Some (pool.Utf8 x)) n.1;
+      class_name = subst IsClassName n.1 ((decided a.0).0 n.0);
     }
 
 name_from : Decided → (c : ClassFile) (name : List ℕ) → IsNamed c name → name_in c ≡ Some name
@@ -59,11 +50,7 @@ unfolding name_in
 name_from decided c name h =
     let test : is_class_text name ≡ true = (decided name).1 h.class_name in
     let last : class_text name ≡ Some name = rw test refl in
-    ap (option_and_then (λ class. option_and_then (λ entry. option_and_then (λ text. option_and_then class_text (utf8_text text)) (constant_at c entry)) (class_entry class))) h.class
-    ∙ ap (option_and_then (λ text. option_and_then class_text (utf8_text text))) h.text ∙ last
-
-class_in : Parts × Reading → List ℕ → ClassFile
-class_in found b = class_value b found.0.places found.0.tail
+    ap (option_and_then class_text) (class_text_from c c.this_class h.entry name h.class h.text) ∙ last
 
 pub named_is : Decided → (b name : List ℕ) → IsBytes b → class_named b ≡ Ok name → NamesClass b name
 unfolding class_named

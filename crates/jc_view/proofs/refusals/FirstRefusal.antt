@@ -7,18 +7,18 @@ use Rattle.jc_base.specs.Endian.{big_number}
 use Rattle.jc_view.specs.declared.parse_error.ParseError.{ParseError}
 use Rattle.jc_view.specs.declared.parse_error.ParseError.TheVariants as errors
 use Rattle.jc_view.specs.ClassFile.{ClassFile, magic, layout}
-use Rattle.jc_view.specs.Reading.{◌>>=◌, or_refusal, unless, moved_to, with_front, pool_at, entries_from, head_at, after_tail, Numbers, numbers_value, last_at, Parts, parts_at, class_value}
-use Rattle.jc_view.specs.Refusal.{IsLayoutOf, pool_size, Applies, refusal_number, IsRefusal}
+use Rattle.jc_view.specs.Reading.{◌>>=◌, or_refusal, unless, moved_to, with_front, pool_at, entries_from, head_at, after_tail, NumbersRead, numbers_value, last_at, PartsRead, parts_at, class_value}
+use Rattle.jc_view.specs.Refusal.{IsLayoutOf, pool_size, Applies, refusal_number, IsRefusal, HasHead}
 use Rattle.jc_view.specs.inside.ConstantPlaces.{Holds}
 use Rattle.jc_view.proofs.reading.BigEndian.{IsBytes, IsBytes-drop}
 use Rattle.jc_view.proofs.reading.Steps.{bind_ok, bind_err, or_ok, or_err, unless_ok, unless_err, err_is}
 use Rattle.jc_view.proofs.reading.FirstConstant.{ok_is}
 use Rattle.jc_view.proofs.reading.PoolStops.{Stops, pool_stops, tag_stops, wide_stops, front_err}
-use Rattle.jc_view.proofs.reading.Heads.{start, IsGoodHead, good_head, too_short, no_magic, no_version, no_count, good, head_is, head_magic, head_version, head_count, not_false, not_true}
+use Rattle.jc_view.proofs.reading.Heads.{start, good_head, too_short, no_magic, no_version, no_count, good, head_is, head_magic, head_version, head_count, not_false, not_true}
 use Rattle.jc_view.proofs.reading.ClassFiles.{whole_takes}
 use Rattle.jc_view.proofs.refusals.Fronts.{old_pool, count_in, parts_of, follow, begins, no_front}
 
-pool_applies : (b : List ℕ) (e : ParseError) → IsGoodHead b → parts_at (start b) ≡ Err e → Stops (pool_size b) (old_pool b) e → Applies e b
+pool_applies : (b : List ℕ) (e : ParseError) → HasHead b → parts_at (start b) ≡ Err e → Stops (pool_size b) (old_pool b) e → Applies e b
 pool_applies b (errors.Tag at) head h stops = (head.long, stops.0, stops.1)
 pool_applies b (errors.Wide at) head h stops = (head.long, stops.0, stops.1, stops.2)
 pool_applies b errors.Short head h stops = no_front b h
@@ -36,7 +36,7 @@ pool_err : (front : List (Option ℕ)) (read : Result (List (Option ℕ) × Read
 pool_err front (Ok x) e h = absurd cc
 pool_err front (Err d) e h = ap (λ (x : ParseError). Err x) (err_is d e h)
 
-trailing_applies : (b : List ℕ) (pool : List (Option ℕ) × Reading) (rest : List ℕ) → IsBytes b → IsGoodHead b → pool_at (count_in b) (old_pool b) ≡ Ok pool → after_tail pool.1.rest ≡ Some rest → length rest ≢ 0
+trailing_applies : (b : List ℕ) (pool : List (Option ℕ) × Reading) (rest : List ℕ) → IsBytes b → HasHead b → pool_at (count_in b) (old_pool b) ≡ Ok pool → after_tail pool.1.rest ≡ Some rest → length rest ≢ 0
     → Applies (errors.Trailing (moved_to pool.1 rest).place) b
 trailing_applies b pool rest fits head read behind some =
     let w = whole_takes b pool rest fits head read behind in
@@ -47,7 +47,7 @@ trailing_applies b pool rest fits head read behind some =
     let front : layout c ≡ take at b = sym (ap (take at) w.0.parts ∙ take_at (layout c) rest at (sym here)) in
     (omega (arith, here, len), c, record { fits = w.0.fits; bytes = front })
 
-pub good_of : (b : List ℕ) (found : ℕ × Reading) → head_at (start b) ≡ Ok found → IsGoodHead b × ◌≡◌ {A = ℕ × Reading} (count_in b, old_pool b) found
+pub good_of : (b : List ℕ) (found : ℕ × Reading) → head_at (start b) ≡ Ok found → HasHead b × ◌≡◌ {A = ℕ × Reading} (count_in b, old_pool b) found
 good_of b found e =
     elim (head_is b) [
       | too_short lt h ↦ absurd (let impossible = sym h ∙ e in cc)
@@ -67,7 +67,7 @@ head_applies b e h stops =
       | good head ↦ absurd (let impossible = sym (good_head b head) ∙ stops in cc)
     ]
 
-abbrev last_of : (pool : List (Option ℕ) × Reading) → Numbers × Reading → Result (Parts × Reading) ParseError
+abbrev last_of : (pool : List (Option ℕ) × Reading) → NumbersRead × Reading → Result (PartsRead × Reading) ParseError
 last_of pool last = Ok (record { places = pool.0; tail = pool.1.place; numbers = last.0 }, last.1)
 
 pub parts_apply : (b : List ℕ) (e : ParseError) → IsBytes b → parts_at (start b) ≡ Err e → Applies e b
@@ -99,11 +99,11 @@ parts_apply b e fits h =
 
 -- ---- what was gone over is a class file
 
-pub record IsFound (b : List ℕ) (found : Parts) : Type 0 where
+pub record IsFound (b : List ℕ) (found : PartsRead) : Type 0 where
   pub holds : Holds b found.places (class_value b found.places found.tail)
   pub numbers : found.numbers ≡ numbers_value (drop found.tail b)
 
-found_by : (b : List ℕ) (pool : List (Option ℕ) × Reading) (rest : List ℕ) → IsBytes b → IsGoodHead b → pool_at (count_in b) (old_pool b) ≡ Ok pool → after_tail pool.1.rest ≡ Some rest → length rest ≡ 0 → IsFound b (parts_of pool)
+found_by : (b : List ℕ) (pool : List (Option ℕ) × Reading) (rest : List ℕ) → IsBytes b → HasHead b → pool_at (count_in b) (old_pool b) ≡ Ok pool → after_tail pool.1.rest ≡ Some rest → length rest ≡ 0 → IsFound b (parts_of pool)
 found_by b pool rest fits head read behind none =
     let w = whole_takes b pool rest fits head read behind in
     let c = class_value b pool.0 pool.1.place in
@@ -114,16 +114,16 @@ found_by b pool rest fits head read behind none =
     }
 
 -- bytes that were gone over to their end
-pub record IsGoneOver (b : List ℕ) (found : Parts × Reading) : Type 0 where
-  pub head : IsGoodHead b
+pub record IsGoneOver (b : List ℕ) (found : PartsRead × Reading) : Type 0 where
+  pub head : HasHead b
   pub pool : List (Option ℕ) × Reading
   pub read : pool_at (count_in b) (old_pool b) ≡ Ok pool
   pub rest : List ℕ
   pub behind : after_tail pool.1.rest ≡ Some rest
   pub none : length rest ≡ 0
-  pub same : ◌≡◌ {A = Parts × Reading} (parts_of pool, moved_to pool.1 rest) found
+  pub same : ◌≡◌ {A = PartsRead × Reading} (parts_of pool, moved_to pool.1 rest) found
 
-pub gone_over : (b : List ℕ) (found : Parts × Reading) → parts_at (start b) ≡ Ok found → IsGoneOver b found
+pub gone_over : (b : List ℕ) (found : PartsRead × Reading) → parts_at (start b) ≡ Ok found → IsGoneOver b found
 unfolding parts_at last_at
 gone_over b found h =
     let a = bind_ok (head_at (start b)) (λ head. pool_at head.0 head.1 >>= λ pool. last_at pool.1 >>= λ last. last_of pool last) found h in
@@ -134,7 +134,7 @@ gone_over b found h =
     let last = bind_ok (last_at pool.0.1) (last_of pool.0) found pool.2 in
     let rest = bind_ok (or_refusal (after_tail pool.0.1.rest) errors.Short) (λ rest. unless (not (eqb (length rest) 0)) (errors.Trailing (moved_to pool.0.1 rest).place) >>= λ at_end. Ok (numbers_value pool.0.1.rest, moved_to pool.0.1 rest)) last.0 last.1 in
     let end = bind_ok (unless (not (eqb (length rest.0) 0)) (errors.Trailing (moved_to pool.0.1 rest.0).place)) (λ at_end. Ok (numbers_value pool.0.1.rest, moved_to pool.0.1 rest.0)) last.0 rest.2 in
-    let same_last : ◌≡◌ {A = Numbers × Reading} (numbers_value pool.0.1.rest, moved_to pool.0.1 rest.0) last.0 = ok_is _ _ end.2 in
+    let same_last : ◌≡◌ {A = NumbersRead × Reading} (numbers_value pool.0.1.rest, moved_to pool.0.1 rest.0) last.0 = ok_is _ _ end.2 in
     record {
       head = g.0;
       pool = pool.0;
@@ -142,13 +142,13 @@ gone_over b found h =
       rest = rest.0;
       behind = or_ok _ _ _ rest.1;
       none = eqb-true _ _ (not_false _ (unless_ok _ _ _ end.1));
-      same = ap (λ (x : Numbers × Reading). (record { places = pool.0.0; tail = pool.0.1.place; numbers = x.0 }, x.1)) same_last ∙ ok_is _ _ last.2;
+      same = ap (λ (x : NumbersRead × Reading). (record { places = pool.0.0; tail = pool.0.1.place; numbers = x.0 }, x.1)) same_last ∙ ok_is _ _ last.2;
     }
 
-pub parts_found : (b : List ℕ) (found : Parts × Reading) → IsBytes b → parts_at (start b) ≡ Ok found → IsFound b found.0
+pub parts_found : (b : List ℕ) (found : PartsRead × Reading) → IsBytes b → parts_at (start b) ≡ Ok found → IsFound b found.0
 parts_found b found fits h =
     let g = gone_over b found h in
-    subst (λ (x : Parts × Reading). IsFound b x.0) g.same (found_by b g.pool g.rest fits g.head g.read g.behind g.none)
+    subst (λ (x : PartsRead × Reading). IsFound b x.0) g.same (found_by b g.pool g.rest fits g.head g.read g.behind g.none)
 
 -- ---- nothing earlier applies
 
@@ -160,14 +160,14 @@ head_refused : (b : List ℕ) (e : ParseError) → head_at (start b) ≡ Err e �
 unfolding parts_at
 head_refused b e h = rw h refl
 
-pool_refused : (b : List ℕ) (e : ParseError) → IsGoodHead b → entries_from (pool_size b) false (old_pool b) ≡ Err e → parts_at (start b) ≡ Err e
+pool_refused : (b : List ℕ) (e : ParseError) → HasHead b → entries_from (pool_size b) false (old_pool b) ≡ Err e → parts_at (start b) ≡ Err e
 unfolding parts_at
 pool_refused b e head h =
     let read : pool_at (count_in b) (old_pool b) ≡ Err e = front_err (None ∷ []) _ e h in
     rw (good_head b head, read) refl
 
 -- either one of the first three is answered, or the head is good
-by_head : (b : List ℕ) (f : ParseError) → 10 ≤ length b → 3 ≤ refusal_number f → (IsGoodHead b → Refused f b) → Refused f b
+by_head : (b : List ℕ) (f : ParseError) → 10 ≤ length b → 3 ≤ refusal_number f → (HasHead b → Refused f b) → Refused f b
 by_head b f long later then_so =
     elim (head_is b) [
       | too_short lt h ↦ absurd (omega arith)
@@ -237,7 +237,7 @@ is_refusal b e fits h =
     let a = parts_apply b e fits h in
     record { applies = a; first = λ f lt there. none_before b e f h (below_eight b e h a) lt there }
 
-none_before_name : (b : List ℕ) (found : Parts × Reading) (c : ClassFile) (f : ParseError) → parts_at (start b) ≡ Ok found → IsLayoutOf c b → refusal_number f < 8 → ¬ Applies f b
+none_before_name : (b : List ℕ) (found : PartsRead × Reading) (c : ClassFile) (f : ParseError) → parts_at (start b) ≡ Ok found → IsLayoutOf c b → refusal_number f < 8 → ¬ Applies f b
 none_before_name b found c errors.Magic h here lt there = let r = earlier b errors.Magic (omega arith) there in let impossible = sym r.1 ∙ h in absurd cc
 none_before_name b found c errors.Version h here lt there = let r = earlier b errors.Version (omega arith) there in let impossible = sym r.1 ∙ h in absurd cc
 none_before_name b found c errors.Count h here lt there = let r = earlier b errors.Count (omega arith) there in let impossible = sym r.1 ∙ h in absurd cc
@@ -250,5 +250,5 @@ none_before_name b found c errors.NoName h here lt there = absurd (omega arith)
 none_before_name b found c errors.NoMemory h here lt there = absurd (omega arith)
 
 -- a class file without a name
-pub no_name : (b : List ℕ) (found : Parts × Reading) → parts_at (start b) ≡ Ok found → Applies errors.NoName b → IsRefusal b errors.NoName
+pub no_name : (b : List ℕ) (found : PartsRead × Reading) → parts_at (start b) ≡ Ok found → Applies errors.NoName b → IsRefusal b errors.NoName
 no_name b found h a = record { applies = a; first = λ f lt there. none_before_name b found a.0 f h a.1 lt there }

@@ -7,10 +7,10 @@ use Rattle.jc_base.specs.Endian.{big_number}
 use Rattle.jc_view.specs.declared.parse_error.ParseError.TheVariants as errors
 use Rattle.jc_view.specs.ClassFile.{ClassFile, layout, tail_bytes, FitsClassFile}
 use Rattle.jc_view.specs.Places.{places_of}
-use Rattle.jc_view.specs.Reading.{moved_to, pool_at, after_tail, numbers_value, last_at, Parts, parts_at}
-use Rattle.jc_view.specs.Refusal.{Applies}
+use Rattle.jc_view.specs.Reading.{moved_to, pool_at, after_tail, numbers_value, last_at, PartsRead, parts_at}
+use Rattle.jc_view.specs.Refusal.{Applies, HasHead}
 use Rattle.jc_view.proofs.reading.Pools.{pool_bytes}
-use Rattle.jc_view.proofs.reading.Heads.{start, IsGoodHead, good_head}
+use Rattle.jc_view.proofs.reading.Heads.{start, good_head}
 use Rattle.jc_view.proofs.reading.ClassFiles.{IsWholeAgain, whole_again}
 
 abbrev pub old_pool : List ℕ → Reading
@@ -19,10 +19,10 @@ old_pool b = record { place = 10; rest = drop 10 b }
 abbrev pub count_in : List ℕ → ℕ
 count_in b = big_number 2 (drop 8 b)
 
-abbrev pub parts_of : List (Option ℕ) × Reading → Parts
+abbrev pub parts_of : List (Option ℕ) × Reading → PartsRead
 parts_of pool = record { places = pool.0; tail = pool.1.place; numbers = numbers_value pool.1.rest }
 
-module _ (b : List ℕ) (pool : List (Option ℕ) × Reading) (rest : List ℕ) (head : IsGoodHead b) (read : pool_at (count_in b) (old_pool b) ≡ Ok pool) (behind : after_tail pool.1.rest ≡ Some rest) where
+module _ (b : List ℕ) (pool : List (Option ℕ) × Reading) (rest : List ℕ) (head : HasHead b) (read : pool_at (count_in b) (old_pool b) ≡ Ok pool) (behind : after_tail pool.1.rest ≡ Some rest) where
   at_end : length rest ≡ 0 → parts_at (start b) ≡ Ok (parts_of pool, moved_to pool.1 rest)
   unfolding parts_at last_at
   at_end none = rw (good_head b head, read, behind, eq-eqb _ _ none) refl
@@ -51,7 +51,7 @@ module _ (c : ClassFile) (rest : List ℕ) (fits : FitsClassFile c) where
   unfolding pool_of
   tail_read = again.tail
 
-  good_text : IsGoodHead text
+  good_text : HasHead text
   unfolding text
   good_text = again.head
 
@@ -73,7 +73,7 @@ unfolding text
 follow c rest fits some = more_follow c rest fits some
 
 -- bytes that begin with a class file are one, or have more behind it
-pub begins : (c : ClassFile) (rest : List ℕ) → FitsClassFile c → ((found : Parts × Reading) × (parts_at (start (layout c ++ rest)) ≡ Ok found)) ⊎ (parts_at (start (layout c ++ rest)) ≡ Err (errors.Trailing (length (layout c))))
+pub begins : (c : ClassFile) (rest : List ℕ) → FitsClassFile c → ((found : PartsRead × Reading) × (parts_at (start (layout c ++ rest)) ≡ Ok found)) ⊎ (parts_at (start (layout c ++ rest)) ≡ Err (errors.Trailing (length (layout c))))
 unfolding text
 begins c rest fits =
     elim (cases_eq (length rest) 0) [

@@ -7,7 +7,7 @@ use Rattle.jc_view.specs.declared.parse_error.ParseError.{ParseError}
 use Rattle.jc_view.specs.declared.parse_error.ParseError.TheVariants as errors
 use Rattle.jc_view.specs.ClassFile.{ClassFile, layout, FitsClassFile}
 use Rattle.jc_view.specs.Places.{places_of}
-use Rattle.jc_view.specs.Reading.{entries_from, Parts, parts_at, class_value}
+use Rattle.jc_view.specs.Reading.{entries_from, PartsRead, parts_at, class_value}
 use Rattle.jc_view.specs.Refusal.{IsLayoutOf, pool_size, Applies, refusal_number, IsRefusal, IsReadable, IsNamed}
 use Rattle.jc_view.proofs.reading.FirstConstant.{ok_is}
 use Rattle.jc_view.proofs.reading.Pools.{pool_bytes}
@@ -31,7 +31,7 @@ one_layout c d rest fits_c fits_d same =
     let of_c = read_again c fits_c in
     let found = ok_is _ _ (sym of_c.1 ∙ ap (λ (xs : List ℕ). parts_at (start xs)) texts ∙ of_d.1) in
     let classes : class_value (layout c ++ []) (None ∷ places_of 10 c.constants) (10 + length (pool_bytes c.constants)) ≡ class_value (layout d ++ []) (None ∷ places_of 10 d.constants) (10 + length (pool_bytes d.constants)) =
-    ap (λ (xs : List ℕ). class_value xs (None ∷ places_of 10 c.constants) (10 + length (pool_bytes c.constants))) texts ∙ ap (λ (p : Parts × Reading). class_value (layout d ++ []) p.0.places p.0.tail) found in
+    ap (λ (xs : List ℕ). class_value xs (None ∷ places_of 10 c.constants) (10 + length (pool_bytes c.constants))) texts ∙ ap (λ (p : PartsRead × Reading). class_value (layout d ++ []) p.0.places p.0.tail) found in
     (empty, sym (whole_again c [] fits_c).same ∙ classes ∙ (whole_again d [] fits_d).same)
 
 -- the place in a refusal, and the refusal of a number and a place
@@ -103,7 +103,7 @@ one_refusal b e f h k =
     sym (by_its_number e) ∙ ap (by_number (refusal_number e)) (place_is_told b e h.applies) ∙ ap (λ (n : ℕ). by_number n (told b n)) same
     ∙ sym (ap (by_number (refusal_number f)) (place_is_told b f k.applies)) ∙ by_its_number f
 
-pub is_read : (b : List ℕ) (c : ClassFile) → IsLayoutOf c b → (found : Parts × Reading) × (parts_at (start b) ≡ Ok found)
+pub is_read : (b : List ℕ) (c : ClassFile) → IsLayoutOf c b → (found : PartsRead × Reading) × (parts_at (start b) ≡ Ok found)
 is_read b c here =
     let again = read_again c here.fits in
     let text : layout c ++ [] ≡ b = append-nil (layout c) ∙ here.bytes in

@@ -4,7 +4,7 @@ use Rattle.jc_base.specs.Cursor.{Reading}
 use Rattle.jc_view.specs.declared.parse_error.ParseError.{ParseError}
 use Rattle.jc_view.specs.declared.parse_error.ParseError.TheVariants as errors
 use Rattle.jc_view.specs.ClassFile.{ClassFile}
-use Rattle.jc_view.specs.Reading.{Parts, parts_at, class_value}
+use Rattle.jc_view.specs.Reading.{PartsRead, parts_at, class_value}
 use Rattle.jc_view.specs.Refusal.{IsLayoutOf, IsNamed, IsReadable, IsRefusal}
 use Rattle.jc_view.specs.inside.Outcomes.{Fails}
 use Rattle.jc_view.specs.inside.Tables.{HasVersion}
@@ -31,7 +31,7 @@ no_refusal b e readable h =
     ]
 
 -- what was found in the bytes
-pub record IsParsed (b : List ℕ) (found : Parts) : Type 0 where
+pub record IsParsed (b : List ℕ) (found : PartsRead) : Type 0 where
   pub holds : Holds b found.places (class_value b found.places found.tail)
   pub flags : found.numbers.flags ≡ (class_value b found.places found.tail).flags
   pub this_class : found.numbers.this_class ≡ (class_value b found.places found.tail).this_class
@@ -43,7 +43,7 @@ pub version_is : (b : List ℕ) (v : Version) (places : List (Option ℕ)) (tail
 unfolding class_value
 version_is b v places tail h = (h.major, h.minor)
 
-pub parsed : (b : List ℕ) (found : Parts) (new : Reading) → IsBytes b → parts_at (start b) ≡ Ok (found, new) → IsParsed b found
+pub parsed : (b : List ℕ) (found : PartsRead) (new : Reading) → IsBytes b → parts_at (start b) ≡ Ok (found, new) → IsParsed b found
 unfolding class_value
 parsed b found new fits h =
     let f = parts_found b (found, new) fits h in
@@ -55,7 +55,7 @@ parsed b found new fits h =
       is_layout = record { fits = f.holds.fits; bytes = f.holds.layout };
     }
 
-pub unnamed : (b : List ℕ) (found : Parts) (new : Reading) → IsBytes b → parts_at (start b) ≡ Ok (found, new)
+pub unnamed : (b : List ℕ) (found : PartsRead) (new : Reading) → IsBytes b → parts_at (start b) ≡ Ok (found, new)
     → ((name : List ℕ) → ¬ IsNamed (class_value b found.places found.tail) name) → IsRefusal b errors.NoName
 unnamed b found new fits h none = no_name b (found, new) h (class_value b found.places found.tail, (parsed b found new fits h).is_layout, none)
 

@@ -1,11 +1,12 @@
 -- The class file that a view shows.
 use Rattle.std.specs.Prelude.{◌≡◌}
 use Rattle.jc_view.specs.declared.attribute_kind.Holder.TheVariants as holders
-use Rattle.jc_view.specs.declared.layout_reader.Tables.{Tables}
+use Rattle.jc_view.specs.declared.layout_reader.ClassTables.{ClassTables}
 use Rattle.jc_view.specs.declared.view.ClassView.TheInside.{Inside}
 use Rattle.jc_view.specs.ClassFile.{ClassFile}
 use Rattle.jc_view.specs.Reading.{after, after_member, after_attribute, class_value}
 use Rattle.jc_view.specs.ConstantPool.{index_value}
+use Rattle.jc_view.specs.Outcome.{AreBytes}
 use Rattle.jc_view.specs.Refusal.{IsNamed}
 use Rattle.jc_view.specs.inside.ConstantPlaces.{Holds}
 use Rattle.jc_view.specs.Places.{fields_in, methods_in, attributes_in}
@@ -16,7 +17,7 @@ abbrev pub class_shown : Inside → ClassFile
 class_shown v = class_value v.bytes.now v.offsets.items v.tail
 
 -- the tables are those of a class file
-pub record AreTables (c : ClassFile) (t : Tables) : Type 0 where
+pub record AreTables (c : ClassFile) (t : ClassTables) : Type 0 where
   pub whole_interfaces : IsWhole (after 2) t.interfaces
   pub whole_fields : IsWhole after_member t.fields
   pub whole_methods : IsWhole after_member t.methods
@@ -27,6 +28,7 @@ pub record AreTables (c : ClassFile) (t : Tables) : Type 0 where
   pub attributes : placed_attributes holders.Class t.attributes ≡ attributes_in c
 
 pub record IsViewed (v : Inside) : Type 0 where
+  pub are_bytes : AreBytes v.bytes.now
   pub holds : Holds v.bytes.now v.offsets.items (class_shown v)
   pub major : v.version.major ≡ (class_shown v).major
   pub minor : v.version.minor ≡ (class_shown v).minor

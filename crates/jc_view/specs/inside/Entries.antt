@@ -60,9 +60,6 @@ LendsMember old (Some m) new =
 
 -- ---- code
 
-abbrev pub handler_of : ExceptionHandler → Handler
-handler_of h = record { start_pc = h.start_pc; end_pc = h.end_pc; handler_pc = h.handler_pc; catch_type = h.catch_type }
-
 -- what stands before the exception table: the greatest depths, and the instructions
 abbrev pub instructions : Instructions → ℕ × ℕ × List ℕ
 instructions i = (i.max_stack, i.max_locals, i.bytes.now)

@@ -4,6 +4,7 @@ use Rattle.jc_base.specs.Cursor.{Reading}
 use Rattle.jc_view.specs.declared.parse_error.ParseError.{ParseError}
 use Rattle.jc_view.specs.declared.parse_error.ParseError.TheVariants as errors
 use Rattle.jc_view.specs.Moves.{KeepsEnd}
+use Rattle.jc_view.specs.Reading.{head_at}
 
 -- Some: the cursor stands behind the part; None: the part is cut
 abbrev pub MovesBehind : {X : Type 0} → (List ℕ → Option (List ℕ)) → Reading → Option X → Reading → Type 0
@@ -19,3 +20,7 @@ Fails e read = read ≡ Err e
 abbrev pub Takes : {X A : Type 0} → (X → A) → (Reading → Result (A × Reading) ParseError) → Reading → Result X ParseError → Reading → Type 0
 Takes view read old (Ok x) new = read old ≡ Ok (view x, new)
 Takes view read old (Err e) new = Fails e (read old)
+
+-- what stands before the constants is there and is good
+abbrev pub HasGoodHead : Reading → Type 0
+HasGoodHead old = (head : ℕ × Reading) × (head_at old ≡ Ok head)

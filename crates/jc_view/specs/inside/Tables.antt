@@ -1,10 +1,10 @@
--- Tables that a cursor goes over, and where those of a class file stand.
+-- ClassTables that a cursor goes over, and where those of a class file stand.
 use Rattle.std.specs.Prelude.{◌≡◌, ℕ, ◌+◌, List, length, drop, Option, Some, None, Ok, IsSome}
 use Rattle.jc_base.specs.Cursor.{Reading, past}
 use Rattle.jc_base.specs.Endian.{big_number}
 use Rattle.jc_view.specs.declared.table.Table.{Table}
-use Rattle.jc_view.specs.declared.layout_reader.Parts.{Parts}
-use Rattle.jc_view.specs.declared.layout_reader.Tables.{Tables}
+use Rattle.jc_view.specs.declared.layout_reader.ClassParts.{ClassParts}
+use Rattle.jc_view.specs.declared.layout_reader.ClassTables.{ClassTables}
 use Rattle.jc_view.specs.declared.version.Version.{Version}
 use Rattle.jc_view.specs.Reading.{after_each, each_value, fields_at, methods_at, attributes_at, head_at, pool_at}
 use Rattle.jc_view.specs.Moves.{KeepsEnd}
@@ -34,14 +34,14 @@ pub record HasVersion (old : Reading) (v : Version) : Type 0 where
   pub minor : v.minor ≡ big_number 2 (drop 4 old.rest)
 
 -- where the tables stand behind the constants
-pub record HasTables (tail : Reading) (t : Tables) : Type 0 where
+pub record HasTables (tail : Reading) (t : ClassTables) : Type 0 where
   pub interfaces : StandsAt (drop 6 tail.rest) (tail.place + length tail.rest) t.interfaces
   pub fields : StandsAt (fields_at tail.rest) (tail.place + length tail.rest) t.fields
   pub methods : StandsAt (methods_at tail.rest) (tail.place + length tail.rest) t.methods
   pub attributes : StandsAt (attributes_at tail.rest) (tail.place + length tail.rest) t.attributes
 
 -- the tables stand behind the constants that begin where a class file is read
-pub record TablesAtTail (old : Reading) (p : Parts) : Type 0 where
+pub record TablesAtTail (old : Reading) (p : ClassParts) : Type 0 where
   pub head : ℕ × Reading
   pub head_is : head_at old ≡ Ok head
   pub pool : List (Option ℕ) × Reading

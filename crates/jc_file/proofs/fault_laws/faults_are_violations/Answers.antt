@@ -62,9 +62,9 @@ by_rule t reads c rules.F24 k bytes = numbers_decided c.methods (λ m there. f24
 by_rule t reads c rules.F25 k bytes = numbers_decided c.fields (λ f there. f25_decided t c f) k
 by_rule t reads c rules.F26 k bytes = numbers_decided c.methods (λ m there. f26_decided reads c m (method_have c bytes m there)) k
 by_rule t reads c rules.F27 k bytes = only_decided (f27_decided reads c (class_have c bytes)) k
-by_rule t reads c rules.F28 k bytes = attributes_decided c (breaks_f28 c) (BreaksF28 c) (f28_decided c) k
-by_rule t reads c rules.F29 k bytes = attributes_decided c (breaks_f29 c) (BreaksF29 c) (f29_decided c) k
-by_rule t reads c rules.F30 k bytes = attributes_decided c (breaks_f30 c) (BreaksF30 c) (f30_decided c) k
+by_rule t reads c rules.F28 k bytes = attributes_decided reads c bytes (breaks_f28 c) (BreaksF28 c) (f28_decided c) k
+by_rule t reads c rules.F29 k bytes = attributes_decided reads c bytes (breaks_f29 c) (BreaksF29 c) (f29_decided c) k
+by_rule t reads c rules.F30 k bytes = attributes_decided reads c bytes (breaks_f30 c) (BreaksF30 c) (f30_decided c) k
 
 pub returns : goal.returns
 returns c = by_rule (texts c) (reads_of c)

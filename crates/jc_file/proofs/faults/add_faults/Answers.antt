@@ -3,7 +3,7 @@ use Rattle.jc_file.specs.declared.fault.FormatRule.{FormatRule}
 use Rattle.jc_file.specs.declared.fault.FormatRule.TheVariants as rules
 use Rattle.jc_view.specs.ClassFile.{ClassFile}
 use Rattle.jc_file.specs.Faults.{attributes_with, faults_against}
-use Rattle.jc_file.specs.RuleTests.{attribute_breaks, fault_at}
+use Rattle.jc_file.specs.inside.RuleTests.{attribute_breaks, fault_at}
 use Rattle.jc_file.proofs.faults.add_faults.Goals as goal
 
 against : (c : ClassFile) (rule : FormatRule) → (rule ≡ rules.F28) ⊎ ((rule ≡ rules.F29) ⊎ (rule ≡ rules.F30)) → map (fault_at rule) (attributes_with c (attribute_breaks rule c)) ≡ faults_against c rule

@@ -1,8 +1,8 @@
-use Rattle.jc_view.specs.declared.layout_reader.Tables.{Tables}
+use Rattle.jc_view.specs.declared.layout_reader.ClassTables.{ClassTables}
 use Rattle.jc_view.proofs.reading.BehindConstants.{has_tables}
 use Rattle.jc_view.proofs.layout_reader.read_tail.Goals as goal
 
-abbrev read : (c : goal.In_ok-attributes) → Tables
+abbrev read : (c : goal.In_ok-attributes) → ClassTables
 read c = record { interfaces = c.in_ok-interfaces.interfaces; fields = c.in_ok-fields.fields; methods = c.in_ok-methods.methods; attributes = c.in_ok-attributes.attributes }
 
 pub returns-clause-tables : goal.returns-clause-tables

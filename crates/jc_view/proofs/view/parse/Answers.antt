@@ -3,8 +3,9 @@ use Rattle.std.proofs.lemmas.Result.{err_from_is_err_and}
 use Rattle.jc_base.specs.Cursor.{Reading}
 use Rattle.jc_view.specs.declared.parse_error.ParseError.TheVariants.{NoMemory, NoName}
 use Rattle.jc_view.specs.inside.PartsFound.{parts}
-use Rattle.jc_view.specs.Reading.{parts_at, class_value}
-use Rattle.jc_view.specs.Refusal.{IsRefusal}
+use Rattle.jc_view.specs.Reading.{head_at, parts_at, class_value}
+use Rattle.jc_view.specs.Refusal.{HasHead, IsRefusal}
+use Rattle.jc_view.proofs.refusals.FirstRefusal.{good_of}
 use Rattle.jc_view.specs.inside.Outcomes.{Fails}
 use Rattle.jc_view.specs.inside.Tables.{HasVersion, TablesAtTail}
 use Rattle.jc_view.specs.inside.ClassView.{AreTables}
@@ -75,6 +76,7 @@ invariant_of-result c =
     let begins = at_start c.new-cursor.result b c.new-cursor.ensures.place c.new-cursor.ensures.rest in
     let version = version_is b p.version items p.tail (subst (λ (r : Reading). HasVersion r p.version) begins c.in_ok-parts.ensures.version) in
     record {
+      are_bytes = λ i. omega (arith, c.type_inv.bytes i);
       holds = found_here.holds;
       major = version.0;
       minor = version.1;
@@ -85,5 +87,26 @@ invariant_of-result c =
       is_name = c.in-Some.ensures.some class (holds_at b c.deref.result.now items class c.deref.ensures.value found_here.holds) (sym found_here.this_class);
     }
 
+pub returns-clause-named : goal.returns-clause-named
+returns-clause-named c =
+    let b = c.args.bytes.now in
+    let p = c.in_ok-parts.parts in
+    let items = p.offsets.items in
+    let here = found c in
+    (c.in-Some.name.now, c.in-Some.ensures.some (class_value b items p.tail) (holds_at b c.deref.result.now items (class_value b items p.tail) c.deref.ensures.value here.holds) (sym here.this_class))
+
 pub returns-clause-ok : goal.returns-clause-ok
 returns-clause-ok c = (found c).is_layout
+
+-- memory was refused behind a good head
+memory_at : (c : goal.After-from_residual) → c.in_err-parts.field-0.0 ≡ NoMemory → HasHead c.args.bytes.now
+memory_at c memory =
+    let b = c.args.bytes.now in
+    let behind = c.in_err-parts.ensures.memory memory in
+    let begins = at_start c.new-cursor.result b c.new-cursor.ensures.place c.new-cursor.ensures.rest in
+    (good_of b behind.0 (subst (λ (r : Reading). head_at r ≡ Ok behind.0) begins behind.1)).0
+
+pub returns-in_err-parts-clause-memory : goal.returns-in_err-parts-clause-memory
+returns-in_err-parts-clause-memory c =
+    let p = err_from_is_err_and c.from_residual.result c.from_residual.ensures.1 in
+    rw (p.1, p.2) (memory_at c)

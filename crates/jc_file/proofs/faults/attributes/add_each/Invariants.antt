@@ -1,5 +1,5 @@
 use Rattle.std.proofs.Common.{◌≡◌, ◌++◌}
-use Rattle.jc_file.specs.AttributeFaults.{faults_in}
+use Rattle.jc_file.specs.inside.AttributeFaults.{faults_in}
 use Rattle.jc_file.proofs.faults.attributes.add_each.Given as goal
 
 -- the faults so far, and those of the attributes that are left, are all

@@ -1,7 +1,7 @@
 use Rattle.std.proofs.Common.{◌≡◌, ◌++◌}
 use Rattle.std.specs.List.{flat_map}
 use Rattle.jc_view.specs.AttributeReading.{with_inner}
-use Rattle.jc_file.specs.AttributeFaults.{faults_in}
+use Rattle.jc_file.specs.inside.AttributeFaults.{faults_in}
 use Rattle.jc_file.proofs.faults.attributes.add_with_inner.Given as goal
 
 -- the faults so far, and those of the attributes that are left, are all

@@ -1,7 +1,7 @@
 use Rattle.std.proofs.Common.{◌≡◌, ◌++◌, map}
 use Rattle.jc_file.specs.Faults.{those_with}
 use Rattle.jc_file.specs.FormatRules.{breaks_f14}
-use Rattle.jc_file.specs.RuleTests.{fault_at, numbered}
+use Rattle.jc_file.specs.inside.RuleTests.{fault_at, numbered}
 use Rattle.jc_file.proofs.faults.class.add_interface_faults.Given as goal
 
 -- the faults so far, and those of the interfaces that are left, are all

@@ -1,7 +1,7 @@
 use Rattle.std.proofs.Common.{◌≡◌, ◌-◌, ◌++◌, false}
 use Rattle.std.specs.Option.{option_map_or}
 use Rattle.jc_view.specs.ClassFile.{constant_at}
-use Rattle.jc_file.specs.RuleTests.{constant_breaks, found}
+use Rattle.jc_file.specs.inside.RuleTests.{constant_breaks, found}
 use Rattle.jc_file.proofs.faults.constants.add_constant_faults.Given as goal
 
 abbrev pub invariant-loop-index : goal.invariant-loop-index

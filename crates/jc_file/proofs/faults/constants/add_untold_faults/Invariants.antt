@@ -2,7 +2,7 @@ use Rattle.std.proofs.Common.{◌≡◌, ◌-◌, ◌++◌, false}
 use Rattle.std.specs.Option.{option_map_or}
 use Rattle.jc_view.specs.ClassFile.{constant_at}
 use Rattle.jc_file.specs.FormatRules.{breaks_f11}
-use Rattle.jc_file.specs.RuleTests.{found}
+use Rattle.jc_file.specs.inside.RuleTests.{found}
 use Rattle.jc_file.proofs.faults.constants.add_untold_faults.Given as goal
 
 abbrev pub invariant-loop-index : goal.invariant-loop-index

@@ -1,7 +1,7 @@
 use Rattle.std.proofs.Common.{length, ◌<◌, ◌^◌, rules, ◌≡◌, ◌++◌, ◌+◌, refl, ap, sym, map}
 use Rattle.std.specs.Iterator.Adapters.{enumerate_source, enumerate_count}
 use Rattle.jc_view.specs.declared.attribute_kind.Holder.TheVariants as holders
-use Rattle.jc_file.specs.RuleTests.{field_breaks, fault_at}
+use Rattle.jc_file.specs.inside.RuleTests.{field_breaks, fault_at}
 use Rattle.jc_view.specs.Places.{fields_in, fields_place}
 use Rattle.jc_file.proofs.orders.NumberedItems.{those_with-numbered}
 use Rattle.jc_file.proofs.kinds.PlacedMembers.{members_of_all, are_of_all, few_placed}

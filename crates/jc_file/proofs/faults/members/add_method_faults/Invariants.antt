@@ -2,7 +2,7 @@ use Rattle.std.proofs.Common.{◌≡◌, ◌++◌, map}
 use Rattle.std.specs.Iterator.Adapters.{enumerate_source, enumerate_count}
 use Rattle.jc_view.specs.declared.attribute_kind.Holder.TheVariants as holders
 use Rattle.jc_file.specs.Faults.{those_with}
-use Rattle.jc_file.specs.RuleTests.{method_breaks, fault_at, numbered}
+use Rattle.jc_file.specs.inside.RuleTests.{method_breaks, fault_at, numbered}
 use Rattle.jc_file.proofs.kinds.PlacedMembers.{members_of, AreOf}
 use Rattle.jc_file.proofs.faults.members.add_method_faults.Given as goal
 

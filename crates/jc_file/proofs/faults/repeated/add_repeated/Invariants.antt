@@ -1,6 +1,6 @@
 use Rattle.std.proofs.Common.{◌++◌, map}
 use Rattle.jc_file.specs.Faults.{repeated}
-use Rattle.jc_file.specs.RuleTests.{fault_at}
+use Rattle.jc_file.specs.inside.RuleTests.{fault_at}
 use Rattle.jc_file.proofs.repeats.MembersPassed.{HavePassed}
 use Rattle.jc_file.proofs.faults.repeated.add_repeated.Given as goal
 

@@ -2,7 +2,7 @@ use Rattle.std.proofs.Common.{◌≡◌, ◌∙◌, None, Some, cond, unwrap_or,
 use Rattle.std.specs.Option.{option_copied}
 use Rattle.std.proofs.lemmas.Map.Text.{btree_map_updates_str}
 use Rattle.jc_base.specs.Bytes.{same_bytes}
-use Rattle.jc_file.specs.TextNumbers.{number_in}
+use Rattle.jc_file.specs.inside.TextNumbers.{number_in}
 use Rattle.jc_file.proofs.faults.text_numbers.number_text.Goals as goal
 
 pub returns-clause-ok : goal.returns-clause-ok

@@ -3,7 +3,7 @@ use Rattle.std.specs.List.{list_any}
 use Rattle.jc_view.specs.declared.attribute_kind.AttributeKind.TheVariants as kinds
 use Rattle.jc_file.specs.FormatRules.{misfits}
 use Rattle.jc_view.specs.Attributes.{values_of}
-use Rattle.jc_file.specs.Recognised.{any_of}
+use Rattle.jc_file.specs.inside.Recognised.{any_of}
 use Rattle.jc_file.proofs.rules.fields.has_other_type.Given as goal
 
 -- one of those that are left misfits if one of all does

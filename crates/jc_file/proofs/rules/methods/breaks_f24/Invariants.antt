@@ -2,7 +2,7 @@ use Rattle.std.proofs.Common.{◌≡◌, is_none}
 use Rattle.jc_view.specs.declared.attribute_kind.AttributeKind.TheVariants as kinds
 use Rattle.jc_view.specs.AttributeReading.{code_in}
 use Rattle.jc_file.specs.FormatRules.{breaks_f24}
-use Rattle.jc_file.specs.Recognised.{any_of}
+use Rattle.jc_file.specs.inside.Recognised.{any_of}
 use Rattle.jc_file.proofs.rules.methods.breaks_f24.Given as goal
 
 -- one of those that are left is not well-formed if one of all is not

@@ -5,7 +5,7 @@ use Rattle.jc_view.specs.declared.constant_pool.ConstantKind.TheVariants as kind
 use Rattle.jc_view.specs.AttributeReading.{exceptions_in}
 use Rattle.jc_view.specs.Lookups.{is_entry, lacks}
 use Rattle.jc_view.specs.Attributes.{exceptions_of}
-use Rattle.jc_file.specs.Recognised.{any_of}
+use Rattle.jc_file.specs.inside.Recognised.{any_of}
 use Rattle.jc_file.proofs.rules.methods.has_bad_exceptions.Given as goal
 
 -- one of those that are left is no list of classes if one of all is none

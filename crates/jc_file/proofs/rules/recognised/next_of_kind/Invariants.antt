@@ -1,5 +1,5 @@
 use Rattle.std.proofs.Common.{◌≡◌, length}
-use Rattle.jc_file.specs.Recognised.{of_kind_left}
+use Rattle.jc_file.specs.inside.Recognised.{of_kind_left}
 use Rattle.jc_file.proofs.rules.recognised.next_of_kind.Given as goal
 
 abbrev pub decreases-loop-attribute : goal.decreases-loop-attribute

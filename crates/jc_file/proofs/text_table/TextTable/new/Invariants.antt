@@ -1,6 +1,6 @@
 use Rattle.std.proofs.Common.{◌≡◌, map}
 use Rattle.std.specs.List.{range_with_len}
-use Rattle.jc_file.specs.TextKinds.{kinds_at}
+use Rattle.jc_file.specs.inside.TextKinds.{kinds_at}
 use Rattle.jc_file.proofs.text_table.TextTable.new.Given as goal
 
 abbrev pub invariant-loop-index : goal.invariant-loop-index

@@ -2,7 +2,7 @@ use Rattle.std.proofs.Common.{◌≡◌, ◌∷◌, length, rules, sym, ap, ◌�
 use Rattle.jc_view.specs.Reading.{after, each_value}
 use Rattle.jc_view.specs.Attributes.{Handler}
 use Rattle.jc_view.specs.AttributeReading.{handler_value}
-use Rattle.jc_view.specs.inside.Entries.{handler_of}
+use Rattle.jc_view.specs.Lent.{handler_of}
 use Rattle.jc_view.proofs.places.Entries.{none_left, one_is_there, step}
 use Rattle.jc_view.proofs.code.HandlersIterator.next.Goals as goal
 

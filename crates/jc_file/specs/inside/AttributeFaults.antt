@@ -4,7 +4,7 @@ use Rattle.jc_file.specs.declared.fault.Fault.{Fault}
 use Rattle.jc_file.specs.declared.fault.FormatRule.{FormatRule}
 use Rattle.jc_view.specs.ClassFile.{ClassFile}
 use Rattle.jc_view.specs.Places.{PlacedAttribute}
-use Rattle.jc_file.specs.RuleTests.{attribute_breaks, fault_at}
+use Rattle.jc_file.specs.inside.RuleTests.{attribute_breaks, fault_at}
 
 abbrev pub faults_in : FormatRule → ClassFile → List PlacedAttribute → List Fault
 faults_in rule c attributes = map (fault_at rule) (map (λ a. a.place) (filter (attribute_breaks rule c) attributes))
