@@ -6,6 +6,7 @@ use Rattle.jc_base.specs.Bytes.{same_bytes}
 use Rattle.jc_file.specs.declared.fault.Fault.{Fault}
 use Rattle.jc_file.specs.declared.fault.FormatRule.{FormatRule}
 use Rattle.jc_file.specs.declared.fault.FormatRule.TheVariants as rules
+use Rattle.jc_file.specs.declared.fault.TheConstants.FormatRule.{ALL}
 use Rattle.jc_view.specs.ConstantPool.{Constant}
 use Rattle.jc_view.specs.ClassFile.{Member, ClassFile, all_slots, constant_at}
 use Rattle.jc_view.specs.Lookups.{utf8_at}
@@ -89,17 +90,10 @@ places c rules.F28 = attributes_with c (breaks_f28 c)
 places c rules.F29 = attributes_with c (breaks_f29 c)
 places c rules.F30 = attributes_with c (breaks_f30 c)
 
--- the rules in their order
-abbrev pub format_rules : List FormatRule
-format_rules =
-    rules.F1 ∷ rules.F2 ∷ rules.F3 ∷ rules.F4 ∷ rules.F5 ∷ rules.F6 ∷ rules.F7 ∷ rules.F8 ∷ rules.F9 ∷ rules.F10
-    ∷ rules.F11 ∷ rules.F12 ∷ rules.F13 ∷ rules.F14 ∷ rules.F15 ∷ rules.F16 ∷ rules.F17 ∷ rules.F18 ∷ rules.F19 ∷ rules.F20
-    ∷ rules.F21 ∷ rules.F22 ∷ rules.F23 ∷ rules.F24 ∷ rules.F25 ∷ rules.F26 ∷ rules.F27 ∷ rules.F28 ∷ rules.F29 ∷ rules.F30 ∷ []
-
 -- the faults against a rule
 abbrev pub faults_against : ClassFile → FormatRule → List Fault
 faults_against c rule = map (λ place. record { rule = rule; place = place }) (places c rule)
 
--- all faults: by rule, and then by place
+-- all faults: by rule, in the order of the rules, and then by place
 unfoldable pub faults : ClassFile → List Fault
-faults c = flat_map (faults_against c) format_rules
+faults c = flat_map (faults_against c) ALL

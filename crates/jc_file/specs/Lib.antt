@@ -3,6 +3,7 @@ pub mod FormatRules
 pub mod Faults
 pub mod FaultOrder
 pub mod Violations
+pub mod Examples
 pub mod inside
 pub use Rattle.jc_base.specs.Bytes
 pub use Rattle.jc_base.specs.Cursor

@@ -1,7 +1,7 @@
 //! Laws of the format faults: functions without a body, whose contracts say what the tests of the
 //! rules mean.
 
-ghost use Rattle.std.specs.Prelude.{◌↔◌, ℕ, List, Contains};
+ghost use Rattle.std.specs.Prelude.{◌≡◌, [], ◌∷◌, ◌↔◌, ℕ, List, Contains};
 ghost use Rattle.jc_view.specs.declared.attribute_kind.AttributeKind.{AttributeKind};
 ghost use Rattle.jc_view.specs.declared.attribute_kind.Holder.{Holder};
 ghost use Rattle.jc_file.specs.declared.fault.FormatRule.{FormatRule};
@@ -12,6 +12,8 @@ ghost use Rattle.std.specs.List.Sorted.{IsStrictlySortedBy};
 ghost use Rattle.jc_file.specs.declared.fault.Fault.{Fault};
 ghost use Rattle.jc_file.specs.FaultOrder.{fault_cmp};
 ghost use Rattle.jc_file.specs.Faults.{faults, places};
+ghost use Rattle.jc_file.specs.Examples.{final_and_abstract, with_nameless_class, without_code};
+ghost use Rattle.jc_view.specs.Examples.{class_a_data};
 ghost use Rattle.jc_file.specs.Violations.{IsRecognised, Violates};
 
 use jc_base::{descriptors_are_decided, texts_are_decided};
@@ -36,4 +38,12 @@ pub fn attributes_are_recognised()
 pub fn faults_are_exact()
     ensures rising { (c : ClassFile) → IsStrictlySortedBy fault_cmp (faults c) }
     ensures exact { (c : ClassFile) (fault : Fault) → Contains (faults c) fault ↔ Contains (places c fault.rule) fault.place }
+{}
+
+/// The faults of a class file of 53 bytes, and of others near it.
+pub fn fault_examples()
+    ensures none { faults class_a_data ≡ [] }
+    ensures nameless { faults with_nameless_class ≡ record { rule = FormatRule.F1; place = 5 } ∷ [] }
+    ensures flags { faults final_and_abstract ≡ record { rule = FormatRule.F12; place = 0 } ∷ [] }
+    ensures code { faults without_code ≡ record { rule = FormatRule.F23; place = 0 } ∷ [] }
 {}

@@ -10,7 +10,9 @@ mod text_table;
 mod texts;
 
 pub use fault::{Fault, FormatRule};
-pub use fault_laws::{attributes_are_recognised, faults_are_exact, faults_are_violations};
+pub use fault_laws::{
+    attributes_are_recognised, fault_examples, faults_are_exact, faults_are_violations,
+};
 pub use faults::format_faults;
 pub use jc_view::{
     Attribute, AttributeKind, Attributes, ClassView, Code, Constant, ConstantIndex, ConstantKind,

@@ -15,11 +15,12 @@ use Rattle.jc_view.specs.ClassFile.{Member, ClassFile, all_slots, constant_at}
 use Rattle.jc_view.specs.Places.{PlacedAttribute}
 use Rattle.jc_view.specs.AttributeReading.{all_attributes}
 use Rattle.jc_file.specs.FormatRules.{breaks_f1, breaks_f2, breaks_f3, breaks_f4, breaks_f5, breaks_f6, breaks_f7, breaks_f8, breaks_f9, breaks_f10, breaks_f11, breaks_f12, breaks_f13, breaks_f14, breaks_f15, breaks_f16, breaks_f17, breaks_f19, breaks_f20, breaks_f21, breaks_f23, breaks_f24, breaks_f25, breaks_f26, breaks_f27, breaks_f28, breaks_f29, breaks_f30}
-use Rattle.jc_file.specs.Faults.{passing, constants_with, only_if, those_with, attributes_with, repeated, has_key, key_of, places, format_rules, faults_against, faults}
+use Rattle.jc_file.specs.Faults.{passing, constants_with, only_if, those_with, attributes_with, repeated, has_key, key_of, places, faults_against, faults}
 use Rattle.jc_file.specs.inside.RuleTests.{fault_at}
 use Rattle.jc_file.specs.FaultOrder.{rule_number, fault_cmp}
 use Rattle.jc_view.proofs.places.RisingLists.{RisesBy, rises_lower, rises-filter, rises-map, rises-range}
 use Rattle.jc_view.proofs.places.AttributePlaces.{place_of, all_rise, attributes_end}
+use Rattle.jc_file.specs.declared.fault.TheConstants.FormatRule.{ALL}
 use Rattle.jc_file.proofs.orders.Membership.{Has, has_from, from_has, has-map, has-from_map, has-flat_map, has-from_flat_map}
 
 -- ---- the places of a rule rise
@@ -136,16 +137,16 @@ sorted_rules c lo hi (r ∷ rs) h =
     (sorted_places r 0 rise.0 (places c r) rise.1)
     (sorted_rules c (rule_number r + 1) hi rs h.1)
 
-rules_rise : RisesBy rule_number 1 31 format_rules
+rules_rise : RisesBy rule_number 1 31 ALL
 rules_rise = (lit≤ tt, (lit≤ tt, (lit≤ tt, (lit≤ tt, (lit≤ tt, (lit≤ tt, (lit≤ tt, (lit≤ tt, (lit≤ tt, (lit≤ tt, (lit≤ tt, (lit≤ tt, (lit≤ tt, (lit≤ tt, (lit≤ tt, (lit≤ tt, (lit≤ tt, (lit≤ tt, (lit≤ tt, (lit≤ tt, (lit≤ tt, (lit≤ tt, (lit≤ tt, (lit≤ tt, (lit≤ tt, (lit≤ tt, (lit≤ tt, (lit≤ tt, (lit≤ tt, (lit≤ tt, lit≤ tt))))))))))))))))))))))))))))))
 
 pub faults_sorted : (c : ClassFile) → IsStrictlySortedBy fault_cmp (faults c)
 unfolding faults
-faults_sorted c = sorted_rules c 1 31 format_rules rules_rise
+faults_sorted c = sorted_rules c 1 31 ALL rules_rise
 
 -- ---- those at the places of each rule
 
-is_rule : (rule : FormatRule) → Contains format_rules rule
+is_rule : (rule : FormatRule) → Contains ALL rule
 is_rule rules.F1 = (0, lit< tt, refl)
 is_rule rules.F2 = (1, lit< tt, refl)
 is_rule rules.F3 = (2, lit< tt, refl)
@@ -180,7 +181,7 @@ is_rule rules.F30 = (29, lit< tt, refl)
 pub fault_placed : (c : ClassFile) (fault : Fault) → Contains (faults c) fault → Contains (places c fault.rule) fault.place
 unfolding faults
 fault_placed c fault h =
-    let against = has-from_flat_map (faults_against c) format_rules fault (has_from (faults c) fault h) in
+    let against = has-from_flat_map (faults_against c) ALL fault (has_from (faults c) fault h) in
     let at = has-from_map (fault_at against.0) (places c against.0) fault against.2 in
     let same_rule : against.0 ≡ fault.rule = ap (λ f. f.rule) at.2 in
     let same_place : at.0 ≡ fault.place = ap (λ f. f.place) at.2 in
@@ -191,4 +192,4 @@ pub placed_fault : (c : ClassFile) (fault : Fault) → Contains (places c fault.
 unfolding faults
 placed_fault c fault h =
     let at = has-map (fault_at fault.rule) (places c fault.rule) fault.place (has_from (places c fault.rule) fault.place h) in
-    from_has (faults c) fault (has-flat_map (faults_against c) format_rules fault.rule fault (has_from format_rules fault.rule (is_rule fault.rule)) at)
+    from_has (faults c) fault (has-flat_map (faults_against c) ALL fault.rule fault (has_from ALL fault.rule (is_rule fault.rule)) at)
