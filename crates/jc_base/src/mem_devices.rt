@@ -140,6 +140,3 @@ impl Output for MemOutput {
         Ok(count)
     }
 }
-
-#[cfg(test)]
-mod tests;

@@ -176,6 +176,3 @@ pub fn spelling_examples()
     ensures cut_short { ¬ IsWellSpelled (0xe2 ∷ 0x82 ∷ []) }
     ensures second_is_wrong { IsLongestFront (0x41 ∷ 0xc1 ∷ 0x81 ∷ []) 1 }
 {}
-
-#[cfg(test)]
-mod tests;

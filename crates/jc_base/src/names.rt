@@ -102,6 +102,3 @@ pub fn name_examples()
     ensures empty_last { ¬ IsClassName (codes "a/") }
     ensures array_class { ¬ IsClassName (codes "[Ljava/lang/Object;") }
 {}
-
-#[cfg(test)]
-mod tests;

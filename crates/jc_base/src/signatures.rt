@@ -7,7 +7,7 @@ ghost use Rattle.std.specs.Option.{option_map};
 ghost use Rattle.jc_base.specs.ModifiedUtf8.{IsWellSpelled};
 ghost use Rattle.jc_base.specs.Names.{Lacks};
 ghost use Rattle.jc_base.specs.Signatures.{identifier_stops, Symbol, Derives, Mark, Maybe, Many, JavaType, ReferenceType, ClassType, Thrown, Throws, Argument, Result, Arguments, Suffix, IsIdentifier, IsSignature};
-ghost use Rattle.jc_base.specs.Owed.{symbols_of, tail_of, before, both_before, stack_before, GivesTop, GivesStackStep, GivesEntry, GivesAfter, GivesNamed, GivesRest, GivesStep, IsCut, HasName, HasNoName, EndsAtColon, IsStop};
+ghost use Rattle.jc_base.specs.inside.Owed.{symbols_of, tail_of, before, both_before, stack_before, GivesTop, GivesStackStep, GivesEntry, GivesAfter, GivesNamed, GivesRest, GivesStep, IsCut, HasName, HasNoName, EndsAtColon, IsStop};
 
 use crate::descriptors::is_base_letter;
 use crate::modified_utf8::check_units;
@@ -39,7 +39,7 @@ pub fn signature_examples()
     ensures bytes_left { ¬ IsSignature SigKind.Field (codes "TT;x") }
 {}
 
-// What is still owed of a signature: an entry of the stack. `specs/Owed` says which symbols of the
+// What is still owed of a signature: an entry of the stack. `specs/inside/Owed` says which symbols of the
 // grammar each stands for.
 #[derive(Clone, Copy)]
 enum Owed {
@@ -511,6 +511,3 @@ pub fn check_signature(alloc: Global, kind: SigKind, text: &[u8]) -> Result<bool
     }
     Ok(stack.is_empty())
 }
-
-#[cfg(test)]
-mod tests;

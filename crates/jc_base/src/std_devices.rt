@@ -122,6 +122,3 @@ impl<W: Write + Drop> Output for StdOutput<W> {
         }
     }
 }
-
-#[cfg(test)]
-mod tests;

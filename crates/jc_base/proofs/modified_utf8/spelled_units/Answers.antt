@@ -1,5 +1,5 @@
 use Rattle.std.proofs.Common.{sym, ◌∙◌}
-use Rattle.jc_base.proofs.WellSpelledLemmas.{next_read, all_read}
+use Rattle.jc_base.proofs.texts.WellSpelledFronts.{next_read, all_read}
 use Rattle.jc_base.proofs.modified_utf8.spelled_units.Goals as goal
 
 pub loop-unit-preserved : goal.loop-unit-preserved

@@ -1,7 +1,7 @@
 use Rattle.std.proofs.Common.{refl, [], ◌∷◌, ap, length, codes, inl, inr, arith, lit<}
 use Rattle.std.proofs.lemmas.List.Elements.{All-from_recursion}
 use Rattle.jc_base.specs.Names.{IsUnqualifiedName, method_name_stops}
-use Rattle.jc_base.proofs.NamesLemmas.{name_by_test, lacks_by_test, class_name_by_split}
+use Rattle.jc_base.proofs.texts.Names.{name_by_test, lacks_by_test, class_name_by_split}
 use Rattle.jc_base.proofs.names.name_examples.Goals as goal
 
 pub returns : goal.returns

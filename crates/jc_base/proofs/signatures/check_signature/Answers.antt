@@ -1,6 +1,6 @@
 use Rattle.std.proofs.Common.{◌≡◌, vec_len, ◌<◌, length, subst, sym, ◌∙◌}
 use Rattle.std.proofs.lemmas.Bool.{false≢true, eqb-true, eq-eqb}
-use Rattle.jc_base.proofs.StackLemmas.{judge_refuses, judge_ends, no_empty_signature}
+use Rattle.jc_base.proofs.grammar.Stack.{judge_refuses, judge_ends, no_empty_signature}
 use Rattle.jc_base.proofs.signatures.check_signature.Goals as goal
 
 pub returns-then-is_empty : goal.returns-then-is_empty
