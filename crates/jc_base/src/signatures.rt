@@ -1,6 +1,6 @@
 //! Signatures, which tell of type variables and parameterized types (JVMS 4.7.9.1).
 
-ghost use Rattle.std.specs.Prelude.{◌≡◌, ◌≢◌, ◌<◌, ◌≤◌, ◌++◌, ◌↔◌, ◌∷◌, [], ◌==◌, ℕ, codes, List, All, position, Contains, Option, length, IsTrue, IfOk, OnOk, IfSome, IfNone, MatchOption};
+ghost use Rattle.std.specs.Prelude.{◌≡◌, ◌≢◌, ◌<◌, ◌≤◌, ◌++◌, ◌↔◌, ◌∷◌, [], ◌==◌, ℕ, codes, List, All, position, Contains, Option, length, IsOk, IsTrue, IfOk, OnOk, IfSome, IfNone, MatchOption};
 ghost use Rattle.jc_base.specs.declared.signatures.SigKind.{SigKind};
 ghost use Rattle.std.specs.List.{list_any};
 ghost use Rattle.std.specs.Option.{option_map};
@@ -490,7 +490,8 @@ fn push_after(stack: &mut Vec<Owed>, after: After) -> Result<(), NoMemory>
 /// Whether `text` is a signature of this kind (JVMS 4.7.9.1). A text that is not modified UTF-8 is
 /// none.
 pub fn check_signature(alloc: Global, kind: SigKind, text: &[u8]) -> Result<bool, NoMemory>
-    ensures { IfOk result (λ holds. IsTrue holds ↔ IsSignature kind text.now) }
+    ensures ok { IfOk result (λ holds. IsTrue holds ↔ IsSignature kind text.now) }
+    ensures empty { text.now ≡ [] → IsOk result }
 {
     if text.is_empty() {
         return Ok(false);

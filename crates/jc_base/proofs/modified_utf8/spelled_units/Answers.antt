@@ -7,7 +7,7 @@ loop-unit-preserved c =
     next_read c.loop-unit.units.items c.push.new.self.items c.args.text.now c.loop-unit.rest.now c.in-Some.unit c.in-Some.size
     c.loop-unit.invariant (sym c.unit_at.ensures.value ∙ c.in-Some.is) c.in_ok-push.ensures.items
 
-pub returns : goal.returns
-returns c =
+pub returns-clause-ok : goal.returns-clause-ok
+returns-clause-ok c =
     all_read c.loop-unit.units.items c.args.text.now c.loop-unit.rest.now c.requires c.loop-unit.invariant
     (sym c.unit_at.ensures.value ∙ c.in_default.is)
