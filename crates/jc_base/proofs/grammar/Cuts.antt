@@ -10,7 +10,7 @@ use Rattle.std.proofs.lemmas.List.Elements.{Contains-append_right, All-head, All
 use Rattle.jc_base.specs.Names.{Lacks}
 use Rattle.jc_base.specs.ModifiedUtf8.{IsWellSpelled}
 use Rattle.jc_base.specs.Signatures.{identifier_stops}
-use Rattle.jc_base.specs.inside.Owed.{IsStop, IsCut, HasName}
+use Rattle.jc_base.specs.inside.Owed.{IsStop, IsCut, BeginsWithName}
 
 abbrev pub is_stop_byte : ℕ → Bool
 is_stop_byte c = list_any (λ stop. eqb stop c) identifier_stops
@@ -71,5 +71,5 @@ no_stop_in (y ∷ n) c r stop lacks = no_stop_in n c r stop (All-tail (λ c. Con
 pub no_cut : (text n : List ℕ) (c : ℕ) (r : List ℕ) → Lacks text identifier_stops → IsCut text n c r → ⊥
 no_cut text n c r lacks cut = no_stop_in n c r cut.stop (subst (λ t. Lacks t identifier_stops) cut.split lacks)
 
-pub has_name : (text name : List ℕ) (c : ℕ) (rest : List ℕ) → IsCut text name c rest → IsWellSpelled name × (name ≢ []) → HasName text c rest
+pub has_name : (text name : List ℕ) (c : ℕ) (rest : List ℕ) → IsCut text name c rest → IsWellSpelled name × (name ≢ []) → BeginsWithName text c rest
 has_name text name c rest cut good = record { name = name; is = (good.0, good.1, cut.lacks); cut = cut }

@@ -6,7 +6,7 @@ use Rattle.jc_base.specs.declared.signatures.Owed.{Owed}
 use Rattle.jc_base.specs.declared.signatures.Owed.TheVariants as entry
 use Rattle.jc_base.specs.Names.{Lacks}
 use Rattle.jc_base.specs.Signatures.{identifier_stops, Symbol, Mark, Identifier, Maybe, Many, ReferenceType, Package, SimpleClass, Suffix, Arguments, Argument, suffix, arguments, Param, Bound, no_more, one_more, package_name, simple_class, param, Derives, reads, names, expands, IsIdentifier}
-use Rattle.jc_base.specs.inside.Owed.{before, Refuses, GivesEntry, IsStop, IsCut, HasName, BeginsWithStop, HasNoName, LeavesNamed, RefusesNamed, GivesNamed}
+use Rattle.jc_base.specs.inside.Owed.{before, Refuses, GivesEntry, IsStop, IsCut, BeginsWithName, BeginsWithStop, BeginsWithNoName, LeavesNamed, RefusesNamed, GivesNamed}
 use Rattle.jc_base.proofs.grammar.WaysToDerive.{mark_of, maybe_of, many_of, suffixes_of, arguments_of, simple_class_of, package_of, param_of, identifier_of}
 
 -- ---- where a name ends
@@ -32,7 +32,7 @@ append_first : (n : List ℕ) (x : ℕ) (b : List ℕ) → Lacks (n ++ x ∷ b) 
 append_first [] x b lacks stop = All-head (λ c. Contains identifier_stops c → ⊥) x b lacks stop
 append_first (y ∷ n) x b lacks stop = append_first n x b (All-tail (λ c. Contains identifier_stops c → ⊥) y (n ++ x ∷ b) lacks) stop
 
-pub no_stop_no_name : (text : List ℕ) → Lacks text identifier_stops → HasNoName text
+pub no_stop_no_name : (text : List ℕ) → Lacks text identifier_stops → BeginsWithNoName text
 no_stop_no_name text lacks owed begins d =
     identifier_of owed text (λ n r is split d. by_rest n r split d) d
   where
@@ -40,13 +40,13 @@ no_stop_no_name text lacks owed begins d =
     by_rest n [] split d = begins.some d
     by_rest n (x ∷ b) split d = append_first n x b (subst (λ t. Lacks t identifier_stops) split lacks) (begins.next x b d)
 
-pub no_text_no_name : (text name : List ℕ) (c : ℕ) (rest : List ℕ) → IsCut text name c rest → (IsIdentifier name → ⊥) → HasNoName text
+pub no_text_no_name : (text name : List ℕ) (c : ℕ) (rest : List ℕ) → IsCut text name c rest → (IsIdentifier name → ⊥) → BeginsWithNoName text
 no_text_no_name text name c rest cut refused owed begins d = refused (run_of owed text name c rest cut begins d).0
 
-pub named_of : (owed : List Symbol) (text : List ℕ) (c : ℕ) (rest : List ℕ) → HasName text c rest → BeginsWithStop owed → Derives (Identifier ∷ owed) text → Derives owed (c ∷ rest)
+pub named_of : (owed : List Symbol) (text : List ℕ) (c : ℕ) (rest : List ℕ) → BeginsWithName text c rest → BeginsWithStop owed → Derives (Identifier ∷ owed) text → Derives owed (c ∷ rest)
 named_of owed text c rest named begins d = (run_of owed text named.name c rest named.cut begins d).1
 
-pub named_from : (owed : List Symbol) (text : List ℕ) (c : ℕ) (rest : List ℕ) → HasName text c rest → Derives owed (c ∷ rest) → Derives (Identifier ∷ owed) text
+pub named_from : (owed : List Symbol) (text : List ℕ) (c : ℕ) (rest : List ℕ) → BeginsWithName text c rest → Derives owed (c ∷ rest) → Derives (Identifier ∷ owed) text
 named_from owed text c rest named d = names named.name owed text (c ∷ rest) named.is named.cut.split d
 
 -- ---- what begins with a stop

@@ -9,7 +9,7 @@ use Rattle.jc_base.specs.declared.signatures.After.{After}
 use Rattle.jc_base.specs.declared.signatures.Step.{Step}
 use Rattle.jc_base.specs.Names.{Lacks}
 use Rattle.jc_base.specs.Signatures.{identifier_stops, Symbol, Mark, Identifier, Maybe, Many, ReferenceType, Package, SimpleClass, Suffix, Arguments, Param, Bound, absent, present, no_more, one_more, bound, Derives, reads, expands}
-use Rattle.jc_base.specs.inside.Owed.{both_before, Leaves, Refuses, GivesAfter, IsStop, IsCut, HasName, HasNoName, EndsAtColon, GivesNamed, GivesRest, GivesStep}
+use Rattle.jc_base.specs.inside.Owed.{both_before, Leaves, Refuses, GivesAfter, IsStop, IsCut, BeginsWithName, BeginsWithNoName, EndsAtColon, GivesNamed, GivesRest, GivesStep}
 use Rattle.jc_base.proofs.grammar.WaysToDerive.{mark_of, maybe_of, many_of, reference_of, bound_of, simple_class_of, package_of, param_of, identifier_of}
 use Rattle.jc_base.proofs.grammar.Identifiers.{run_of, mark_some, mark_stops, name_end_stops, name_end_refuses, semicolon_stops, slash_stops, colon_stops, bracket_stops}
 
@@ -27,27 +27,27 @@ byte_gives symbols text c rest (Some after) is h = record {
 
 -- ---- a text with an identifier in front
 
-pub named_gives : (symbols : List Symbol) (text : List ℕ) (c : ℕ) (rest : List ℕ) (entry : Option (Option Owed)) → HasName text c rest → GivesNamed symbols c entry → GivesRest symbols text rest (option_map (λ e. record { 0 = e; 1 = None }) entry)
+pub named_gives : (symbols : List Symbol) (text : List ℕ) (c : ℕ) (rest : List ℕ) (entry : Option (Option Owed)) → BeginsWithName text c rest → GivesNamed symbols c entry → GivesRest symbols text rest (option_map (λ e. record { 0 = e; 1 = None }) entry)
 named_gives symbols text c rest None named h = λ owed d. h owed text rest named d
 named_gives symbols text c rest (Some entry) named h = record {
   less = omega (arith, ap length named.cut.split, length-append named.name (c ∷ rest));
   same = λ owed. h owed text rest named;
 }
 
-pub variable_name_needs_name : (text : List ℕ) → HasNoName text → (owed : List Symbol) → Derives (Identifier ∷ Mark 59 ∷ owed) text → ⊥
+pub variable_name_needs_name : (text : List ℕ) → BeginsWithNoName text → (owed : List Symbol) → Derives (Identifier ∷ Mark 59 ∷ owed) text → ⊥
 variable_name_needs_name text none owed d = none (Mark 59 ∷ owed) (mark_stops 59 owed semicolon_stops) d
 
-pub simple_name_needs_name : (text : List ℕ) → HasNoName text → (owed : List Symbol) → Derives (SimpleClass ∷ Many Suffix ∷ Mark 59 ∷ owed) text → ⊥
+pub simple_name_needs_name : (text : List ℕ) → BeginsWithNoName text → (owed : List Symbol) → Derives (SimpleClass ∷ Many Suffix ∷ Mark 59 ∷ owed) text → ⊥
 simple_name_needs_name text none owed d =
     none (Maybe Arguments ∷ Many Suffix ∷ Mark 59 ∷ owed) (name_end_stops owed) (simple_class_of (Many Suffix ∷ Mark 59 ∷ owed) text d)
 
-pub class_name_needs_name : (text : List ℕ) → HasNoName text → (owed : List Symbol) → Derives (Many Package ∷ SimpleClass ∷ Many Suffix ∷ Mark 59 ∷ owed) text → ⊥
+pub class_name_needs_name : (text : List ℕ) → BeginsWithNoName text → (owed : List Symbol) → Derives (Many Package ∷ SimpleClass ∷ Many Suffix ∷ Mark 59 ∷ owed) text → ⊥
 class_name_needs_name text none owed d =
     let more : List Symbol = Many Package ∷ SimpleClass ∷ Many Suffix ∷ Mark 59 ∷ owed in
     many_of Package (SimpleClass ∷ Many Suffix ∷ Mark 59 ∷ owed) text (simple_name_needs_name text none owed)
     (λ d. none (Mark 47 ∷ more) (mark_stops 47 more slash_stops) (package_of more text d)) d
 
-pub first_param_needs_name : (text : List ℕ) → HasNoName text → (owed : List Symbol) → Derives (Param ∷ Many Param ∷ Mark 62 ∷ owed) text → ⊥
+pub first_param_needs_name : (text : List ℕ) → BeginsWithNoName text → (owed : List Symbol) → Derives (Param ∷ Many Param ∷ Mark 62 ∷ owed) text → ⊥
 first_param_needs_name text none owed d =
     let more : List Symbol = Maybe ReferenceType ∷ Many Bound ∷ Many Param ∷ Mark 62 ∷ owed in
     none (Mark 58 ∷ more) (mark_stops 58 more colon_stops) (param_of (Many Param ∷ Mark 62 ∷ owed) text d)

@@ -1,5 +1,5 @@
 -- What the judge of signatures still owes: each entry of its stack, as symbols of the grammar.
-use Rattle.std.specs.Prelude.{◌≡◌, ℕ, ◌<◌, ◌≤◌, ◌↔◌, List, [], ◌∷◌, ◌++◌, length, Contains, Option, Some, None, MatchOption, fold}
+use Rattle.std.specs.Prelude.{◌≡◌, ℕ, ◌<◌, ◌↔◌, List, [], ◌∷◌, ◌++◌, length, Contains, Option, Some, None, MatchOption, fold}
 use Rattle.jc_base.specs.declared.signatures.SigKind.{SigKind}
 use Rattle.jc_base.specs.declared.signatures.SigKind.TheVariants as kind
 use Rattle.jc_base.specs.declared.signatures.Owed.{Owed}
@@ -77,7 +77,7 @@ pub record IsCut (text name : List ℕ) (c : ℕ) (rest : List ℕ) : Type 0 whe
   pub stop : IsStop c
 
 -- the text begins with an identifier and the byte c, which no identifier has
-pub record HasName (text : List ℕ) (c : ℕ) (rest : List ℕ) : Type 0 where
+pub record BeginsWithName (text : List ℕ) (c : ℕ) (rest : List ℕ) : Type 0 where
   pub name : List ℕ
   pub is : IsIdentifier name
   pub cut : IsCut text name c rest
@@ -88,8 +88,8 @@ pub record BeginsWithStop (owed : List Symbol) : Type 0 where
   pub some : ¬ Derives owed []
 
 -- no identifier that ends at such a character stands in front
-abbrev pub HasNoName : List ℕ → Type 0
-HasNoName text = (owed : List Symbol) → BeginsWithStop owed → ¬ Derives (Identifier ∷ owed) text
+abbrev pub BeginsWithNoName : List ℕ → Type 0
+BeginsWithNoName text = (owed : List Symbol) → BeginsWithStop owed → ¬ Derives (Identifier ∷ owed) text
 
 -- the first character that no identifier has is `:`
 abbrev pub EndsAtColon : List ℕ → Type 0
@@ -98,13 +98,13 @@ EndsAtColon text = (name : List ℕ) × (rest : List ℕ) × IsCut text name 58 
 -- once an identifier and the byte c are read off, `after` is owed in place of these symbols
 abbrev pub LeavesNamed : List Symbol → ℕ → (List Symbol → List Symbol) → Type 0
 LeavesNamed symbols c after =
-    (owed : List Symbol) (text rest : List ℕ) → HasName text c rest
+    (owed : List Symbol) (text rest : List ℕ) → BeginsWithName text c rest
     → Derives (symbols ++ owed) text ↔ Derives (after owed) rest
 
 -- these symbols derive nothing that begins with an identifier and the byte c
 abbrev pub RefusesNamed : List Symbol → ℕ → Type 0
 RefusesNamed symbols c =
-    (owed : List Symbol) (text rest : List ℕ) → HasName text c rest → Derives (symbols ++ owed) text → ⊥
+    (owed : List Symbol) (text rest : List ℕ) → BeginsWithName text c rest → Derives (symbols ++ owed) text → ⊥
 
 -- the answer to an identifier and the byte c
 abbrev pub GivesNamed : List Symbol → ℕ → Option (Option Owed) → Type 0
