@@ -25,7 +25,12 @@ from pathlib import Path
 HERE = Path(__file__).resolve().parent
 ROOT = HERE.parent.parent
 FUNCTION = re.compile(r"( *)(?:pub(?:\(crate\))? )?fn (\w+)")
-IMPL = re.compile(r"impl\b.*?(?:for )?&?(?:'\w+ )?(\w+)(?:<[^{]*>)? \{")
+
+
+def owner_of(line):
+    """The type that a line `impl .. {` is about."""
+    type_text = line.split(" for ")[1] if " for " in line else re.sub(r"^impl(<.*?>)? ", "", line)
+    return re.match(r"&?(?:'\w+ )?(?:mut )?(\w+)", type_text)[1]
 
 
 def functions_of(text):
@@ -34,7 +39,7 @@ def functions_of(text):
     for at, line in enumerate(lines):
         start = FUNCTION.match(line)
         if line.startswith("impl"):
-            owner = IMPL.match(line)[1]
+            owner = owner_of(line)
         elif line == "}":
             owner = ""
         elif start:
@@ -80,7 +85,7 @@ class Edit:
 def stands_in(function, path):
     """Whether a name of the check, without its module, is this function's or that of a closure in it."""
     owner, name = function
-    return name in path and (not owner or path[0].startswith((owner, "Ref" + owner)))
+    return name in path and (not owner or any(it.startswith((owner, "Ref" + owner)) for it in path))
 
 
 def below(name):
