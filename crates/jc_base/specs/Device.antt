@@ -1,14 +1,18 @@
 -- What the calls of a device do to its count of failures and to what was written.
-use Rattle.std.specs.Prelude.{ℕ, ◌+◌, ◌-◌, ◌^◌, ◌<◌, ◌≤◌, ◌≡◌, min, List, length, take, Result, Option, MatchResult}
+use Rattle.std.specs.Prelude.{ℕ, ◌+◌, ◌-◌, ◌^◌, ◌<◌, ◌≤◌, ◌≡◌, max, min, List, length, take, Result, Option, MatchResult}
 use Rattle.std.specs.Borrow.{Bor}
 use Rattle.std.specs.List.{flat_map}
 use Rattle.std.specs.Io.KnownBytes.{Appends}
 
--- the count of failures rose, unless it is at the top of a `u64`
-abbrev pub MoreFaults : ℕ → ℕ → Type 0
-MoreFaults old new = min (old + 1) (2 ^ 64 - 1) ≤ new
+-- the count with n more, which stays at the top of a `u64`
+abbrev pub more : ℕ → ℕ → ℕ
+more count n = max count (min (count + n) (2 ^ 64 - 1))
 
--- the count stays at `Ok` and rises at `Err`
+-- one failure more was counted
+abbrev pub MoreFaults : ℕ → ℕ → Type 0
+MoreFaults old new = new ≡ more old 1
+
+-- the count stays at `Ok`, and at `Err` has one failure more
 abbrev pub CountsFault : {T E : Type 0} → Result T E → ℕ → ℕ → Type 0
 CountsFault result old new = MatchResult result (λ _. new ≡ old) (λ _. MoreFaults old new × (old ≤ new))
 

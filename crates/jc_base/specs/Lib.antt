@@ -1,5 +1,4 @@
 pub mod Bytes
-pub mod ByteMap
 pub mod CodeUnits
 pub mod Cursor
 pub mod DescriptorTests
@@ -8,13 +7,11 @@ pub mod Device
 pub mod FieldsInFront
 pub mod FirstUnit
 pub mod MemDevices
-pub mod MethodParts
 pub mod ModifiedUtf8
 pub mod Names
-pub mod Owed
 pub mod Params
 pub mod Signatures
 pub mod StdDevices
 pub mod TextTests
+pub mod inside
 pub use Rattle.byteorder.specs.Endian
-pub use Rattle.byteorder.specs.Numbers

@@ -29,7 +29,7 @@ impl<V> Model for ByteMap<V> {
 
     ghost coded = { map.code (coded_list coded_ℕ) V.code };
 
-    ghost use Rattle.jc_base.specs.ByteMap.{byte_entries};
+    ghost use Rattle.jc_base.specs.inside.ByteMap.{byte_entries};
 
     ghost view = { λ a. map.from_entries (byte_entries a.entries.entries) };
 }
@@ -162,7 +162,7 @@ pub struct Iter<'a, V> {
 
 impl<'a, V> Model for Iter<'a, V> {
     ghost use Rattle.std.specs.Prelude.{ℕ, List};
-    ghost use Rattle.jc_base.specs.ByteMap.{byte_entries};
+    ghost use Rattle.jc_base.specs.inside.ByteMap.{byte_entries};
 
     ghost Value = { List (List ℕ × V) };
 
@@ -190,7 +190,7 @@ pub struct Keys<'a, V> {
 
 impl<'a, V> Model for Keys<'a, V> {
     ghost use Rattle.std.specs.Prelude.{ℕ, List};
-    ghost use Rattle.jc_base.specs.ByteMap.{byte_keys};
+    ghost use Rattle.jc_base.specs.inside.ByteMap.{byte_keys};
 
     ghost Value = { List (List ℕ) };
 
@@ -209,6 +209,3 @@ impl<'a, V> Iterator for Keys<'a, V> {
         Some(key.as_slice())
     }
 }
-
-#[cfg(test)]
-mod tests;

@@ -1,6 +1,6 @@
 //! Reading bytes from front to back, numbers big-endian (JVMS 4: "in big-endian order").
 
-ghost use Rattle.std.specs.Prelude.{◌≡◌, ◌==◌, ◌+◌, ◌<◌, ◌↔◌, ◌≤◌, ◌^◌, not, length, take, drop, IsSome, IfSome, IfNone};
+ghost use Rattle.std.specs.Prelude.{◌≡◌, ◌==◌, ◌+◌, ◌<◌, ◌↔◌, ◌^◌, not, length, take, drop, IsSome, IfSome, IfNone};
 ghost use Rattle.byteorder.specs.Endian.{big_number};
 ghost use Rattle.jc_base.specs.Cursor.{HasLeft, past};
 
@@ -97,6 +97,21 @@ impl<'a> Cursor<'a> {
         self.place += count;
         self.rest = rest;
         Some(front)
+    }
+
+    /// A length of four bytes and the bytes that it counts: these, as the slice of the input that
+    /// they are.
+    pub fn take_sized(&mut self) -> Option<&'a [u8]>
+        ensures some { IsSome result ↔ HasLeft (4 + big_number 4 self.old.rest) self.old }
+        ensures slice { IfSome result (λ bytes. bytes.now ≡ take (big_number 4 self.old.rest) (drop 4 self.old.rest)) }
+        ensures moved { IfSome result (λ _. self.new ≡ past (4 + big_number 4 self.old.rest) self.old) }
+        ensures none { IfNone result (self.new ≡ self.old) }
+    {
+        let mut ahead = self.fork();
+        let count = ahead.u4()?;
+        let bytes = ahead.take(count as usize)?;
+        *self = ahead;
+        Some(bytes)
     }
 
     /// The next byte.

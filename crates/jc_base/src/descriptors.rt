@@ -2,13 +2,13 @@
 
 ghost use Rattle.std.specs.Prelude.{◌≡◌, ◌≢◌, ◌∷◌, [], ◌+◌, ◌<◌, ◌≤◌, ◌++◌, ◌↔◌, ◌==◌, ◌||◌, ℕ, List, All, Option, Some, replicate, slice_index, position, Contains, length, codes, sum_by, IsTrue, IsSome, IfSome, IfNone, MatchOption};
 ghost use Rattle.std.specs.Option.{option_copied};
-ghost use Rattle.std.specs.List.{list_any, concat};
-ghost use Rattle.jc_base.specs.Descriptors.{base_types, IsBaseType, IsClassType, IsElementType, IsField, IsFieldDescriptor, field_text, slots_of, result_text, IsMethod, IsMethodDescriptor, FieldType, MethodType};
+ghost use Rattle.std.specs.List.{list_any};
+ghost use Rattle.jc_base.specs.Descriptors.{base_types, IsBaseType, IsClassType, IsElementType, IsField, IsFieldDescriptor, field_text, slots_of, IsMethod, IsMethodDescriptor, FieldType, MethodType};
 ghost use Rattle.jc_base.specs.DescriptorTests.{field_type_of, method_type_of};
 ghost use Rattle.jc_base.specs.Bytes.{same_bytes};
 ghost use Rattle.jc_base.specs.ModifiedUtf8.{IsWellSpelled};
 ghost use Rattle.jc_base.specs.FieldsInFront.{element_len, field_len, fields_of};
-ghost use Rattle.jc_base.specs.MethodParts.{HasInFront, AreParams, ReadsParams, IsResult};
+ghost use Rattle.jc_base.specs.inside.MethodParts.{HasInFront, AreParams, ReadsParams, IsResult};
 
 use crate::names::is_class_name;
 use std::marker::Model;
@@ -91,7 +91,7 @@ impl<'a> Model for MethodDesc<'a> {
     ghost use Rattle.std.specs.Option.{option_copied};
     ghost use Rattle.jc_base.specs.Descriptors.{MethodType, IsFieldDescriptor, slots_of};
     ghost use Rattle.jc_base.specs.FieldsInFront.{fields_of};
-    ghost use Rattle.jc_base.specs.MethodParts.{AreParams};
+    ghost use Rattle.jc_base.specs.inside.MethodParts.{AreParams};
 
     ghost Value = { MethodType };
 
@@ -341,6 +341,3 @@ fn is_wide(text: &[u8]) -> bool
 {
     text == LONG || text == DOUBLE
 }
-
-#[cfg(test)]
-mod tests;

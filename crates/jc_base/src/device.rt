@@ -1,5 +1,5 @@
 //! The devices that a run reads and writes.
-ghost use Rattle.std.specs.Prelude.{◌≡◌, ◌+◌, ◌-◌, ◌<◌, ◌≤◌, ◌^◌, ℕ, List, Option, min, length, IfOk, MatchResult};
+ghost use Rattle.std.specs.Prelude.{◌+◌, ◌<◌, ◌≤◌, ◌^◌, ℕ, List, Option, length, IfOk, MatchResult};
 ghost use Rattle.std.specs.Io.KnownBytes.{ReadConsumes, WriteAppends};
 ghost use Rattle.jc_base.specs.Device.{CountsFault, MoreFaults};
 
@@ -49,8 +49,7 @@ pub trait Output {
 
 /// Counts one more failure, up to the top of a `u64`, and tells it.
 pub(crate) fn one_more(failures: &mut u64) -> DeviceFault
-    ensures count { failures.new ≡ min (failures.old + 1) (2 ^ 64 - 1) }
-    ensures more { MoreFaults failures.old failures.new × (failures.old ≤ failures.new) }
+    ensures { MoreFaults failures.old failures.new × (failures.old ≤ failures.new) }
 {
     *failures = failures.saturating_add(1);
     DeviceFault

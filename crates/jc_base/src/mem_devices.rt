@@ -2,7 +2,7 @@
 ghost use Rattle.std.specs.Prelude.{◌≡◌, ◌+◌, ◌-◌, ◌<◌, ◌≤◌, ◌^◌, ◌++◌, ◌↔◌, [], IfOk, IsErr, IsOk, IsTrue, MatchResult, OnErr, Some, min, take, drop, length, vec_capacity};
 ghost use Rattle.std.proofs.Common.{arith};
 ghost use Rattle.std.specs.Io.KnownBytes.{ReadConsumes, WriteAppends};
-ghost use Rattle.jc_base.specs.Device.{CountsFault};
+ghost use Rattle.jc_base.specs.Device.{CountsFault, more};
 ghost use Rattle.jc_base.specs.MemDevices.{InputState, OutputState};
 
 use crate::device::{DeviceFault, Input, Output, one_more};
@@ -69,7 +69,7 @@ impl<'a> Input for MemInput<'a> {
         // It hands over what fits, and changes nothing else.
         ensures most { IfOk result (λ n. n ≡ min (length buffer.old) (length self.old.remaining)) }
         ensures ok { IfOk result (λ n. self.new ≡ record self.old { remaining = drop n self.old.remaining }) }
-        ensures err { OnErr result (self.new ≡ record self.old { failures = min (self.old.failures + 1) (2 ^ 64 - 1) }) }
+        ensures err { OnErr result (self.new ≡ record self.old { failures = more self.old.failures 1 }) }
     {
         let count = buffer.len().min(self.rest.len());
         if count == 0 && self.fails && !buffer.is_empty() {
@@ -130,7 +130,7 @@ impl Output for MemOutput {
         // It takes what fits, and changes nothing else.
         ensures most { IfOk result (λ n. n ≡ min (length bytes.now) (self.old.room - length self.old.written)) }
         ensures ok { IfOk result (λ n. self.new ≡ record self.old { written = self.old.written ++ take n bytes.now }) }
-        ensures err { OnErr result (self.new ≡ record self.old { failures = min (self.old.failures + 1) (2 ^ 64 - 1) }) }
+        ensures err { OnErr result (self.new ≡ record self.old { failures = more self.old.failures 1 }) }
     {
         let count = bytes.len().min(self.room - self.bytes.len());
         if count == 0 && !bytes.is_empty() {
@@ -140,6 +140,3 @@ impl Output for MemOutput {
         Ok(count)
     }
 }
-
-#[cfg(test)]
-mod tests;

@@ -32,6 +32,7 @@ pub fn units(alloc: Global, text: &[u8]) -> Result<Vec<u16>, UnitsError>
     ensures ok { IfOk result (λ units. Spells units.items text.now) }
     ensures bad { (place : ℕ) →
         (result ≡ Err (UnitsError.Bad place)) ↔ IsLongestFront text.now place }
+    ensures empty { text.now ≡ [] → IsOk result }
 {
     if let Err(place) = check_units(text) {
         return Err(UnitsError::Bad(place));
@@ -41,7 +42,8 @@ pub fn units(alloc: Global, text: &[u8]) -> Result<Vec<u16>, UnitsError>
 
 fn spelled_units(alloc: Global, text: &[u8]) -> Result<Vec<u16>, AllocError>
     requires { IsWellSpelled text.now }
-    ensures { IfOk result (λ units. Spells units.items text.now) }
+    ensures ok { IfOk result (λ units. Spells units.items text.now) }
+    ensures empty { text.now ≡ [] → IsOk result }
 {
     let mut units = Vec::new(alloc);
     let mut rest = text;
@@ -176,6 +178,3 @@ pub fn spelling_examples()
     ensures cut_short { ¬ IsWellSpelled (0xe2 ∷ 0x82 ∷ []) }
     ensures second_is_wrong { IsLongestFront (0x41 ∷ 0xc1 ∷ 0x81 ∷ []) 1 }
 {}
-
-#[cfg(test)]
-mod tests;

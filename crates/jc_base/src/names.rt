@@ -89,10 +89,14 @@ pub fn name_examples()
     ensures empty { ¬ IsUnqualifiedName (codes "") }
     ensures array { ¬ IsUnqualifiedName (codes "[I") }
     ensures path { ¬ IsUnqualifiedName (codes "a/b") }
+    ensures closed { IsUnqualifiedName (codes "a>b") }
+    ensures parted { ¬ IsUnqualifiedName (codes "a;b") }
 
     ensures method { IsMethodName (codes "main") }
     ensures constructor { IsMethodName (codes "<init>") }
     ensures bracketed_method { ¬ IsMethodName (codes "<x>") }
+    ensures closed_method { ¬ IsMethodName (codes "a>b") }
+    ensures parted_method { ¬ IsMethodName (codes "a;b") }
 
     ensures class { IsClassName (codes "java/lang/Object") }
     ensures one_part { IsClassName (codes "Main") }
@@ -101,7 +105,6 @@ pub fn name_examples()
     ensures empty_first { ¬ IsClassName (codes "/a") }
     ensures empty_last { ¬ IsClassName (codes "a/") }
     ensures array_class { ¬ IsClassName (codes "[Ljava/lang/Object;") }
+    ensures closed_class { IsClassName (codes "a>b") }
+    ensures parted_class { ¬ IsClassName (codes "a;b") }
 {}
-
-#[cfg(test)]
-mod tests;

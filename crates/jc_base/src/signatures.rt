@@ -1,13 +1,13 @@
 //! Signatures, which tell of type variables and parameterized types (JVMS 4.7.9.1).
 
-ghost use Rattle.std.specs.Prelude.{◌≡◌, ◌≢◌, ◌<◌, ◌≤◌, ◌++◌, ◌↔◌, ◌∷◌, [], ◌==◌, ℕ, codes, List, All, position, Contains, Option, length, IsTrue, IfOk, OnOk, IfSome, IfNone, MatchOption};
+ghost use Rattle.std.specs.Prelude.{◌≡◌, ◌≢◌, ◌<◌, ◌++◌, ◌↔◌, ◌∷◌, [], ◌==◌, ℕ, codes, List, position, Option, length, IsOk, IsTrue, IfOk, OnOk, IfSome, MatchOption};
 ghost use Rattle.jc_base.specs.declared.signatures.SigKind.{SigKind};
 ghost use Rattle.std.specs.List.{list_any};
 ghost use Rattle.std.specs.Option.{option_map};
 ghost use Rattle.jc_base.specs.ModifiedUtf8.{IsWellSpelled};
 ghost use Rattle.jc_base.specs.Names.{Lacks};
-ghost use Rattle.jc_base.specs.Signatures.{identifier_stops, Symbol, Derives, Mark, Maybe, Many, JavaType, ReferenceType, ClassType, Thrown, Throws, Argument, Result, Arguments, Suffix, IsIdentifier, IsSignature};
-ghost use Rattle.jc_base.specs.Owed.{symbols_of, tail_of, before, both_before, stack_before, GivesTop, GivesStackStep, GivesEntry, GivesAfter, GivesNamed, GivesRest, GivesStep, IsCut, HasName, HasNoName, EndsAtColon, IsStop};
+ghost use Rattle.jc_base.specs.Signatures.{identifier_stops, Symbol, Derives, Mark, Maybe, Many, JavaType, ReferenceType, ClassType, Thrown, Throws, Argument, Result, Arguments, Suffix, IsSignature};
+ghost use Rattle.jc_base.specs.inside.Owed.{symbols_of, tail_of, before, both_before, stack_before, GivesTop, GivesStackStep, GivesEntry, GivesAfter, GivesNamed, GivesRest, GivesStep, IsCut, BeginsWithName, BeginsWithNoName, EndsAtColon};
 
 use crate::descriptors::is_base_letter;
 use crate::modified_utf8::check_units;
@@ -39,7 +39,7 @@ pub fn signature_examples()
     ensures bytes_left { ¬ IsSignature SigKind.Field (codes "TT;x") }
 {}
 
-// What is still owed of a signature: an entry of the stack. `specs/Owed` says which symbols of the
+// What is still owed of a signature: an entry of the stack. `specs/inside/Owed` says which symbols of the
 // grammar each stands for.
 #[derive(Clone, Copy)]
 enum Owed {
@@ -274,7 +274,7 @@ fn is_text(name: &[u8]) -> bool
 
 // The byte at which the identifier in front ends, and what comes after it.
 fn read_name(text: &[u8]) -> Option<(u8, &[u8])>
-    ensures { MatchOption result (HasNoName text.now) (λ r. HasName text.now r.0 r.1.now) }
+    ensures { MatchOption result (BeginsWithNoName text.now) (λ r. BeginsWithName text.now r.0 r.1.now) }
 {
     let (name, stop, rest) = cut_name(text)?;
     if is_text(name) {
@@ -490,7 +490,8 @@ fn push_after(stack: &mut Vec<Owed>, after: After) -> Result<(), NoMemory>
 /// Whether `text` is a signature of this kind (JVMS 4.7.9.1). A text that is not modified UTF-8 is
 /// none.
 pub fn check_signature(alloc: Global, kind: SigKind, text: &[u8]) -> Result<bool, NoMemory>
-    ensures { IfOk result (λ holds. IsTrue holds ↔ IsSignature kind text.now) }
+    ensures ok { IfOk result (λ holds. IsTrue holds ↔ IsSignature kind text.now) }
+    ensures empty { text.now ≡ [] → IsOk result }
 {
     if text.is_empty() {
         return Ok(false);
@@ -511,6 +512,3 @@ pub fn check_signature(alloc: Global, kind: SigKind, text: &[u8]) -> Result<bool
     }
     Ok(stack.is_empty())
 }
-
-#[cfg(test)]
-mod tests;

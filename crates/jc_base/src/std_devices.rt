@@ -1,7 +1,7 @@
 //! Devices over std's readers and writers.
 ghost use Rattle.std.specs.Prelude.{◌≡◌, ◌+◌, ◌<◌, ◌≤◌, ◌^◌, IfOk, IsErr, MatchResult, length};
 ghost use Rattle.std.proofs.Common.{arith};
-ghost use Rattle.std.specs.Io.KnownBytes.{ReadConsumes, WriteAppends};
+ghost use Rattle.std.specs.Io.KnownBytes.{ReadConsumes};
 ghost use Rattle.jc_base.specs.Device.{CountsFault};
 
 use crate::device::{DeviceFault, Input, Output, one_more};
@@ -122,6 +122,3 @@ impl<W: Write + Drop> Output for StdOutput<W> {
         }
     }
 }
-
-#[cfg(test)]
-mod tests;

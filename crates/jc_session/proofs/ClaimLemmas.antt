@@ -3,7 +3,7 @@ use Rattle.std.proofs.Common.{◌≡◌, ◌≢◌, ℕ, Bool, true, false, cond
 use Rattle.std.specs.FinMap as fin
 use Rattle.std.proofs.lemmas.Bool.{cases_Bool}
 use Rattle.jc_base.specs.Bytes.{bytes_cmp, same_bytes}
-use Rattle.jc_base.proofs.ByteMapLemmas.{get-insert, get-remove, remove-insert, same_bytes_decides, same_bytes_equiv}
+use Rattle.jc_base.proofs.maps.FiniteMaps.{get-insert, get-remove, remove-insert, same_bytes_decides, same_bytes_equiv}
 use Rattle.jc_session.specs.Claims.{Paths, PathsByName, NoneEmpty, has_path, has_claim}
 
 -- what holds in any case holds at an error

@@ -8,9 +8,9 @@ use Rattle.std.proofs.lemmas.Bool.Decides.{nat_tests}
 use Rattle.jc_base.specs.ModifiedUtf8.{IsWellSpelled}
 use Rattle.jc_base.specs.TextTests.{units_of}
 use Rattle.jc_base.specs.CodeUnits.{units_before}
-use Rattle.jc_base.proofs.FirstUnitLemmas.{spelling_in_one}
-use Rattle.jc_base.proofs.TextTestLemmas.{units_decide}
-use Rattle.jc_base.proofs.CodeUnitLemmas.{units_before-spelling, units_before-text}
+use Rattle.jc_base.proofs.texts.FirstUnitIsSpelled.{spelling_in_one}
+use Rattle.jc_base.proofs.texts.TestsDecide.{units_decide}
+use Rattle.jc_base.proofs.texts.UnitsBefore.{units_before-spelling, units_before-text}
 use Rattle.jc_session.specs.RowText.{is_plain, path_byte_text, unit_text}
 
 -- by whether the first is plain

@@ -4,7 +4,7 @@ use Rattle.std.specs.FinMap as fin
 use Rattle.std.specs.List.{list_any}
 use Rattle.std.specs.Result.{is_ok}
 use Rattle.jc_base.specs.Bytes.{bytes_cmp, same_bytes}
-use Rattle.jc_base.proofs.ByteMapLemmas.{get-insert, get-remove, same_bytes_decides}
+use Rattle.jc_base.proofs.maps.FiniteMaps.{get-insert, get-remove, same_bytes_decides}
 use Rattle.jc_view.specs.declared.parse_error.ParseError.{ParseError}
 use Rattle.jc_view.specs.Outcome.{class_named}
 use Rattle.jc_session.specs.Files.{Files}

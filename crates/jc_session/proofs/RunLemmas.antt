@@ -1,7 +1,7 @@
 -- A run, command by command.
 use Rattle.std.proofs.Common.{◌≡◌, ◌∙◌, ◌++◌, ℕ, true, false, List, [], ◌∷◌, Option, Some, None, Ok, Err, map, refl, sym, ap, subst, append_assoc, append-nil, length, take}
 use Rattle.std.proofs.lemmas.List.{take_at}
-use Rattle.jc_base.proofs.DeviceLemmas.{front_of_first, front_of_second}
+use Rattle.jc_base.proofs.WrittenFronts.{front_of_first, front_of_second}
 use Rattle.jc_base.specs.Device.{WritesFront}
 use Rattle.std.proofs.KnownBytes.{Appends-nil, Appends-trans, Appends-kept}
 use Rattle.std.specs.Io.KnownBytes.{Appends, Keeps}

@@ -7,7 +7,7 @@ use Rattle.std.specs.FinMap as fin
 use Rattle.std.specs.FinMap.Entries.{below_all}
 use Rattle.std.proofs.lemmas.Bool.{cases_Bool}
 use Rattle.jc_base.specs.Bytes.{bytes_cmp, same_bytes}
-use Rattle.jc_base.proofs.ByteMapLemmas.{bytes_cmp_total, same_bytes_equiv, same_bytes_decides, eq_by_cmp-bytes_cmp}
+use Rattle.jc_base.proofs.maps.FiniteMaps.{bytes_cmp_total, same_bytes_equiv, same_bytes_decides, eq_by_cmp-bytes_cmp}
 use Rattle.jc_view.specs.declared.parse_error.ParseError.{ParseError}
 use Rattle.jc_view.specs.Outcome.{class_named}
 use Rattle.jc_session.specs.Files.{Files}

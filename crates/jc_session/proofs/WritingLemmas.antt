@@ -4,7 +4,7 @@ use Rattle.std.proofs.lemmas.List.{append-nil}
 use Rattle.std.proofs.KnownBytes.{Appends-trans}
 use Rattle.std.specs.Io.KnownBytes.{Appends}
 use Rattle.jc_base.specs.Device.{WritesFront}
-use Rattle.jc_base.proofs.DeviceLemmas.{front_of_first, front_of_second}
+use Rattle.jc_base.proofs.WrittenFronts.{front_of_first, front_of_second}
 
 -- all of the text was written but what is left
 pub record HasWritten (old now : Option (List ℕ)) (text left : List ℕ) : Type 0 where

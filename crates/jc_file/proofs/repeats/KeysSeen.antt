@@ -3,7 +3,7 @@ use Rattle.std.proofs.Common.{◌≡◌, ◌∙◌, Bool, true, false, ◌||◌,
 use Rattle.std.specs.List.{list_any}
 use Rattle.std.specs.Cmp.{IsEquivalence}
 use Rattle.indexmap.specs.IndexSet.{insert_key}
-use Rattle.jc_base.proofs.ByteMapLemmas.{same_bytes_equiv}
+use Rattle.jc_base.proofs.maps.FiniteMaps.{same_bytes_equiv}
 use Rattle.jc_base.specs.Bytes.{same_bytes}
 use Rattle.jc_file.specs.Faults.{same_key}
 use Rattle.jc_file.proofs.repeats.RepeatedKeys.{any-append, or_false}

@@ -6,7 +6,7 @@ use Rattle.std.specs.Option.{option_map_or}
 use Rattle.std.proofs.lemmas.Bool.Decides.{same_from_decides}
 use Rattle.indexmap.specs.IndexSet.{insert_key}
 use Rattle.jc_base.specs.Bytes.{same_bytes}
-use Rattle.jc_base.proofs.ByteMapLemmas.{same_bytes_decides}
+use Rattle.jc_base.proofs.maps.FiniteMaps.{same_bytes_decides}
 use Rattle.jc_view.specs.declared.constant_pool.ConstantIndex.{ConstantIndex}
 use Rattle.jc_file.specs.declared.faults.text_numbers.TextNumbers.{TextNumbers}
 use Rattle.jc_view.specs.ClassFile.{ClassFile, Member}

@@ -1,7 +1,7 @@
 -- Numbers for texts, as one more is numbered.
 use Rattle.std.proofs.Common.{◌≡◌, ◌∙◌, ◌⊎◌, inl, inr, ℕ, zero, suc, Bool, true, false, cond, List, [], ◌∷◌, Option, None, Some, slice_get, slice_set, unwrap_or, refl, ap, sym}
 use Rattle.jc_base.specs.Bytes.{same_bytes}
-use Rattle.jc_base.proofs.ByteMapLemmas.{same_bytes_decides}
+use Rattle.jc_base.proofs.maps.FiniteMaps.{same_bytes_decides}
 use Rattle.jc_view.specs.declared.constant_pool.ConstantIndex.{ConstantIndex}
 use Rattle.jc_file.specs.declared.faults.text_numbers.TextNumbers.{TextNumbers}
 use Rattle.jc_view.specs.ClassFile.{ClassFile}

@@ -4,7 +4,7 @@ use Rattle.std.proofs.lemmas.Bool.{cases_lt, le-ltb, lt-ltb}
 use Rattle.std.proofs.lemmas.List.{take_at, drop_at, take-append-drop, length-append, length-take, length-drop, get_or-drop, get_or-take, get_or_past, drop-drop}
 use Rattle.std.proofs.lemmas.Nat.{be_bytes_2, be_bytes_4, be_bytes_8}
 use Rattle.jc_base.specs.Endian.{big_bytes, big_number}
-use Rattle.jc_base.specs.Numbers.{big_number-reads_back, big_from-lt, big_from-take, length-bytes_high_first}
+use Rattle.jc_base.proofs.Numbers.{big_number-reads_back, big_from-lt, big_from-take, length-bytes_high_first}
 use Rattle.jc_view.specs.Reading.{after, after_sized, sized_value}
 
 abbrev pub IsBytes : List ℕ → Type 0

@@ -3,9 +3,9 @@ use Rattle.std.proofs.lemmas.List.Elements.{All-from_recursion}
 use Rattle.jc_base.specs.Names.{IsClassName, IsUnqualifiedName}
 use Rattle.jc_base.specs.Descriptors.{IsField, IsFieldDescriptor}
 use Rattle.jc_base.specs.FieldsInFront.{field_len, element_len, fields_of}
-use Rattle.jc_base.proofs.NamesLemmas.{name_by_test, class_name_by_split}
-use Rattle.jc_base.proofs.DescriptorLemmas.{parts_of, element_starts, after_params}
-use Rattle.jc_base.proofs.DescriptorTexts.{none_in_front, named_only, no_empty_result}
+use Rattle.jc_base.proofs.texts.Names.{name_by_test, class_name_by_split}
+use Rattle.jc_base.proofs.types.FieldsInFront.{parts_of, element_starts, after_params}
+use Rattle.jc_base.proofs.types.DescriptorsAreTexts.{none_in_front, named_only, no_empty_result}
 use Rattle.jc_base.proofs.descriptors.descriptor_examples.Goals as goal
 
 string_name : IsClassName (codes "java/lang/String")

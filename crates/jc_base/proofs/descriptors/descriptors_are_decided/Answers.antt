@@ -1,4 +1,4 @@
-use Rattle.jc_base.proofs.DescriptorTestLemmas.{field_decides, method_decides}
+use Rattle.jc_base.proofs.types.TestsDecide.{field_decides, method_decides}
 use Rattle.jc_base.proofs.descriptors.descriptors_are_decided.Goals as goal
 
 pub returns : goal.returns

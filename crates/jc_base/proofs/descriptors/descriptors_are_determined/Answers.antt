@@ -1,4 +1,4 @@
-use Rattle.jc_base.proofs.DescriptorLemmas.{one_field, one_method}
+use Rattle.jc_base.proofs.types.FieldsInFront.{one_field, one_method}
 use Rattle.jc_base.proofs.descriptors.descriptors_are_determined.Goals as goal
 
 pub returns : goal.returns

@@ -1,7 +1,7 @@
 use Rattle.std.proofs.Common.{◌+◌, sym, ap, ◌∙◌, arith}
 use Rattle.std.specs.Option.{option_map}
 use Rattle.jc_base.specs.FieldsInFront.{field_len}
-use Rattle.jc_base.proofs.DescriptorLemmas.{len_after_dims, length_after_dims}
+use Rattle.jc_base.proofs.types.FieldsInFront.{len_after_dims, length_after_dims}
 use Rattle.jc_base.proofs.descriptors.field_len.Goals as goal
 
 pub returns-in_err-len-clause-value : goal.returns-in_err-len-clause-value

@@ -1,7 +1,7 @@
 use Rattle.std.proofs.Common.{get_or, sym, ap, subst}
 use Rattle.std.specs.List.{Contains}
 use Rattle.jc_base.specs.Descriptors.{base_types}
-use Rattle.jc_base.proofs.DescriptorLemmas.{single}
+use Rattle.jc_base.proofs.types.FieldsInFront.{single}
 use Rattle.jc_base.proofs.descriptors.is_base_type.Goals as goal
 
 pub returns-then-text-eq1 : goal.returns-then-text-eq1

@@ -1,7 +1,8 @@
 use Rattle.std.proofs.Common.{[], ◌∷◌, Some}
 use Rattle.std.proofs.lemmas.Bool.Decides.{Decides-eqb}
 use Rattle.std.proofs.lemmas.Slice.Eq.{strip_prefix_is, strip_suffix_is}
-use Rattle.jc_base.proofs.DescriptorLemmas.{name_between}
+use Rattle.std.proofs.Common.{Some}
+use Rattle.jc_base.proofs.types.FieldsInFront.{name_between}
 use Rattle.jc_base.proofs.descriptors.name_within.Goals as goal
 
 pub returns : goal.returns

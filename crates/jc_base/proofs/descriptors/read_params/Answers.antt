@@ -1,7 +1,7 @@
 use Rattle.std.proofs.Common.{◌≡◌, ◌+◌, ◌≤◌, ap, sym, ◌∙◌, subst, arith}
 use Rattle.std.proofs.lemmas.Bool.{false≢true}
 use Rattle.jc_base.specs.Descriptors.{slots_of}
-use Rattle.jc_base.proofs.MethodLemmas.{HasReadParams, one_more_read, all_params_read, next_param}
+use Rattle.jc_base.proofs.types.ParametersInFront.{HasReadParams, one_more_read, all_params_read, next_param}
 use Rattle.jc_base.proofs.descriptors.read_params.Goals as goal
 
 pub returns-in_err-read-clause-none : goal.returns-in_err-read-clause-none

@@ -1,5 +1,5 @@
 use Rattle.std.proofs.Common.{length}
-use Rattle.jc_base.proofs.MethodLemmas.{HasReadParams}
+use Rattle.jc_base.proofs.types.ParametersInFront.{HasReadParams}
 use Rattle.jc_base.proofs.descriptors.read_params.Given as goal
 
 abbrev pub invariant-loop-param : goal.invariant-loop-param

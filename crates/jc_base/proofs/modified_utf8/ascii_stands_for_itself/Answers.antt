@@ -1,6 +1,6 @@
 use Rattle.std.proofs.Common.{sym, subst}
 use Rattle.std.specs.List.{Contains}
-use Rattle.jc_base.proofs.SpelledBytes.{ascii_alike}
+use Rattle.jc_base.proofs.texts.SpelledBytes.{ascii_alike}
 use Rattle.jc_base.proofs.modified_utf8.ascii_stands_for_itself.Goals as goal
 
 pub returns : goal.returns

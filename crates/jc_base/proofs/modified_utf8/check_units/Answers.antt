@@ -2,8 +2,8 @@ use Rattle.std.proofs.Common.{sym, ◌∙◌, refl, subst}
 use Rattle.std.proofs.lemmas.Bool.{false≢true}
 use Rattle.std.proofs.lemmas.List.{take_all}
 use Rattle.jc_base.specs.ModifiedUtf8.{IsWellSpelled}
-use Rattle.jc_base.proofs.WellSpelledLemmas.{one_more, longest_front, whole_front}
-use Rattle.jc_base.proofs.TextTestLemmas.{same_answer, spelled_decides}
+use Rattle.jc_base.proofs.texts.WellSpelledFronts.{one_more, longest_front, whole_front}
+use Rattle.jc_base.proofs.texts.TestsDecide.{same_answer, spelled_decides}
 use Rattle.jc_base.proofs.modified_utf8.check_units.Goals as goal
 
 pub loop-place-preserved : goal.loop-place-preserved

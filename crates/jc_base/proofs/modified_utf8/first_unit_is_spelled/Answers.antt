@@ -1,7 +1,7 @@
 use Rattle.std.proofs.Common.{sym, ap, ◌∙◌, take}
 use Rattle.std.proofs.lemmas.List.{take_at}
 use Rattle.jc_base.specs.ModifiedUtf8.{spelling}
-use Rattle.jc_base.proofs.FirstUnitLemmas.{first_found, found_first}
+use Rattle.jc_base.proofs.texts.FirstUnitIsSpelled.{first_found, found_first}
 use Rattle.jc_base.proofs.modified_utf8.first_unit_is_spelled.Goals as goal
 
 pub returns : goal.returns

@@ -1,5 +1,5 @@
 use Rattle.std.proofs.Common.{length}
-use Rattle.jc_base.proofs.WellSpelledLemmas.{HasRead}
+use Rattle.jc_base.proofs.texts.WellSpelledFronts.{HasRead}
 use Rattle.jc_base.proofs.modified_utf8.spelled_units.Given as goal
 
 abbrev pub invariant-loop-unit : goal.invariant-loop-unit

@@ -1,7 +1,7 @@
 use Rattle.std.proofs.Common.{refl, [], ◌∷◌, lit<}
 use Rattle.jc_base.specs.ModifiedUtf8.{spelling}
 use Rattle.jc_base.specs.FirstUnit.{first_unit, two_byte_unit, three_byte_unit, six_bits}
-use Rattle.jc_base.proofs.WellSpelledLemmas.{none_stands, longest_front}
+use Rattle.jc_base.proofs.texts.WellSpelledFronts.{none_stands, longest_front}
 use Rattle.jc_base.proofs.modified_utf8.spelling_examples.Goals as goal
 
 pub returns : goal.returns

@@ -1,6 +1,6 @@
 use Rattle.std.proofs.Common.{◌≡◌, subst}
 use Rattle.jc_base.specs.ModifiedUtf8.{IsLongestFront}
-use Rattle.jc_base.proofs.WellSpelledLemmas.{one_longest}
+use Rattle.jc_base.proofs.texts.WellSpelledFronts.{one_longest}
 use Rattle.jc_base.proofs.modified_utf8.units.Goals as goal
 
 pub returns-in-Err-clause-bad : goal.returns-in-Err-clause-bad

@@ -4,8 +4,8 @@ use Rattle.std.specs.List.{slice_split}
 use Rattle.std.proofs.lemmas.Iterator.{cases_from_all}
 use Rattle.std.proofs.lemmas.Iterator.Splits.{YieldsList-from_slice_split}
 use Rattle.jc_base.specs.Names.{IsUnqualifiedName}
-use Rattle.jc_base.proofs.NamesLemmas.{all_decides, class_name_by_split}
-use Rattle.jc_base.proofs.TextTestLemmas.{same_answer, class_decides}
+use Rattle.jc_base.proofs.texts.Names.{all_decides, class_name_by_split}
+use Rattle.jc_base.proofs.texts.TestsDecide.{same_answer, class_decides}
 use Rattle.jc_base.proofs.names.is_class_name.Goals as goal
 
 pub returns-clause-name : goal.returns-clause-name

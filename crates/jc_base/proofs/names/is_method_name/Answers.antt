@@ -1,6 +1,6 @@
 use Rattle.std.proofs.Common.{inl, inr, sym, ◌∙◌}
 use Rattle.std.proofs.lemmas.Bool.{false≢true}
-use Rattle.jc_base.proofs.TextTestLemmas.{same_answer, method_name_decides}
+use Rattle.jc_base.proofs.texts.TestsDecide.{same_answer, method_name_decides}
 use Rattle.jc_base.proofs.names.is_method_name.Goals as goal
 
 pub returns-then-is_unqualified-clause-name : goal.returns-then-is_unqualified-clause-name

@@ -1,6 +1,6 @@
 use Rattle.std.proofs.Common.{◌≡◌, ◌⊎◌, true, false, arith}
 use Rattle.std.proofs.lemmas.Bool.{not-true, not_from_false, false_from_ne_true}
-use Rattle.jc_base.proofs.NamesLemmas.{name_stop_ways, name_stop_from}
+use Rattle.jc_base.proofs.texts.Names.{name_stop_ways, name_stop_from}
 use Rattle.jc_base.proofs.names.is_name_byte.Goals as goal
 
 pub returns : goal.returns

@@ -1,6 +1,6 @@
 use Rattle.std.proofs.Common.{◌∙◌, sym, length, ap}
 use Rattle.std.proofs.lemmas.Bool.{eqb-false}
-use Rattle.jc_base.proofs.TextTestLemmas.{same_answer, unqualified_decides}
+use Rattle.jc_base.proofs.texts.TestsDecide.{same_answer, unqualified_decides}
 use Rattle.jc_base.proofs.names.is_unqualified.Goals as goal
 use Rattle.jc_base.proofs.names.is_unqualified.Goals.{then-not-is_empty, else-not-is_empty}
 

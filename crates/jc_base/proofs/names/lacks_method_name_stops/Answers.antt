@@ -3,7 +3,7 @@ use Rattle.std.specs.List.{Contains}
 use Rattle.std.proofs.lemmas.Bool.{false≢true}
 use Rattle.std.proofs.lemmas.Iterator.{cases_from_all, YieldsList-from_slice}
 use Rattle.jc_base.specs.Names.{method_name_stops}
-use Rattle.jc_base.proofs.NamesLemmas.{all_decides}
+use Rattle.jc_base.proofs.texts.Names.{all_decides}
 use Rattle.jc_base.proofs.names.lacks_method_name_stops.Goals as goal
 
 pub returns : goal.returns

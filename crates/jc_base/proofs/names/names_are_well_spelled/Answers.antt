@@ -1,4 +1,4 @@
-use Rattle.jc_base.proofs.NamesLemmas.{class_name_spelled, method_name_spelled}
+use Rattle.jc_base.proofs.texts.Names.{class_name_spelled, method_name_spelled}
 use Rattle.jc_base.proofs.names.names_are_well_spelled.Goals as goal
 
 pub returns : goal.returns

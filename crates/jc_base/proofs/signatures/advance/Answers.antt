@@ -1,4 +1,4 @@
-use Rattle.jc_base.proofs.StackLemmas.{nothing_left}
+use Rattle.jc_base.proofs.grammar.Stack.{nothing_left}
 use Rattle.jc_base.proofs.signatures.advance.Goals as goal
 
 pub returns-in_err-first : goal.returns-in_err-first

@@ -1,4 +1,4 @@
-use Rattle.jc_base.proofs.NameRunLemmas.{package_goes_on, no_package}
+use Rattle.jc_base.proofs.grammar.Identifiers.{package_goes_on, no_package}
 use Rattle.jc_base.proofs.signatures.after_class_name.Goals as goal
 
 pub returns-then-stop-eq47 : goal.returns-then-stop-eq47

@@ -1,4 +1,4 @@
-use Rattle.jc_base.proofs.NameRunLemmas.{param_goes_on, param_refused}
+use Rattle.jc_base.proofs.grammar.Identifiers.{param_goes_on, param_refused}
 use Rattle.jc_base.proofs.signatures.after_param_name.Goals as goal
 
 pub returns-then-stop-eq58 : goal.returns-then-stop-eq58

@@ -1,4 +1,4 @@
-use Rattle.jc_base.proofs.NameRunLemmas.{simple_goes_on}
+use Rattle.jc_base.proofs.grammar.Identifiers.{simple_goes_on}
 use Rattle.jc_base.proofs.signatures.after_simple_name.Goals as goal
 
 pub returns : goal.returns

@@ -1,4 +1,4 @@
-use Rattle.jc_base.proofs.NameRunLemmas.{variable_ends, variable_refused}
+use Rattle.jc_base.proofs.grammar.Identifiers.{variable_ends, variable_refused}
 use Rattle.jc_base.proofs.signatures.after_variable_name.Goals as goal
 
 pub returns-then-stop-eq59 : goal.returns-then-stop-eq59

@@ -1,5 +1,5 @@
 use Rattle.std.proofs.Common.{inl, inr, arith}
-use Rattle.jc_base.proofs.OwedLemmas.{argument_is_any, argument_extends, argument_super, argument_other}
+use Rattle.jc_base.proofs.grammar.FirstByte.{argument_is_any, argument_extends, argument_super, argument_other}
 use Rattle.jc_base.proofs.signatures.argument.Goals as goal
 
 pub returns-in-42 : goal.returns-in-42

@@ -1,6 +1,6 @@
 use Rattle.std.proofs.Common.{[], ◌∷◌}
 use Rattle.jc_base.specs.Signatures.{Mark, Many, Argument, Suffix}
-use Rattle.jc_base.proofs.OwedLemmas.{many_ends, many_goes_on, argument_refuses_end}
+use Rattle.jc_base.proofs.grammar.FirstByte.{many_ends, many_goes_on, argument_refuses_end}
 use Rattle.jc_base.proofs.signatures.arguments.Goals as goal
 
 pub returns-then-first-eq62 : goal.returns-then-first-eq62

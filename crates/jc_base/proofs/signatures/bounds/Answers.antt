@@ -1,8 +1,8 @@
 use Rattle.std.proofs.Common.{[], ◌∷◌, Some, arith}
 use Rattle.jc_base.specs.Signatures.{Mark, Many, Param, Bound}
 use Rattle.jc_base.specs.declared.signatures.Owed.TheVariants as entry
-use Rattle.jc_base.proofs.StepLemmas.{byte_gives, more_bounds, bounds_end, next_param}
-use Rattle.jc_base.proofs.StackLemmas.{nothing_left}
+use Rattle.jc_base.proofs.grammar.Steps.{byte_gives, more_bounds, bounds_end, next_param}
+use Rattle.jc_base.proofs.grammar.Stack.{nothing_left}
 use Rattle.jc_base.proofs.signatures.bounds.Goals as goal
 
 pub returns-in_err-first : goal.returns-in_err-first

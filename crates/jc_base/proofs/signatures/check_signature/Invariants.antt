@@ -1,5 +1,5 @@
 use Rattle.std.proofs.Common.{length}
-use Rattle.jc_base.specs.Owed.{IsJudged}
+use Rattle.jc_base.proofs.grammar.Stack.{IsJudged}
 use Rattle.jc_base.proofs.signatures.check_signature.Given as goal
 
 abbrev pub invariant-loop-rest : goal.invariant-loop-rest

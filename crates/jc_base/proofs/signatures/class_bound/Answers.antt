@@ -2,8 +2,8 @@ use Rattle.std.proofs.Common.{[], ◌∷◌, Some, sym, ◌∙◌}
 use Rattle.std.proofs.lemmas.Bool.{false≢true}
 use Rattle.jc_base.specs.Signatures.{Mark, Maybe, Many, ReferenceType, Param, Bound}
 use Rattle.jc_base.specs.declared.signatures.Owed.TheVariants as entry
-use Rattle.jc_base.proofs.StepLemmas.{byte_gives, class_bound_ends, class_bound_absent, class_bound_present}
-use Rattle.jc_base.proofs.StackLemmas.{nothing_left}
+use Rattle.jc_base.proofs.grammar.Steps.{byte_gives, class_bound_ends, class_bound_absent, class_bound_present}
+use Rattle.jc_base.proofs.grammar.Stack.{nothing_left}
 use Rattle.jc_base.proofs.signatures.class_bound.Goals as goal
 
 pub returns-in_err-first : goal.returns-in_err-first

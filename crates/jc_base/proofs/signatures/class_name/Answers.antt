@@ -1,7 +1,7 @@
 use Rattle.std.proofs.Common.{[], ◌∷◌, sym, subst}
-use Rattle.jc_base.specs.Owed.{GivesRest}
+use Rattle.jc_base.specs.inside.Owed.{GivesRest}
 use Rattle.jc_base.specs.Signatures.{Mark, Many, SimpleClass, Suffix, Package}
-use Rattle.jc_base.proofs.StepLemmas.{named_gives, class_name_needs_name}
+use Rattle.jc_base.proofs.grammar.Steps.{named_gives, class_name_needs_name}
 use Rattle.jc_base.proofs.signatures.class_name.Goals as goal
 
 pub returns-in_err-stop : goal.returns-in_err-stop

@@ -1,6 +1,6 @@
 use Rattle.std.proofs.Common.{[], ◌∷◌}
 use Rattle.jc_base.specs.Signatures.{ClassType}
-use Rattle.jc_base.proofs.OwedLemmas.{params_begin, no_params, class_refuses_params}
+use Rattle.jc_base.proofs.grammar.FirstByte.{params_begin, no_params, class_refuses_params}
 use Rattle.jc_base.proofs.signatures.class_signature.Goals as goal
 
 pub returns-then-first-eq60 : goal.returns-then-first-eq60

@@ -1,4 +1,4 @@
-use Rattle.jc_base.proofs.OwedLemmas.{class_begins, class_refused}
+use Rattle.jc_base.proofs.grammar.FirstByte.{class_begins, class_refused}
 use Rattle.jc_base.proofs.signatures.class_type.Goals as goal
 
 pub returns-then-first-eq76 : goal.returns-then-first-eq76

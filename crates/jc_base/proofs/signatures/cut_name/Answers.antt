@@ -1,4 +1,4 @@
-use Rattle.jc_base.proofs.CutLemmas.{cut_at, cut_nowhere}
+use Rattle.jc_base.proofs.grammar.Cuts.{cut_at, cut_nowhere}
 use Rattle.jc_base.proofs.signatures.cut_name.Goals as goal
 
 pub returns-in_err-place : goal.returns-in_err-place

@@ -1,7 +1,7 @@
 use Rattle.std.proofs.Common.{◌≡◌, subst}
 use Rattle.std.proofs.lemmas.Bool.{false≢true, eq-eqb, eqb-true}
-use Rattle.jc_base.specs.Owed.{IsCut}
-use Rattle.jc_base.proofs.CutLemmas.{one_cut, no_cut}
+use Rattle.jc_base.specs.inside.Owed.{IsCut}
+use Rattle.jc_base.proofs.grammar.Cuts.{one_cut, no_cut}
 use Rattle.jc_base.proofs.signatures.ends_at_colon.Goals as goal
 
 pub returns-in-Some : goal.returns-in-Some

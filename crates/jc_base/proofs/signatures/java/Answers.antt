@@ -1,6 +1,6 @@
 use Rattle.std.proofs.Common.{sym, ◌∙◌}
 use Rattle.std.proofs.lemmas.Bool.{false≢true}
-use Rattle.jc_base.proofs.OwedLemmas.{java_base, java_other}
+use Rattle.jc_base.proofs.grammar.FirstByte.{java_base, java_other}
 use Rattle.jc_base.proofs.signatures.java.Goals as goal
 
 pub returns-then-is_base_letter : goal.returns-then-is_base_letter

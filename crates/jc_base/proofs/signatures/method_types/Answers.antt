@@ -1,6 +1,6 @@
 use Rattle.std.proofs.Common.{[], ◌∷◌}
 use Rattle.jc_base.specs.Signatures.{Mark, Many, JavaType, Result}
-use Rattle.jc_base.proofs.OwedLemmas.{mark_begins, mark_refused}
+use Rattle.jc_base.proofs.grammar.FirstByte.{mark_begins, mark_refused}
 use Rattle.jc_base.proofs.signatures.method_types.Goals as goal
 
 pub returns-then-first-eq40 : goal.returns-then-first-eq40

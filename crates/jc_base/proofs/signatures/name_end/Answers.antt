@@ -1,4 +1,4 @@
-use Rattle.jc_base.proofs.OwedLemmas.{arguments_begin, no_arguments}
+use Rattle.jc_base.proofs.grammar.FirstByte.{arguments_begin, no_arguments}
 use Rattle.jc_base.proofs.signatures.name_end.Goals as goal
 
 pub returns-then-first-eq60 : goal.returns-then-first-eq60

@@ -1,4 +1,4 @@
-use Rattle.jc_base.proofs.StackLemmas.{stack_step, no_top}
+use Rattle.jc_base.proofs.grammar.Stack.{stack_step, no_top}
 use Rattle.jc_base.proofs.signatures.next_step.Goals as goal
 
 pub returns-in_err-entry : goal.returns-in_err-entry

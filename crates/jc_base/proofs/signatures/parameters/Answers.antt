@@ -1,6 +1,6 @@
 use Rattle.std.proofs.Common.{[], ◌∷◌}
 use Rattle.jc_base.specs.Signatures.{JavaType, Result}
-use Rattle.jc_base.proofs.OwedLemmas.{many_ends, many_goes_on, close_refused}
+use Rattle.jc_base.proofs.grammar.FirstByte.{many_ends, many_goes_on, close_refused}
 use Rattle.jc_base.proofs.signatures.parameters.Goals as goal
 
 pub returns-then-first-eq41 : goal.returns-then-first-eq41

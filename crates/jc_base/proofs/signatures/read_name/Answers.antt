@@ -1,7 +1,7 @@
 use Rattle.std.proofs.Common.{sym, ◌∙◌}
 use Rattle.std.proofs.lemmas.Bool.{false≢true}
-use Rattle.jc_base.proofs.NameRunLemmas.{no_stop_no_name, no_text_no_name}
-use Rattle.jc_base.proofs.CutLemmas.{has_name}
+use Rattle.jc_base.proofs.grammar.Identifiers.{no_stop_no_name, no_text_no_name}
+use Rattle.jc_base.proofs.grammar.Cuts.{has_name}
 use Rattle.jc_base.proofs.signatures.read_name.Goals as goal
 
 pub returns-in_err-name : goal.returns-in_err-name

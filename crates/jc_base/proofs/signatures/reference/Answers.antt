@@ -1,5 +1,5 @@
 use Rattle.std.proofs.Common.{arith}
-use Rattle.jc_base.proofs.OwedLemmas.{reference_class, reference_variable, reference_array, reference_refused}
+use Rattle.jc_base.proofs.grammar.FirstByte.{reference_class, reference_variable, reference_array, reference_refused}
 use Rattle.jc_base.proofs.signatures.reference.Goals as goal
 
 pub returns-in-76 : goal.returns-in-76

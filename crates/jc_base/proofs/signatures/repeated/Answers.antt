@@ -1,9 +1,9 @@
 use Rattle.std.proofs.Common.{sym, subst, ◌↔◌, ◌∷◌, ◌++◌, List, ℕ}
 use Rattle.jc_base.specs.Signatures.{Derives, ClassType, Throws}
-use Rattle.jc_base.specs.Owed.{symbols_of, tail_of}
+use Rattle.jc_base.specs.inside.Owed.{symbols_of, tail_of}
 use Rattle.jc_base.specs.declared.signatures.SigKind.{SigKind}
 use Rattle.jc_base.specs.declared.signatures.Owed.TheVariants as entry
-use Rattle.jc_base.proofs.StackLemmas.{repeats}
+use Rattle.jc_base.proofs.grammar.Stack.{repeats}
 use Rattle.jc_base.proofs.signatures.repeated.Goals as goal
 
 pub returns-in-Class : goal.returns-in-Class

@@ -1,4 +1,4 @@
-use Rattle.jc_base.proofs.OwedLemmas.{result_is_void, result_is_java}
+use Rattle.jc_base.proofs.grammar.FirstByte.{result_is_void, result_is_java}
 use Rattle.jc_base.proofs.signatures.result_type.Goals as goal
 
 pub returns-then-first-eq86 : goal.returns-then-first-eq86

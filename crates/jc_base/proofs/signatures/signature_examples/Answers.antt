@@ -1,10 +1,10 @@
 use Rattle.std.proofs.Common.{[], ◌∷◌, codes, refl, arith, lit<}
 use Rattle.jc_base.specs.Signatures.{Mark, Many, ClassType, Param, Bound, ReferenceType, Params, absent, present, no_more, one_more, class_signature, class_reference, variable_reference, type_variable, params, ends, reads, names, expands, identifier_stops}
-use Rattle.jc_base.proofs.NamesLemmas.{lacks_by_test}
-use Rattle.jc_base.proofs.SignatureLemmas.{reference_of, mark_of, nothing_of}
-use Rattle.jc_base.proofs.SignatureTexts.{named_by_test, class_derived, param_derived}
-use Rattle.jc_base.proofs.NameRunLemmas.{run_of, mark_stops, semicolon_stops}
-use Rattle.jc_base.proofs.StackLemmas.{no_empty_signature}
+use Rattle.jc_base.proofs.texts.Names.{lacks_by_test}
+use Rattle.jc_base.proofs.grammar.WaysToDerive.{reference_of, mark_of, nothing_of}
+use Rattle.jc_base.proofs.grammar.SignaturesAreTexts.{named_by_test, class_derived, param_derived}
+use Rattle.jc_base.proofs.grammar.Identifiers.{run_of, mark_stops, semicolon_stops}
+use Rattle.jc_base.proofs.grammar.Stack.{no_empty_signature}
 use Rattle.jc_base.proofs.signatures.signature_examples.Goals as goal
 
 pub returns : goal.returns

@@ -1,9 +1,9 @@
 use Rattle.std.proofs.Common.{sym, subst, ◌↔◌, ◌++◌, List, ℕ}
 use Rattle.jc_base.specs.Signatures.{Derives, IsSignature}
-use Rattle.jc_base.specs.Owed.{symbols_of, tail_of}
+use Rattle.jc_base.specs.inside.Owed.{symbols_of, tail_of}
 use Rattle.jc_base.specs.declared.signatures.SigKind.{SigKind}
 use Rattle.jc_base.specs.declared.signatures.Owed.TheVariants as entry
-use Rattle.jc_base.proofs.StackLemmas.{class_starts, method_starts}
+use Rattle.jc_base.proofs.grammar.Stack.{class_starts, method_starts}
 use Rattle.jc_base.proofs.signatures.start.Goals as goal
 
 pub returns-in-Class : goal.returns-in-Class

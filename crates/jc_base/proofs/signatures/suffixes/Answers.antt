@@ -1,5 +1,5 @@
 use Rattle.std.proofs.Common.{arith}
-use Rattle.jc_base.proofs.OwedLemmas.{suffix_begins, suffixes_end, suffixes_refused}
+use Rattle.jc_base.proofs.grammar.FirstByte.{suffix_begins, suffixes_end, suffixes_refused}
 use Rattle.jc_base.proofs.signatures.suffixes.Goals as goal
 
 pub returns-in-46 : goal.returns-in-46

@@ -1,5 +1,5 @@
 use Rattle.std.proofs.Common.{arith}
-use Rattle.jc_base.proofs.OwedLemmas.{thrown_is_class, thrown_is_variable, thrown_refused}
+use Rattle.jc_base.proofs.grammar.FirstByte.{thrown_is_class, thrown_is_variable, thrown_refused}
 use Rattle.jc_base.proofs.signatures.thrown.Goals as goal
 
 pub returns-in-76 : goal.returns-in-76

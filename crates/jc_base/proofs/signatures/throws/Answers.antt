@@ -1,4 +1,4 @@
-use Rattle.jc_base.proofs.OwedLemmas.{throws_begins, throws_refused}
+use Rattle.jc_base.proofs.grammar.FirstByte.{throws_begins, throws_refused}
 use Rattle.jc_base.proofs.signatures.throws.Goals as goal
 
 pub returns-then-first-eq94 : goal.returns-then-first-eq94

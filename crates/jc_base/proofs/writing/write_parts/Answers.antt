@@ -1,6 +1,6 @@
 use Rattle.std.proofs.Common.{[]}
 use Rattle.std.proofs.lemmas.Result.{err_from_is_err_and}
-use Rattle.jc_base.proofs.DeviceLemmas.{front_in_loop}
+use Rattle.jc_base.proofs.WrittenFronts.{front_in_loop}
 use Rattle.jc_base.proofs.writing.write_parts.Goals as goal
 
 pub returns-in_err-write_all-clause-front : goal.returns-in_err-write_all-clause-front

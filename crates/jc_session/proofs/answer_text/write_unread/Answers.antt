@@ -2,7 +2,7 @@ use Rattle.std.proofs.Common.{◌++◌}
 use Rattle.std.specs.Prelude.{codes}
 use Rattle.std.proofs.lemmas.Result.{err_from_is_err_and, on_err_weaker}
 use Rattle.std.proofs.KnownBytes.{Appends-trans}
-use Rattle.jc_base.proofs.DeviceLemmas.{front_of_first, front_of_second}
+use Rattle.jc_base.proofs.WrittenFronts.{front_of_first, front_of_second}
 use Rattle.jc_session.specs.RowText.{path_text}
 use Rattle.jc_session.proofs.answer_text.write_unread.Goals as goal
 

@@ -1,5 +1,5 @@
 use Rattle.std.proofs.lemmas.Result.{err_from_is_err_and, on_err_weaker}
-use Rattle.jc_base.proofs.DeviceLemmas.{front_of_first, front_of_second}
+use Rattle.jc_base.proofs.WrittenFronts.{front_of_first, front_of_second}
 use Rattle.jc_session.proofs.report_text.write_class.Goals as goal
 
 pub returns-in_err-write_all-clause-front : goal.returns-in_err-write_all-clause-front

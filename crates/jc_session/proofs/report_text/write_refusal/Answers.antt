@@ -1,5 +1,5 @@
 use Rattle.std.proofs.lemmas.Result.{on_err_weaker}
-use Rattle.jc_base.proofs.DeviceLemmas.{front_of_second}
+use Rattle.jc_base.proofs.WrittenFronts.{front_of_second}
 use Rattle.jc_session.proofs.report_text.write_refusal.Goals as goal
 
 pub returns-clause-front : goal.returns-clause-front

@@ -1,7 +1,7 @@
 use Rattle.std.proofs.Common.{ap, ◌∙◌, codes}
 use Rattle.std.proofs.lemmas.Result.{err_from_is_err_and}
 use Rattle.std.specs.List.{flat_map}
-use Rattle.jc_base.proofs.DeviceLemmas.{front_of_first}
+use Rattle.jc_base.proofs.WrittenFronts.{front_of_first}
 use Rattle.jc_session.specs.RowText.{row_text}
 use Rattle.jc_session.proofs.WritingLemmas.{part_written, front_written}
 use Rattle.jc_session.proofs.report_text.write_sections.Goals as goal

@@ -3,7 +3,7 @@ use Rattle.std.specs.Prelude.{codes}
 use Rattle.jc_session.specs.RowText.{name_text, path_text}
 use Rattle.std.proofs.lemmas.Result.{err_from_is_err_and, on_err_weaker}
 use Rattle.std.proofs.KnownBytes.{Appends-trans}
-use Rattle.jc_base.proofs.DeviceLemmas.{front_of_first, front_of_second}
+use Rattle.jc_base.proofs.WrittenFronts.{front_of_first, front_of_second}
 use Rattle.jc_session.proofs.report_text.write_shadowed.Goals as goal
 
 pub returns-in_err-write_all-clause-front : goal.returns-in_err-write_all-clause-front

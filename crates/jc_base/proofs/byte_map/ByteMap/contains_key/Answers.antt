@@ -1,7 +1,7 @@
 use Rattle.std.proofs.Common.{sym, ap, ◌∙◌}
 use Rattle.std.specs.FinMap as fin
 use Rattle.std.specs.Option.{is_some}
-use Rattle.jc_base.proofs.ByteEntries.{get-finite}
+use Rattle.jc_base.proofs.maps.TreeEntries.{get-finite}
 use Rattle.jc_base.proofs.byte_map.ByteMap.contains_key.Goals as goal
 
 pub returns : goal.returns

@@ -1,6 +1,6 @@
 use Rattle.std.proofs.Common.{sym, ap, ◌∙◌}
 use Rattle.std.specs.FinMap as fin
-use Rattle.jc_base.proofs.ByteEntries.{get-finite}
+use Rattle.jc_base.proofs.maps.TreeEntries.{get-finite}
 use Rattle.jc_base.proofs.byte_map.ByteMap.get.Goals as goal
 
 pub returns : goal.returns

@@ -3,7 +3,7 @@ use Rattle.std.specs.Option.{IsSome, ghost_name_of, option_copied_mut}
 use Rattle.std.specs.BTreeMap.{get_by}
 use Rattle.std.specs.FinMap as fin
 use borrow.Follows.Closed.{read_of}
-use Rattle.jc_base.proofs.ByteEntries.{finite, query, get-finite, written-finite}
+use Rattle.jc_base.proofs.maps.TreeEntries.{finite, query, get-finite, written-finite}
 use Rattle.jc_base.proofs.byte_map.ByteMap.get_mut.Goals as goal
 
 -- what the lender ends as, with the last value behind a reference or with none

@@ -1,7 +1,7 @@
 use Rattle.std.proofs.Common.{sym, ap, ◌∙◌}
 use Rattle.std.specs.FinMap as fin
 use Rattle.std.proofs.lemmas.Result.{IfOk-weaker, on_ok_weaker, on_err_weaker}
-use Rattle.jc_base.proofs.ByteEntries.{get-finite, insert-finite}
+use Rattle.jc_base.proofs.maps.TreeEntries.{get-finite, insert-finite}
 use Rattle.jc_base.proofs.byte_map.ByteMap.insert.Goals as goal
 
 pub returns-clause-before : goal.returns-clause-before

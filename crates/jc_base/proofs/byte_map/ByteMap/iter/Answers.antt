@@ -1,7 +1,7 @@
 use Rattle.std.proofs.Common.{length, sym, ap, ◌∙◌}
 use Rattle.std.specs.FinMap as fin
-use Rattle.jc_base.specs.ByteMap.{byte_entries}
-use Rattle.jc_base.proofs.ByteEntries.{entries-finite}
+use Rattle.jc_base.specs.inside.ByteMap.{byte_entries}
+use Rattle.jc_base.proofs.maps.TreeEntries.{entries-finite}
 use Rattle.jc_base.proofs.byte_map.ByteMap.iter.Goals as goal
 
 pub returns-clause-entries : goal.returns-clause-entries

@@ -1,8 +1,8 @@
 use Rattle.std.proofs.Common.{length, sym, ap, ◌∙◌}
 use Rattle.std.specs.FinMap as fin
 use Rattle.std.proofs.lemmas.Map.Entries.{length-keys_of}
-use Rattle.jc_base.specs.ByteMap.{byte_keys}
-use Rattle.jc_base.proofs.ByteEntries.{keys-finite}
+use Rattle.jc_base.specs.inside.ByteMap.{byte_keys}
+use Rattle.jc_base.proofs.maps.TreeEntries.{keys-finite}
 use Rattle.jc_base.proofs.byte_map.ByteMap.keys.Goals as goal
 
 pub returns-clause-keys : goal.returns-clause-keys

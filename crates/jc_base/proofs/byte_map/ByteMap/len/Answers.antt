@@ -1,6 +1,6 @@
 use Rattle.std.proofs.Common.{ap, ◌∙◌}
 use Rattle.std.specs.FinMap as fin
-use Rattle.jc_base.proofs.ByteEntries.{len-finite}
+use Rattle.jc_base.proofs.maps.TreeEntries.{len-finite}
 use Rattle.jc_base.proofs.byte_map.ByteMap.len.Goals as goal
 
 pub returns-clause-len : goal.returns-clause-len

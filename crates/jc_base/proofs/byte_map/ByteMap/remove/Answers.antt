@@ -1,6 +1,6 @@
 use Rattle.std.proofs.Common.{sym, ap, ◌∙◌}
 use Rattle.std.specs.FinMap as fin
-use Rattle.jc_base.proofs.ByteEntries.{get-finite, remove-finite}
+use Rattle.jc_base.proofs.maps.TreeEntries.{get-finite, remove-finite}
 use Rattle.jc_base.proofs.byte_map.ByteMap.remove.Goals as goal
 
 pub returns-clause-before : goal.returns-clause-before

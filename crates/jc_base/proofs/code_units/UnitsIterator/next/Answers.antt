@@ -1,7 +1,7 @@
 use Rattle.std.proofs.Common.{length, sym, ap, ◌∙◌, ◌∷◌, rules}
 use Rattle.std.proofs.lemmas.List.{take_rest}
 use Rattle.jc_base.specs.CodeUnits.{units_before}
-use Rattle.jc_base.proofs.CodeUnitLemmas.{units_before-none, units_before-some}
+use Rattle.jc_base.proofs.texts.UnitsBefore.{units_before-none, units_before-some}
 use Rattle.jc_base.proofs.code_units.UnitsIterator.next.Goals as goal
 
 pub returns-in_err-unit-clause-steps : goal.returns-in_err-unit-clause-steps

@@ -1,8 +1,8 @@
 use Rattle.std.proofs.Common.{refl, sym, ◌∙◌, arith, rules}
 use Rattle.std.proofs.lemmas.Bool.{false≢true}
-use Rattle.jc_base.proofs.DescriptorLemmas.{parts_of}
+use Rattle.jc_base.proofs.types.FieldsInFront.{parts_of}
 use Rattle.jc_base.specs.Descriptors.{IsField}
-use Rattle.jc_base.proofs.DescriptorTestLemmas.{same_read, field_decides}
+use Rattle.jc_base.proofs.types.TestsDecide.{same_read, field_decides}
 use Rattle.jc_base.proofs.descriptors.FieldDesc.read.Goals as goal
 
 pub returns-then-dims-gt-MOST_DIMS-clause-some : goal.returns-then-dims-gt-MOST_DIMS-clause-some

@@ -1,7 +1,7 @@
 use Rattle.std.proofs.Common.{◌≤◌, length, subst}
 use Rattle.std.specs.List.{All}
 use Rattle.jc_base.specs.Descriptors.{MethodType, IsFieldDescriptor}
-use Rattle.jc_base.proofs.MethodLemmas.{at_most_255}
+use Rattle.jc_base.proofs.types.ParametersInFront.{at_most_255}
 use Rattle.jc_base.proofs.descriptors.MethodDesc.params.Goals as goal
 
 pub returns-clause-each : goal.returns-clause-each

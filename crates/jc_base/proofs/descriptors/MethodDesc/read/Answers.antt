@@ -2,10 +2,10 @@ use Rattle.std.proofs.Common.{[], ◌∷◌, Some, None, refl}
 use Rattle.std.proofs.lemmas.Bool.{false≢true}
 use Rattle.std.proofs.lemmas.Bool.Decides.{Decides-eqb}
 use Rattle.std.proofs.lemmas.Slice.Eq.{strip_prefix_is}
-use Rattle.jc_base.proofs.DescriptorLemmas.{method_split}
-use Rattle.jc_base.proofs.MethodLemmas.{method_read, cut_params, no_params, no_close, no_result}
+use Rattle.jc_base.proofs.types.FieldsInFront.{method_split}
+use Rattle.jc_base.proofs.types.ParametersInFront.{method_read, cut_params, no_params, no_close, no_result}
 use Rattle.jc_base.specs.Descriptors.{MethodType, IsMethod}
-use Rattle.jc_base.proofs.DescriptorTestLemmas.{same_read, method_decides}
+use Rattle.jc_base.proofs.types.TestsDecide.{same_read, method_decides}
 use Rattle.jc_base.proofs.descriptors.MethodDesc.read.Goals as goal
 
 pub returns-in_err-slots-clause-some : goal.returns-in_err-slots-clause-some

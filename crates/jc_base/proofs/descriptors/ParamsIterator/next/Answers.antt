@@ -1,5 +1,5 @@
 use Rattle.std.proofs.Common.{ap, rules, length, arith}
-use Rattle.jc_base.proofs.DescriptorLemmas.{fields_end, fields_step}
+use Rattle.jc_base.proofs.types.FieldsInFront.{fields_end, fields_step}
 use Rattle.jc_base.proofs.descriptors.ParamsIterator.next.Goals as goal
 
 pub returns-in_err-param-clause-steps : goal.returns-in_err-param-clause-steps

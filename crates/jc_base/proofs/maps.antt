@@ -1,0 +1,2 @@
+pub mod FiniteMaps
+pub mod TreeEntries

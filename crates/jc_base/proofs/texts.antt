@@ -1,0 +1,6 @@
+pub mod FirstUnitIsSpelled
+pub mod Names
+pub mod SpelledBytes
+pub mod TestsDecide
+pub mod UnitsBefore
+pub mod WellSpelledFronts

@@ -1,0 +1,4 @@
+pub mod DescriptorsAreTexts
+pub mod FieldsInFront
+pub mod ParametersInFront
+pub mod TestsDecide

@@ -1,0 +1,3 @@
+pub mod ByteMap
+pub mod MethodParts
+pub mod Owed

@@ -1,0 +1,149 @@
+-- What the judge of signatures still owes: each entry of its stack, as symbols of the grammar.
+use Rattle.std.specs.Prelude.{◌≡◌, ℕ, ◌<◌, ◌↔◌, List, [], ◌∷◌, ◌++◌, length, Contains, Option, Some, None, MatchOption, fold}
+use Rattle.jc_base.specs.declared.signatures.SigKind.{SigKind}
+use Rattle.jc_base.specs.declared.signatures.SigKind.TheVariants as kind
+use Rattle.jc_base.specs.declared.signatures.Owed.{Owed}
+use Rattle.jc_base.specs.declared.signatures.Owed.TheVariants as entry
+use Rattle.jc_base.specs.declared.signatures.After.{After}
+use Rattle.jc_base.specs.declared.signatures.Step.{Step}
+use Rattle.jc_base.specs.Names.{Lacks}
+use Rattle.jc_base.specs.Signatures.{Symbol, Mark, Identifier, Maybe, Many, Result, Throws, Thrown, JavaType, ReferenceType, ClassType, Package, SimpleClass, Suffix, Argument, Params, Param, Bound, Derives, IsIdentifier, identifier_stops}
+
+abbrev pub symbols_of : Owed → List Symbol
+symbols_of entry.Class = Maybe Params ∷ ClassType ∷ []
+symbols_of entry.Method = Maybe Params ∷ Mark 40 ∷ Many JavaType ∷ Mark 41 ∷ Result ∷ []
+symbols_of entry.MethodTypes = Mark 40 ∷ Many JavaType ∷ Mark 41 ∷ Result ∷ []
+symbols_of entry.Parameters = Many JavaType ∷ Mark 41 ∷ Result ∷ []
+symbols_of entry.Result = Result ∷ []
+symbols_of entry.Java = JavaType ∷ []
+symbols_of entry.Reference = ReferenceType ∷ []
+symbols_of entry.ClassType = ClassType ∷ []
+symbols_of entry.Throws = Throws ∷ []
+symbols_of entry.Thrown = Thrown ∷ []
+symbols_of entry.VariableName = Identifier ∷ Mark 59 ∷ []
+symbols_of entry.ClassName = Many Package ∷ SimpleClass ∷ Many Suffix ∷ Mark 59 ∷ []
+symbols_of entry.SimpleName = SimpleClass ∷ Many Suffix ∷ Mark 59 ∷ []
+symbols_of entry.Suffixes = Many Suffix ∷ Mark 59 ∷ []
+symbols_of entry.FirstArgument = Argument ∷ Many Argument ∷ Mark 62 ∷ Many Suffix ∷ Mark 59 ∷ []
+symbols_of entry.Arguments = Many Argument ∷ Mark 62 ∷ Many Suffix ∷ Mark 59 ∷ []
+symbols_of entry.FirstParam = Param ∷ Many Param ∷ Mark 62 ∷ []
+symbols_of entry.ClassBound = Maybe ReferenceType ∷ Many Bound ∷ Many Param ∷ Mark 62 ∷ []
+symbols_of entry.Bounds = Many Bound ∷ Many Param ∷ Mark 62 ∷ []
+
+-- what may follow any number of times when the stack is empty
+abbrev pub tail_of : SigKind → List Symbol
+tail_of kind.Class = Many ClassType ∷ []
+tail_of kind.Method = Many Throws ∷ []
+tail_of kind.Field = []
+
+-- an entry, if there is one, in front of what is owed besides
+abbrev pub before : Option Owed → List Symbol → List Symbol
+before None owed = owed
+before (Some entry) owed = symbols_of entry ++ owed
+
+-- two entries in front of what is owed besides
+abbrev pub both_before : After → List Symbol → List Symbol
+both_before after owed = before after.0 (before after.1 owed)
+
+-- the stack from its bottom to its top, in front of what is owed besides
+abbrev pub stack_before : List Owed → List Symbol → List Symbol
+stack_before stack owed = fold (λ w entry. symbols_of entry ++ w) owed stack
+
+-- once the byte c is read off, `after` is owed in place of these symbols
+abbrev pub Leaves : List Symbol → ℕ → (List Symbol → List Symbol) → Type 0
+Leaves symbols c after =
+    (owed : List Symbol) (rest : List ℕ) → Derives (symbols ++ owed) (c ∷ rest) ↔ Derives (after owed) rest
+
+-- these symbols derive nothing that begins with the byte c
+abbrev pub Refuses : List Symbol → ℕ → Type 0
+Refuses symbols c = (owed : List Symbol) (rest : List ℕ) → Derives (symbols ++ owed) (c ∷ rest) → ⊥
+
+-- the answer to the byte c: the entry that these symbols leave, if they go on with c
+abbrev pub GivesEntry : List Symbol → ℕ → Option (Option Owed) → Type 0
+GivesEntry symbols c answer = MatchOption answer (Refuses symbols c) (λ entry. Leaves symbols c (before entry))
+
+-- the same, where two entries are left
+abbrev pub GivesAfter : List Symbol → ℕ → Option After → Type 0
+GivesAfter symbols c answer = MatchOption answer (Refuses symbols c) (λ after. Leaves symbols c (both_before after))
+
+-- no identifier has this character
+abbrev pub IsStop : ℕ → Type 0
+IsStop c = Contains identifier_stops c
+
+-- the text up to its first character that no identifier has
+pub record IsCut (text name : List ℕ) (c : ℕ) (rest : List ℕ) : Type 0 where
+  pub split : text ≡ name ++ c ∷ rest
+  pub lacks : Lacks name identifier_stops
+  pub stop : IsStop c
+
+-- the text begins with an identifier and the byte c, which no identifier has
+pub record BeginsWithName (text : List ℕ) (c : ℕ) (rest : List ℕ) : Type 0 where
+  pub name : List ℕ
+  pub is : IsIdentifier name
+  pub cut : IsCut text name c rest
+
+-- what is owed begins with a character that no identifier has
+pub record BeginsWithStop (owed : List Symbol) : Type 0 where
+  pub next : (c : ℕ) (rest : List ℕ) → Derives owed (c ∷ rest) → IsStop c
+  pub some : ¬ Derives owed []
+
+-- no identifier that ends at such a character stands in front
+abbrev pub BeginsWithNoName : List ℕ → Type 0
+BeginsWithNoName text = (owed : List Symbol) → BeginsWithStop owed → ¬ Derives (Identifier ∷ owed) text
+
+-- the first character that no identifier has is `:`
+abbrev pub EndsAtColon : List ℕ → Type 0
+EndsAtColon text = (name : List ℕ) × (rest : List ℕ) × IsCut text name 58 rest
+
+-- once an identifier and the byte c are read off, `after` is owed in place of these symbols
+abbrev pub LeavesNamed : List Symbol → ℕ → (List Symbol → List Symbol) → Type 0
+LeavesNamed symbols c after =
+    (owed : List Symbol) (text rest : List ℕ) → BeginsWithName text c rest
+    → Derives (symbols ++ owed) text ↔ Derives (after owed) rest
+
+-- these symbols derive nothing that begins with an identifier and the byte c
+abbrev pub RefusesNamed : List Symbol → ℕ → Type 0
+RefusesNamed symbols c =
+    (owed : List Symbol) (text rest : List ℕ) → BeginsWithName text c rest → Derives (symbols ++ owed) text → ⊥
+
+-- the answer to an identifier and the byte c
+abbrev pub GivesNamed : List Symbol → ℕ → Option (Option Owed) → Type 0
+GivesNamed symbols c answer =
+    MatchOption answer (RefusesNamed symbols c) (λ entry. LeavesNamed symbols c (before entry))
+
+-- less than the text is left, and what is left is to be derived from what the step owes
+pub record LeavesRest (symbols : List Symbol) (text : List ℕ) (after : After) (rest : List ℕ) : Type 0 where
+  pub less : length rest < length text
+  pub same : (owed : List Symbol) → Derives (symbols ++ owed) text ↔ Derives (both_before after owed) rest
+
+-- the answer to a text
+abbrev pub GivesStep : List Symbol → List ℕ → Option Step → Type 0
+GivesStep symbols text answer =
+    MatchOption answer ((owed : List Symbol) → ¬ Derives (symbols ++ owed) text)
+    (λ step. LeavesRest symbols text step.after step.rest.now)
+
+-- the same, before what is owed and what is left are put together
+abbrev pub GivesRest : List Symbol → List ℕ → List ℕ → Option After → Type 0
+GivesRest symbols text rest answer =
+    MatchOption answer ((owed : List Symbol) → ¬ Derives (symbols ++ owed) text)
+    (λ after. LeavesRest symbols text after rest)
+
+-- the answer to a stack: the entry at its top, or what may be repeated when it is empty
+abbrev pub GivesTop : SigKind → List Owed → List Owed → Option Owed → Type 0
+GivesTop kind old new answer =
+    MatchOption answer ((c : ℕ) (rest : List ℕ) → ¬ Derives (stack_before old (tail_of kind)) (c ∷ rest))
+    (λ entry. (c : ℕ) (rest : List ℕ) →
+    Derives (stack_before old (tail_of kind)) (c ∷ rest)
+    ↔ Derives (symbols_of entry ++ stack_before new (tail_of kind)) (c ∷ rest))
+
+-- one step of the stack
+pub record StackStep (kind : SigKind) (old new : List Owed) (text : List ℕ) (step : Step) : Type 0 where
+  pub less : length step.rest.now < length text
+  pub same :
+      Derives (stack_before old (tail_of kind)) text
+      ↔ Derives (both_before step.after (stack_before new (tail_of kind))) step.rest.now
+
+-- the answer to a stack and a text
+abbrev pub GivesStackStep : SigKind → List Owed → List Owed → List ℕ → Option Step → Type 0
+GivesStackStep kind old new text answer =
+    MatchOption answer (¬ Derives (stack_before old (tail_of kind)) text) (StackStep kind old new text)
