@@ -89,8 +89,12 @@ class Specs:
         while queue:
             module, name = queue.pop()
             _, names, found, owner = self.files[module]
-            for word, member, operator in WORD.findall(found[name]):
+            # a `do` block is steps joined by the operator
+            joined = [("◌>>=◌", "", "")] if "←" in found[name] else []
+            for word, member, operator in WORD.findall(found[name]) + joined:
                 word = owner.get(word, word)
+                if f"◌{word}◌" in names or f"◌{word}◌" in found:
+                    word = f"◌{word}◌"
                 own = (module, word) if word in found else None
                 target = own or self.find(names, word, member)
                 if target and target not in reached:

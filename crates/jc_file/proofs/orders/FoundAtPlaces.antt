@@ -3,6 +3,7 @@ use Rattle.std.proofs.Common.{◌≡◌, ◌∙◌, ℕ, zero, suc, ◌+◌, ◌
 use Rattle.std.specs.List.{range_with_len}
 use Rattle.std.proofs.lemmas.List.{map-append}
 use Rattle.std.proofs.lemmas.List.Elements.{filter-append}
+use Rattle.jc_base.proofs.Common.{map_if}
 use Rattle.jc_file.specs.declared.fault.FormatRule.{FormatRule}
 use Rattle.jc_file.specs.Faults.{only_if}
 use Rattle.jc_file.specs.inside.RuleTests.{fault_at, found}
@@ -13,17 +14,13 @@ range_more a (suc n) =
     let e : a + 1 + n ≡ a + suc n = omega arith in
     rw add-one (ap (λ r. a ∷ r) (ap (range_with_len (a + 1)) (sym (add-one n)) ∙ range_more (a + 1) n ∙ ap (λ k. range_with_len (a + 1) n ++ k ∷ []) e))
 
-map_if : (rule : FormatRule) (b : Bool) (j : ℕ) → map (fault_at rule) (cond b (j ∷ []) []) ≡ cond b (fault_at rule j ∷ []) []
-map_if rule true j = refl
-map_if rule false j = refl
-
 -- one more place
 pub found_more : (rule : FormatRule) (test : ℕ → Bool) (first n : ℕ) → found rule test first (n + 1) ≡ found rule test first n ++ cond (test (first + n)) (fault_at rule (first + n) ∷ []) []
 found_more rule test first n =
     ap (λ r. map (fault_at rule) (filter test r)) (range_more first n)
     ∙ ap (map (fault_at rule)) (filter-append test (range_with_len first n) ((first + n) ∷ []))
     ∙ map-append (fault_at rule) (filter test (range_with_len first n)) (cond (test (first + n)) ((first + n) ∷ []) [])
-    ∙ ap (λ r. found rule test first n ++ r) (map_if rule (test (first + n)) (first + n))
+    ∙ ap (λ r. found rule test first n ++ r) (map_if (fault_at rule) (test (first + n)) (first + n))
 
 -- from 1 on
 pub found_from_one : (rule : FormatRule) (test : ℕ → Bool) (next : ℕ) → 1 ≤ next → found rule test 1 (next + 1 - 1) ≡ found rule test 1 (next - 1) ++ cond (test next) (fault_at rule next ∷ []) []

@@ -3,6 +3,7 @@ use Rattle.std.proofs.Common.{◌≡◌, ◌∙◌, ℕ, suc, ◌+◌, Bool, tru
 use Rattle.std.specs.Prelude.{slice_get}
 use Rattle.std.specs.Option.{option_map_or}
 use Rattle.std.proofs.lemmas.List.{map-append}
+use Rattle.jc_base.proofs.Common.{map_if}
 use Rattle.jc_file.specs.declared.fault.Fault.{Fault}
 use Rattle.jc_file.specs.declared.fault.FormatRule.{FormatRule}
 use Rattle.jc_file.specs.Faults.{passing, those_with}
@@ -33,16 +34,12 @@ numbered-map test f n (x ∷ xs) = ap (λ r. cond (test (f x)) (n ∷ []) [] ++ 
 pub those_with-map : {X Y : Type 0} (test : Y → Bool) (f : X → Y) (xs : List X) → numbered test 0 (map f xs) ≡ those_with (λ x. test (f x)) xs
 those_with-map test f xs = numbered-map test f 0 xs ∙ sym (those_with-numbered (λ x. test (f x)) xs)
 
-map_if : (rule : FormatRule) (b : Bool) (n : ℕ) → map (fault_at rule) (cond b (n ∷ []) []) ≡ cond b (fault_at rule n ∷ []) []
-map_if rule true n = refl
-map_if rule false n = refl
-
 -- the faults so far and those of what is left, one item on
 pub numbered_step : {X : Type 0} (rule : FormatRule) (test : X → Bool) (n : ℕ) (x : X) (xs : List X) (before after all : List Fault) → after ≡ before ++ cond (test x) (fault_at rule n ∷ []) [] → before ++ map (fault_at rule) (numbered test n (x ∷ xs)) ≡ all → after ++ map (fault_at rule) (numbered test (n + 1) xs) ≡ all
 numbered_step rule test n x xs before after all e so_far =
     ap (λ r. r ++ map (fault_at rule) (numbered test (n + 1) xs)) e
     ∙ append_assoc before (cond (test x) (fault_at rule n ∷ []) []) (map (fault_at rule) (numbered test (n + 1) xs))
-    ∙ ap (λ r. before ++ (r ++ map (fault_at rule) (numbered test (n + 1) xs))) (sym (map_if rule (test x) n))
+    ∙ ap (λ r. before ++ (r ++ map (fault_at rule) (numbered test (n + 1) xs))) (sym (map_if (fault_at rule) (test x) n))
     ∙ ap (λ r. before ++ r) (sym (map-append (fault_at rule) (cond (test x) (n ∷ []) []) (numbered test (n + 1) xs)))
     ∙ so_far
 

@@ -2,15 +2,12 @@
 use Rattle.std.proofs.Common.{◌≡◌, ◌∙◌, Bool, true, false, ◌||◌, ◌&&◌, List, [], ◌∷◌, ◌++◌, refl, ap, sym, if◌then◌else◌, true≢false}
 use Rattle.std.specs.List.{list_any}
 use Rattle.std.specs.Cmp.{IsEquivalence}
+use Rattle.jc_base.proofs.Common.{or_true}
 use Rattle.indexmap.specs.IndexSet.{insert_key}
 use Rattle.jc_base.proofs.maps.FiniteMaps.{same_bytes_equiv}
 use Rattle.jc_base.specs.Bytes.{same_bytes}
 use Rattle.jc_file.specs.Faults.{same_key}
 use Rattle.jc_file.proofs.repeats.RepeatedKeys.{any-append, or_false}
-
-or_true : (b : Bool) → (b || true) ≡ true
-or_true true = refl
-or_true false = refl
 
 -- where a key is equal to one of them, a key that is equal to it is too
 any_equal : {K : Type 0} (same : K → K → Bool) → IsEquivalence same → (q k : K) (ks : List K) → same q k ≡ true → list_any (same q) ks ≡ list_any (same k) ks

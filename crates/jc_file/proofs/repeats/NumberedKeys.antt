@@ -1,9 +1,10 @@
 -- Keys of members and their numbers.
-use Rattle.std.proofs.Common.{◌≡◌, ◌∙◌, ℕ, Bool, true, false, ◌||◌, ◌&&◌, List, [], ◌∷◌, ◌++◌, Option, None, Some, unwrap_or, nat_eq, refl, ap, sym, subst, if◌then◌else◌}
+use Rattle.std.proofs.Common.{◌≡◌, ◌∙◌, ℕ, Bool, true, false, ◌||◌, ◌&&◌, List, [], ◌∷◌, ◌++◌, Option, None, Some, nat_eq, refl, ap, sym, subst, if◌then◌else◌}
 use Rattle.std.specs.List.{list_any, AllZip}
 use Rattle.std.specs.Cmp.{unsigned_Decides}
 use Rattle.std.specs.Option.{option_map_or}
 use Rattle.std.proofs.lemmas.Bool.Decides.{same_from_decides}
+use Rattle.std.proofs.lemmas.Option.{same_Some}
 use Rattle.indexmap.specs.IndexSet.{insert_key}
 use Rattle.jc_base.specs.Bytes.{same_bytes}
 use Rattle.jc_base.proofs.maps.FiniteMaps.{same_bytes_decides}
@@ -36,14 +37,11 @@ key_numbered c old t m name descriptor n keeps d = (
 
 -- ---- two keys are the same where their numbers are
 
-some_is : {X : Type 0} (x y : X) → Some x ≡ Some y → x ≡ y
-some_is x y e = ap (λ o. unwrap_or o x) e
-
 same_number : (c : ClassFile) (t : TextNumbers) → AreNumbers c t → (p q : List ℕ) (a b : ConstantIndex) → number_of t p ≡ Some a → number_of t q ≡ Some b → nat_eq a.0 b.0 ≡ same_bytes p q
 same_number c t sound p q a b e f =
     same_from_decides (nat_eq a.0 b.0) (same_bytes p q) (
-      λ h. some_is p q (sym (sound.by_text p a e) ∙ ap (λ n. utf8_at c (record { 0 = n })) ((unsigned_Decides a.0 b.0).0 h) ∙ sound.by_text q b f),
-      λ h. (unsigned_Decides a.0 b.0).1 (ap (λ (i : ConstantIndex). i.0) (some_is a b (sym e ∙ ap (number_of t) h ∙ f))),
+      λ h. same_Some p q (sym (sound.by_text p a e) ∙ ap (λ n. utf8_at c (record { 0 = n })) ((unsigned_Decides a.0 b.0).0 h) ∙ sound.by_text q b f),
+      λ h. (unsigned_Decides a.0 b.0).1 (ap (λ (i : ConstantIndex). i.0) (same_Some a b (sym e ∙ ap (number_of t) h ∙ f))),
     )
     (same_bytes_decides p q)
 

@@ -4,6 +4,7 @@ use Rattle.std.specs.Prelude.{slice_get}
 use Rattle.std.specs.List.{list_any}
 use Rattle.std.specs.Option.{option_map_or}
 use Rattle.std.proofs.lemmas.List.{map-append, length-append}
+use Rattle.jc_base.proofs.Common.{map_if}
 use Rattle.jc_file.specs.declared.fault.Fault.{Fault}
 use Rattle.jc_file.specs.declared.fault.FormatRule.{FormatRule}
 use Rattle.jc_file.specs.Faults.{passing}
@@ -30,10 +31,6 @@ repeats_alike same f g alike n (key ∷ keys) =
     ∙ ap (λ ns. cond (option_map_or g key false) (n ∷ []) [] ++ ns)
     (repeats_alike same (λ q. f q || option_map_or (same q) key false) (λ q. g q || option_map_or (same q) key false) (λ q. ap (λ b. b || option_map_or (same q) key false) (alike q)) (n + 1) keys)
 
-map_if : (rule : FormatRule) (b : Bool) (n : ℕ) → map (fault_at rule) (cond b (n ∷ []) []) ≡ cond b (fault_at rule n ∷ []) []
-map_if rule true n = refl
-map_if rule false n = refl
-
 -- the faults so far and those of what is left, one key on
 repeats_step : {K : Type 0} (rule : FormatRule) (same : K → K → Bool) (seen : K → Bool) (n : ℕ) (key : Option K) (keys : List (Option K)) (before after all : List Fault) → after ≡ before ++ cond (option_map_or seen key false) (fault_at rule n ∷ []) [] → before ++ map (fault_at rule) (repeats same seen n (key ∷ keys)) ≡ all → after ++ map (fault_at rule) (repeats same (λ q. seen q || option_map_or (same q) key false) (n + 1) keys) ≡ all
 repeats_step rule same seen n key keys before after all e so_far =
@@ -41,7 +38,7 @@ repeats_step rule same seen n key keys before after all e so_far =
     let others = repeats same (λ q. seen q || option_map_or (same q) key false) (n + 1) keys in
     ap (λ r. r ++ map (fault_at rule) others) e
     ∙ append_assoc before (cond was (fault_at rule n ∷ []) []) (map (fault_at rule) others)
-    ∙ ap (λ r. before ++ (r ++ map (fault_at rule) others)) (sym (map_if rule was n))
+    ∙ ap (λ r. before ++ (r ++ map (fault_at rule) others)) (sym (map_if (fault_at rule) was n))
     ∙ ap (λ r. before ++ r) (sym (map-append (fault_at rule) (cond was (n ∷ []) []) others))
     ∙ so_far
 

@@ -9,7 +9,7 @@ use Rattle.std.proofs.lemmas.List.Elements.{All-from_recursion, recursion_from_A
 use Rattle.jc_view.specs.Lookups.{passes, fails, lacks}
 use Rattle.jc_file.specs.Faults.{passing, only_if, those_with}
 use Rattle.jc_file.specs.Violations.{AtNumber}
-use Rattle.std.proofs.lemmas.Option.{slice_get_within, get_or_from_slice_get}
+use Rattle.std.proofs.lemmas.Option.{slice_get_within, get_or_from_slice_get, same_Some}
 
 -- ---- two, three and more
 
@@ -80,11 +80,8 @@ flag r = (λ e. e, λ e. e)
 abbrev pub Has : {X : Type 0} → (X → Type 0) → Option X → Type 0
 Has {X} Is o = (x : X) × (o ≡ Some x) × Is x
 
-some_is : {X : Type 0} (x y : X) → Some x ≡ Some y → x ≡ y
-some_is x y e = cc
-
 moved : {X : Type 0} (test : X → Bool) (x y : X) → Some x ≡ Some y → test y ≡ true → test x ≡ true
-moved test x y e h = ap test (some_is x y e) ∙ h
+moved test x y e h = ap test (same_Some x y e) ∙ h
 
 pub lacks_is : {X : Type 0} (test : X → Bool) (o : Option X) → lacks test o ≡ not (passes test o)
 lacks_is test None = refl

@@ -3,6 +3,8 @@ use Rattle.std.proofs.Common.{◌≡◌, ℕ, zero, suc, ◌+◌, ◌*◌, ◌�
 use Rattle.std.specs.List.{flat_map, AllByRecursion, Contains}
 use Rattle.std.specs.Option.{option_map_or}
 use Rattle.std.proofs.lemmas.List.{take_at, drop_at, drop-drop, take-append-drop, append-nil, length-take, length-take-le, length-drop, drop-append-le, take-append-le}
+use Rattle.std.proofs.lemmas.Option.{same_Some}
+use Rattle.jc_base.proofs.Common.{left_of}
 use Rattle.jc_base.specs.Endian.{big_bytes, big_number}
 use Rattle.jc_view.specs.declared.attribute_kind.Holder.{Holder}
 use Rattle.jc_view.specs.declared.attribute_kind.Holder.TheVariants as holders
@@ -66,9 +68,6 @@ cut xs rest e =
 length-attribute_bytes : (a : Attribute) → length (attribute_bytes a) ≡ 6 + length a.bytes
 length-attribute_bytes a =
     omega (arith, length-append (index_bytes a.name ++ big_bytes 4 (length a.bytes)) a.bytes, length-append (index_bytes a.name) (big_bytes 4 (length a.bytes)), length-big_bytes 2 a.name.0, length-big_bytes 4 (length a.bytes))
-
-abbrev left_of : Option (List ℕ) → List ℕ
-left_of o = unwrap_or o []
 
 -- attributes that are read one behind the other
 read_from : (b : List ℕ) (holder : Holder) (n place : ℕ) (xs last rest : List ℕ) → after_each after_attribute n xs ≡ Some last → drop place b ≡ xs ++ rest
@@ -176,14 +175,11 @@ code_fits xs rest e =
     let instructions = are_instructions xs at_handlers.0 at_handlers.1 in
     omega (arith, instructions.size)
 
-some_is : {A : Type 0} (x y : A) → Some x ≡ Some y → x ≡ y
-some_is x y e = cc
-
 code_lies : (b : List ℕ) (a : PlacedAttribute) → HasBytesAt b a → (k : Code) → code_in a.attribute.bytes ≡ Some k → AllByRecursion (HasBytesAt b) (code_attributes a k)
 code_lies b a here k e =
     let xs = a.attribute.bytes in
     let behind = then_some (after_code xs) (λ rest. cond (eqb (length rest) 0) (Some (code_value xs)) None) k e in
-    let is_k : code_value xs ≡ k = some_is (code_value xs) k (test_is (eqb (length behind.0) 0) (Some (code_value xs)) k behind.2).1 in
+    let is_k : code_value xs ≡ k = same_Some (code_value xs) k (test_is (eqb (length behind.0) 0) (Some (code_value xs)) k behind.2).1 in
     let inside = code_cut xs behind.0 behind.1 in
     let front = length (code_front (code_value xs)) in
     let begin = a.place + 6 in
@@ -204,7 +200,7 @@ instructions_lie c a k here e =
     let n = code_length xs in
     let read = (test_is (is_recognised c kinds.Code a.holder a.attribute) (code_in xs) k e).1 in
     let behind = then_some (after_code xs) (λ rest. cond (eqb (length rest) 0) (Some (code_value xs)) None) k read in
-    let is_k : code_value xs ≡ k = some_is (code_value xs) k (test_is (eqb (length behind.0) 0) (Some (code_value xs)) k behind.2).1 in
+    let is_k : code_value xs ≡ k = same_Some (code_value xs) k (test_is (eqb (length behind.0) 0) (Some (code_value xs)) k behind.2).1 in
     let fits = code_fits xs behind.0 behind.1 in
     let rest = drop (length xs) (drop (a.place + 6) b) in
     let over : drop (a.place + 6) b ≡ xs ++ rest = sym (take-append-drop (length xs) (drop (a.place + 6) b)) ∙ ap (λ (t : List ℕ). t ++ rest) here in

@@ -3,6 +3,7 @@ use Rattle.std.proofs.Common.{◌≡◌, ℕ, zero, suc, ◌+◌, ◌-◌, ◌�
 use Rattle.std.specs.List.{AllByRecursion}
 use Rattle.std.proofs.lemmas.Bool.{ne_eqb, le-ltb}
 use Rattle.std.proofs.lemmas.List.{take_at, drop_at, drop-drop, length-drop, append-nil}
+use Rattle.std.proofs.lemmas.Option.{same_Some}
 use Rattle.jc_base.specs.Endian.{big_number}
 use Rattle.jc_view.specs.declared.constant_pool.ConstantIndex.{ConstantIndex}
 use Rattle.jc_view.specs.ConstantPool as pool
@@ -98,9 +99,6 @@ pub record BeginsAt (bytes : List ℕ) (constant : Constant) (place : Option ℕ
   pub rest : List ℕ
   pub stands : drop at bytes ≡ constant_bytes constant ++ rest
 
-some_is : {A : Type 0} (x y : A) → Some x ≡ Some y → x ≡ y
-some_is x y e = cc
-
 begins_later : (w : Bool) (constants : List Constant) (places : List (Option ℕ)) (bytes : List ℕ) (constant : Constant)
     → ((j : ℕ) → constant_from_first constants j ≡ Some constant → BeginsAt bytes constant (place_from places j))
     → (i : ℕ) → cond (ltb (suc i) (cond w 2 1)) None (constant_from_first constants (suc i - cond w 2 1)) ≡ Some constant → BeginsAt bytes constant (place_from (unusable_index w ++ places) i)
@@ -121,7 +119,7 @@ unfolding place_from places_of
 begins_from [] place bytes rest constant i here e = absurd cc
 begins_from (c ∷ cs) place bytes rest constant zero here e =
     let grouped : drop place bytes ≡ constant_bytes c ++ (pool_bytes cs ++ rest) = here ∙ append_assoc (constant_bytes c) (pool_bytes cs) rest in
-    record { at = place; is_at = refl; rest = pool_bytes cs ++ rest; stands = grouped ∙ ap (λ (k : Constant). constant_bytes k ++ (pool_bytes cs ++ rest)) (some_is c constant e) }
+    record { at = place; is_at = refl; rest = pool_bytes cs ++ rest; stands = grouped ∙ ap (λ (k : Constant). constant_bytes k ++ (pool_bytes cs ++ rest)) (same_Some c constant e) }
 begins_from (c ∷ cs) place bytes rest constant (suc i) here e =
     let grouped : drop place bytes ≡ constant_bytes c ++ (pool_bytes cs ++ rest) = here ∙ append_assoc (constant_bytes c) (pool_bytes cs) rest in
     let next_place = place + length (constant_bytes c) in
@@ -154,7 +152,7 @@ lent c index text fits e =
     }
 
 utf8_is : (k : Constant) (text : List ℕ) → utf8_text k ≡ Some text → k ≡ pool.Utf8 text
-utf8_is (pool.Utf8 t) text e = ap (λ (xs : List ℕ). pool.Utf8 xs) (some_is t text e)
+utf8_is (pool.Utf8 t) text e = ap (λ (xs : List ℕ). pool.Utf8 xs) (same_Some t text e)
 utf8_is (pool.Integer x) text e = absurd cc
 utf8_is (pool.Float x) text e = absurd cc
 utf8_is (pool.Long x) text e = absurd cc

@@ -2,6 +2,7 @@
 use Rattle.std.proofs.Common.{◌≡◌, ℕ, zero, suc, ◌+◌, ◌-◌, ◌≤◌, List, [], ◌∷◌, ◌++◌, length, take, drop, Option, Some, None, unwrap_or, IsSome, refl, sym, ap, subst, ◌∙◌, arith, length-append}
 use Rattle.std.specs.List.{flat_map}
 use Rattle.std.proofs.lemmas.List.{length-drop, length-take}
+use Rattle.jc_base.proofs.Common.{left_of}
 use Rattle.jc_base.specs.Cursor.{Reading}
 use Rattle.jc_base.specs.Endian.{big_bytes, big_number}
 use Rattle.jc_view.specs.declared.attribute_kind.Holder.{Holder}
@@ -13,9 +14,6 @@ use Rattle.jc_view.specs.Reading.{after, after_sized, sized_value, after_each, e
 use Rattle.jc_view.specs.Moves.{KeepsEnd}
 use Rattle.jc_view.specs.inside.Tables.{LendsTable}
 use Rattle.jc_view.proofs.reading.BigEndian.{after_some, then_some, length-big_bytes}
-
-abbrev left_of : Option (List ℕ) → List ℕ
-left_of o = unwrap_or o []
 
 is_there : {A : Type 0} (o : Option A) (x : A) → o ≡ Some x → IsSome o
 is_there o x e = rw e refl

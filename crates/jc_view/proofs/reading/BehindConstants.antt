@@ -1,5 +1,6 @@
 -- What stands behind the constants: what is read is what was spelled, and what was spelled is read again.
 use Rattle.std.proofs.Common.{◌≡◌, ℕ, ◌^◌, ◌<◌, ◌+◌, List, [], ◌++◌, length, drop, Option, Some, option_and_then, unwrap_or, sym, ap, subst, ◌∙◌, append_assoc, arith}
+use Rattle.jc_base.proofs.Common.{left_of}
 use Rattle.jc_base.specs.Cursor.{Reading}
 use Rattle.jc_base.specs.Endian.{big_number}
 use Rattle.jc_view.specs.declared.layout_reader.ClassTables.{ClassTables}
@@ -21,9 +22,6 @@ members_in xs = table_value after_member member_value xs
 
 abbrev pub attributes_in : List ℕ → List Attribute
 attributes_in xs = table_value after_attribute attribute_value xs
-
-abbrev left_of : Option (List ℕ) → List ℕ
-left_of o = unwrap_or o []
 
 -- the numbers at the front, and the tables at four places
 pub record Taken (xs interfaces fields methods attributes rest : List ℕ) : Type 0 where

@@ -3,6 +3,7 @@ use Rattle.std.proofs.Common.{◌≡◌, ℕ, ◌+◌, ◌^◌, ◌<◌, ◌≤�
 use Rattle.std.proofs.lemmas.Bool.{cases_lt, le-ltb, lt-ltb}
 use Rattle.std.proofs.lemmas.List.{take_at, drop_at, take-append-drop, length-append, length-take, length-drop, get_or-drop, get_or-take, get_or_past, drop-drop}
 use Rattle.std.proofs.lemmas.Nat.{be_bytes_2, be_bytes_4, be_bytes_8}
+use Rattle.std.proofs.lemmas.Option.{same_Some}
 use Rattle.jc_base.specs.Endian.{big_bytes, big_number}
 use Rattle.jc_base.proofs.Numbers.{big_number-reads_back, big_from-lt, big_from-take, length-bytes_high_first}
 use Rattle.jc_view.specs.Reading.{after, after_sized, sized_value}
@@ -27,14 +28,11 @@ pub record HasFront (n : ℕ) (xs rest : List ℕ) : Type 0 where
   pub long : n ≤ length xs
   pub left : drop n xs ≡ rest
 
-some_is : {A : Type 0} (x y : A) → Some x ≡ Some y → x ≡ y
-some_is x y e = cc
-
 pub after_some : (n : ℕ) (xs rest : List ℕ) → after n xs ≡ Some rest → HasFront n xs rest
 after_some n xs rest e =
     elim (cases_lt (length xs) n) [
       | inl lt ↦ absurd (let short : after n xs ≡ None = rw (lt-ltb _ _ lt) refl in cc)
-      | inr le ↦ let fits : after n xs ≡ Some (drop n xs) = rw (le-ltb _ _ le) refl in record { long = le; left = some_is _ _ (sym fits ∙ e) }
+      | inr le ↦ let fits : after n xs ≡ Some (drop n xs) = rw (le-ltb _ _ le) refl in record { long = le; left = same_Some _ _ (sym fits ∙ e) }
     ]
 
 pub after_front : (n : ℕ) (xs : List ℕ) → n ≤ length xs → after n xs ≡ Some (drop n xs)

@@ -2,6 +2,8 @@
 use Rattle.std.proofs.Common.{◌≡◌, ℕ, ◌+◌, ◌*◌, ◌^◌, Bool, true, false, cond, eqb, ltb, ◌&&◌, List, [], ◌++◌, length, take, drop, Option, Some, None, option_and_then, refl, sym, ap, subst, ◌∙◌, append_assoc, arith, length-append}
 use Rattle.std.proofs.lemmas.Bool.{eqb-true, ltb-true, lt-ltb}
 use Rattle.std.proofs.lemmas.List.{take_at, drop_at, append-nil, nil_from_length}
+use Rattle.std.proofs.lemmas.Option.{same_Some}
+use Rattle.jc_base.proofs.Common.{both_true}
 use Rattle.jc_base.specs.Endian.{big_bytes, big_number}
 use Rattle.jc_view.specs.ConstantPool.{index_bytes}
 use Rattle.jc_view.specs.ClassFile.{Attribute, counted, attribute_bytes, FitsTable, FitsAttribute}
@@ -62,16 +64,9 @@ text_of stack locals size code handlers attributes = (big_bytes 2 stack ++ big_b
 text_is : (stack locals : ℕ) {m n : ℕ} {a b : List ℕ} {c d : List Handler} {e f : List Attribute} → m ≡ n → a ≡ b → c ≡ d → e ≡ f → text_of stack locals m a c e ≡ text_of stack locals n b d f
 text_is stack locals p q r s i = text_of stack locals (p i) (q i) (r i) (s i)
 
-some_is : {A : Type 0} (x y : A) → Some x ≡ Some y → x ≡ y
-some_is x y e = cc
-
 pub test_is : {A : Type 0} (b : Bool) (o : Option A) (x : A) → cond b o None ≡ Some x → (b ≡ true) × (o ≡ Some x)
 test_is true o x e = (refl, e)
 test_is false o x e = absurd cc
-
-both : (a b : Bool) → a && b ≡ true → (a ≡ true) × (b ≡ true)
-both true b e = (refl, e)
-both false b e = absurd cc
 
 abbrev handlers_of : List ℕ → List Handler
 handlers_of xs = table_value (after 8) handler_value xs
@@ -93,7 +88,7 @@ code_takes xs rest fits e =
     let at_code = then_some (after 8 xs) (λ ys. cond test (after n ys) None) a at_handlers.1 in
     let ys = at_code.0 in
     let tested = test_is test (after n ys) a at_code.2 in
-    let range = both (ltb 0 n) (ltb n (2 ^ 16)) tested.0 in
+    let range = both_true (ltb 0 n) (ltb n (2 ^ 16)) tested.0 in
     let numbers = after_both 4 4 xs ys at_code.1 in
     let two = takes_two 2 2 width2 width2 xs (drop 4 xs) fits numbers.0 in
     let size = takes_number 4 width4 (drop 4 xs) ys two.0.rest_fits numbers.1 in
@@ -170,7 +165,7 @@ module _ {X : Type 0} (bytes : X → List ℕ) (Fits : X → Type 0) (after_it :
       let behind = then_some (after_it b) (λ rest. cond (eqb (length rest) 0) (Some (value b)) None) x e in
       let rest = behind.0 in
       let tested = test_is (eqb (length rest) 0) (Some (value b)) x behind.2 in
-      let is_x : value b ≡ x = some_is (value b) x tested.1 in
+      let is_x : value b ≡ x = same_Some (value b) x tested.1 in
       let empty : rest ≡ [] = nil_from_length rest (eqb-true (length rest) 0 tested.0) in
       let read = reads.takes b rest fits behind.1 in (
         subst (λ (y : X). Fits y) is_x read.1,

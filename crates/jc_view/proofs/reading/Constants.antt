@@ -1,5 +1,6 @@
 -- A constant that is read is the constant that was spelled, and what was spelled is read again.
 use Rattle.std.proofs.Common.{◌≡◌, ℕ, List, ◌++◌, Some, refl, ap}
+use Rattle.jc_base.proofs.Common.{same_pair}
 use Rattle.jc_view.specs.declared.constant_pool.ConstantIndex.{ConstantIndex}
 use Rattle.jc_view.specs.declared.constant_pool.ConstantKind.{ConstantKind}
 use Rattle.jc_view.specs.declared.constant_pool.ConstantKind.TheVariants as kinds
@@ -35,9 +36,6 @@ pub record IsAgain (constant : Constant) (rest : List ℕ) : Type 0 where
   pub left : after_body (kind_of constant) (body_bytes constant ++ rest) ≡ Some rest
   pub value : body_value (kind_of constant) (body_bytes constant ++ rest) ≡ constant
 
-both : {a b x y : ℕ} → a ≡ x → b ≡ y → ◌≡◌ {A = ℕ × ℕ} (a, b) (x, y)
-both e f = cc
-
 index_of : ℕ → ConstantIndex
 index_of n = record { 0 = n }
 
@@ -50,10 +48,10 @@ body_again (pool.Long bits) rest fits = let a = again_number 8 bits rest fits in
 body_again (pool.Double bits) rest fits = let a = again_number 8 bits rest fits in record { left = a.0; value = ap (λ (n : ℕ). pool.Double n) a.1 }
 body_again (pool.Class name) rest fits = let a = again_number 2 name.0 rest fits in record { left = a.0; value = ap (λ (n : ℕ). pool.Class (index_of n)) a.1 }
 body_again (pool.String text) rest fits = let a = again_number 2 text.0 rest fits in record { left = a.0; value = ap (λ (n : ℕ). pool.String (index_of n)) a.1 }
-body_again (pool.Fieldref c n) rest fits = let a = again_two 2 2 c.0 n.0 rest fits.0 fits.1 in record { left = a.0; value = ap (λ (p : ℕ × ℕ). pool.Fieldref (index_of p.0) (index_of p.1)) (both a.1 a.2) }
-body_again (pool.Methodref c n) rest fits = let a = again_two 2 2 c.0 n.0 rest fits.0 fits.1 in record { left = a.0; value = ap (λ (p : ℕ × ℕ). pool.Methodref (index_of p.0) (index_of p.1)) (both a.1 a.2) }
-body_again (pool.InterfaceMethodref c n) rest fits = let a = again_two 2 2 c.0 n.0 rest fits.0 fits.1 in record { left = a.0; value = ap (λ (p : ℕ × ℕ). pool.InterfaceMethodref (index_of p.0) (index_of p.1)) (both a.1 a.2) }
-body_again (pool.NameAndType n d) rest fits = let a = again_two 2 2 n.0 d.0 rest fits.0 fits.1 in record { left = a.0; value = ap (λ (p : ℕ × ℕ). pool.NameAndType (index_of p.0) (index_of p.1)) (both a.1 a.2) }
-body_again (pool.MethodHandle k r) rest fits = let a = again_two 1 2 k r.0 rest fits.0 fits.1 in record { left = a.0; value = ap (λ (p : ℕ × ℕ). pool.MethodHandle p.0 (index_of p.1)) (both a.1 a.2) }
+body_again (pool.Fieldref c n) rest fits = let a = again_two 2 2 c.0 n.0 rest fits.0 fits.1 in record { left = a.0; value = ap (λ (p : ℕ × ℕ). pool.Fieldref (index_of p.0) (index_of p.1)) (same_pair a.1 a.2) }
+body_again (pool.Methodref c n) rest fits = let a = again_two 2 2 c.0 n.0 rest fits.0 fits.1 in record { left = a.0; value = ap (λ (p : ℕ × ℕ). pool.Methodref (index_of p.0) (index_of p.1)) (same_pair a.1 a.2) }
+body_again (pool.InterfaceMethodref c n) rest fits = let a = again_two 2 2 c.0 n.0 rest fits.0 fits.1 in record { left = a.0; value = ap (λ (p : ℕ × ℕ). pool.InterfaceMethodref (index_of p.0) (index_of p.1)) (same_pair a.1 a.2) }
+body_again (pool.NameAndType n d) rest fits = let a = again_two 2 2 n.0 d.0 rest fits.0 fits.1 in record { left = a.0; value = ap (λ (p : ℕ × ℕ). pool.NameAndType (index_of p.0) (index_of p.1)) (same_pair a.1 a.2) }
+body_again (pool.MethodHandle k r) rest fits = let a = again_two 1 2 k r.0 rest fits.0 fits.1 in record { left = a.0; value = ap (λ (p : ℕ × ℕ). pool.MethodHandle p.0 (index_of p.1)) (same_pair a.1 a.2) }
 body_again (pool.MethodType d) rest fits = let a = again_number 2 d.0 rest fits in record { left = a.0; value = ap (λ (n : ℕ). pool.MethodType (index_of n)) a.1 }
-body_again (pool.InvokeDynamic b n) rest fits = let a = again_two 2 2 b n.0 rest fits.0 fits.1 in record { left = a.0; value = ap (λ (p : ℕ × ℕ). pool.InvokeDynamic p.0 (index_of p.1)) (both a.1 a.2) }
+body_again (pool.InvokeDynamic b n) rest fits = let a = again_two 2 2 b n.0 rest fits.0 fits.1 in record { left = a.0; value = ap (λ (p : ℕ × ℕ). pool.InvokeDynamic p.0 (index_of p.1)) (same_pair a.1 a.2) }

@@ -2,6 +2,7 @@
 use Rattle.std.proofs.Common.{◌≡◌, ◌≢◌, ℕ, ◌+◌, ◌-◌, ◌<◌, ◌≤◌, ◌⊎◌, Bool, true, false, not, ◌&&◌, ◌||◌, eqb, List, length, drop, Some, None, Ok, Err, refl, ap, ◌∙◌, arith, inl, inr, eq-eqb}
 use Rattle.std.proofs.lemmas.Bool.{cases_Bool, cases_eq, eqb-true, ne_eqb, cases_lt}
 use Rattle.std.proofs.lemmas.List.{length-drop, drop-drop}
+use Rattle.jc_base.proofs.Common.{both_true, or_true}
 use Rattle.jc_base.specs.Cursor.{Reading}
 use Rattle.jc_base.specs.Endian.{big_number}
 use Rattle.jc_view.specs.declared.parse_error.ParseError.TheVariants as errors
@@ -12,10 +13,6 @@ use Rattle.jc_view.proofs.reading.Tables.{after_short}
 use Rattle.jc_view.specs.Refusal.{HasHead}
 
 -- ---- tests and facts
-
-or_true : (b : Bool) → b || true ≡ true
-or_true true = refl
-or_true false = refl
 
 pub not_false : (b : Bool) → not b ≡ false → b ≡ true
 not_false true e = refl
@@ -29,15 +26,11 @@ or_cases : (a b : Bool) → a || b ≡ true → (a ≡ true) ⊎ (b ≡ true)
 or_cases true b e = inl refl
 or_cases false b e = inr e
 
-and_cases : (a b : Bool) → a && b ≡ true → (a ≡ true) × (b ≡ true)
-and_cases true b e = (refl, e)
-and_cases false b e = absurd cc
-
 pub accepted_is : (major minor : ℕ) → is_accepted major minor ≡ true → IsAcceptedVersion major minor
 accepted_is major minor e =
     elim (or_cases (eqb major 51) (eqb major 52 && eqb minor 0) e) [
       | inl h ↦ inl (eqb-true major 51 h)
-      | inr h ↦ let both = and_cases (eqb major 52) (eqb minor 0) h in inr (eqb-true major 52 both.0, eqb-true minor 0 both.1)
+      | inr h ↦ let both = both_true (eqb major 52) (eqb minor 0) h in inr (eqb-true major 52 both.0, eqb-true minor 0 both.1)
     ]
 
 pub is_accepted_of : (major minor : ℕ) → IsAcceptedVersion major minor → is_accepted major minor ≡ true

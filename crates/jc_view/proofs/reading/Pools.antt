@@ -2,6 +2,7 @@
 use Rattle.std.proofs.Common.{◌≡◌, ℕ, zero, suc, ◌+◌, ◌-◌, Bool, true, false, ◌&&◌, cond, eqb, List, [], ◌∷◌, ◌++◌, length, Option, Some, None, Result, Ok, Err, refl, sym, ap, subst, ◌∙◌, append_assoc, arith, length-append}
 use Rattle.std.specs.List.{flat_map, AllByRecursion}
 use Rattle.std.proofs.lemmas.Bool.{ne_eqb}
+use Rattle.jc_base.proofs.Common.{same_pair}
 use Rattle.jc_base.specs.Cursor.{Reading}
 use Rattle.jc_view.specs.declared.constant_pool.ConstantKind.{ConstantKind}
 use Rattle.jc_view.specs.declared.parse_error.ParseError.{ParseError}
@@ -12,9 +13,6 @@ use Rattle.jc_view.specs.Reading.{constant_value, ◌>>=◌, first_constant, Ent
 use Rattle.jc_view.proofs.reading.BigEndian.{IsBytes, Takes, Takes-then}
 use Rattle.jc_view.proofs.reading.Steps.{bind_ok}
 use Rattle.jc_view.proofs.reading.FirstConstant.{ok_is, TakesFirst, first_takes, first_again}
-
-both : {a b x y : ℕ} → a ≡ x → b ≡ y → ◌≡◌ {A = ℕ × ℕ} (a, b) (x, y)
-both e f = cc
 
 both_of : {a x : ℕ} {b y : List ℕ} → a ≡ x → b ≡ y → ◌≡◌ {A = ℕ × List ℕ} (a, b) (x, y)
 both_of e f = cc
@@ -74,7 +72,7 @@ unfolding places_of
 entries_front [] n place ys fits =
     let k : 0 + n ≡ n = omega arith in
     let p : place ≡ place + 0 = omega arith in
-    ap (λ (x : ℕ × ℕ). entries_from x.0 false (record { place = x.1; rest = ys })) (both k p) ∙ sym (with_none _)
+    ap (λ (x : ℕ × ℕ). entries_from x.0 false (record { place = x.1; rest = ys })) (same_pair k p) ∙ sym (with_none _)
 entries_front (c ∷ cs) n place ys fits =
     let w = is_wide (kind_of c) in
     let k : slots c + all_slots cs + n ≡ suc (pending w + (all_slots cs + n)) = omega (arith, slots_is c) in

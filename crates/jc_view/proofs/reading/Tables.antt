@@ -3,6 +3,8 @@ use Rattle.std.proofs.Common.{◌≡◌, ℕ, zero, suc, ◌+◌, ◌*◌, ◌^�
 use Rattle.std.specs.List.{flat_map, AllByRecursion}
 use Rattle.std.proofs.lemmas.Bool.{cases_lt, lt-ltb}
 use Rattle.std.proofs.lemmas.List.{drop_at, length-drop, drop-drop}
+use Rattle.std.proofs.lemmas.Option.{same_Some}
+use Rattle.jc_base.proofs.Common.{left_of}
 use Rattle.jc_base.specs.Endian.{big_bytes, big_number}
 use Rattle.jc_view.specs.ConstantPool.{index_bytes, IsIndex, index_value}
 use Rattle.jc_view.specs.ClassFile.{Attribute, Member, counted, attribute_bytes, member_bytes, FitsTable, FitsAttribute, FitsMember}
@@ -20,9 +22,6 @@ reads_index = record {
   again = λ x rest fits. let a = again_number 2 x.0 rest fits in (a.0, ap (λ (n : ℕ). record { 0 = n }) a.1);
 }
 
-some_is : {A : Type 0} (x y : A) → Some x ≡ Some y → x ≡ y
-some_is x y e = cc
-
 pair_is : {a x : ℕ} {b y : List ℕ} → a ≡ x → b ≡ y → ◌≡◌ {A = ℕ × List ℕ} (a, b) (x, y)
 pair_is e f = cc
 
@@ -30,16 +29,12 @@ four_is : {a b c x y z : ℕ} {d w : List Attribute} → a ≡ x → b ≡ y →
     → ◌≡◌ {A = Member} (record { flags = a; name = record { 0 = b }; descriptor = record { 0 = c }; attributes = d }) (record { flags = x; name = record { 0 = y }; descriptor = record { 0 = z }; attributes = w })
 four_is e f g h i = record { flags = e i; name = record { 0 = f i }; descriptor = record { 0 = g i }; attributes = h i }
 
--- what is left behind a part that is there
-abbrev left_of : Option (List ℕ) → List ℕ
-left_of o = unwrap_or o []
-
 module _ {X : Type 0} {bytes : X → List ℕ} {Fits : X → Type 0} {after_one : List ℕ → Option (List ℕ)} {value : List ℕ → X} where
   each_takes : Reads bytes Fits after_one value → (n : ℕ) (xs rest : List ℕ) → IsBytes xs → after_each after_one n xs ≡ Some rest
       → Takes xs (flat_map bytes (each_value after_one value n xs)) rest × AllByRecursion Fits (each_value after_one value n xs) × (length (each_value after_one value n xs) ≡ n)
   unfolding after_each each_value
   each_takes reads zero xs rest fits e =
-      (record { parts = some_is xs rest e; rest_fits = subst (λ (ys : List ℕ). IsBytes ys) (some_is xs rest e) fits }, tt, refl)
+      (record { parts = same_Some xs rest e; rest_fits = subst (λ (ys : List ℕ). IsBytes ys) (same_Some xs rest e) fits }, tt, refl)
   each_takes reads (suc n) xs rest fits e =
       let b = then_some (after_one xs) (after_each after_one n) rest e in
       let first = reads.takes xs b.0 fits b.1 in

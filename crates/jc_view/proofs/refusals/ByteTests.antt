@@ -2,13 +2,10 @@
 use Rattle.std.proofs.Common.{◌≡◌, ℕ, zero, suc, Bool, true, false, ◌&&◌, ltb, List, [], ◌∷◌, refl, arith}
 use Rattle.std.specs.List.{list_all}
 use Rattle.std.proofs.lemmas.Bool.{ltb-true}
+use Rattle.jc_base.proofs.Common.{both_true}
 use Rattle.jc_view.specs.Outcome.{AreBytes}
-
-and_both : (a b : Bool) → a && b ≡ true → (a ≡ true) × (b ≡ true)
-and_both true b e = (refl, e)
-and_both false b e = absurd cc
 
 pub are_bytes : (b : List ℕ) → list_all (λ x. ltb x 256) b ≡ true → AreBytes b
 are_bytes [] h i = omega arith
-are_bytes (x ∷ b) h zero = ltb-true x 256 (and_both (ltb x 256) (list_all (λ y. ltb y 256) b) h).0
-are_bytes (x ∷ b) h (suc i) = are_bytes b (and_both (ltb x 256) (list_all (λ y. ltb y 256) b) h).1 i
+are_bytes (x ∷ b) h zero = ltb-true x 256 (both_true (ltb x 256) (list_all (λ y. ltb y 256) b) h).0
+are_bytes (x ∷ b) h (suc i) = are_bytes b (both_true (ltb x 256) (list_all (λ y. ltb y 256) b) h).1 i

@@ -2,7 +2,7 @@ use Rattle.std.proofs.Common.{◌≡◌, List, sym, ap, subst, ◌∙◌}
 use Rattle.std.proofs.lemmas.Result.{IfOk-weaker}
 use Rattle.std.specs.List.{Contains}
 use Rattle.jc_file.specs.declared.fault.Fault.{Fault}
-use Rattle.jc_view.specs.ClassFile.{ClassFile, layout}
+use Rattle.jc_view.specs.ClassFile.{layout}
 use Rattle.jc_view.specs.Outcome.{AreBytes}
 use Rattle.jc_file.specs.Faults.{faults}
 use Rattle.jc_file.specs.Violations.{Violates}
