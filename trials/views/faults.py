@@ -123,7 +123,7 @@ def changed(data, rng, count):
 def main():
     arguments = argparse.ArgumentParser()
     arguments.add_argument("--seed", type=int, default=1)
-    arguments.add_argument("--changes", type=int, default=100)
+    arguments.add_argument("--changes", type=int, default=60)
     options = arguments.parse_args()
     rng = random.Random(options.seed)
     common.build()

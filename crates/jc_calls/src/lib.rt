@@ -1,5 +1,5 @@
-//! Tests of public calls that rows of data can't speak of: a map, a cursor, devices and files. It holds
-//! no function of the product, so that the crates below need no tests of their own.
+//! Tests of public calls that rows of data can't speak of: a map, a cursor and devices. It holds no
+//! function of the product, so that the crates below need no tests of their own.
 #![tactic(auto)]
 
 #[cfg(test)]
@@ -8,7 +8,5 @@ mod byte_map;
 mod cursor;
 #[cfg(test)]
 mod mem_devices;
-#[cfg(test)]
-mod session;
 #[cfg(test)]
 mod std_devices;

@@ -1,11 +1,9 @@
 //! Devices over std's readers and writers.
 
-use jc_base::{DeviceFault, Input, MemInput, Output, StdInput, StdOutput, write_all};
-use jc_session::{MemSource, RunError, Session, run};
+use jc_base::{DeviceFault, Input, Output, StdInput, StdOutput, write_all};
 use std::alloc::Global;
 use std::io;
 use std::io::{Read, Write};
-use std::test::Fail;
 
 /// Gives a text, is interrupted once, and then gives the rest.
 #[derive(Drop)]
@@ -107,20 +105,4 @@ fn a_writer_that_takes_nothing_fails(rt: HostRuntime) {
     assert_eq!(rt; output.write(b"one"), Err(DeviceFault));
     assert_eq!(rt; output.write(b""), Ok(0));
     assert_eq!(rt; output.into_inner().got.len(), 0);
-}
-
-#[test]
-fn an_edit_stands_whose_answer_no_writer_takes(rt: HostRuntime) -> Result<(), Fail> {
-    let alloc = rt.alloc();
-    let mut session = Session::new(alloc)?;
-    let mut answers = Vec::new(alloc);
-    answers.push(Ok(Vec::from_slice(alloc, b"abc")?))?;
-    let mut source = MemSource::new(answers);
-    let mut input = MemInput::new(b"add a\nadd a\n", false);
-    let mut out = make_choppy(alloc, Some(0), true);
-    let ended = run(alloc, &mut session, &mut source, &mut input, &mut out);
-    assert_eq!(rt; ended, Err(RunError::Write));
-    assert_eq!(rt; out.into_inner().got.len(), 0);
-    assert_eq!(rt; session.file(b"a"), Some(b"abc".as_slice()));
-    Ok(())
 }

@@ -7,9 +7,20 @@ use anyhow::{Context, Result, bail};
 use jc_session::SourceError;
 use std::alloc::{AllocError, Global};
 
+/// A file by its name.
+#[derive(Drop)]
+pub(crate) struct NamedFile<'a> {
+    pub(crate) name: &'a str,
+    pub(crate) bytes: Vec<u8>,
+}
+
 /// What goes in, and what has to come out.
 #[derive(Drop)]
 pub(crate) struct Dialogue<'a> {
+    pub(crate) files: Vec<NamedFile<'a>>,
+    pub(crate) held: Vec<NamedFile<'a>>,
+    pub(crate) has_files: bool,
+    pub(crate) takes_bytes: bool,
     pub(crate) words: Vec<&'a str>,
     pub(crate) input: Vec<u8>,
     pub(crate) fails: bool,
@@ -22,6 +33,10 @@ pub(crate) struct Dialogue<'a> {
 impl<'a> Dialogue<'a> {
     fn new(alloc: Global) -> Dialogue<'a> {
         Dialogue {
+            files: Vec::new(alloc),
+            held: Vec::new(alloc),
+            has_files: true,
+            takes_bytes: true,
             words: Vec::new(alloc),
             input: Vec::new(alloc),
             fails: false,
@@ -53,7 +68,11 @@ impl<'a> Dialogue<'a> {
             "source" => self.answers.push(source_answer(alloc, names, rest)?)?,
             "sources" => self.push_answers(alloc, names, rest)?,
             "words" => self.words = words_of(alloc, rest)?,
+            "file" => self.files.push(named_file(alloc, names, rest)?)?,
+            "holds" => self.held.push(named_file(alloc, names, rest)?)?,
+            "files" if rest == "no-memory" => self.has_files = false,
             "input" if rest == "fails" => self.fails = true,
+            "output" if rest == "takes nothing" => self.takes_bytes = false,
             "room" => self.room = Some(rest.parse::<usize>()?),
             "error-room" => self.error_room = Some(rest.parse::<usize>()?),
             "ends" => self.wanted.ending.push_str(rest)?,
@@ -82,6 +101,13 @@ fn push_parts(bytes: &mut Vec<u8>, names: &Names, parts: &str) -> Result<()> {
     let (tokens, _) = tokens_of(alloc, parts)?;
     bytes.extend_from_slice(&bytes_of(alloc, names, &tokens)?)?;
     Ok(())
+}
+
+fn named_file<'a>(alloc: Global, names: &Names, text: &'a str) -> Result<NamedFile<'a>> {
+    let (name, parts) = text.split_once(' ').unwrap_or((text, ""));
+    let mut bytes = Vec::new(alloc);
+    push_parts(&mut bytes, names, parts)?;
+    Ok(NamedFile { name, bytes })
 }
 
 fn source_answer(

@@ -14,6 +14,7 @@ use anyhow::{Context, Result, bail, ensure};
 use jc_base::{ByteMap, SigKind};
 use jc_session::Session;
 use std::alloc::{AllocError, Global};
+use std::fs;
 use std::rt::Files;
 
 /// How many rows a file has, and how many of them are wrong.
@@ -103,6 +104,13 @@ impl Judge {
     fn judge_run(&mut self, alloc: Global, what: &str, row: &Row) -> Result<Found> {
         let mut dialogue = Dialogue::read(alloc, &self.names, &row.more)?;
         let found = outcome_of_run(alloc, &mut self.session, &mut dialogue)?;
+        for file in &dialogue.held {
+            let bytes = self.session.file(file.name.as_bytes()).unwrap_or(&[]);
+            if bytes != file.bytes.as_slice() {
+                let told = difference(alloc, file.name, &file.bytes, bytes)?;
+                return judged(alloc, what, Some(told));
+            }
+        }
         judged(alloc, what, dialogue.wanted.difference(alloc, &found)?)
     }
 
@@ -113,7 +121,13 @@ impl Judge {
         row: &Row,
     ) -> Result<Found> {
         let dialogue = Dialogue::read(rt.alloc(), &self.names, &row.more)?;
+        for file in &dialogue.files {
+            fs::write(rt, file.name, file.bytes.as_slice())?;
+        }
         let found = outcome_of_program(rt, &dialogue)?;
+        for file in &dialogue.files {
+            fs::remove_file(rt, file.name)?;
+        }
         judged(
             rt.alloc(),
             what,

@@ -14,7 +14,7 @@
 //! - `parse`: `class NAME`, or a refusal with its number and place, as `6 Trailing(53)`. `fronts`: the one
 //!   answer of `parse` to each proper beginning of the bytes, how many they may be.
 //! - `faults`: `none`, or each fault's rule and place, as `F1 5, F2 6`.
-//! - `units`: the code units, four digits each, or `bad at PLACE`.
+//! - `units`: the code units, four digits each, or `none`; or `bad at PLACE`.
 //! - `name`: what the text is of `unqualified`, `method` and `class`, or `none`.
 //! - `field` and `method`: the parts of a descriptor, or `none`.
 //! - `class-signature`, `method-signature` and `field-signature`: `true` or `false`.
@@ -27,7 +27,11 @@
 //!     ! TEXT           a line of standard error that is wanted; !! PARTS bytes of it
 //!     source PARTS     the source's next answer: bytes; source unread, source no-memory
 //!     sources N PARTS  the same bytes N times
+//!     holds PATH PARTS after a run the session holds these bytes at the path
+//!     file NAME PARTS  a file that lies in the working folder while the program runs
+//!     files no-memory  no file can be opened for want of memory
 //!     input fails      the input fails behind its bytes
+//!     output takes nothing    the output is one over a writer that takes no byte and tells no error
 //!     room N           the output has room for so many bytes, and then fails
 //!     error-room N     the same of standard error
 //!     words "WORD"..   the words of the program
@@ -38,6 +42,7 @@
 mod class_answers;
 mod compare;
 mod dialogue;
+mod doubles;
 mod judge;
 mod outcome;
 mod parts;

@@ -2,8 +2,8 @@
 
 use crate::compare::difference;
 use crate::dialogue::Dialogue;
-use anyhow::Result;
-use jc_base::{MemInput, MemOutput};
+use crate::doubles::{NoMemoryFiles, TakesNothing};
+use jc_base::{MemInput, MemOutput, StdOutput};
 use jc_session::{Ended, MemSource, RunError, Session, program, run};
 use std::alloc::{AllocError, Global};
 use std::mem;
@@ -74,7 +74,12 @@ pub(crate) fn outcome_of_run(
     let mut source = MemSource::new(answers);
     let mut input = MemInput::new(&dialogue.input, dialogue.fails);
     let mut out = output_for(alloc, dialogue.room, &dialogue.wanted.output)?;
-    let ended = run(alloc, session, &mut source, &mut input, &mut out);
+    let ended = if dialogue.takes_bytes {
+        run(alloc, session, &mut source, &mut input, &mut out)
+    } else {
+        let mut out = StdOutput::new(TakesNothing);
+        run(alloc, session, &mut source, &mut input, &mut out)
+    };
     Ok(Outcome {
         output: Vec::from_slice(alloc, out.bytes())?,
         told: Vec::new(alloc),
@@ -91,7 +96,13 @@ pub(crate) fn outcome_of_program(
     let mut input = MemInput::new(&dialogue.input, dialogue.fails);
     let mut out = output_for(alloc, dialogue.room, &dialogue.wanted.output)?;
     let mut err = output_for(alloc, dialogue.error_room, &dialogue.wanted.told)?;
-    let status = program(rt, &dialogue.words, &mut input, &mut out, &mut err);
+    let words = dialogue.words.as_slice();
+    let status = if dialogue.has_files {
+        program(rt, words, &mut input, &mut out, &mut err)
+    } else {
+        let files = NoMemoryFiles { rt };
+        program(&files, words, &mut input, &mut out, &mut err)
+    };
     Ok(Outcome {
         output: Vec::from_slice(alloc, out.bytes())?,
         told: Vec::from_slice(alloc, err.bytes())?,

@@ -34,7 +34,7 @@ impl<'a> Row<'a> {
 impl<'a> Statement<'a> {
     /// The tokens behind the first two.
     pub(crate) fn parts(&self) -> &[Token<'a>] {
-        self.tokens.get(2..).unwrap_or(&[])
+        &self.tokens[self.tokens.len().min(2)..]
     }
 
     fn go_on(&mut self, alloc: Global, line: &'a str) -> Result<()> {

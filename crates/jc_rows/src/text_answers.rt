@@ -24,6 +24,9 @@ fn hexadecimal(alloc: Global, units: &[u16]) -> Result<String, AllocError> {
         let blank = if text.is_empty() { "" } else { " " };
         write!(text, "{blank}{unit:04x}")?;
     }
+    if text.is_empty() {
+        text.push_str("none")?;
+    }
     Ok(text)
 }
 
