@@ -1,0 +1,108 @@
+//! Devices over std's readers and writers.
+
+use jc_base::{DeviceFault, Input, Output, StdInput, StdOutput, write_all};
+use std::alloc::Global;
+use std::io;
+use std::io::{Read, Write};
+
+/// Gives a text, is interrupted once, and then gives the rest.
+#[derive(Drop)]
+struct Interrupted<'a> {
+    text: &'a [u8],
+    rest: &'a [u8],
+    told: bool,
+}
+
+impl<'a> Read for Interrupted<'a> {
+    fn read(&mut self, buf: &mut [u8]) -> io::Result<usize> {
+        if !self.text.is_empty() {
+            return self.text.read(buf);
+        }
+        if !self.told {
+            self.told = true;
+            return Err(io::Error::from(io::ErrorKind::Interrupted));
+        }
+        self.rest.read(buf)
+    }
+}
+
+/// Takes at most three bytes a call. Where it holds `cut` bytes it fails once, or takes nothing.
+#[derive(Drop)]
+struct Choppy {
+    got: Vec<u8>,
+    cut: Option<usize>,
+    refuses: bool,
+}
+
+impl Write for Choppy {
+    fn write(&mut self, buf: &[u8]) -> io::Result<usize> {
+        if self.cut == Some(self.got.len()) {
+            if self.refuses {
+                return Ok(0);
+            }
+            self.cut = None;
+            return Err(io::Error::from(io::ErrorKind::Interrupted));
+        }
+        let most = buf.len().min(3);
+        self.got.extend_from_slice(&buf[..most])?;
+        Ok(most)
+    }
+
+    fn flush(&mut self) -> io::Result<()> {
+        Ok(())
+    }
+}
+
+fn make_choppy(alloc: Global, cut: Option<usize>, refuses: bool) -> StdOutput<Choppy> {
+    StdOutput::new(Choppy {
+        got: Vec::new(alloc),
+        cut,
+        refuses,
+    })
+}
+
+#[test]
+fn a_reader_is_read_to_its_end(rt: HostRuntime) {
+    let mut input = StdInput::new(b"abc".as_slice());
+    let mut buffer = [0; 2];
+    assert_eq!(rt; input.read(&mut buffer), Ok(2));
+    assert_eq!(rt; &buffer, b"ab");
+    assert_eq!(rt; input.read(&mut []), Ok(0));
+    assert_eq!(rt; input.into_inner(), b"c".as_slice());
+}
+
+#[test]
+fn an_interrupted_read_fails(rt: HostRuntime) {
+    let mut input = StdInput::new(Interrupted {
+        text: b"ab",
+        rest: b"c",
+        told: false,
+    });
+    let mut buffer = [0; 4];
+    assert_eq!(rt; input.read(&mut buffer), Ok(2));
+    assert_eq!(rt; input.read(&mut buffer), Err(DeviceFault));
+    assert_eq!(rt; input.read(&mut buffer), Ok(1));
+    assert_eq!(rt; input.read(&mut buffer), Ok(0));
+}
+
+#[test]
+fn a_text_is_written_in_several_writes(rt: HostRuntime) {
+    let mut output = make_choppy(rt.alloc(), None, false);
+    assert_eq!(rt; write_all(&mut output, b"one, two"), Ok(()));
+    assert_eq!(rt; output.into_inner().got.as_slice(), b"one, two".as_slice());
+}
+
+#[test]
+fn an_interrupted_write_is_not_tried_again(rt: HostRuntime) {
+    let mut output = make_choppy(rt.alloc(), Some(3), false);
+    assert_eq!(rt; write_all(&mut output, b"one, two"), Err(DeviceFault));
+    assert_eq!(rt; output.into_inner().got.as_slice(), b"one".as_slice());
+}
+
+#[test]
+fn a_writer_that_takes_nothing_fails(rt: HostRuntime) {
+    let mut output = make_choppy(rt.alloc(), Some(0), true);
+    assert_eq!(rt; output.write(b"one"), Err(DeviceFault));
+    assert_eq!(rt; output.write(b""), Ok(0));
+    assert_eq!(rt; output.into_inner().got.len(), 0);
+}

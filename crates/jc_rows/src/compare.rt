@@ -1,0 +1,38 @@
+//! Bytes as a person reads them, and where two of them part.
+
+use std::alloc::{AllocError, Global};
+
+/// Bytes as text: a byte that is no printable letter as `\n` or `\x` and two digits.
+pub(crate) fn shown(alloc: Global, bytes: &[u8]) -> Result<String, AllocError> {
+    let mut text = String::new(alloc);
+    for byte in bytes {
+        match byte {
+            b'\n' => text.push_str("\\n")?,
+            0x20..=0x7e => text.push(char::from(*byte))?,
+            _ => write!(text, "\\x{byte:02x}")?,
+        }
+    }
+    Ok(text)
+}
+
+/// How many bytes of each side are told where two texts part.
+const TOLD: usize = 60;
+
+fn excerpt(alloc: Global, bytes: &[u8], place: usize) -> Result<String, AllocError> {
+    let behind = bytes.get(place..).unwrap_or(&[]);
+    shown(alloc, &behind[..behind.len().min(TOLD)])
+}
+
+/// What is told of two texts that are not the same.
+pub(crate) fn difference(
+    alloc: Global,
+    what: &str,
+    wanted: &[u8],
+    found: &[u8],
+) -> Result<String, AllocError> {
+    let same = wanted.iter().zip(found).take_while(|(a, b)| a == b).count();
+    let from = same.saturating_sub(TOLD / 3);
+    let wanted = excerpt(alloc, wanted, from)?;
+    let found = excerpt(alloc, found, from)?;
+    format!(in alloc; "{what} from byte {from}: wanted '{wanted}', found '{found}'")
+}

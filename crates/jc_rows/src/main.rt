@@ -1,0 +1,77 @@
+//! Judges files of rows by the libraries' public calls. The words are the names of the files; a line is
+//! printed for each file and for each row that is wrong, and the status is 1 if one is.
+//!
+//! A file of rows is text. `#` begins a comment, and a line that begins with a blank goes on with the
+//! row above it.
+//!
+//!     NAME = PARTS                    names bytes, from there on in the file
+//!     KIND "what" PARTS -> ANSWER     a row: what the call of this kind answers to the bytes
+//!
+//! PARTS are bytes one after another: hexadecimal digits in any grouping, a NAME, a "text" (its bytes as
+//! they stand in the file) or `(PARTS)`. A part with `*N` behind it stands N times, and `@` in it is the
+//! number of the time, from 1, in decimal digits. The kinds and their answers:
+//!
+//! - `parse`: `class NAME`, or a refusal with its number and place, as `6 Trailing(53)`. `fronts`: the one
+//!   answer of `parse` to each proper beginning of the bytes, how many they may be.
+//! - `faults`: `none`, or each fault's rule and place, as `F1 5, F2 6`.
+//! - `units`: the code units, four digits each, or `none`; or `bad at PLACE`.
+//! - `name`: what the text is of `unqualified`, `method` and `class`, or `none`.
+//! - `field` and `method`: the parts of a descriptor, or `none`.
+//! - `class-signature`, `method-signature` and `field-signature`: `true` or `false`.
+//!
+//! A row of the kind `run`, `then` or `program` has no bytes of its own. The lines below it tell what goes
+//! in and what has to come out. `run` is over a new session, `then` over the one of the row above.
+//!
+//!     < TEXT           a line of the input; << PARTS the bytes of PARTS
+//!     > TEXT           a line of the output that is wanted; >> PARTS bytes of it
+//!     ! TEXT           a line of standard error that is wanted; !! PARTS bytes of it
+//!     source PARTS     the source's next answer: bytes; source unread, source no-memory
+//!     sources N PARTS  the same bytes N times
+//!     holds PATH PARTS after a run the session holds these bytes at the path
+//!     file NAME PARTS  a file that lies in the working folder while the program runs
+//!     files no-memory  no file can be opened for want of memory
+//!     input fails      the input fails behind its bytes
+//!     output takes nothing    the output is one over a writer that takes no byte and tells no error
+//!     room N           the output has room for so many bytes, and then fails
+//!     error-room N     the same of standard error
+//!     words "WORD"..   the words of the program
+//!     ends ENDING      End, Eof or an error with its number, and `, wrong` where the report is; of a
+//!                      program its status
+#![tactic(auto)]
+
+mod class_answers;
+mod compare;
+mod dialogue;
+mod doubles;
+mod judge;
+mod outcome;
+mod parts;
+mod row;
+mod text_answers;
+mod tokens;
+
+use anyhow::{Context, Result};
+use judge::judge_file;
+use std::process::ExitCode;
+use std::rt::Files;
+use std::{env, fs};
+
+/// Judges the rows of a file, and says whether none of them is wrong.
+fn judge_path(rt: &(impl Files + AllocGlobal + Print), path: &str) -> Result<bool> {
+    let text = fs::read_to_string(rt, path).context(format_args!("reading {path}"))?;
+    let tally = judge_file(rt, path, &text)?;
+    println!(rt; "{path}: {} rows", tally.rows)?;
+    Ok(tally.wrong == 0)
+}
+
+fn main(rt: HostRuntime) -> Result<ExitCode> {
+    let mut are_right = true;
+    for path in env::args(&rt)?.skip(1) {
+        are_right &= judge_path(&rt, &path)?;
+    }
+    Ok(if are_right {
+        ExitCode::SUCCESS
+    } else {
+        ExitCode::FAILURE
+    })
+}

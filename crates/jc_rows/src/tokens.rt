@@ -1,0 +1,77 @@
+//! The words that a row is written in.
+
+use anyhow::{Context, Result};
+use std::alloc::Global;
+
+#[derive(Clone, Copy, Debug, PartialEq, Eq)]
+pub(crate) enum Token<'a> {
+    /// What stood between two quotes.
+    Quoted(&'a str),
+    /// Hexadecimal digits, a name or another word.
+    Word(&'a str),
+    Open,
+    Close,
+    /// `*N`: the part in front of it stands so many times.
+    Times(usize),
+    /// `@`: the number of the time.
+    Round,
+    Equals,
+    Arrow,
+}
+
+const MARKS: [(&str, Token); 5] = [
+    ("(", Token::Open),
+    (")", Token::Close),
+    ("@", Token::Round),
+    ("=", Token::Equals),
+    ("->", Token::Arrow),
+];
+
+fn ends_a_word(letter: char) -> bool {
+    letter.is_ascii_whitespace() || matches!(letter, '"' | '(' | ')' | '*' | '@' | '=' | '#')
+}
+
+fn split_word(text: &str) -> (&str, &str) {
+    let end = text.find(ends_a_word).unwrap_or(text.len());
+    text.split_at_checked(end).unwrap_or((text, ""))
+}
+
+/// The token at the front of a text that begins with no blank, and what is behind it.
+fn first_token(text: &str) -> Result<(Token<'_>, &str)> {
+    for (mark, token) in MARKS {
+        if let Some(rest) = text.strip_prefix(mark) {
+            return Ok((token, rest));
+        }
+    }
+    if let Some(rest) = text.strip_prefix('"') {
+        let (quoted, rest) = rest.split_once('"').context("a quote without its end")?;
+        return Ok((Token::Quoted(quoted), rest));
+    }
+    if let Some(rest) = text.strip_prefix('*') {
+        let (digits, rest) = split_word(rest);
+        let times = digits
+            .parse::<usize>()
+            .context("a star without its number")?;
+        return Ok((Token::Times(times), rest));
+    }
+    let (word, rest) = split_word(text);
+    Ok((Token::Word(word), rest))
+}
+
+/// The tokens of a line up to its comment or its arrow, and what stands behind the arrow if it has one.
+pub(crate) fn tokens_of(alloc: Global, line: &str) -> Result<(Vec<Token<'_>>, Option<&str>)> {
+    let mut tokens = Vec::new(alloc);
+    let mut rest = line.trim_start();
+    for _ in 0..line.len() {
+        if rest.is_empty() || rest.starts_with('#') {
+            break;
+        }
+        let (token, behind) = first_token(rest)?;
+        if token == Token::Arrow {
+            return Ok((tokens, Some(behind)));
+        }
+        tokens.push(token)?;
+        rest = behind.trim_start();
+    }
+    Ok((tokens, None))
+}

@@ -1,0 +1,115 @@
+//! Answers frames of standard input, each a length of four bytes (big-endian) and so many bytes. The
+//! first argument says what is asked of them:
+//!
+//! - `parse`: a line for each: `ok` and the class's name in hexadecimal, or the refusal.
+//! - `texts`: `yes` or `no` for each: whether it is a text of the kind that its first byte tells.
+//! - `views`: what the view of each lends and its format faults, or the refusal.
+//! - `faults`: a line for each: its format faults, or the refusal.
+//! - `count-bytes N`, `count-parse N`, `count-faults N`: one number, summed over N rounds: the bytes, how
+//!   many are readable, or how many faults they have.
+#![tactic(auto)]
+
+mod counts;
+mod frames;
+mod texts;
+mod views;
+
+use counts::{Counted, sum_of_rounds};
+use frames::Frames;
+use jc_file::{ClassView, ParseError, parse};
+use std::alloc::Global;
+use std::io::{BufWriter, Read, Write};
+use std::{env, io};
+use texts::kind_answer;
+use views::{write_fault_line, write_view};
+
+/// What is told of each frame.
+#[derive(Clone, Copy)]
+enum Asked {
+    Parse,
+    Texts,
+    Views,
+    Faults,
+}
+
+fn write_name<W: Write>(out: &mut W, view: &ClassView<'_>) -> io::Result<()> {
+    write!(out, "ok ")?;
+    for byte in view.name() {
+        write!(out, "{byte:02x}")?;
+    }
+    writeln!(out)
+}
+
+fn write_refusal<W: Write>(out: &mut W, asked: Asked, error: ParseError) -> io::Result<()> {
+    let word = match asked {
+        Asked::Parse => "",
+        _ => "refused ",
+    };
+    writeln!(out, "{word}{} {error:?}", error.code())
+}
+
+fn write_answer<W: Write>(
+    alloc: Global,
+    out: &mut W,
+    asked: Asked,
+    frame: &[u8],
+) -> io::Result<()> {
+    if let Asked::Texts = asked {
+        return writeln!(out, "{}", kind_answer(alloc, frame));
+    }
+    match (parse(alloc, frame), asked) {
+        (Ok(view), Asked::Views) => write_view(alloc, out, &view),
+        (Ok(view), Asked::Faults) => write_fault_line(alloc, out, &view),
+        (Ok(view), _) => write_name(out, &view),
+        (Err(error), _) => write_refusal(out, asked, error),
+    }
+}
+
+fn answer_all<W: Write>(
+    alloc: Global,
+    out: &mut W,
+    asked: Asked,
+    input: &[u8],
+) -> io::Result<()> {
+    for frame in Frames::new(input) {
+        write_answer(alloc, out, asked, frame)?;
+    }
+    out.flush()
+}
+
+/// Prints the answers to all frames.
+fn print_answers(rt: &(impl Print + AllocGlobal), asked: Asked, input: &[u8]) -> io::Result<()> {
+    let mut out = BufWriter::new(rt.alloc(), io::writer(rt))?;
+    answer_all(rt.alloc(), &mut out, asked, input)
+}
+
+fn print_sum(
+    rt: &(impl Print + AllocGlobal),
+    counted: Counted,
+    rounds: Option<String>,
+    input: &[u8],
+) -> io::Result<()> {
+    let rounds = rounds
+        .and_then(|text| text.parse::<u32>().ok())
+        .unwrap_or(1);
+    let sum = sum_of_rounds(rt.alloc(), counted, rounds, input);
+    println!(rt; "{sum}")
+}
+
+fn main(rt: HostRuntime) -> io::Result<()> {
+    let mut input = Vec::new(rt.alloc());
+    rt.reader().read_to_end(&mut input)?;
+    let mut arguments = env::args(&rt)?.skip(1);
+    let asked = arguments.next().unwrap_or(String::new(rt.alloc()));
+    let rounds = arguments.next();
+    match asked.as_str() {
+        "parse" => print_answers(&rt, Asked::Parse, &input),
+        "texts" => print_answers(&rt, Asked::Texts, &input),
+        "views" => print_answers(&rt, Asked::Views, &input),
+        "faults" => print_answers(&rt, Asked::Faults, &input),
+        "count-bytes" => print_sum(&rt, Counted::Bytes, rounds, &input),
+        "count-parse" => print_sum(&rt, Counted::Readable, rounds, &input),
+        "count-faults" => print_sum(&rt, Counted::Faults, rounds, &input),
+        _ => Err(io::Error::from(io::ErrorKind::InvalidInput)),
+    }
+}

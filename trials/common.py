@@ -1,0 +1,140 @@
+"""What the trials share: the programs that they run, class files from javac, and memory that is refused.
+
+A trial is run from anywhere by its path, as trials/parse/run.py. The program jc_trials answers frames of
+its input; its first word says what is asked of them.
+"""
+import os
+import pathlib
+import shutil
+import subprocess
+import sys
+import tempfile
+
+TOP = pathlib.Path(__file__).resolve().parent.parent
+TRIALS = TOP / "trials"
+CRATE = TOP / "crates" / "jc_trials"
+PROGRAM = CRATE / "out" / "jc_trials"
+JCLINK = TOP / "crates" / "jclink" / "out" / "jclink"
+
+# The options of a compilation, and the folders of sources that it reads. `made` is made by the trial.
+SEVEN, EIGHT = ("seven", "made"), ("seven", "eight", "made")
+FOR_PARSE = [
+    (["--release", "7", "-g"], SEVEN),
+    (["--release", "8", "-g", "-parameters"], EIGHT),
+    (["--release", "8", "-g:none"], EIGHT),
+]
+FOR_VIEWS = [
+    (["--release", "7", "-g"], SEVEN),
+    (["--release", "7", "-g:none"], SEVEN),
+    (["--release", "8", "-g", "-parameters"], EIGHT),
+    (["--release", "8", "-g:lines"], EIGHT),
+    (["--release", "8", "-g:none"], EIGHT),
+]
+WITHOUT_MADE = [
+    (["--release", "7", "-g"], ("seven",)),
+    (["--release", "8", "-g"], ("seven", "eight")),
+]
+
+
+def build():
+    """Proves and builds jc_trials, where that is still to do."""
+    with open(CRATE / "stdin", "rb") as frames:
+        done = subprocess.run(["rt", "run", "--", "faults"], cwd=CRATE, stdin=frames, capture_output=True, check=False)
+    if done.returncode != 0 or not PROGRAM.exists():
+        sys.exit("the program was not built:\n" + done.stderr.decode())
+
+
+def number(size, value):
+    return value.to_bytes(size, "big")
+
+
+def framed(frames):
+    return b"".join(number(4, len(frame)) + frame for frame in frames)
+
+
+def answer_text(word, frames):
+    return subprocess.run([PROGRAM, word], input=framed(frames), stdout=subprocess.PIPE, check=True).stdout.decode()
+
+
+def ask(word, frames):
+    """A line of answer for each frame."""
+    lines = answer_text(word, frames).splitlines()
+    if len(lines) != len(frames):
+        sys.exit(f"{len(frames)} frames and {len(lines)} answers")
+    return lines
+
+
+def class_file(name=b"A", constants=(), fields=(), methods=(), attributes=()):
+    """A class below java/lang/Object with further constants, from the fifth on, and these tables."""
+    pool = [b"\x07\0\x02", utf8(name), b"\x07\0\x04", utf8(b"java/lang/Object"), *constants]
+    tables = b"".join(number(2, len(table)) + b"".join(table) for table in ((), fields, methods, attributes))
+    head = b"\xca\xfe\xba\xbe\0\0\0\x34" + number(2, 1 + len(pool))
+    return head + b"".join(pool) + b"\0\x21\0\x01\0\x03" + tables
+
+
+def utf8(text):
+    return b"\x01" + number(2, len(text)) + text
+
+
+def make_sources(folder, rng):
+    """Sources with random members, of which the last has many constants."""
+    types = ["int", "long", "double", "float", "char", "String", "Object[][]", "java.util.List<String>"]
+    for at in range(12):
+        lines = [f"package made.of{at % 3};", f"class Made{at} {{"]
+        for field in range(rng.randrange(20)):
+            lines.append(f"    {rng.choice(types)} field{field};")
+        for method in range(rng.randrange(20)):
+            long, real = rng.getrandbits(62), rng.random() * 10 ** rng.randrange(-9, 9)
+            lines.append(f"    double method{method}({rng.choice(types)} taken) {{")
+            lines.append(f'        System.out.println("text {long:x} " + {long}L);')
+            lines.append(f"        return {real!r} + {long % 1000003};")
+            lines.append("    }")
+        lines.append("    static class Inside { Inside[] all; }")
+        lines.append("}")
+        (folder / f"Made{at}.java").write_text("\n".join(lines) + "\n")
+    sums = "\n".join(f"        sum += {rng.getrandbits(62)}L;" for _ in range(2000))
+    (folder / "Many.java").write_text(f"class Many {{\n    long sum() {{\n        long sum = 0;\n{sums}\n        return sum;\n    }}\n}}\n")
+
+
+def compile_all(work, compilations, rng):
+    """The class files of the compilations, in folders of `work`."""
+    made = work / "made"
+    made.mkdir()
+    make_sources(made, rng)
+    environment = dict(os.environ, LC_ALL="C.UTF-8")
+    files = []
+    for at, (options, folders) in enumerate(compilations):
+        out = work / f"classes{at}"
+        out.mkdir()
+        sources = [source for name in folders
+                   for source in sorted((made if name == "made" else TRIALS / "sources" / name).glob("*.java"))]
+        subprocess.run(["javac", "-encoding", "UTF-8", "-nowarn", "-Xlint:-options", *options, "-d", out, *sources],
+                       env=environment, check=True, stderr=subprocess.DEVNULL)
+        files += sorted(out.rglob("*.class"))
+    return files
+
+
+class Workplace:
+    """A folder that goes at the end."""
+
+    def __enter__(self):
+        self.folder = pathlib.Path(tempfile.mkdtemp(prefix="jclink-trial-"))
+        return self.folder
+
+    def __exit__(self, *_):
+        shutil.rmtree(self.folder)
+
+
+def make_shim(folder):
+    """The library that is loaded before a program and refuses one of its requests for memory."""
+    shim = folder / "refuse.so"
+    subprocess.run(["cc", "-shared", "-fPIC", "-O1", "-o", shim, TRIALS / "memory" / "refuse.c", "-ldl"], check=True)
+    return shim
+
+
+def run_refused(command, text, folder, shim, at):
+    """Status, output, standard error, and how many requests there were; 0 refuses none."""
+    count = folder / "count"
+    env = {"LD_PRELOAD": str(shim), "REFUSE": str(at), "COUNT": str(count)}
+    done = subprocess.run(command, input=text, cwd=folder, env=env, capture_output=True, timeout=60)
+    return done.returncode, done.stdout, done.stderr, int(count.read_text())

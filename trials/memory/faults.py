@@ -1,0 +1,48 @@
+#!/usr/bin/env python3
+"""Refuses each request for memory of jc_trials in turn while it looks for format faults.
+
+Usage: faults.py. It builds the program by `rt run`, and needs a C compiler. The line of the file that is being judged is then a refusal for want of memory, and the line of any other
+file is as it is with ample memory; or the program ends with an error before it answers.
+"""
+import pathlib
+import sys
+
+sys.dont_write_bytecode = True
+sys.path.insert(0, str(pathlib.Path(__file__).resolve().parent.parent))
+import common
+
+FRAMES = (common.CRATE / "stdin").read_bytes()
+LACKS = ("no memory", "refused 9 NoMemory")
+
+
+def run(folder, shim, number):
+    status, out, _, count = common.run_refused([common.PROGRAM, "faults"], FRAMES, folder, shim, number)
+    return status, out.decode().splitlines(), count
+
+
+def main():
+    common.build()
+    with common.Workplace() as folder:
+        shim = common.make_shim(folder)
+        status, owed, count = run(folder, shim, 0)
+        if status != 0:
+            sys.exit(f"with ample memory: status {status}")
+        ended = refused = unfelt = 0
+        for number in range(1, count + 1):
+            status, lines, _ = run(folder, shim, number)
+            wrong = [(mine, full) for mine, full in zip(lines, owed) if mine != full]
+            if status != 0:
+                ended += 1
+            elif len(lines) == len(owed) and not wrong:
+                unfelt += 1
+            elif len(lines) == len(owed) and len(wrong) == 1 and wrong[0][0] in LACKS:
+                refused += 1
+            else:
+                sys.exit(f"request {number}: {lines!r}")
+        print(f"requests for memory: {count}, each refused in turn")
+        print(f"one file refused for want of memory, the others as ever: {refused}")
+        print(f"the program ended with an error: {ended}; answered in full without that memory: {unfelt}")
+
+
+if __name__ == "__main__":
+    main()

@@ -1,0 +1,82 @@
+#!/usr/bin/env python3
+"""Trials of the built program as a session: as many files as it holds, and a coprocess over pipes.
+
+Usage: run.py, once ./jclink is built.
+"""
+import pathlib
+import subprocess
+import sys
+import time
+
+sys.dont_write_bytecode = True
+sys.path.insert(0, str(pathlib.Path(__file__).resolve().parent.parent))
+import common
+
+MOST = 65_535
+
+
+def need(holds, what):
+    if not holds:
+        sys.exit(what)
+
+
+def many_files(folder, same_class):
+    """Adds as many files as a session holds and one more."""
+    for number in range(MOST + 1):
+        name = b"A" if same_class else b"p%d/C%d" % (number % 97, number)
+        (folder / f"{number}").write_bytes(common.class_file(name))
+    lines = "".join(f"add {number}\n" for number in range(MOST + 1)) + "report\nend\n"
+    began = time.monotonic()
+    done = subprocess.run([common.JCLINK, "session"], input=lines.encode(), cwd=folder, capture_output=True)
+    took = time.monotonic() - began
+    answers = done.stdout.decode().split("\n")
+    need(done.returncode == 0 and not done.stderr, f"status {done.returncode}, {done.stderr!r}")
+    need(answers[:MOST] == ["ok"] * MOST, "an add is not answered ok")
+    need(answers[MOST] == "refused 4 TooMany", f"one file too many: {answers[MOST]!r}")
+    paths = sorted(str(number) for number in range(MOST))
+    number_of = lambda path: "A" if same_class else "p%d/C%d" % (int(path) % 97, int(path))
+    rows = [f"{path}: class {number_of(path)}" for path in paths]
+    if same_class:
+        rows = [rows[0]] + [f"{path}: shadowed A by {paths[0]}" for path in paths[1:]]
+    need(answers[MOST + 1 :] == ["[files]", *rows, ""], "the report is another one")
+    return took
+
+
+def coprocess(folder):
+    """Gives each line only when the one before is answered."""
+    (folder / "a").write_bytes(common.class_file(b"A"))
+    (folder / "b").write_bytes(common.class_file(b"A")[:-1])
+    talk = [
+        ("add a", ["ok"]),
+        ("add a", ["refused 1 AlreadyThere"]),
+        ("report", ["[files]", "a: class A"]),
+        ("replace a", ["ok"]),
+        ("add b", ["ok"]),
+        ("report", ["[files]", "a: class A", "b: unreadable 7 Short"]),
+        ("what", ["bad line"]),
+        ("remove b", ["ok"]),
+        ("remove b", ["refused 2 NoSuchFile"]),
+        ("add gone", ["unread gone"]),
+    ]
+    pipe = subprocess.PIPE
+    with subprocess.Popen([common.JCLINK, "session"], cwd=folder, stdin=pipe, stdout=pipe, text=True, bufsize=1) as program:
+        for line, answer in talk:
+            program.stdin.write(line + "\n")
+            program.stdin.flush()
+            need([program.stdout.readline().rstrip("\n") for _ in answer] == answer, f"{line}: another answer")
+        program.stdin.write("end\n")
+        program.stdin.flush()
+        need(program.wait(10) == 0, "another status")
+    return len(talk)
+
+
+def main():
+    with common.Workplace() as folder:
+        print(f"coprocess: {coprocess(folder)} lines, each answered before the next was given")
+    for same_class, what in [(False, "of a class each"), (True, "all of one class")]:
+        with common.Workplace() as folder:
+            print(f"{MOST:,} files {what}, the next refused, and the report: {many_files(folder, same_class):.1f} s")
+
+
+if __name__ == "__main__":
+    main()

@@ -1,0 +1,35 @@
+"""Measuring jc_trials: the processor time of N rounds over frames in memory, less that of none."""
+import os
+import subprocess
+import sys
+
+import common
+
+RUNS = 9
+
+
+def processor_seconds(frames, word, rounds):
+    """The processor time of the program over the file of frames, and the number that it prints."""
+    with open(frames, "rb") as text:
+        process = subprocess.Popen([common.PROGRAM, word, str(rounds)], stdin=text, stdout=subprocess.PIPE)
+        line = process.stdout.read()
+        _, status, usage = os.wait4(process.pid, 0)
+        process.returncode = os.waitstatus_to_exitcode(status)
+    if process.returncode != 0:
+        sys.exit("the program failed")
+    return usage.ru_utime + usage.ru_stime, int(line)
+
+
+def round_seconds(frames, word, rounds):
+    """The processor time of one round over each of the files of frames, which take turns."""
+    spent = {(path, count): [] for path, full in zip(frames, rounds) for count in (0, full)}
+    for _ in range(RUNS):
+        for path, count in spent:
+            spent[path, count].append(processor_seconds(path, word, count)[0])
+    return [(min(spent[path, full]) - min(spent[path, 0])) / full for path, full in zip(frames, rounds)]
+
+
+def write_frames(work, name, files):
+    path = work / name
+    path.write_bytes(common.framed(files))
+    return path
