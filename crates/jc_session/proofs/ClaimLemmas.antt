@@ -4,7 +4,7 @@ use Rattle.std.specs.FinMap as fin
 use Rattle.std.proofs.lemmas.Bool.{cases_Bool}
 use Rattle.jc_base.specs.Bytes.{bytes_cmp, same_bytes}
 use Rattle.jc_base.proofs.ByteMapLemmas.{get-insert, get-remove, remove-insert, same_bytes_decides, same_bytes_equiv}
-use Rattle.jc_session.specs.Claims.{Paths, PathsByName, NoneEmpty, has_path, has_claim}
+use Rattle.jc_session.specs.inside.Claims.{Paths, PathsByName, NoneEmpty, has_path, has_claim}
 
 -- what holds in any case holds at an error
 pub on_err_any : {T E P : Type 0} (r : Result T E) → P → OnErr r P

@@ -1,3 +1,4 @@
+pub mod EmptyFile
 pub mod ClaimLemmas
 pub mod WinnerLemmas
 pub mod HeldLemmas

@@ -1,16 +1,15 @@
 -- How lines are cut, and that a line over 8,192 bytes is bad whatever follows.
-use Rattle.std.proofs.Common.{◌≡◌, ◌∙◌, ◌+◌, ◌-◌, ◌<◌, ◌≤◌, ◌++◌, ◌||◌, not, ℕ, zero, suc, min, Bool, true, false, cond, is_some, IsSome, List, [], ◌∷◌, Option, Some, None, length, take, drop, map, get_or, position, refl, sym, ap, subst, arith, nat_lt, ◌==◌, append_assoc, append-nil, length-append, length-take, length-drop, lt-ltb, ltb-true, ltb-false}
-use Rattle.std.proofs.lemmas.List.{take_all, drop_all, take_min, take-append-drop, get_or-take}
+use Rattle.std.proofs.Common.{◌≡◌, ◌∙◌, ◌+◌, ◌-◌, ◌<◌, ◌≤◌, ◌++◌, ◌||◌, ℕ, zero, suc, min, Bool, true, false, cond, is_some, IsSome, List, [], ◌∷◌, Option, Some, None, length, take, drop, get_or, position, refl, sym, ap, subst, arith, nat_lt, ◌==◌, append_assoc, append-nil, length-append, length-take, length-drop, lt-ltb, ltb-true, ltb-false}
+use Rattle.std.proofs.lemmas.List.{take_all, drop_all, take_min, get_or-take}
 use Rattle.std.proofs.lemmas.List.Folds.{list_any-append, list_any_none}
 use Rattle.std.proofs.lemmas.List.Sums.{fails_before_first, passes_at_first, split_at_first}
 use Rattle.std.proofs.lemmas.Bool.{cond-true, cond-false, or_parts, eqb-true}
-use Rattle.std.proofs.lemmas.Bool.Decides.{nat_tests}
 use Rattle.std.proofs.Math.Seq.{take-append-add}
 use Rattle.std.specs.Bool.{⊤}
 use Rattle.std.specs.List.{list_any, position_or_len, before_first, after_first}
-use Rattle.std.specs.Io.KnownBytes.{Consumes, IsAtEnd}
-use Rattle.jc_session.specs.Lines.{Command, Bad, command_of, lines_of, onto_first}
-use Rattle.jc_session.specs.Commands.{is_line_feed, commands_of, HandsOver}
+use Rattle.std.specs.Io.KnownBytes.{Consumes, IsAtEnd, Keeps}
+use Rattle.jc_session.specs.Lines.{Bad, command_of, lines_of, onto_first, whole_lines, onto_whole}
+use Rattle.jc_session.specs.inside.Reading.{is_line_feed, LacksFeed, kept_of, bytes_left, TakesLine, LosesPart}
 
 -- what `keep` keeps
 pub kept : (n : ℕ) (xs ys : List ℕ) → length xs ≤ n → xs ++ take (min (length ys) (n - length xs)) ys ≡ take n (xs ++ ys)
@@ -22,18 +21,11 @@ kept n xs ys short =
 
 -- ---- the first LF
 
-abbrev pub lacks_feed : List ℕ → Type 0
-lacks_feed xs = list_any is_line_feed xs ≡ false
-
-pub lacks_feed-append : (xs ys : List ℕ) → lacks_feed xs → lacks_feed ys → lacks_feed (xs ++ ys)
+pub lacks_feed-append : (xs ys : List ℕ) → LacksFeed xs → LacksFeed ys → LacksFeed (xs ++ ys)
 lacks_feed-append xs ys p q = list_any-append is_line_feed xs ys ∙ ap (λ b. b || list_any is_line_feed ys) p ∙ q
 
-pub lacks_feed-take : (n : ℕ) (xs : List ℕ) → lacks_feed xs → lacks_feed (take n xs)
-lacks_feed-take n xs p =
-    (or_parts _ _ (sym (list_any-append is_line_feed (take n xs) (drop n xs)) ∙ ap (list_any is_line_feed) (take-append-drop n xs) ∙ p)).0
-
 -- what stands before the first LF has none
-pub lacks_feed-before : (xs : List ℕ) → lacks_feed (before_first is_line_feed xs)
+pub lacks_feed-before : (xs : List ℕ) → LacksFeed (before_first is_line_feed xs)
 lacks_feed-before xs =
     let n = position_or_len is_line_feed xs in
     list_any_none is_line_feed (take n xs) (λ k d within. let below : k < n = omega (arith, within, length-take n xs) in
@@ -63,179 +55,137 @@ all_before_feed xs none =
 
 -- ---- lines
 
--- a front of the first line, put before the lines that follow
-abbrev pub with_front : List ℕ → List (List ℕ) → List (List ℕ)
-with_front [] lines = lines
-with_front (x ∷ front) lines = onto_first x (with_front front lines)
+-- a line that an LF ends
+pub lines_of-feed : (line rest : List ℕ) → LacksFeed line → lines_of (line ++ 10 ∷ rest) ≡ line ∷ lines_of rest
+lines_of-feed [] rest lacks = refl
+lines_of-feed (x ∷ line) rest lacks =
+    let parts = or_parts (is_line_feed x) (list_any is_line_feed line) lacks in
+    cond-false (is_line_feed x) _ _ parts.0 ∙ ap (onto_first x) (lines_of-feed line rest parts.1)
 
-pub with_front-cons : (front line : List ℕ) (lines : List (List ℕ)) → with_front front (line ∷ lines) ≡ (front ++ line) ∷ lines
-with_front-cons [] line lines = refl
-with_front-cons (x ∷ front) line lines = ap (onto_first x) (with_front-cons front line lines)
+pub whole_lines-feed : (line rest : List ℕ) → LacksFeed line → whole_lines (line ++ 10 ∷ rest) ≡ line ∷ whole_lines rest
+whole_lines-feed [] rest lacks = refl
+whole_lines-feed (x ∷ line) rest lacks =
+    let parts = or_parts (is_line_feed x) (list_any is_line_feed line) lacks in
+    cond-false (is_line_feed x) _ _ parts.0 ∙ ap (onto_whole x) (whole_lines-feed line rest parts.1)
 
-pub with_front-nil : (x : ℕ) (front : List ℕ) → with_front (x ∷ front) [] ≡ (x ∷ front) ∷ []
-with_front-nil x [] = refl
-with_front-nil x (y ∷ front) = ap (onto_first x) (with_front-nil y front)
+-- one that the end of the input ends
+pub lines_of-last : (x : ℕ) (line : List ℕ) → LacksFeed (x ∷ line) → lines_of (x ∷ line) ≡ (x ∷ line) ∷ []
+lines_of-last x [] lacks = cond-false (is_line_feed x) _ _ (or_parts (is_line_feed x) false lacks).0
+lines_of-last x (y ∷ line) lacks =
+    let parts = or_parts (is_line_feed x) (list_any is_line_feed (y ∷ line)) lacks in
+    cond-false (is_line_feed x) _ _ parts.0 ∙ ap (onto_first x) (lines_of-last y line parts.1)
 
--- bytes without an LF are a front of the first line
-pub lines_of-front : (front rest : List ℕ) → lacks_feed front → lines_of (front ++ rest) ≡ with_front front (lines_of rest)
-lines_of-front [] rest none = refl
-lines_of-front (x ∷ front) rest none =
-    let parts = or_parts (is_line_feed x) (list_any is_line_feed front) none in
-    cond-false (is_line_feed x) _ _ parts.0 ∙ ap (onto_first x) (lines_of-front front rest parts.1)
+pub whole_lines-part : (part : List ℕ) → LacksFeed part → whole_lines part ≡ []
+whole_lines-part [] lacks = refl
+whole_lines-part (x ∷ part) lacks =
+    let parts = or_parts (is_line_feed x) (list_any is_line_feed part) lacks in
+    cond-false (is_line_feed x) _ _ parts.0 ∙ ap (onto_whole x) (whole_lines-part part parts.1)
 
--- ---- commands
+-- ---- what is kept of a line
 
-pub bad_line : (line : List ℕ) → 8192 < length line → command_of line ≡ Bad
+-- a front that is cut and goes on is the same cut again
+pub cut_again : (n : ℕ) (front rest : List ℕ) → take n (take n front ++ rest) ≡ take n (front ++ rest)
+cut_again zero front rest = refl
+cut_again (suc n) [] rest = refl
+cut_again (suc n) (x ∷ front) rest = ap (λ l. x ∷ l) (cut_again n front rest)
+
+bad_line : (line : List ℕ) → 8192 < length line → command_of line ≡ Bad
 bad_line line long = cond-true (nat_lt 8192 (length line)) Bad _ (lt-ltb 8192 (length line) long)
 
--- a line that is cut after more than 8,192 bytes asks for the same
-pub command_of-cut : (n : ℕ) (front rest : List ℕ) → 8192 < n → command_of (take n front ++ rest) ≡ command_of (front ++ rest)
-command_of-cut n front rest long = by (nat_lt n (length front)) refl
+-- what is kept of a line asks for the same
+command_of-cut : (n : ℕ) (line : List ℕ) → 8192 < n → command_of (take n line) ≡ command_of line
+command_of-cut n line long = by (nat_lt n (length line)) refl
   where
-    by : (b : Bool) → nat_lt n (length front) ≡ b → command_of (take n front ++ rest) ≡ command_of (front ++ rest)
+    by : (b : Bool) → nat_lt n (length line) ≡ b → command_of (take n line) ≡ command_of line
     by true t =
-        let over : n < length front = ltb-true n (length front) t in
-        bad_line (take n front ++ rest) (omega (arith, length-append (take n front) rest, length-take n front))
-        ∙ sym (bad_line (front ++ rest) (omega (arith, length-append front rest)))
-    by false t = ap (λ l. command_of (l ++ rest)) (take_all n front (ltb-false n (length front) t))
+        let over : n < length line = ltb-true n (length line) t in
+        bad_line (take n line) (omega (arith, length-take n line)) ∙ sym (bad_line line (omega arith))
+    by false t = ap command_of (take_all n line (ltb-false n (length line) t))
 
-pub commands-cut : (n : ℕ) (front : List ℕ) (lines : List (List ℕ)) → 8192 < n
-    → map command_of (with_front (take n front) lines) ≡ map command_of (with_front front lines)
-commands-cut n front (line ∷ lines) long =
-    ap (map command_of) (with_front-cons (take n front) line lines) ∙ ap (λ c. c ∷ map command_of lines) (command_of-cut n front line long)
-    ∙ sym (ap (map command_of) (with_front-cons front line lines))
-commands-cut n [] [] long = ap (λ l. map command_of (with_front l [])) (take_all n [] (omega arith))
-commands-cut zero (x ∷ front) [] long = absurd (omega arith)
-commands-cut (suc n) (x ∷ front) [] long =
-    ap (map command_of) (with_front-nil x (take n front))
-    ∙ ap (λ c. c ∷ []) (sym (ap command_of (append-nil (x ∷ take n front))) ∙ command_of-cut (suc n) (x ∷ front) [] long ∙ ap command_of (append-nil (x ∷ front)))
-    ∙ sym (ap (map command_of) (with_front-nil x front))
+pub command_of-kept : (line : List ℕ) → command_of (kept_of line) ≡ command_of line
+command_of-kept line = command_of-cut 8193 line (omega arith)
 
--- a line of which the front is kept, and the bytes after it, ask for the same
-pub commands_after : (n : ℕ) (front bytes : List ℕ) → 8192 < n → lacks_feed front
-    → map command_of (lines_of (take n front ++ bytes)) ≡ map command_of (lines_of (front ++ bytes))
-commands_after n front bytes long none =
-    ap (map command_of) (lines_of-front (take n front) bytes (lacks_feed-take n front none)) ∙ commands-cut n front (lines_of bytes) long
-    ∙ sym (ap (map command_of) (lines_of-front front bytes none))
-
--- a line that an LF ends
-pub commands-feed : (n : ℕ) (front bytes : List ℕ) → 8192 < n → lacks_feed front
-    → map command_of (lines_of (front ++ (10 ∷ bytes))) ≡ command_of (take n front) ∷ map command_of (lines_of bytes)
-commands-feed n front bytes long none =
-    ap (map command_of) (lines_of-front front (10 ∷ bytes) none ∙ with_front-cons front [] (lines_of bytes))
-    ∙ ap (λ c. c ∷ map command_of (lines_of bytes)) (sym (command_of-cut n front [] long) ∙ ap command_of (append-nil (take n front)))
-
--- a line that the end of the input ends
-pub commands-end : (x : ℕ) (front : List ℕ) → lacks_feed (x ∷ front) → map command_of (lines_of (x ∷ front)) ≡ command_of (x ∷ front) ∷ []
-commands-end x front none =
-    ap (λ l. map command_of (lines_of l)) (sym (append-nil (x ∷ front)))
-    ∙ ap (map command_of) (lines_of-front (x ∷ front) [] none ∙ with_front-nil x front)
+pub kept-cons : (x : ℕ) (line : List ℕ) → (y : ℕ) × (rest : List ℕ) × (kept_of (x ∷ line) ≡ y ∷ rest)
+kept-cons x line = by 8193 (omega arith)
+  where
+    by : (n : ℕ) → 0 < n → (y : ℕ) × (rest : List ℕ) × (take n (x ∷ line) ≡ y ∷ rest)
+    by zero some = absurd (omega arith)
+    by (suc n) some = (x, take n line, refl)
 
 -- ---- a reader in mid-line
 
--- known commands stay as they were
-abbrev pub KeepsCommands : Option (List Command) → Option (List Command) → Type 0
-KeepsCommands None new = ⊤
-KeepsCommands (Some commands) new = new ≡ Some commands
+-- of the bytes that were left a part of a line is read, with no LF so far: the start of it is kept, and the rest is ahead or still to come
+abbrev pub IsReading : Option (List ℕ) → (kept ahead : List ℕ) → Option (List ℕ) → Type 0
+IsReading None kept ahead coming = ⊤
+IsReading (Some start) kept ahead None = ⊥
+IsReading (Some start) kept ahead (Some coming) = (part : List ℕ) × LacksFeed part × (start ≡ part ++ (ahead ++ coming)) × (kept ≡ kept_of part)
 
-KeepsCommands-step : (start old : Option (List Command)) (new : Option (List Command)) → KeepsCommands start old → KeepsCommands old new → KeepsCommands start new
-KeepsCommands-step None old new p q = tt
-KeepsCommands-step (Some commands) old new p q = let r : KeepsCommands (Some commands) new = subst (λ o. KeepsCommands o new) p q in r
+pub reading_begins : (ahead : List ℕ) (coming : Option (List ℕ)) → IsReading (bytes_left ahead coming) [] ahead coming
+reading_begins ahead None = tt
+reading_begins ahead (Some coming) = ([], refl, refl, sym (take_all 8193 [] (omega arith)))
 
-HandsOver-step : (start old : Option (List Command)) (more : Bool) (command : Command) (new : Option (List Command)) → KeepsCommands start old → HandsOver old more command new → HandsOver start more command new
-HandsOver-step None old more command new p q = tt
-HandsOver-step (Some commands) old more command new p q = subst (λ o. HandsOver o more command new) p q
+-- what stands before the LF is one line with the part
+kept_on : (part before kept longer : List ℕ) → kept ≡ kept_of part → longer ≡ take 8193 (kept ++ before) → longer ≡ kept_of (part ++ before)
+kept_on part before kept longer is more = more ∙ ap (λ l. take 8193 (l ++ before)) is ∙ cut_again 8193 part before
 
--- a line without an LF so far, with the bytes ahead and those to come, asks for what the input asked for
-pub record IsReading (start : Option (List Command)) (line ahead : List ℕ) (coming : Option (List ℕ)) : Type 0 where
-  pub same : KeepsCommands start (commands_of (line ++ ahead) coming)
-  pub whole : lacks_feed line
+-- an LF was ahead
+pub reading_finds : (start : Option (List ℕ)) (kept ahead longer rest : List ℕ) (coming : Option (List ℕ)) → IsReading start kept ahead coming
+    → true ≡ is_some (position is_line_feed ahead) → longer ≡ take 8193 (kept ++ before_first is_line_feed ahead) → rest ≡ after_first is_line_feed ahead
+    → TakesLine start true longer (bytes_left rest coming)
+reading_finds None kept ahead longer rest coming reading there more rest_is = tt
+reading_finds (Some start) kept ahead longer rest None reading there more rest_is = absurd reading
+reading_finds (Some start) kept ahead longer rest (Some coming) (part, lacks, whole, is) there more rest_is =
+    let before = before_first is_line_feed ahead in
+    let after = after_first is_line_feed ahead in
+    let cut : ahead ≡ before ++ (10 ∷ after) = (split_at_feed ahead (sym there)).0 in (
+      part ++ before,
+      lacks_feed-append part before lacks (lacks_feed-before ahead),
+      whole ∙ ap (λ l. part ++ (l ++ coming)) cut ∙ ap (λ l. part ++ l) (append_assoc before (10 ∷ after) coming) ∙ sym (append_assoc part before (10 ∷ (after ++ coming)))
+      ∙ ap (λ l. (part ++ before) ++ 10 ∷ (l ++ coming)) (sym rest_is),
+      kept_on part before kept longer is more,
+    )
 
-KeepsCommands-refl : (known : Option (List Command)) → KeepsCommands known known
-KeepsCommands-refl None = tt
-KeepsCommands-refl (Some commands) = refl
-
--- all that was ahead was moved to the line
-moved : (n : ℕ) (line ahead : List ℕ) (coming : Option (List ℕ)) → 8192 < n → lacks_feed (line ++ ahead)
-    → KeepsCommands (commands_of (line ++ ahead) coming) (commands_of (take n (line ++ ahead)) coming)
-moved n line ahead None long none = tt
-moved n line ahead (Some bytes) long none = ap Some (commands_after n (line ++ ahead) bytes long none)
-
-pub reading_moves : (n : ℕ) (start : Option (List Command)) (line ahead : List ℕ) (coming : Option (List ℕ)) → 8192 < n → IsReading start line ahead coming
-    → is_some (position is_line_feed ahead) ≡ false → IsReading start (take n (line ++ before_first is_line_feed ahead)) [] coming
-reading_moves n start line ahead coming long reading none =
-    let all = (all_before_feed ahead none).0 in
-    let lacks : lacks_feed ahead = subst lacks_feed all (lacks_feed-before ahead) in
-    let both = lacks_feed-append line ahead reading.whole lacks in
-    let kept_line = take n (line ++ ahead) in
-    rw all (record {
-      same = KeepsCommands-step _ _ _ reading.same (rw append-nil (moved n line ahead coming long both));
-      whole = lacks_feed-take n (line ++ ahead) both;
-    })
-
-read_on : (line bytes : List ℕ) (old new : Option (List ℕ)) → Consumes old new bytes → KeepsCommands (commands_of (line ++ []) old) (commands_of (line ++ bytes) new)
-read_on line bytes None new e = tt
-read_on line bytes (Some old) None e = absurd e
-read_on line bytes (Some old) (Some new) e = ap (λ l. Some (map command_of (lines_of l))) (append_assoc line bytes new ∙ ap (λ l. line ++ l) (sym e) ∙ ap (λ l. l ++ old) (sym (append-nil line)))
+-- no LF was ahead, so all of it was moved to the part
+pub reading_moves : (start : Option (List ℕ)) (kept ahead longer : List ℕ) (coming : Option (List ℕ)) → IsReading start kept ahead coming
+    → false ≡ is_some (position is_line_feed ahead) → longer ≡ take 8193 (kept ++ before_first is_line_feed ahead) → IsReading start longer [] coming
+reading_moves None kept ahead longer coming reading none more = tt
+reading_moves (Some start) kept ahead longer None reading none more = absurd reading
+reading_moves (Some start) kept ahead longer (Some coming) (part, lacks, whole, is) none more =
+    let all = (all_before_feed ahead (sym none)).0 in (
+      part ++ ahead,
+      lacks_feed-append part ahead lacks (subst LacksFeed all (lacks_feed-before ahead)),
+      whole ∙ sym (append_assoc part ahead coming),
+      kept_on part (before_first is_line_feed ahead) kept longer is more ∙ ap (λ l. kept_of (part ++ l)) all,
+    )
 
 -- the next bytes were read
-pub reading_reads : (start : Option (List Command)) (line bytes : List ℕ) (old new : Option (List ℕ)) → IsReading start line [] old → Consumes old new bytes → IsReading start line bytes new
-reading_reads start line bytes old new reading e =
-    record { same = KeepsCommands-step _ _ _ reading.same (read_on line bytes old new e); whole = reading.whole }
+pub reading_reads : (start : Option (List ℕ)) (kept bytes : List ℕ) (old new : Option (List ℕ)) → IsReading start kept [] old → Consumes old new bytes → IsReading start kept bytes new
+reading_reads None kept bytes old new reading e = tt
+reading_reads (Some start) kept bytes None new reading e = absurd reading
+reading_reads (Some start) kept bytes (Some old) None reading e = absurd e
+reading_reads (Some start) kept bytes (Some old) (Some new) (part, lacks, whole, is) e = (part, lacks, whole ∙ ap (λ l. part ++ l) e, is)
 
-found : (n : ℕ) (line ahead : List ℕ) (coming : Option (List ℕ)) → 8192 < n → lacks_feed line → is_some (position is_line_feed ahead) ≡ true
-    → HandsOver (commands_of (line ++ ahead) coming) true (command_of (take n (line ++ before_first is_line_feed ahead))) (commands_of (after_first is_line_feed ahead) coming)
-found n line ahead None long none there = tt
-found n line ahead (Some bytes) long none there =
-    let before = before_first is_line_feed ahead in
-    let rest = after_first is_line_feed ahead in
-    ap (λ l. map command_of (lines_of ((line ++ l) ++ bytes))) (split_at_feed ahead there).0
-    ∙ ap (λ l. map command_of (lines_of l)) (ap (λ l. l ++ bytes) (sym (append_assoc line before (10 ∷ rest))) ∙ append_assoc (line ++ before) (10 ∷ rest) bytes)
-    ∙ commands-feed n (line ++ before) (rest ++ bytes) long (lacks_feed-append line before none (lacks_feed-before ahead))
+-- the end of the input was read
+pub reading_ends : (start : Option (List ℕ)) (kept ahead : List ℕ) (coming : Option (List ℕ)) → IsReading start kept ahead coming
+    → length ahead ≡ 0 → IsAtEnd coming → TakesLine start false kept (bytes_left ahead coming)
+reading_ends start kept (x ∷ ahead) coming reading none end = absurd (omega arith)
+reading_ends None kept [] coming reading none end = tt
+reading_ends (Some start) kept [] None reading none end = absurd reading
+reading_ends (Some start) kept [] (Some coming) (part, lacks, whole, is) none end =
+    let same : start ≡ part = whole ∙ ap (λ l. part ++ l) end ∙ append-nil part in
+    (subst LacksFeed (sym same) lacks, end, is ∙ ap kept_of (sym same))
 
--- an LF ends the line
-pub reading_finds : (n : ℕ) (start : Option (List Command)) (line ahead : List ℕ) (coming : Option (List ℕ)) → 8192 < n → IsReading start line ahead coming
-    → is_some (position is_line_feed ahead) ≡ true
-    → HandsOver start true (command_of (take n (line ++ before_first is_line_feed ahead))) (commands_of (after_first is_line_feed ahead) coming)
-reading_finds n start line ahead coming long reading there = HandsOver-step _ _ _ _ _ reading.same (found n line ahead coming long reading.whole there)
-
-has_length : (n : ℕ) → not (suc n == 0) ≡ true
-has_length n = grind (arith, nat_tests)
-
-ended : (line : List ℕ) (coming : Option (List ℕ)) → lacks_feed line → IsAtEnd coming → HandsOver (commands_of (line ++ []) coming) (not (length line == 0)) (command_of line) (commands_of [] coming)
-ended line None none e = tt
-ended [] (Some bytes) none e = ap (λ l. map command_of (lines_of l)) e
-ended (x ∷ line) (Some bytes) none e =
-    let whole : map command_of (lines_of ((x ∷ line) ++ [] ++ bytes)) ≡ command_of (x ∷ line) ∷ map command_of (lines_of bytes) =
-    ap (λ l. map command_of (lines_of ((x ∷ line) ++ [] ++ l))) e ∙ ap (λ l. map command_of (lines_of l)) (append-nil ((x ∷ line) ++ []) ∙ append-nil (x ∷ line))
-    ∙ commands-end x line none ∙ ap (λ l. command_of (x ∷ line) ∷ map command_of (lines_of l)) (sym e) in
-    subst (λ b. HandsOver (commands_of ((x ∷ line) ++ []) (Some bytes)) b (command_of (x ∷ line)) (commands_of [] (Some bytes))) (sym (has_length (length line))) whole
-
--- the end of the input ends it, if there is one
-pub reading_ends : (start : Option (List Command)) (line ahead : List ℕ) (coming : Option (List ℕ)) (empty : Bool) → IsReading start line ahead coming
-    → length ahead ≡ 0 → IsAtEnd coming → empty ≡ (length line == 0) → HandsOver start (not empty) (command_of line) (commands_of ahead coming)
-reading_ends start line (x ∷ ahead) coming empty reading none e is = absurd (omega arith)
-reading_ends start line [] coming empty reading none e is =
-    rw is (HandsOver-step _ _ _ _ _ reading.same (ended line coming reading.whole e))
-
--- no LF was ahead, and the next bytes were read
-pub reading_goes_on : (start : Option (List Command)) (line ahead longer bytes : List ℕ) (old new : Option (List ℕ)) → IsReading start line ahead old
-    → false ≡ is_some (position is_line_feed ahead) → longer ≡ take 8193 (line ++ before_first is_line_feed ahead) → Consumes old new bytes → IsReading start longer bytes new
-reading_goes_on start line ahead longer bytes old new reading none is e =
-    reading_reads start longer bytes old new (subst (λ l. IsReading start l [] old) (sym is) (reading_moves 8193 start line ahead old (omega arith) reading (sym none))) e
+-- reading failed
+pub reading_fails : (start : Option (List ℕ)) (kept : List ℕ) (old new : Option (List ℕ)) → IsReading start kept [] old → Keeps old new → LosesPart start new
+reading_fails None kept old new reading keeps = tt
+reading_fails (Some start) kept None new reading keeps = absurd reading
+reading_fails (Some start) kept (Some old) None reading keeps = absurd keeps
+reading_fails (Some start) kept (Some old) (Some new) (part, lacks, whole, is) keeps = (part, lacks, whole ∙ ap (λ l. part ++ l) (sym keeps))
 
 pub longer_by : (line ahead longer : List ℕ) → longer ≡ take 8193 (line ++ before_first is_line_feed ahead) → length longer ≤ length line + length ahead
 longer_by line ahead longer is =
     let n = position_or_len is_line_feed ahead in
     omega (arith, ap length is, length-take 8193 (line ++ take n ahead), length-append line (take n ahead), length-take n ahead)
-
--- an LF was ahead
-pub reading_finds_feed : (start : Option (List Command)) (line ahead longer rest : List ℕ) (coming : Option (List ℕ)) → IsReading start line ahead coming
-    → true ≡ is_some (position is_line_feed ahead) → longer ≡ take 8193 (line ++ before_first is_line_feed ahead) → rest ≡ after_first is_line_feed ahead
-    → HandsOver start true (command_of longer) (commands_of rest coming)
-reading_finds_feed start line ahead longer rest coming reading there is rest_is =
-    let at : HandsOver start true (command_of (take 8193 (line ++ before_first is_line_feed ahead))) (commands_of (after_first is_line_feed ahead) coming) = reading_finds 8193 start line ahead coming (omega arith) reading (sym there) in
-    rw (is, rest_is) at
 
 -- no LF is where one is found to be missing
 pub no_feed : (there missed : List ℕ) → missed ≡ there → IsSome (position is_line_feed there) → false ≡ is_some (position is_line_feed missed) → ⊥

@@ -12,7 +12,7 @@ use Rattle.jc_file.specs.declared.parse_error.ParseError.{ParseError}
 use Rattle.jc_file.specs.Outcome.{class_named}
 use Rattle.jc_session.specs.Files.{Files}
 use Rattle.jc_session.specs.Rows.{names_by, names, first_naming, winner}
-use Rattle.jc_session.specs.Claims.{Paths, PathsByName, has_path, first_of, first_path, first_claim, names_there, names_at, AreClaims}
+use Rattle.jc_session.specs.inside.Claims.{Paths, PathsByName, has_path, first_of, first_path, first_claim, names_there, names_at, AreClaims}
 use Rattle.jc_session.specs.Winners.{NamesAt, IsWinner}
 
 -- ---- the order

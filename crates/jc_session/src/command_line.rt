@@ -1,14 +1,19 @@
 //! The program, apart from the standard streams: words and devices in, a status out.
 
-ghost use Rattle.std.specs.Prelude.{◌≡◌, ◌⊎◌, IfErr};
+ghost use Rattle.std.specs.Prelude.{◌≡◌, ◌⊎◌, IfErr, List, Option, Result, Some, ℕ};
+ghost use Rattle.std.specs.FinMap as map;
 ghost use Rattle.jc_session.specs.declared.command_line.Fault.TheVariants.{NoMemory, Usage};
-ghost use Rattle.jc_session.specs.Replies.{WritesSome};
-ghost use Rattle.jc_session.specs.Statuses.{CountsInput, CountsOutput, Outcome, Tells, fault_of, fault_status, fault_text, status_of};
+ghost use Rattle.jc_session.specs.declared.run_error.Ended.{Ended};
+ghost use Rattle.jc_session.specs.declared.run_error.RunError.{RunError};
+ghost use Rattle.jc_session.specs.Files.{Files};
+ghost use Rattle.jc_session.specs.Runs.{RunsAs};
+ghost use Rattle.jc_session.specs.Sources.{SourceAnswers};
+ghost use Rattle.jc_session.specs.Statuses.{CountsInput, CountsOutput, Outcome, Tells, fault_of, fault_status, fault_text, outcome_of, status_of};
 
 use crate::run_error::RunError;
 use crate::running::run;
 use crate::session::Session;
-use crate::source::FileSource;
+use crate::source::{FileSource, Source};
 use clap::Command;
 use clap::error::ErrorKind;
 use jc_base::{Input, Output, write_all};
@@ -59,6 +64,14 @@ impl From<RunError> for Fault {
     }
 }
 
+impl From<jc_base::NoMemory> for Fault {
+    ghost from_gives = { λ _ fault. fault ≡ NoMemory };
+
+    fn from(_: jc_base::NoMemory) -> Fault {
+        Fault::NoMemory
+    }
+}
+
 /// Runs jclink: `words` are those after the program's name, and files are read from `rt`'s working
 /// folder. Gives the exit status.
 ///
@@ -76,40 +89,78 @@ pub fn program<F: Files + AllocGlobal, R: Input, W: Output, E: Output>(
         × (result ≡ status_of outcome)
         × CountsInput outcome (R.failures input.old) (R.failures input.new)
         × CountsOutput outcome (W.failures out.old) (W.failures out.new)
-        × Tells outcome (E.written err.old) (E.written err.new) }
+        × Tells outcome (E.written err.old) (E.written err.new) (E.failures err.old) (E.failures err.new) }
 {
-    match perform(rt, words, input, out) {
-        Ok(true) => 1,
-        Ok(false) => 0,
-        Err(fault) => {
-            tell(err, fault);
-            fault.status()
-        }
+    match check_words(rt.alloc(), words) {
+        Ok(()) => serve(rt.alloc(), &mut FileSource::new(rt), input, out, err),
+        Err(fault) => conclude(err, Err(fault)),
     }
 }
 
-/// Writes the line of a fault. That it can't be written changes nothing.
-fn tell<E: Output>(err: &mut E, fault: Fault)
-    ensures { WritesSome (E.written err.old) (E.written err.new) (fault_text fault) }
+/// Runs a session without files to its end, tells on `err` why it stopped, and gives the status.
+fn serve<S: Source, R: Input, W: Output, E: Output>(
+    alloc: Global,
+    source: &mut S,
+    input: &mut R,
+    out: &mut W,
+    err: &mut E,
+) -> u8
+    ensures { (ending : Result Ended RunError) × (files : Files)
+        × (result ≡ status_of (outcome_of ending files))
+        × CountsInput (outcome_of ending files) (R.failures input.old) (R.failures input.new)
+        × CountsOutput (outcome_of ending files) (W.failures out.old) (W.failures out.new)
+        × Tells (outcome_of ending files) (E.written err.old) (E.written err.new) (E.failures err.old) (E.failures err.new)
+        × ((bytes : List ℕ) (s : SourceAnswers) → R.remaining input.old ≡ Some bytes → S.answers source.old ≡ Some s
+            → RunsAs map.empty s bytes ending (record {
+                files = files;
+                source = S.answers source.new;
+                coming = R.remaining input.new;
+                before = W.written out.old;
+                now = W.written out.new })) }
 {
-    let _ = write_all(err, fault.line());
+    let outcome = perform(alloc, source, input, out);
+    conclude(err, outcome)
 }
 
-/// Does what the words ask for. Says whether the report held at the end is wrong.
-fn perform<F: Files + AllocGlobal, R: Input, W: Output>(
-    rt: &F,
-    words: &[&str],
+/// Runs a session without files to its end, and says whether the report held then is wrong.
+fn perform<S: Source, R: Input, W: Output>(
+    alloc: Global,
+    source: &mut S,
     input: &mut R,
     out: &mut W,
 ) -> Result<bool, Fault>
-    ensures reads { CountsInput result (R.failures input.old) (R.failures input.new) }
-    ensures writes { CountsOutput result (W.failures out.old) (W.failures out.new) }
+    ensures { (ending : Result Ended RunError) × (files : Files)
+        × (result ≡ outcome_of ending files)
+        × CountsInput (outcome_of ending files) (R.failures input.old) (R.failures input.new)
+        × CountsOutput (outcome_of ending files) (W.failures out.old) (W.failures out.new)
+        × ((bytes : List ℕ) (s : SourceAnswers) → R.remaining input.old ≡ Some bytes → S.answers source.old ≡ Some s
+            → RunsAs map.empty s bytes ending (record {
+                files = files;
+                source = S.answers source.new;
+                coming = R.remaining input.new;
+                before = W.written out.old;
+                now = W.written out.new })) }
 {
-    check_words(rt.alloc(), words)?;
-    let mut session = Session::new(rt.alloc()).map_err(|_| Fault::NoMemory)?;
-    let mut source = FileSource::new(rt);
-    run(rt.alloc(), &mut session, &mut source, input, out)?;
-    Ok(session.report().wrong())
+    let mut session = Session::new(alloc)?;
+    match run(alloc, &mut session, source, input, out) {
+        Ok(_) => Ok(session.report().wrong()),
+        Err(error) => Err(Fault::from(error)),
+    }
+}
+
+/// Tells a fault, and gives the status. That a fault can't be told changes nothing.
+fn conclude<E: Output>(err: &mut E, outcome: Result<bool, Fault>) -> u8
+    ensures status { result ≡ status_of outcome }
+    ensures tells { Tells outcome (E.written err.old) (E.written err.new) (E.failures err.old) (E.failures err.new) }
+{
+    match outcome {
+        Ok(true) => 1,
+        Ok(false) => 0,
+        Err(fault) => {
+            let _ = write_all(err, fault.line());
+            fault.status()
+        }
+    }
 }
 
 /// Whether the words ask for `session`, the one command there is.
@@ -135,6 +186,3 @@ fn jclink_command<'a>(alloc: Global) -> Result<Command<'a>, AllocError> {
             .subcommand(session)?,
     )
 }
-
-#[cfg(test)]
-mod tests;

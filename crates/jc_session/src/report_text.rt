@@ -138,6 +138,3 @@ fn write_at<W: Output>(out: &mut W, name: &[u8], place: usize) -> Result<(), Dev
     let mut buffer = Buffer::new();
     write_parts(out, &[name, b"(", buffer.format(place).as_bytes(), b")"])
 }
-
-#[cfg(test)]
-mod tests;
