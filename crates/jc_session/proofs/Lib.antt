@@ -6,3 +6,4 @@ pub mod WritingLemmas
 pub mod EscapeLemmas
 pub mod LineLemmas
 pub mod RunLemmas
+pub mod StatusLemmas

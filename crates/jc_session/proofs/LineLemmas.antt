@@ -141,7 +141,7 @@ reading_finds (Some start) kept ahead longer rest (Some coming) (part, lacks, wh
       part ++ before,
       lacks_feed-append part before lacks (lacks_feed-before ahead),
       whole ∙ ap (λ l. part ++ (l ++ coming)) cut ∙ ap (λ l. part ++ l) (append_assoc before (10 ∷ after) coming) ∙ sym (append_assoc part before (10 ∷ (after ++ coming)))
-      ∙ ap (λ l. (part ++ before) ++ 10 ∷ (l ++ coming)) (sym rest_is),
+          ∙ ap (λ l. (part ++ before) ++ 10 ∷ (l ++ coming)) (sym rest_is),
       kept_on part before kept longer is more,
     )
 

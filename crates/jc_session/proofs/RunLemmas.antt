@@ -184,7 +184,6 @@ gave_memory f s Bad new source before now may gives = absurd may
 module _ (f : Files) (s : SourceAnswers) (bytes : List ℕ) (lines : List (List ℕ)) (line : List ℕ) (rest : List (List ℕ)) (text : List ℕ) (files : Files) (source : SourceAnswers)
     (cut : lines_of bytes ≡ lines ++ line ∷ rest) (owed : IsAnswered f s lines text files source) (before now : Option (List ℕ)) (said : Appends before now text)
     (new : Files) (left : Option SourceAnswers) (coming later : Option (List ℕ)) where
-
   from_here : run_of f s (lines_of bytes) ≡ after_text text (run_of files source (line ∷ rest))
   from_here = ap (run_of f s) cut ∙ owed (line ∷ rest)
 
@@ -229,13 +228,21 @@ module _ (f : Files) (s : SourceAnswers) (bytes : List ℕ) (lines : List (List 
       → StopsForMemory f s bytes (record { files = new; source = left; coming = coming; before = before; now = later })
   line_lacks may gives =
       let given = gave_memory files source (command_of line) new left now later may gives in
-      let P : Run → Type 0 = λ run. IsDone (record run { source = drop 1 run.source }) AtEof (record { files = new; source = left; coming = coming; before = before; now = later }) × LineMayLack run.files run.source (command_of line) in
-      (lines, line, rest, cut, subst P (sym (run_at f s lines text files source owed)) (record {
-        ends = refl;
-        files = given.0;
-        source = given.1;
-        text = Appends-kept before now later text said given.2;
-      }, may))
+      let P : Run → Type 0 = λ run. IsDone (record run { source = drop 1 run.source }) AtEof (record { files = new; source = left; coming = coming; before = before; now = later }) × LineMayLack run.files run.source (command_of line) in (
+        lines,
+        line,
+        rest,
+        cut,
+        subst P (sym (run_at f s lines text files source owed)) (
+          record {
+            ends = refl;
+            files = given.0;
+            source = given.1;
+            text = Appends-kept before now later text said given.2;
+          },
+          may,
+        ),
+      )
 
   pub line_last : (result : Result Ended RunError) → IfErr result (λ e. e ≢ errors.Read) → rest ≡ [] → Gives files source (reply files source (command_of line)) (next_of result) new left now later
       → (result ≡ Err errors.NoMemory → LineMayLack files source (command_of line))
@@ -304,7 +311,6 @@ joined front line rest = append_assoc front (line ++ 10 ∷ []) rest ∙ ap (λ 
 
 module _ (f : Files) (s : SourceAnswers) (bytes : List ℕ) (held : List ℕ) (coming : Option (List ℕ)) (answers : Option SourceAnswers) (files : Files) (before now : Option (List ℕ))
     (so_far : IsSoFar f s bytes held coming answers files before now) where
-
   take_next : (kept : List ℕ) (new : Option (List ℕ)) → TakesLine (bytes_left held coming) true kept new → IsTaken so_far.left kept new
   take_next kept new takes = taken so_far.left kept new (subst (λ o. TakesLine o true kept new) so_far.known_left takes)
 

@@ -70,7 +70,7 @@ BreaksOff (Lacks source) text left = ⊥
 abbrev pub StopsAtWrite : Files → SourceAnswers → List ℕ → Left → Type 0
 StopsAtWrite f s bytes left =
     (lines : List (List ℕ)) × (line : List ℕ) × (rest : List (List ℕ)) × (lines_of bytes ≡ lines ++ line ∷ rest)
-      × (let run = run_of f s lines in (run.ending ≡ AtEof) × BreaksOff (reply run.files run.source (command_of line)) run.text left)
+    × (let run = run_of f s lines in (run.ending ≡ AtEof) × BreaksOff (reply run.files run.source (command_of line)) run.text left)
 
 -- bytes that an edit takes may want memory, and so may the source
 abbrev pub MayLack : Files → (List ℕ → Change) → Result (List ℕ) SourceError → Type 0
@@ -98,7 +98,7 @@ pub record IsNotBegun (f : Files) (s : SourceAnswers) (bytes : List ℕ) (left :
 abbrev pub StopsForMemory : Files → SourceAnswers → List ℕ → Left → Type 0
 StopsForMemory f s bytes left =
     (lines : List (List ℕ)) × (line : List ℕ) × (rest : List (List ℕ)) × (lines_of bytes ≡ lines ++ line ∷ rest)
-      × (let run = run_of f s lines in IsDone (record run { source = drop 1 run.source }) AtEof left × LineMayLack run.files run.source (command_of line))
+    × (let run = run_of f s lines in IsDone (record run { source = drop 1 run.source }) AtEof left × LineMayLack run.files run.source (command_of line))
 
 abbrev pub StopsAs : Files → SourceAnswers → List ℕ → RunError → Left → Type 0
 StopsAs f s bytes run_errors.Read left = StopsAtRead f s bytes left

@@ -1,7 +1,8 @@
 //! The program, apart from the standard streams: words and devices in, a status out.
 
-ghost use Rattle.std.specs.Prelude.{◌≡◌, ◌⊎◌, IfErr, List, Option, Result, Some, ℕ};
+ghost use Rattle.std.specs.Prelude.{◌≡◌, ◌⊎◌, ◌↔◌, IfErr, List, Option, Result, Some, ℕ};
 ghost use Rattle.std.specs.FinMap as map;
+ghost use Rattle.clap.specs.Values.{kind_of};
 ghost use Rattle.jc_session.specs.declared.command_line.Fault.TheVariants.{NoMemory, Usage};
 ghost use Rattle.jc_session.specs.declared.run_error.Ended.{Ended};
 ghost use Rattle.jc_session.specs.declared.run_error.RunError.{RunError};
@@ -16,7 +17,7 @@ use crate::session::Session;
 use crate::source::{FileSource, Source};
 use clap::Command;
 use clap::error::ErrorKind;
-use jc_base::{Input, Output, write_all};
+use jc_base::{Input, NoMemory as NoMemoryLeft, Output, write_all};
 use std::alloc::{AllocError, Global};
 use std::rt::Files;
 
@@ -64,10 +65,18 @@ impl From<RunError> for Fault {
     }
 }
 
-impl From<jc_base::NoMemory> for Fault {
+impl From<NoMemoryLeft> for Fault {
     ghost from_gives = { λ _ fault. fault ≡ NoMemory };
 
-    fn from(_: jc_base::NoMemory) -> Fault {
+    fn from(_: NoMemoryLeft) -> Fault {
+        Fault::NoMemory
+    }
+}
+
+impl From<AllocError> for Fault {
+    ghost from_gives = { λ _ fault. fault ≡ NoMemory };
+
+    fn from(_: AllocError) -> Fault {
         Fault::NoMemory
     }
 }
@@ -111,12 +120,13 @@ fn serve<S: Source, R: Input, W: Output, E: Output>(
         × CountsOutput (outcome_of ending files) (W.failures out.old) (W.failures out.new)
         × Tells (outcome_of ending files) (E.written err.old) (E.written err.new) (E.failures err.old) (E.failures err.new)
         × ((bytes : List ℕ) (s : SourceAnswers) → R.remaining input.old ≡ Some bytes → S.answers source.old ≡ Some s
-            → RunsAs map.empty s bytes ending (record {
-                files = files;
-                source = S.answers source.new;
-                coming = R.remaining input.new;
-                before = W.written out.old;
-                now = W.written out.new })) }
+        → RunsAs map.empty s bytes ending (record {
+          files = files;
+          source = S.answers source.new;
+          coming = R.remaining input.new;
+          before = W.written out.old;
+          now = W.written out.new;
+        })) }
 {
     let outcome = perform(alloc, source, input, out);
     conclude(err, outcome)
@@ -134,12 +144,13 @@ fn perform<S: Source, R: Input, W: Output>(
         × CountsInput (outcome_of ending files) (R.failures input.old) (R.failures input.new)
         × CountsOutput (outcome_of ending files) (W.failures out.old) (W.failures out.new)
         × ((bytes : List ℕ) (s : SourceAnswers) → R.remaining input.old ≡ Some bytes → S.answers source.old ≡ Some s
-            → RunsAs map.empty s bytes ending (record {
-                files = files;
-                source = S.answers source.new;
-                coming = R.remaining input.new;
-                before = W.written out.old;
-                now = W.written out.new })) }
+        → RunsAs map.empty s bytes ending (record {
+          files = files;
+          source = S.answers source.new;
+          coming = R.remaining input.new;
+          before = W.written out.old;
+          now = W.written out.new;
+        })) }
 {
     let mut session = Session::new(alloc)?;
     match run(alloc, &mut session, source, input, out) {
@@ -167,13 +178,20 @@ fn conclude<E: Output>(err: &mut E, outcome: Result<bool, Fault>) -> u8
 fn check_words(alloc: Global, words: &[&str]) -> Result<(), Fault>
     ensures { IfErr result (λ fault. (fault ≡ Usage) ⊎ (fault ≡ NoMemory)) }
 {
-    let command = jclink_command(alloc).map_err(|_| Fault::NoMemory)?;
-    match command.try_get_matches_from(words) {
+    match jclink_command(alloc)?.try_get_matches_from(words) {
         Ok(_) => Ok(()),
-        Err(error) => Err(match error.kind() {
-            ErrorKind::OutOfMemory => Fault::NoMemory,
-            _ => Fault::Usage,
-        }),
+        Err(error) => Err(words_fault(&error)),
+    }
+}
+
+/// Why words are refused.
+fn words_fault(error: &clap::Error) -> Fault
+    ensures memory { (result ≡ NoMemory) ↔ (kind_of error.now ≡ ErrorKind.OutOfMemory) }
+    ensures usage { (result ≡ Usage) ⊎ (result ≡ NoMemory) }
+{
+    match error.kind() {
+        ErrorKind::OutOfMemory => Fault::NoMemory,
+        _ => Fault::Usage,
     }
 }
 

@@ -27,11 +27,12 @@ pub fn run<S: Source, R: Input, W: Output>(
 ) -> Result<Ended, RunError>
     ensures runs { (bytes : List ℕ) (s : SourceAnswers) → R.remaining input.old ≡ Some bytes → S.answers source.old ≡ Some s
         → RunsAs session.old.files s bytes result (record {
-            files = session.new.files;
-            source = S.answers source.new;
-            coming = R.remaining input.new;
-            before = W.written out.old;
-            now = W.written out.new }) }
+          files = session.new.files;
+          source = S.answers source.new;
+          coming = R.remaining input.new;
+          before = W.written out.old;
+          now = W.written out.new;
+        }) }
     ensures reads { CountsReads result (R.failures input.old) (R.failures input.new) }
     ensures writes { CountsWrites result (W.failures out.old) (W.failures out.new) }
 {
