@@ -1,9 +1,3 @@
-pub mod EmptyFile
-pub mod ClaimLemmas
-pub mod WinnerLemmas
-pub mod HeldLemmas
-pub mod WritingLemmas
-pub mod EscapeLemmas
-pub mod LineLemmas
-pub mod RunLemmas
-pub mod StatusLemmas
+pub mod holding
+pub mod texts
+pub mod runs

@@ -1,4 +1,4 @@
-use Rattle.std.proofs.Common.{◌≡◌, ◌∙◌, Ok, Err, ap, refl, subst, inl}
+use Rattle.std.proofs.Common.{◌∙◌, Ok, Err, ap, refl, subst, inl}
 use Rattle.std.specs.List.{list_any}
 use Rattle.std.specs.FinMap as map
 use Rattle.std.proofs.KnownBytes.{Keeps-refl}
@@ -7,7 +7,7 @@ use Rattle.jc_session.specs.declared.run_error.RunError.TheVariants as errors
 use Rattle.jc_session.specs.Files.{Files}
 use Rattle.jc_session.specs.Rows.{rows, is_unreadable}
 use Rattle.jc_session.specs.Runs.{RunsAs}
-use Rattle.jc_session.proofs.StatusLemmas.{input_counts, output_counts}
+use Rattle.jc_session.proofs.runs.FailuresCounted.{input_counts, output_counts}
 use Rattle.jc_session.proofs.command_line.perform.Goals as goal
 
 pub returns-in_err-session : goal.returns-in_err-session

@@ -1,5 +1,5 @@
 use Rattle.std.proofs.Common.{Err}
-use Rattle.jc_session.proofs.StatusLemmas.{input_idle, output_idle}
+use Rattle.jc_session.proofs.runs.FailuresCounted.{input_idle, output_idle}
 use Rattle.jc_session.proofs.command_line.program.Goals as goal
 
 pub returns-in-Err : goal.returns-in-Err

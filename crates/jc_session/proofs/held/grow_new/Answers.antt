@@ -1,6 +1,6 @@
 use Rattle.std.proofs.Common.{◌≡◌, [], ap, ◌∙◌}
 use Rattle.std.specs.FinMap as map
-use Rattle.jc_session.proofs.HeldLemmas.{new_besides, new_empty, new_place, new_commits, new_undoes}
+use Rattle.jc_session.proofs.holding.ClaimsStay.{new_besides, new_empty, new_place, new_commits, new_undoes}
 use Rattle.jc_session.proofs.held.grow_new.Goals as goal
 
 pub returns-in-Ok-clause-grown : goal.returns-in-Ok-clause-grown

@@ -1,6 +1,6 @@
 use Rattle.std.proofs.Common.{sym, subst}
 use Rattle.jc_session.specs.inside.Claims.{AreClaims}
-use Rattle.jc_session.proofs.HeldLemmas.{claims_put}
+use Rattle.jc_session.proofs.holding.ClaimsStay.{claims_put}
 use Rattle.jc_session.proofs.held.put.Goals as goal
 
 pub returns-clause-claims : goal.returns-clause-claims

@@ -1,6 +1,6 @@
 use Rattle.std.proofs.Common.{sym, subst}
 use Rattle.jc_session.specs.inside.Claims.{AreClaims}
-use Rattle.jc_session.proofs.HeldLemmas.{claims_removed, claims_absent}
+use Rattle.jc_session.proofs.holding.ClaimsStay.{claims_removed, claims_absent}
 use Rattle.jc_session.proofs.held.take_out.Goals as goal
 
 pub returns-in-Some-clause-claims : goal.returns-in-Some-clause-claims

@@ -1,5 +1,5 @@
 use Rattle.std.proofs.Common.{◌∙◌, arith}
-use Rattle.jc_session.proofs.LineLemmas.{reading_moves, reading_reads, reading_ends, reading_fails, reading_finds, longer_by, no_feed}
+use Rattle.jc_session.proofs.runs.LinesCut.{reading_moves, reading_reads, reading_ends, reading_fails, reading_finds, longer_by, no_feed}
 use Rattle.jc_session.proofs.lines.read_line.Goals as goal
 
 pub returns-in-Ok-eq0-clause-takes : goal.returns-in-Ok-eq0-clause-takes

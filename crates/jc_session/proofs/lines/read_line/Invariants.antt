@@ -1,6 +1,6 @@
 use Rattle.std.proofs.Common.{◌≡◌, ◌+◌, ◌≤◌, IsSome, length, position}
 use Rattle.jc_session.specs.inside.Reading.{bytes_left, is_line_feed}
-use Rattle.jc_session.proofs.LineLemmas.{IsReading}
+use Rattle.jc_session.proofs.runs.LinesCut.{IsReading}
 use Rattle.jc_session.proofs.lines.read_line.Given as goal
 
 abbrev pub invariant-loop-ahead : goal.invariant-loop-ahead

@@ -2,7 +2,7 @@ use Rattle.std.proofs.Common.{◌≡◌, ◌∙◌, Err, ap, sym, refl}
 use Rattle.std.proofs.lemmas.Result.{err_from_is_err_and}
 use Rattle.jc_session.specs.Lines.{command_of}
 use Rattle.jc_session.specs.inside.Replies.{command_lent}
-use Rattle.jc_session.proofs.RunLemmas.{so_far_begins, so_far_goes_on, so_far_ends, so_far_stops, so_far_fails, so_far_last}
+use Rattle.jc_session.proofs.runs.RunsSoFar.{so_far_begins, so_far_goes_on, so_far_ends, so_far_stops, so_far_fails, so_far_last}
 use Rattle.jc_session.proofs.running.run.Goals as goal
 
 pub loop-line-init : goal.loop-line-init

@@ -1,6 +1,6 @@
 use Rattle.std.proofs.Common.{◌≡◌, ◌+◌, List, ℕ, Some, length}
 use Rattle.jc_session.specs.Sources.{SourceAnswers}
-use Rattle.jc_session.proofs.RunLemmas.{IsSoFar}
+use Rattle.jc_session.proofs.runs.RunsSoFar.{IsSoFar}
 use Rattle.jc_session.proofs.running.run.Given as goal
 
 abbrev pub invariant-loop-line : goal.invariant-loop-line

@@ -1,6 +1,6 @@
 use Rattle.std.proofs.Common.{ap, sym, ◌∙◌}
 use Rattle.jc_file.specs.Outcome.{class_named}
-use Rattle.jc_session.proofs.EmptyFile.{class_named-empty}
+use Rattle.jc_session.proofs.holding.EmptyFile.{class_named-empty}
 use Rattle.jc_session.proofs.file.File.empty.Goals as goal
 
 pub invariant_of-result : goal.invariant_of-result

@@ -1,6 +1,6 @@
 use Rattle.std.proofs.Common.{sym, subst}
 use Rattle.jc_session.specs.inside.Claims.{AreClaims}
-use Rattle.jc_session.proofs.HeldLemmas.{no_claims}
+use Rattle.jc_session.proofs.holding.ClaimsStay.{no_claims}
 use Rattle.jc_session.proofs.held.Held.new.Goals as goal
 
 pub returns-clause-claims : goal.returns-clause-claims

@@ -1,7 +1,7 @@
 use Rattle.std.proofs.Common.{map, ap, ◌∙◌}
 use Rattle.jc_session.specs.Rows.{rows}
 use Rattle.jc_session.specs.inside.Claims.{claimed_row}
-use Rattle.jc_session.proofs.HeldLemmas.{claimed_rows}
+use Rattle.jc_session.proofs.holding.RowsByClaims.{claimed_rows}
 use Rattle.jc_session.proofs.report.Report.rows.Goals as goal
 
 pub returns : goal.returns

@@ -1,5 +1,5 @@
 -- A run, line by line: what was done so far, and what is owed for the lines that are left.
-use Rattle.std.proofs.Common.{◌≡◌, ◌≢◌, ◌∙◌, ◌<◌, ◌++◌, ◌||◌, ◌↔◌, ℕ, Bool, true, false, List, [], ◌∷◌, Option, Some, None, Result, Ok, Err, IfErr, refl, sym, ap, subst, append_assoc, append-nil, length, take, drop, inl, inr, arith}
+use Rattle.std.proofs.Common.{◌≡◌, ◌≢◌, ◌∙◌, ◌++◌, ◌||◌, ◌↔◌, ℕ, Bool, true, false, List, [], ◌∷◌, Option, Some, None, Result, Ok, Err, IfErr, refl, sym, ap, subst, append_assoc, append-nil, take, drop, inr, arith}
 use Rattle.std.proofs.lemmas.List.{take_all}
 use Rattle.std.proofs.KnownBytes.{Appends-nil, Appends-trans, Appends-kept}
 use Rattle.std.specs.Io.KnownBytes.{Appends, Keeps}
@@ -19,7 +19,7 @@ use Rattle.jc_session.specs.Answers.{Reply, Says, Ends, Lacks, reply, judged_rep
 use Rattle.jc_session.specs.Runs.{IsDone, ending_of, is_end, has_end, EndsAs, StopsAtRead, StopsAtWrite, BreaksOff, StopsForMemory, LineMayLack, StopsAs, RunsAs}
 use Rattle.jc_session.specs.inside.Reading.{LacksFeed, kept_of, bytes_left, TakesLine, LosesPart}
 use Rattle.jc_session.specs.inside.Replies.{Gives, GivesLast, next_of}
-use Rattle.jc_session.proofs.LineLemmas.{lines_of-feed, whole_lines-feed, lines_of-last, whole_lines-part, command_of-kept, kept-cons}
+use Rattle.jc_session.proofs.runs.LinesCut.{lines_of-feed, whole_lines-feed, lines_of-last, whole_lines-part, command_of-kept, kept-cons}
 
 -- ---- a run over lines
 

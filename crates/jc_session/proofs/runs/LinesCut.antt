@@ -1,5 +1,5 @@
 -- How lines are cut, and that a line over 8,192 bytes is bad whatever follows.
-use Rattle.std.proofs.Common.{◌≡◌, ◌∙◌, ◌+◌, ◌-◌, ◌<◌, ◌≤◌, ◌++◌, ◌||◌, ℕ, zero, suc, min, Bool, true, false, cond, is_some, IsSome, List, [], ◌∷◌, Option, Some, None, length, take, drop, get_or, position, refl, sym, ap, subst, arith, nat_lt, ◌==◌, append_assoc, append-nil, length-append, length-take, length-drop, lt-ltb, ltb-true, ltb-false}
+use Rattle.std.proofs.Common.{◌≡◌, ◌∙◌, ◌+◌, ◌-◌, ◌<◌, ◌≤◌, ◌++◌, ◌||◌, ℕ, zero, suc, min, Bool, true, false, cond, is_some, IsSome, List, [], ◌∷◌, Option, Some, None, length, take, drop, get_or, position, refl, sym, ap, subst, arith, nat_lt, append_assoc, append-nil, length-append, length-take, length-drop, lt-ltb, ltb-true, ltb-false}
 use Rattle.std.proofs.lemmas.List.{take_all, drop_all, take_min, get_or-take}
 use Rattle.std.proofs.lemmas.List.Folds.{list_any-append, list_any_none}
 use Rattle.std.proofs.lemmas.List.Sums.{fails_before_first, passes_at_first, split_at_first}

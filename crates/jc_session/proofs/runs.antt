@@ -1,0 +1,3 @@
+pub mod LinesCut
+pub mod RunsSoFar
+pub mod FailuresCounted
