@@ -47,7 +47,7 @@ is_end Bad = false
 abbrev pub has_end : List (List ℕ) → Bool
 has_end lines = list_any (λ line. is_end (command_of line)) lines
 
--- all lines were answered, up to the first that is `end`
+-- all lines were answered, up to the first that is `end`, and the source answered none of them that it had no memory
 pub record EndsAs (f : Files) (s : SourceAnswers) (bytes : List ℕ) (how : Ended) (left : Left) : Type 0 where
   pub done : IsDone (run_of f s (lines_of bytes)) (ending_of how) left
   pub by_end : (how ≡ ended.End) ↔ (has_end (lines_of bytes) ≡ true)

@@ -1,5 +1,6 @@
 -- How the program ends, and what it tells on standard error.
-use Rattle.std.specs.Prelude.{◌≡◌, ℕ, ◌≤◌, ◌⊎◌, Bool, true, false, List, Option, Result, Ok, Err, codes}
+use Rattle.std.specs.Prelude.{◌≡◌, ℕ, ◌≤◌, ◌⊎◌, Bool, true, false, List, [], Option, Some, Result, Ok, Err, codes}
+use Rattle.std.specs.FinMap as map
 use Rattle.std.specs.List.{list_any}
 use Rattle.std.specs.Io.KnownBytes.{Appends, Keeps}
 use Rattle.jc_base.specs.Device.{MoreFaults, WritesFront}
@@ -9,6 +10,8 @@ use Rattle.jc_session.specs.declared.run_error.RunError.TheVariants as run_error
 use Rattle.jc_session.specs.declared.command_line.Fault.{Fault}
 use Rattle.jc_session.specs.declared.command_line.Fault.TheVariants as faults
 use Rattle.jc_session.specs.Files.{Files}
+use Rattle.jc_session.specs.Sources.{SourceAnswers}
+use Rattle.jc_session.specs.Runs.{RunsAs}
 use Rattle.jc_session.specs.Rows.{rows, is_unreadable}
 
 -- whether the report is wrong, or why there is none
@@ -24,6 +27,17 @@ fault_of run_errors.NoMemory = faults.NoMemory
 abbrev pub outcome_of : Result Ended RunError → Files → Outcome
 outcome_of (Ok how) f = Ok (list_any is_unreadable (rows f))
 outcome_of (Err e) f = Err (fault_of e)
+
+-- a run over the input, with no files at first, by the answers that its source gave
+abbrev pub RunsByAnswers : Result Ended RunError → Files → (input coming before now : Option (List ℕ)) → Type 0
+RunsByAnswers ending f input coming before now =
+    (bytes : List ℕ) → input ≡ Some bytes → (s : SourceAnswers) × RunsAs map.empty s bytes ending (record { files = f; source = Some []; coming = coming; before = before; now = now })
+
+-- the words were refused, or there was a run
+abbrev pub Performs : Outcome → (input coming before now : Option (List ℕ)) → Type 0
+Performs outcome input coming before now =
+    (outcome ≡ Err faults.Usage)
+    ⊎ ((ending : Result Ended RunError) × (f : Files) × (outcome ≡ outcome_of ending f) × RunsByAnswers ending f input coming before now)
 
 abbrev pub fault_status : Fault → ℕ
 fault_status faults.Usage = 2

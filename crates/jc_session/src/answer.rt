@@ -6,7 +6,7 @@ ghost use Rattle.jc_session.specs.Sources.{SourceAnswers, next_answer};
 ghost use Rattle.jc_session.specs.Answers.{edit_reply, reply, sourced_reply};
 ghost use Rattle.jc_session.specs.Runs.{CountsWrites, LineMayLack, MayLack};
 ghost use Rattle.jc_session.specs.inside.Growth.{MayGrow, change_lent};
-ghost use Rattle.jc_session.specs.inside.Replies.{Gives, command_lent, placed, said_by};
+ghost use Rattle.jc_session.specs.inside.Replies.{Gives, GivesByAnswers, command_lent, placed, said_by};
 
 use crate::answer_text::{write_edit_answer, write_unread};
 use crate::command::Command;
@@ -52,6 +52,8 @@ pub(crate) fn answer<S: Source, W: Output>(
     ensures gives { (s : SourceAnswers) → S.answers source.old ≡ Some s → Gives session.old.files s (reply session.old.files s (command_lent command.entry))
         result session.new.files (S.answers source.new) (W.written out.old) (W.written out.new) }
     ensures lacks { (s : SourceAnswers) → S.answers source.old ≡ Some s → result ≡ Err NoMemory → LineMayLack session.old.files s (command_lent command.entry) }
+    ensures any { GivesByAnswers session.old.files (λ s. reply session.old.files s (command_lent command.entry)) (λ s. LineMayLack session.old.files s (command_lent command.entry))
+        result session.new.files (W.written out.old) (W.written out.new) }
     ensures failures { CountsWrites result (W.failures out.old) (W.failures out.new) }
     ensures err { IfErr result (λ e. e ≢ Read) }
 {
@@ -76,6 +78,8 @@ fn answer_sourced<S: Source, W: Output>(
     ensures gives { (s : SourceAnswers) → S.answers source.old ≡ Some s → Gives session.old.files s (sourced_reply session.old.files s path.now (placed placing path.now))
         result session.new.files (S.answers source.new) (W.written out.old) (W.written out.new) }
     ensures lacks { (s : SourceAnswers) → S.answers source.old ≡ Some s → result ≡ Err NoMemory → MayLack session.old.files (placed placing path.now) (next_answer s path.now) }
+    ensures any { GivesByAnswers session.old.files (λ s. sourced_reply session.old.files s path.now (placed placing path.now)) (λ s. MayLack session.old.files (placed placing path.now) (next_answer s path.now))
+        result session.new.files (W.written out.old) (W.written out.new) }
     ensures failures { CountsWrites result (W.failures out.old) (W.failures out.new) }
     ensures err { IfErr result (λ e. e ≢ Read) }
 {

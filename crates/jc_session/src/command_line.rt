@@ -9,7 +9,7 @@ ghost use Rattle.jc_session.specs.declared.run_error.RunError.{RunError};
 ghost use Rattle.jc_session.specs.Files.{Files};
 ghost use Rattle.jc_session.specs.Runs.{RunsAs};
 ghost use Rattle.jc_session.specs.Sources.{SourceAnswers};
-ghost use Rattle.jc_session.specs.Statuses.{CountsInput, CountsOutput, Outcome, Tells, fault_of, fault_status, fault_text, outcome_of, status_of};
+ghost use Rattle.jc_session.specs.Statuses.{CountsInput, CountsOutput, Outcome, Performs, RunsByAnswers, Tells, fault_of, fault_status, fault_text, outcome_of, status_of};
 
 use crate::run_error::RunError;
 use crate::running::run;
@@ -95,6 +95,7 @@ pub fn program<F: Files + AllocGlobal, R: Input, W: Output, E: Output>(
     err: &mut E,
 ) -> u8
     ensures { (outcome : Outcome)
+        × Performs outcome (R.remaining input.old) (R.remaining input.new) (W.written out.old) (W.written out.new)
         × (result ≡ status_of outcome)
         × CountsInput outcome (R.failures input.old) (R.failures input.new)
         × CountsOutput outcome (W.failures out.old) (W.failures out.new)
@@ -126,7 +127,8 @@ fn serve<S: Source, R: Input, W: Output, E: Output>(
           coming = R.remaining input.new;
           before = W.written out.old;
           now = W.written out.new;
-        })) }
+        }))
+        × RunsByAnswers ending files (R.remaining input.old) (R.remaining input.new) (W.written out.old) (W.written out.new) }
 {
     let outcome = perform(alloc, source, input, out);
     conclude(err, outcome)
@@ -150,7 +152,8 @@ fn perform<S: Source, R: Input, W: Output>(
           coming = R.remaining input.new;
           before = W.written out.old;
           now = W.written out.new;
-        })) }
+        }))
+        × RunsByAnswers ending files (R.remaining input.old) (R.remaining input.new) (W.written out.old) (W.written out.new) }
 {
     let mut session = Session::new(alloc)?;
     match run(alloc, &mut session, source, input, out) {

@@ -1,10 +1,10 @@
 //! A run over lines.
-ghost use Rattle.std.specs.Prelude.{◌≡◌, ◌≢◌, IfErr, List, Some, ℕ};
+ghost use Rattle.std.specs.Prelude.{◌≡◌, ◌≢◌, [], IfErr, List, Some, ℕ};
 ghost use Rattle.jc_session.specs.declared.run_error.RunError.TheVariants.{NoMemory, Read};
 ghost use Rattle.jc_session.specs.Lines.{command_of};
 ghost use Rattle.jc_session.specs.Sources.{SourceAnswers};
 ghost use Rattle.jc_session.specs.Runs.{CountsReads, CountsWrites, LineMayLack, RunsAs};
-ghost use Rattle.jc_session.specs.inside.Replies.{GivesLast};
+ghost use Rattle.jc_session.specs.inside.Replies.{GivesLast, GivesLastByAnswers};
 
 use crate::answer::{Next, answer};
 use crate::command::parse_line;
@@ -33,6 +33,14 @@ pub fn run<S: Source, R: Input, W: Output>(
           before = W.written out.old;
           now = W.written out.new;
         }) }
+    // Of any source: by the answers that it gave.
+    ensures by_answers { (bytes : List ℕ) → R.remaining input.old ≡ Some bytes → (s : SourceAnswers) × RunsAs session.old.files s bytes result (record {
+      files = session.new.files;
+      source = Some [];
+      coming = R.remaining input.new;
+      before = W.written out.old;
+      now = W.written out.new;
+    }) }
     ensures reads { CountsReads result (R.failures input.old) (R.failures input.new) }
     ensures writes { CountsWrites result (W.failures out.old) (W.failures out.new) }
 {
@@ -57,6 +65,7 @@ fn answer_last<S: Source, W: Output>(
     ensures gives { (s : SourceAnswers) → S.answers source.old ≡ Some s → GivesLast session.old.files s line.now
         result session.new.files (S.answers source.new) (W.written out.old) (W.written out.new) }
     ensures lacks { (s : SourceAnswers) → S.answers source.old ≡ Some s → result ≡ Err NoMemory → LineMayLack session.old.files s (command_of line.now) }
+    ensures any { GivesLastByAnswers session.old.files line.now result session.new.files (W.written out.old) (W.written out.new) }
     ensures failures { CountsWrites result (W.failures out.old) (W.failures out.new) }
     ensures err { IfErr result (λ e. e ≢ Read) }
 {

@@ -1,5 +1,5 @@
 -- What is done for one line.
-use Rattle.std.specs.Prelude.{◌≡◌, ℕ, List, [], ◌∷◌, Option, Some, Result, Ok, Err}
+use Rattle.std.specs.Prelude.{◌≡◌, ℕ, List, [], ◌∷◌, ◌++◌, Option, Some, Result, Ok, Err}
 use Rattle.std.specs.Io.KnownBytes.{Appends, Keeps}
 use Rattle.jc_base.specs.Device.{WritesFront}
 use Rattle.jc_session.specs.declared.answer.Next.{Next}
@@ -15,6 +15,7 @@ use Rattle.jc_session.specs.declared.command.Command.TheVariants as lent
 use Rattle.jc_session.specs.Files.{Files, Change, Adds, Replaces}
 use Rattle.jc_session.specs.Lines.{Command, Add, Replace, Remove, Report, End, Bad, command_of}
 use Rattle.jc_session.specs.Sources.{SourceAnswers}
+use Rattle.jc_session.specs.Runs.{LineMayLack}
 use Rattle.jc_session.specs.Answers.{Reply, Says, Ends, Lacks, reply}
 
 -- a borrowed command, with its path as bytes
@@ -61,3 +62,15 @@ next_of (Err e) = Err e
 abbrev pub GivesLast : Files → SourceAnswers → List ℕ → Result Ended RunError → (new : Files) (source : Option SourceAnswers) (before after : Option (List ℕ)) → Type 0
 GivesLast f s [] result new source before after = (result ≡ Ok ended.Eof) × (new ≡ f) × (source ≡ Some s) × Keeps before after
 GivesLast f s (x ∷ line) result new source before after = Gives f s (reply f s (command_of (x ∷ line))) (next_of result) new source before after
+
+-- ---- whatever the source is: by the answers that it gave, and with any later ones
+
+abbrev pub GivesByAnswers : Files → (SourceAnswers → Reply) → (SourceAnswers → Type 0) → Result Next RunError → (new : Files) (before after : Option (List ℕ)) → Type 0
+GivesByAnswers f reply_by may_lack_by result new before after =
+    (given : SourceAnswers) × ((later : SourceAnswers) →
+    Gives f (given ++ later) (reply_by (given ++ later)) result new (Some later) before after × (result ≡ Err run_errors.NoMemory → may_lack_by (given ++ later)))
+
+abbrev pub GivesLastByAnswers : Files → List ℕ → Result Ended RunError → (new : Files) (before after : Option (List ℕ)) → Type 0
+GivesLastByAnswers f line result new before after =
+    (given : SourceAnswers) × ((later : SourceAnswers) →
+    GivesLast f (given ++ later) line result new (Some later) before after × (result ≡ Err run_errors.NoMemory → LineMayLack f (given ++ later) (command_of line)))

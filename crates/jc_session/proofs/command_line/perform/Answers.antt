@@ -1,4 +1,4 @@
-use Rattle.std.proofs.Common.{◌∙◌, Ok, Err, ap, refl, subst, inl}
+use Rattle.std.proofs.Common.{◌∙◌, [], Some, Ok, Err, ap, refl, subst, inl}
 use Rattle.std.specs.List.{list_any}
 use Rattle.std.specs.FinMap as map
 use Rattle.std.proofs.KnownBytes.{Keeps-refl}
@@ -8,6 +8,7 @@ use Rattle.jc_session.specs.Files.{Files}
 use Rattle.jc_session.specs.Rows.{rows, is_unreadable}
 use Rattle.jc_session.specs.Runs.{RunsAs}
 use Rattle.jc_session.proofs.runs.FailuresCounted.{input_counts, output_counts}
+use Rattle.jc_session.proofs.runs.ByAnswers.{not_begun}
 use Rattle.jc_session.proofs.command_line.perform.Goals as goal
 
 pub returns-in_err-session : goal.returns-in_err-session
@@ -24,6 +25,7 @@ returns-in_err-session g c =
         coming = all;
         kept = Keeps-refl (g.W.Output.written c.args.out.now);
       }),
+      λ bytes all. not_begun map.empty bytes (g.R.Input.remaining c.args.input.now) (g.W.Output.written c.args.out.now) all,
     )
 
 pub returns-in-Ok : goal.returns-in-Ok
@@ -44,6 +46,17 @@ returns-in-Ok g c =
             before = g.W.Output.written c.args.out.now;
             now = g.W.Output.written c.run.new.out;
           })) none (c.in-Ok.ensures.runs bytes s all known),
+      λ bytes all.
+          let by = c.in-Ok.ensures.by_answers bytes all in (
+            by.0,
+            subst (λ f. RunsAs f by.0 bytes (Ok c.in-Ok.field-0) (record {
+              files = c.run.new.session.files;
+              source = Some [];
+              coming = g.R.Input.remaining c.run.new.input;
+              before = g.W.Output.written c.args.out.now;
+              now = g.W.Output.written c.run.new.out;
+            })) none by.1,
+          ),
     )
 
 pub returns : goal.returns
@@ -63,4 +76,15 @@ returns g c =
             before = g.W.Output.written c.args.out.now;
             now = g.W.Output.written c.run.new.out;
           })) none (c.in-Err.ensures.runs bytes s all known),
+      λ bytes all.
+          let by = c.in-Err.ensures.by_answers bytes all in (
+            by.0,
+            subst (λ f. RunsAs f by.0 bytes (Err c.in-Err.error) (record {
+              files = c.run.new.session.files;
+              source = Some [];
+              coming = g.R.Input.remaining c.run.new.input;
+              before = g.W.Output.written c.args.out.now;
+              now = g.W.Output.written c.run.new.out;
+            })) none by.1,
+          ),
     )
