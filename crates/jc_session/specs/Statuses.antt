@@ -33,10 +33,10 @@ abbrev pub RunsByAnswers : Result Ended RunError → Files → (input coming bef
 RunsByAnswers ending f input coming before now =
     (bytes : List ℕ) → input ≡ Some bytes → (s : SourceAnswers) × RunsAs map.empty s bytes ending (record { files = f; source = Some []; coming = coming; before = before; now = now })
 
--- the words were refused, or there was a run
+-- the words were refused and nothing was written, or there was a run
 abbrev pub Performs : Outcome → (input coming before now : Option (List ℕ)) → Type 0
 Performs outcome input coming before now =
-    (outcome ≡ Err faults.Usage)
+    ((outcome ≡ Err faults.Usage) × Keeps before now)
     ⊎ ((ending : Result Ended RunError) × (f : Files) × (outcome ≡ outcome_of ending f) × RunsByAnswers ending f input coming before now)
 
 abbrev pub fault_status : Fault → ℕ

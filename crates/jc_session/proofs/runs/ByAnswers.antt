@@ -1,5 +1,5 @@
 -- A run by the answers that its source gave, whatever the source is.
-use Rattle.std.proofs.Common.{◌≡◌, ◌≢◌, ◌∙◌, ◌++◌, ◌==◌, true, false, length, ℕ, List, [], ◌∷◌, Option, Some, None, Result, Ok, Err, IfErr, OnOk, OnErr, refl, sym, ap, subst, append_assoc, inl, inr, ⊎_elim, ◌⊎◌}
+use Rattle.std.proofs.Common.{◌≡◌, ◌≢◌, ◌∙◌, ◌++◌, ◌==◌, true, false, length, ℕ, List, [], ◌∷◌, Option, Some, Result, Ok, Err, IfErr, OnOk, OnErr, refl, sym, ap, subst, append_assoc, inl, inr, ⊎_elim, ◌⊎◌}
 use Rattle.std.specs.FinMap as map
 use Rattle.std.specs.Io.KnownBytes.{Appends}
 use Rattle.std.proofs.KnownBytes.{Keeps-refl}
@@ -126,4 +126,4 @@ not_begun f bytes coming before all = ([], inl (record { files = refl; source = 
 -- words that are refused
 pub words_perform : (fault : Fault) (coming before : Option (List ℕ)) → (fault ≡ faults.Usage) ⊎ (fault ≡ faults.NoMemory) → Performs (Err fault) coming coming before before
 words_perform fault coming before is =
-    ⊎_elim (λ e. inl (ap Err e)) (λ e. inr (Err errors.NoMemory, map.empty, ap Err e, λ bytes all. not_begun map.empty bytes coming before all)) is
+    ⊎_elim (λ e. inl (ap Err e, Keeps-refl before)) (λ e. inr (Err errors.NoMemory, map.empty, ap Err e, λ bytes all. not_begun map.empty bytes coming before all)) is

@@ -1,9 +1,7 @@
 -- What the reply to one line gave, and how a run ends or stops there.
-use Rattle.std.proofs.Common.{◌≡◌, ◌≢◌, ◌∙◌, ◌++◌, ◌||◌, ◌↔◌, ℕ, Bool, true, false, List, [], ◌∷◌, Option, Some, None, Result, Ok, Err, IfErr, refl, sym, ap, subst, append_assoc, append-nil, take, drop, inr, arith}
-use Rattle.std.proofs.lemmas.List.{take_all}
-use Rattle.std.proofs.KnownBytes.{Appends-nil, Appends-trans, Appends-kept}
+use Rattle.std.proofs.Common.{◌≡◌, ◌≢◌, ◌∙◌, ◌++◌, ℕ, List, [], ◌∷◌, Option, Some, None, Result, Ok, Err, IfErr, refl, sym, ap, subst, append-nil, take, drop, inr}
+use Rattle.std.proofs.KnownBytes.{Appends-trans, Appends-kept}
 use Rattle.std.specs.Io.KnownBytes.{Appends, Keeps}
-use Rattle.jc_session.specs.declared.answer.Next.{Next}
 use Rattle.jc_session.specs.declared.answer.Next.TheVariants as next
 use Rattle.jc_session.specs.declared.edit.EditError.{EditError}
 use Rattle.jc_session.specs.declared.run_error.Ended.{Ended}
@@ -12,14 +10,12 @@ use Rattle.jc_session.specs.declared.run_error.RunError.{RunError}
 use Rattle.jc_session.specs.declared.run_error.RunError.TheVariants as errors
 use Rattle.jc_session.specs.declared.source.SourceError.{SourceError}
 use Rattle.jc_session.specs.declared.source.SourceError.TheVariants as sources
-use Rattle.jc_session.specs.Files.{Files, Change, Adds, Replaces, Removes, judge}
-use Rattle.jc_session.specs.Lines.{Command, Add, Replace, Remove, Report, End, Bad, command_of, lines_of, whole_lines}
+use Rattle.jc_session.specs.Files.{Files, Change, Adds, Replaces, judge}
+use Rattle.jc_session.specs.Lines.{Command, Add, Replace, Remove, Report, End, Bad, command_of, lines_of}
 use Rattle.jc_session.specs.Sources.{SourceAnswers, next_answer}
-use Rattle.jc_session.specs.Answers.{Reply, Says, Ends, Lacks, reply, judged_reply, told_reply, Run, Ending, AtEnd, AtEof, WithoutMemory, after_text, run_of}
-use Rattle.jc_session.specs.Runs.{IsDone, ending_of, is_end, has_end, EndsAs, StopsAtRead, StopsAtWrite, BreaksOff, StopsForMemory, LineMayLack, StopsAs, RunsAs}
-use Rattle.jc_session.specs.inside.Reading.{LacksFeed, kept_of, bytes_left, TakesLine, LosesPart}
-use Rattle.jc_session.specs.inside.Replies.{Gives, GivesLast, next_of}
-use Rattle.jc_session.proofs.runs.LinesCut.{lines_of-feed, whole_lines-feed, lines_of-last, whole_lines-part, command_of-kept, kept-cons}
+use Rattle.jc_session.specs.Answers.{Reply, Says, Ends, Lacks, reply, judged_reply, told_reply, Run, AtEof, after_text, run_of}
+use Rattle.jc_session.specs.Runs.{IsDone, EndsAs, StopsAtWrite, BreaksOff, StopsForMemory, LineMayLack, RunsAs}
+use Rattle.jc_session.specs.inside.Replies.{Gives, next_of}
 use Rattle.jc_session.proofs.runs.RunsOverLines.{run_of-cons, IsAnswered, run_at, answered_more, by_end}
 
 pub gave_line : (f : Files) (s : SourceAnswers) (r : Reply) (new : Files) (source : Option SourceAnswers) (before now : Option (List ℕ)) → Gives f s r (Ok next.Line) new source before now

@@ -1,26 +1,23 @@
 -- A run over an input that is partly read: what was done so far, and what is owed for what is left.
-use Rattle.std.proofs.Common.{◌≡◌, ◌≢◌, ◌∙◌, ◌++◌, ◌||◌, ◌↔◌, ℕ, Bool, true, false, List, [], ◌∷◌, Option, Some, None, Result, Ok, Err, IfErr, refl, sym, ap, subst, append_assoc, append-nil, take, drop, inr, arith}
+use Rattle.std.proofs.Common.{◌≡◌, ◌≢◌, ◌∙◌, ◌++◌, ℕ, true, false, List, [], ◌∷◌, Option, Some, None, Result, Ok, Err, IfErr, refl, sym, ap, subst, append_assoc, append-nil, inr, arith}
 use Rattle.std.proofs.lemmas.List.{take_all}
 use Rattle.std.proofs.KnownBytes.{Appends-nil, Appends-trans, Appends-kept}
 use Rattle.std.specs.Io.KnownBytes.{Appends, Keeps}
 use Rattle.jc_session.specs.declared.answer.Next.{Next}
 use Rattle.jc_session.specs.declared.answer.Next.TheVariants as next
-use Rattle.jc_session.specs.declared.edit.EditError.{EditError}
 use Rattle.jc_session.specs.declared.run_error.Ended.{Ended}
 use Rattle.jc_session.specs.declared.run_error.Ended.TheVariants as ended
 use Rattle.jc_session.specs.declared.run_error.RunError.{RunError}
 use Rattle.jc_session.specs.declared.run_error.RunError.TheVariants as errors
-use Rattle.jc_session.specs.declared.source.SourceError.{SourceError}
-use Rattle.jc_session.specs.declared.source.SourceError.TheVariants as sources
-use Rattle.jc_session.specs.Files.{Files, Change, Adds, Replaces, Removes, judge}
-use Rattle.jc_session.specs.Lines.{Command, Add, Replace, Remove, Report, End, Bad, command_of, lines_of, whole_lines}
-use Rattle.jc_session.specs.Sources.{SourceAnswers, next_answer}
-use Rattle.jc_session.specs.Answers.{Reply, Says, Ends, Lacks, reply, judged_reply, told_reply, Run, Ending, AtEnd, AtEof, WithoutMemory, after_text, run_of}
-use Rattle.jc_session.specs.Runs.{IsDone, ending_of, is_end, has_end, EndsAs, StopsAtRead, StopsAtWrite, BreaksOff, StopsForMemory, LineMayLack, StopsAs, RunsAs}
+use Rattle.jc_session.specs.Files.{Files}
+use Rattle.jc_session.specs.Lines.{command_of, lines_of, whole_lines}
+use Rattle.jc_session.specs.Sources.{SourceAnswers}
+use Rattle.jc_session.specs.Answers.{reply, run_of}
+use Rattle.jc_session.specs.Runs.{EndsAs, StopsAtRead, LineMayLack, StopsAs, RunsAs}
 use Rattle.jc_session.specs.inside.Reading.{LacksFeed, kept_of, bytes_left, TakesLine, LosesPart}
 use Rattle.jc_session.specs.inside.Replies.{Gives, GivesLast, next_of}
 use Rattle.jc_session.proofs.runs.LinesCut.{lines_of-feed, whole_lines-feed, lines_of-last, whole_lines-part, command_of-kept, kept-cons}
-use Rattle.jc_session.proofs.runs.RunsOverLines.{run_of-cons, IsAnswered, run_at, answered_more, by_end}
+use Rattle.jc_session.proofs.runs.RunsOverLines.{IsAnswered, run_at, answered_more, by_end}
 use Rattle.jc_session.proofs.runs.LineAnswered.{gave_line, line_ends, line_breaks, line_lacks, line_last}
 
 pub record IsSoFar (f : Files) (s : SourceAnswers) (bytes : List ℕ) (held : List ℕ) (coming : Option (List ℕ)) (answers : Option SourceAnswers) (files : Files) (before now : Option (List ℕ)) : Type 0 where
