@@ -1,7 +1,3 @@
-pub mod ClaimLemmas
-pub mod WinnerLemmas
-pub mod HeldLemmas
-pub mod WritingLemmas
-pub mod EscapeLemmas
-pub mod LineLemmas
-pub mod RunLemmas
+pub mod holding
+pub mod texts
+pub mod runs

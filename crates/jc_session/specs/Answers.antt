@@ -1,16 +1,13 @@
 -- What a list of lines owes.
-use Rattle.std.specs.Prelude.{ℕ, List, [], ◌∷◌, ◌++◌, Option, Some, None, Result, Ok, Err, codes}
+use Rattle.std.specs.Prelude.{ℕ, List, [], ◌∷◌, ◌++◌, drop, Option, Some, None, Result, Ok, Err, codes}
 use Rattle.jc_session.specs.declared.edit.EditError.{EditError}
 use Rattle.jc_session.specs.declared.source.SourceError.{SourceError}
 use Rattle.jc_session.specs.declared.source.SourceError.TheVariants as sources
 use Rattle.jc_session.specs.Files.{Files, Change, Adds, Replaces, Removes, judge, after}
 use Rattle.jc_session.specs.RowText.{report_text}
 use Rattle.jc_session.specs.AnswerText.{refused_text, unread_text}
-use Rattle.jc_session.specs.Lines.{Command, Add, Replace, Remove, Report, End, Bad, command_of, lines_of}
-
--- what a source answers, in order
-abbrev pub SourceAnswers : Type 0
-SourceAnswers = List (Result (List ℕ) SourceError)
+use Rattle.jc_session.specs.Lines.{Command, Add, Replace, Remove, Report, End, Bad, command_of}
+use Rattle.jc_session.specs.Sources.{SourceAnswers, next_answer}
 
 -- what one line is answered, and what is then
 pub data Reply : Type 0 where
@@ -29,12 +26,15 @@ judged_reply f s change (Some e) = Says (refused_text e) f s
 abbrev pub edit_reply : Files → SourceAnswers → Change → Reply
 edit_reply f s change = judged_reply f s change (judge f change)
 
--- the source is asked for the bytes first, and answers Unread with none left
+-- by what the source said
+abbrev pub told_reply : Files → SourceAnswers → List ℕ → (List ℕ → Change) → Result (List ℕ) SourceError → Reply
+told_reply f s path change (Ok bytes) = edit_reply f s (change bytes)
+told_reply f s path change (Err sources.Unread) = Says (unread_text path) f s
+told_reply f s path change (Err sources.NoMemory) = Lacks s
+
+-- the source is asked for the bytes first
 abbrev pub sourced_reply : Files → SourceAnswers → List ℕ → (List ℕ → Change) → Reply
-sourced_reply f [] path change = Says (unread_text path) f []
-sourced_reply f (Ok bytes ∷ s) path change = edit_reply f s (change bytes)
-sourced_reply f (Err sources.Unread ∷ s) path change = Says (unread_text path) f s
-sourced_reply f (Err sources.NoMemory ∷ s) path change = Lacks s
+sourced_reply f s path change = told_reply f (drop 1 s) path change (next_answer s path)
 
 abbrev pub reply : Files → SourceAnswers → Command → Reply
 reply f s (Add path) = sourced_reply f s path (Adds path)
@@ -67,7 +67,3 @@ run_of f s (line ∷ lines) =
       | Ends ↦ record { text = []; files = f; source = s; ending = AtEnd }
       | Lacks source ↦ record { text = []; files = f; source = source; ending = WithoutMemory }
     ]
-
--- the text that a run owes for files, the source's answers to come and an input
-abbrev pub answers : Files → SourceAnswers → List ℕ → List ℕ
-answers f s input = (run_of f s (lines_of input)).text

@@ -12,6 +12,15 @@ abbrev pub lines_of : List ℕ → List (List ℕ)
 lines_of [] = []
 lines_of (x ∷ input) = if x == 10 then [] ∷ lines_of input else onto_first x (lines_of input)
 
+-- the same, without a last line that no LF ends
+abbrev pub onto_whole : ℕ → List (List ℕ) → List (List ℕ)
+onto_whole x [] = []
+onto_whole x (line ∷ lines) = (x ∷ line) ∷ lines
+
+abbrev pub whole_lines : List ℕ → List (List ℕ)
+whole_lines [] = []
+whole_lines (x ∷ input) = if x == 10 then [] ∷ whole_lines input else onto_whole x (whole_lines input)
+
 -- what a line asks for
 pub data Command : Type 0 where
   Add : (path : List ℕ) → Command

@@ -47,6 +47,3 @@ pub(crate) fn write_unread<W: Output>(out: &mut W, path: &[u8]) -> Result<(), De
     write_path(out, path)?;
     write_all(out, b"\n")
 }
-
-#[cfg(test)]
-mod tests;

@@ -4,7 +4,7 @@ ghost use Rattle.std.specs.Prelude.{◌≡◌, ◌&&◌, ◌||◌, not, false, �
 ghost use Rattle.std.specs.Option.{option_map};
 ghost use Rattle.jc_base.specs.Bytes.{same_bytes};
 ghost use Rattle.jc_view.specs.Outcome.{class_named};
-ghost use Rattle.jc_session.specs.Claims.{has_claim, first_claim, claimed_state};
+ghost use Rattle.jc_session.specs.inside.Claims.{has_claim, first_claim, claimed_state};
 ghost use Rattle.jc_session.specs.FileRowView.{state_lent};
 ghost use Rattle.jc_session.specs.Rows as rows;
 ghost use Rattle.jc_session.specs.Rows.{names};
@@ -26,7 +26,7 @@ impl Model for Claims {
     ghost use Rattle.std.specs.Coded.{coded_list, coded_ℕ};
     ghost use Rattle.std.specs.FinMap as map;
     ghost use Rattle.std.specs.FinSet as set;
-    ghost use Rattle.jc_session.specs.Claims.{PathsByName, NoneEmpty};
+    ghost use Rattle.jc_session.specs.inside.Claims.{PathsByName, NoneEmpty};
 
     ghost Value = { PathsByName };
 

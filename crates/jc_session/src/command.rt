@@ -1,7 +1,7 @@
 //! What a line asks for.
 ghost use Rattle.std.specs.Prelude.{◌≡◌, MatchOption, drop, false, length, true};
 ghost use Rattle.jc_session.specs.Lines.{begins_with, command_of};
-ghost use Rattle.jc_session.specs.Commands.{command_lent};
+ghost use Rattle.jc_session.specs.inside.Replies.{command_lent};
 
 /// The most bytes that a line may have, its LF aside.
 const LONGEST_LINE: usize = 8192;

@@ -18,6 +18,14 @@ pub enum Edit {
     Remove(Vec<u8>),
 }
 
+/// An edit by a borrowed path.
+#[derive(Drop)]
+pub(crate) enum LentEdit<'a> {
+    Add(&'a [u8], Vec<u8>),
+    Replace(&'a [u8], Vec<u8>),
+    Remove(&'a [u8]),
+}
+
 /// What an accepted edit cost: class parts made, and classes asked for.
 #[derive(Clone, Copy, Debug, PartialEq, Eq)]
 pub struct Done {

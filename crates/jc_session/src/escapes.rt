@@ -140,6 +140,3 @@ fn hex_digit(digit: u8) -> u8
         b'a' + (digit - 10)
     }
 }
-
-#[cfg(test)]
-mod tests;

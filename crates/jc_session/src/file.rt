@@ -1,13 +1,13 @@
 //! A file as a session holds it.
 
-ghost use Rattle.std.specs.Prelude.{◌≡◌, IfOk};
+ghost use Rattle.std.specs.Prelude.{◌≡◌, [], IfOk};
 ghost use Rattle.std.specs.Result.{is_ok};
 ghost use Rattle.jc_view.specs.Outcome.{class_named};
-ghost use Rattle.jc_session.specs.HeldFile.{class_held, class_lent};
+ghost use Rattle.jc_session.specs.inside.HeldFile.{class_held, class_lent};
 ghost use Rattle.jc_session.specs.Rows.{names};
 
 use jc_base::NoMemory;
-use jc_file::{ParseError, outcomes_are_exact, parse};
+use jc_view::{ParseError, outcomes_are_exact, parse};
 use std::alloc::Global;
 use std::marker::Model;
 
@@ -24,7 +24,7 @@ impl Model for File {
     ghost Value = { List ℕ };
 
     ghost use Rattle.jc_view.specs.Outcome.{class_named};
-    ghost use Rattle.jc_session.specs.HeldFile.{class_held};
+    ghost use Rattle.jc_session.specs.inside.HeldFile.{class_held};
 
     ghost view = { λ file. file.bytes.items };
 
@@ -32,6 +32,16 @@ impl Model for File {
 }
 
 impl File {
+    /// The file of no bytes, which takes no memory.
+    pub(crate) fn empty(alloc: Global) -> File
+        ensures { result ≡ [] }
+    {
+        File {
+            bytes: Vec::new(alloc),
+            class: Err(ParseError::Short),
+        }
+    }
+
     /// The file of these bytes.
     pub(crate) fn read(alloc: Global, bytes: Vec<u8>) -> Result<File, NoMemory>
         ensures { IfOk result (λ file. file ≡ bytes.items) }

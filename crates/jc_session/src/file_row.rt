@@ -1,6 +1,6 @@
 //! What the report says of a file.
 
-use jc_file::ParseError;
+use jc_view::ParseError;
 
 /// The row of a file.
 #[derive(Clone, Copy, Debug)]

@@ -2,8 +2,9 @@
 
 ghost use Rattle.std.specs.Prelude.{◌≡◌};
 ghost use Rattle.jc_session.specs.Files as files_of;
+ghost use Rattle.jc_session.specs.inside.Growth.{change_lent};
 
-use crate::edit::{Edit, EditError};
+use crate::edit::{EditError, LentEdit};
 use crate::file::File;
 use jc_base::ByteMap;
 
@@ -14,13 +15,13 @@ const LARGEST_FILE: usize = 16_777_216;
 const MOST_FILES: usize = 65_535;
 
 /// The first refusal of the edit that applies, but for memory.
-pub(crate) fn judge(files: &ByteMap<File>, edit: &Edit) -> Option<EditError>
-    ensures { result ≡ files_of.judge files.now (files_of.change_of edit.now) }
+pub(crate) fn judge(files: &ByteMap<File>, edit: &LentEdit<'_>) -> Option<EditError>
+    ensures { result ≡ files_of.judge files.now (change_lent edit.now) }
 {
     match edit {
-        Edit::Add(path, bytes) => judge_add(files, path, bytes),
-        Edit::Replace(path, bytes) => judge_replace(files, path, bytes),
-        Edit::Remove(path) => path_fault(path).or(missing_fault(files, path)),
+        LentEdit::Add(path, bytes) => judge_add(files, path, bytes),
+        LentEdit::Replace(path, bytes) => judge_replace(files, path, bytes),
+        LentEdit::Remove(path) => path_fault(path).or(missing_fault(files, path)),
     }
 }
 

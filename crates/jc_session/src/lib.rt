@@ -11,6 +11,7 @@ mod edit;
 mod escapes;
 mod file;
 mod file_row;
+mod held;
 mod judge;
 mod laws;
 mod lines;

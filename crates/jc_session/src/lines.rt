@@ -1,11 +1,13 @@
 //! An input, line by line.
-ghost use Rattle.std.specs.Prelude.{◌≡◌, ◌+◌, ◌<◌, ◌≤◌, ◌++◌, [], IfOk, IsSome, IsTrue, OnErr, OnOk, drop, is_some, length, position, take};
+ghost use Rattle.std.specs.Prelude.{◌≡◌, ◌+◌, ◌<◌, ◌≤◌, ◌++◌, [], IfErr, IfOk, IsSome, IsTrue, OnErr, OnOk, drop, is_some, length, position, take};
 ghost use Rattle.std.specs.List.{after_first, before_first};
 ghost use Rattle.std.specs.Io.KnownBytes.{Consumes, IsAtEnd, Keeps};
 ghost use Rattle.jc_base.specs.Device.{CountsFault};
-ghost use Rattle.jc_session.specs.Lines.{command_of};
-ghost use Rattle.jc_session.specs.Commands.{HandsOver, commands_of, is_line_feed};
+ghost use Rattle.jc_session.specs.declared.run_error.RunError.TheVariants.{Read};
+ghost use Rattle.jc_session.specs.Runs.{CountsReads};
+ghost use Rattle.jc_session.specs.inside.Reading.{LosesPart, TakesLine, bytes_left, is_line_feed};
 
+use crate::run_error::RunError;
 use jc_base::{DeviceFault, Input, NoMemory};
 use std::alloc::Global;
 use std::marker::Model;
@@ -128,30 +130,36 @@ impl Ahead {
     }
 }
 
-/// Reads the next line, and tells whether there is one. What a read hands over stays ahead past the
-/// end of the line, and nothing is read while a whole line is ahead. After an error the front of the
-/// line that was not whole is lost.
+/// Reads the next line, and tells whether an LF ended it: else it is what stands behind the last LF.
+/// What a read hands over stays ahead past the end of the line, and nothing is read while a whole line
+/// is ahead. After an error the front of the line that was not whole is lost.
 pub(crate) fn read_line<R: Input>(
     line: &mut Line,
     ahead: &mut Ahead,
     input: &mut R,
-) -> Result<bool, DeviceFault>
-    ensures hands_over { IfOk result (λ is_there. HandsOver
-        (commands_of ahead.old (R.remaining input.old))
-        is_there
-        (command_of line.new)
-        (commands_of ahead.new (R.remaining input.new))) }
-    ensures nearer { IfOk result (λ is_there. IsTrue is_there →
+) -> Result<bool, RunError>
+    ensures takes { IfOk result (λ is_whole. TakesLine
+        (bytes_left ahead.old (R.remaining input.old))
+        is_whole
+        line.new
+        (bytes_left ahead.new (R.remaining input.new))) }
+    ensures loses { OnErr result (LosesPart
+        (bytes_left ahead.old (R.remaining input.old))
+        (R.remaining input.new)) }
+    ensures nearer { IfOk result (λ is_whole. IsTrue is_whole →
         R.bound input.new + length ahead.new < R.bound input.old + length ahead.old) }
-    ensures failures { CountsFault result (R.failures input.old) (R.failures input.new) }
+    ensures failures { CountsReads result (R.failures input.old) (R.failures input.new) }
+    ensures err { IfErr result (λ e. e ≡ Read) }
 
     // A line that is ahead is handed over with no read.
     ensures ahead { IsSome (position is_line_feed ahead.old) → input.new ≡ input.old }
 {
     line.clear();
     while !take_front(line, ahead) {
-        if ahead.refill(input)? == 0 {
-            return Ok(!line.bytes().is_empty());
+        match ahead.refill(input) {
+            Ok(0) => return Ok(false),
+            Ok(_) => {}
+            Err(_) => return Err(RunError::Read),
         }
     }
     Ok(true)

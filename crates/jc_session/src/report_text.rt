@@ -11,7 +11,7 @@ use crate::file_row::{FileRow, FileState};
 use crate::report::Report;
 use itoa::Buffer;
 use jc_base::{DeviceFault, Output, write_all, write_parts};
-use jc_file::ParseError;
+use jc_view::ParseError;
 use thiserror::Error;
 
 /// The output failed.
@@ -138,6 +138,3 @@ fn write_at<W: Output>(out: &mut W, name: &[u8], place: usize) -> Result<(), Dev
     let mut buffer = Buffer::new();
     write_parts(out, &[name, b"(", buffer.format(place).as_bytes(), b")"])
 }
-
-#[cfg(test)]
-mod tests;

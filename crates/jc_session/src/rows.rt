@@ -19,7 +19,7 @@ pub struct Rows<'a> {
 impl<'a> Model for Rows<'a> {
     ghost use Rattle.std.specs.Prelude.{List, map};
     ghost use Rattle.jc_session.specs.Rows.{FileRow};
-    ghost use Rattle.jc_session.specs.Claims.{claimed_row};
+    ghost use Rattle.jc_session.specs.inside.Claims.{claimed_row};
 
     ghost Value = { List FileRow };
 

@@ -1,7 +1,9 @@
 //! How a run ends.
 ghost use Rattle.std.specs.Prelude.{◌≡◌};
-ghost use Rattle.jc_session.specs.Replies.{run_code};
+ghost use Rattle.jc_session.specs.declared.run_error.RunError.TheVariants as errors;
+ghost use Rattle.jc_session.specs.Runs.{run_code};
 
+use jc_base::NoMemory;
 use thiserror::Error;
 
 /// How a run ends that has answered all that it was asked.
@@ -37,5 +39,13 @@ impl RunError {
             RunError::Write => 2,
             RunError::NoMemory => 3,
         }
+    }
+}
+
+impl From<NoMemory> for RunError {
+    ghost from_gives = { λ _ e. e ≡ errors.NoMemory };
+
+    fn from(_: NoMemory) -> RunError {
+        RunError::NoMemory
     }
 }

@@ -1,12 +1,12 @@
 //! A run over lines.
-ghost use Rattle.std.specs.Prelude.{◌≡◌, ◌+◌, ◌<◌, [], IfErr, IfOk, IsTrue, List, Some, length, ℕ};
+ghost use Rattle.std.specs.Prelude.{◌≡◌, ◌≢◌, [], IfErr, List, Some, ℕ};
 ghost use Rattle.jc_session.specs.declared.run_error.RunError.TheVariants.{NoMemory, Read};
-ghost use Rattle.jc_session.specs.Answers.{SourceAnswers, run_of};
-ghost use Rattle.jc_session.specs.Commands.{HandsOver, commands_of};
-ghost use Rattle.jc_session.specs.Lines.{command_of, lines_of};
-ghost use Rattle.jc_session.specs.Replies.{CountsReads, CountsWrites, EndsAs, StopsIn};
+ghost use Rattle.jc_session.specs.Lines.{command_of};
+ghost use Rattle.jc_session.specs.Sources.{SourceAnswers};
+ghost use Rattle.jc_session.specs.Runs.{CountsReads, CountsWrites, LineMayLack, RunsAs};
+ghost use Rattle.jc_session.specs.inside.Replies.{GivesLast, GivesLastByAnswers};
 
-use crate::answer::{AnswerError, Next, answer};
+use crate::answer::{Next, answer};
 use crate::command::parse_line;
 use crate::lines::{Ahead, Line, read_line};
 use crate::run_error::{Ended, RunError};
@@ -16,8 +16,8 @@ use jc_base::{Input, Output};
 use std::alloc::Global;
 
 /// Answers the lines of an input one by one: `add PATH`, `replace PATH`, `remove PATH`, `report` and
-/// `end`. A line's answer is written before more of the input is read. An edit is made before it is
-/// answered, and nothing is written of a line for which memory is refused.
+/// `end`. A line's answer is written before more of the input is read, and nothing is read behind the
+/// end of the input. An edit is made before it is answered.
 pub fn run<S: Source, R: Input, W: Output>(
     alloc: Global,
     session: &mut Session,
@@ -25,55 +25,55 @@ pub fn run<S: Source, R: Input, W: Output>(
     input: &mut R,
     out: &mut W,
 ) -> Result<Ended, RunError>
-    ensures ended { (bytes : List ℕ) (s : SourceAnswers) → R.remaining input.old ≡ Some bytes → S.answers source.old ≡ Some s
-        → IfOk result (λ how. EndsAs (run_of session.old s (lines_of bytes)) how session.new (W.written out.old) (W.written out.new)) }
-    ensures stopped { (bytes : List ℕ) (s : SourceAnswers) → R.remaining input.old ≡ Some bytes → S.answers source.old ≡ Some s
-        → IfErr result (λ e. StopsIn (run_of session.old s (lines_of bytes)) e (W.written out.old) (W.written out.new)) }
+    ensures runs { (bytes : List ℕ) (s : SourceAnswers) → R.remaining input.old ≡ Some bytes → S.answers source.old ≡ Some s
+        → RunsAs session.old.files s bytes result (record {
+          files = session.new.files;
+          source = S.answers source.new;
+          coming = R.remaining input.new;
+          before = W.written out.old;
+          now = W.written out.new;
+        }) }
+    // Of any source: by the answers that it gave.
+    ensures by_answers { (bytes : List ℕ) → R.remaining input.old ≡ Some bytes → (s : SourceAnswers) × RunsAs session.old.files s bytes result (record {
+      files = session.new.files;
+      source = Some [];
+      coming = R.remaining input.new;
+      before = W.written out.old;
+      now = W.written out.new;
+    }) }
     ensures reads { CountsReads result (R.failures input.old) (R.failures input.new) }
     ensures writes { CountsWrites result (W.failures out.old) (W.failures out.new) }
 {
-    let mut line = line_buffer(alloc)?;
+    let mut line = Line::new(alloc)?;
     let mut ahead = Ahead::new();
-    while next_line(&mut line, &mut ahead, input)? {
-        let command = parse_line(line.bytes());
-        match answer(alloc, session, source, command, out) {
-            Ok(Next::Line) => {}
-            Ok(Next::Nothing) => return Ok(Ended::End),
-            Err(AnswerError::Write) => return Err(RunError::Write),
-            Err(AnswerError::NoMemory) => return Err(RunError::NoMemory),
+    while read_line(&mut line, &mut ahead, input)? {
+        match answer(session, source, parse_line(line.bytes()), out)? {
+            Next::Line => {}
+            Next::Nothing => return Ok(Ended::End),
         }
     }
-    Ok(Ended::Eof)
+    answer_last(session, source, line.bytes(), out)
 }
 
-/// The next line. An input that fails is `RunError::Read`.
-fn next_line<R: Input>(line: &mut Line, ahead: &mut Ahead, input: &mut R) -> Result<bool, RunError>
-    ensures hands_over { IfOk result (λ is_there. HandsOver
-        (commands_of ahead.old (R.remaining input.old))
-        is_there
-        (command_of line.new)
-        (commands_of ahead.new (R.remaining input.new))) }
-    ensures nearer { IfOk result (λ is_there. IsTrue is_there →
-        R.bound input.new + length ahead.new < R.bound input.old + length ahead.old) }
-    ensures failures { CountsReads result (R.failures input.old) (R.failures input.new) }
-    ensures err { IfErr result (λ e. e ≡ Read) }
+/// Answers what stands behind the last LF, which is a line if it has a byte.
+fn answer_last<S: Source, W: Output>(
+    session: &mut Session,
+    source: &mut S,
+    line: &[u8],
+    out: &mut W,
+) -> Result<Ended, RunError>
+    ensures gives { (s : SourceAnswers) → S.answers source.old ≡ Some s → GivesLast session.old.files s line.now
+        result session.new.files (S.answers source.new) (W.written out.old) (W.written out.new) }
+    ensures lacks { (s : SourceAnswers) → S.answers source.old ≡ Some s → result ≡ Err NoMemory → LineMayLack session.old.files s (command_of line.now) }
+    ensures any { GivesLastByAnswers session.old.files line.now result session.new.files (W.written out.old) (W.written out.new) }
+    ensures failures { CountsWrites result (W.failures out.old) (W.failures out.new) }
+    ensures err { IfErr result (λ e. e ≢ Read) }
 {
-    match read_line(line, ahead, input) {
-        Ok(is_there) => Ok(is_there),
-        Err(_) => Err(RunError::Read),
+    if line.is_empty() {
+        return Ok(Ended::Eof);
+    }
+    match answer(session, source, parse_line(line), out)? {
+        Next::Line => Ok(Ended::Eof),
+        Next::Nothing => Ok(Ended::End),
     }
 }
-
-/// Room for a line.
-fn line_buffer(alloc: Global) -> Result<Line, RunError>
-    ensures ok { IfOk result (λ line. line ≡ []) }
-    ensures err { IfErr result (λ e. e ≡ NoMemory) }
-{
-    match Line::new(alloc) {
-        Ok(line) => Ok(line),
-        Err(_) => Err(RunError::NoMemory),
-    }
-}
-
-#[cfg(test)]
-mod tests;

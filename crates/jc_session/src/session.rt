@@ -3,16 +3,20 @@
 ghost use Rattle.std.specs.Prelude.{◌≡◌, None, IfOk, OnOk, OnErr, MatchResult};
 ghost use Rattle.std.specs.Option.{option_map};
 ghost use Rattle.std.specs.FinMap as map;
+ghost use Rattle.jc_session.specs.declared.edit.EditError.TheVariants as errors;
 ghost use Rattle.jc_session.specs.Files.{after, change_of, judge};
 ghost use Rattle.jc_session.specs.Judged.{IsJudged};
+ghost use Rattle.jc_session.specs.inside.Growth.{MayGrow, change_lent};
 
-use crate::edit::{Done, Edit, EditError};
+use crate::edit::{Done, Edit, EditError, LentEdit};
+use crate::held::{commit, grow};
+use crate::judge::judge;
 use crate::report::Report;
 use jc_base::NoMemory;
 use std::alloc::Global;
 use std::marker::Model;
 
-/// Class files by their paths, seen as a map from paths to bytes.
+/// Class files by their paths, seen as what [`SessionState`] names.
 #[derive(Drop)]
 pub struct Session {
     alloc: Global,
@@ -20,21 +24,19 @@ pub struct Session {
 }
 
 impl Model for Session {
-    ghost use Rattle.std.specs.Coded.{coded_list, coded_ℕ};
-    ghost use Rattle.std.specs.FinMap as map;
-    ghost use Rattle.jc_session.specs.Files.{Files};
+    ghost use Rattle.jc_session.specs.SessionState.{SessionState, state_code};
 
-    ghost Value = { Files };
+    ghost Value = { SessionState };
 
-    ghost coded = { map.code (coded_list coded_ℕ) (coded_list coded_ℕ) };
+    ghost coded = { state_code };
 
-    ghost view = { λ a. a.report };
+    ghost view = { λ a. record { files = a.report } };
 }
 
 impl Session {
     /// A session with no files.
     pub fn new(alloc: Global) -> Result<Session, NoMemory>
-        ensures { IfOk result (λ session. session ≡ map.empty) }
+        ensures { IfOk result (λ session. session ≡ record { files = map.empty }) }
     {
         Ok(Session {
             alloc,
@@ -44,28 +46,45 @@ impl Session {
 
     /// Makes an edit, or refuses it and changes nothing.
     pub fn edit(&mut self, edit: Edit) -> Result<Done, EditError>
-        ensures judged { MatchResult result (λ _. judge self.old (change_of edit) ≡ None) (λ e. IsJudged e (judge self.old (change_of edit))) }
-        ensures ok { OnOk result (self.new ≡ after self.old (change_of edit)) }
+        ensures judged { MatchResult result (λ _. judge self.old.files (change_of edit) ≡ None) (λ e. IsJudged e (judge self.old.files (change_of edit))) }
+        ensures ok { OnOk result (self.new.files ≡ after self.old.files (change_of edit)) }
         ensures done { IfOk result (λ done. done ≡ record { made = 0; asks = 0 }) }
-        ensures err { OnErr result (self.new ≡ self.old) }
+        ensures err { OnErr result (self.new.files ≡ self.old.files) }
     {
-        if let Some(fault) = self.report.judge(&edit) {
+        match edit {
+            Edit::Add(path, bytes) => self.make(LentEdit::Add(&path, bytes)),
+            Edit::Replace(path, bytes) => self.make(LentEdit::Replace(&path, bytes)),
+            Edit::Remove(path) => self.make(LentEdit::Remove(&path)),
+        }
+    }
+
+    /// The same by a borrowed path. Only an edit with bytes takes memory.
+    pub(crate) fn make(&mut self, edit: LentEdit<'_>) -> Result<Done, EditError>
+        ensures judged { MatchResult result (λ _. judge self.old.files (change_lent edit.entry) ≡ None) (λ e. IsJudged e (judge self.old.files (change_lent edit.entry))) }
+        ensures ok { OnOk result (self.new.files ≡ after self.old.files (change_lent edit.entry)) }
+        ensures done { IfOk result (λ done. done ≡ record { made = 0; asks = 0 }) }
+        ensures err { OnErr result (self.new.files ≡ self.old.files) }
+        ensures memory { result ≡ Err errors.NoMemory → MayGrow (change_lent edit.entry) }
+    {
+        let report = &mut self.report;
+        if let Some(fault) = judge(&report.held.files, &edit) {
             return Err(fault);
         }
-        self.report.make(self.alloc, edit)?;
+        let grown = grow(&mut report.held, self.alloc, edit)?;
+        commit(&mut report.held, grown);
         Ok(Done { made: 0, asks: 0 })
     }
 
     /// What is said of the files as they stand.
     pub fn report(&self) -> &Report
-        ensures { result.now ≡ self.now }
+        ensures { result.now ≡ self.now.files }
     {
         &self.report
     }
 
     /// The bytes of the file at the path.
     pub fn file(&self, path: &[u8]) -> Option<&[u8]>
-        ensures { option_map (λ bytes. bytes.now) result ≡ map.get self.now path.now }
+        ensures { option_map (λ bytes. bytes.now) result ≡ map.get self.now.files path.now }
     {
         self.report.file(path)
     }

@@ -3,8 +3,7 @@ ghost use Rattle.std.specs.Prelude.{◌≡◌, ◌↔◌, Option, map};
 ghost use Rattle.std.specs.declared.option.Option.TheVariants.{None, Some};
 ghost use Rattle.std.specs.IoError.{error_kind};
 ghost use Rattle.jc_session.specs.declared.source.SourceError.TheVariants.{NoMemory};
-ghost use Rattle.jc_session.specs.Answers.{SourceAnswers};
-ghost use Rattle.jc_session.specs.SourceAnswer.{TakesAnswer, answer_of};
+ghost use Rattle.jc_session.specs.Sources.{SourceAnswers, TakesAnswer, answer_of, by_any_path};
 
 use std::fs;
 use std::io::{self, ErrorKind, Read};
@@ -25,12 +24,12 @@ pub enum SourceError {
 
 /// Hands over the bytes of files.
 pub trait Source {
-    /// What the calls from here on are answered, where that is known.
+    /// What the calls from here on are answered, each by its path, where that is known.
     ghost answers: { Self → Option SourceAnswers };
 
     /// The bytes of the file at the path.
     fn read(&mut self, path: &[u8]) -> Result<Vec<u8>, SourceError>
-        ensures { TakesAnswer (answers self.old) (answer_of result) (answers self.new) };
+        ensures { TakesAnswer (answers self.old) path.now (answer_of result) (answers self.new) };
 }
 
 /// A source that gives the answers that it was made with, one at each call, and then `Unread`.
@@ -41,11 +40,11 @@ pub struct MemSource {
 }
 
 impl Model for MemSource {
-    ghost use Rattle.std.specs.Prelude.{map, reverse};
-    ghost use Rattle.jc_session.specs.Answers.{SourceAnswers};
-    ghost use Rattle.jc_session.specs.SourceAnswer.{answer_of};
+    ghost use Rattle.std.specs.Prelude.{ℕ, List, Result, map, reverse};
+    ghost use Rattle.jc_session.specs.declared.source.SourceError.{SourceError};
+    ghost use Rattle.jc_session.specs.Sources.{answer_of};
 
-    ghost Value = { SourceAnswers };
+    ghost Value = { List (Result (List ℕ) SourceError) };
 
     ghost view = { λ a. map answer_of (reverse a.answers.items) };
 }
@@ -62,7 +61,7 @@ impl MemSource {
 }
 
 impl Source for MemSource {
-    ghost answers = { λ source. Some source };
+    ghost answers = { λ source. Some (map by_any_path source) };
 
     fn read(&mut self, _path: &[u8]) -> Result<Vec<u8>, SourceError> {
         self.answers.pop().unwrap_or(Err(SourceError::Unread))
@@ -79,7 +78,7 @@ pub struct FileSource<'a, R> {
 }
 
 impl<'a, R: Files + AllocGlobal> FileSource<'a, R> {
-    ghost use Rattle.jc_session.specs.SourceAnswer.{runtime_of};
+    ghost use Rattle.jc_session.specs.FileSource.{runtime_of};
 
     /// A source over the files of a runtime.
     pub fn new(rt: &'a R) -> FileSource<'a, R>
@@ -104,12 +103,13 @@ impl<R: Files + AllocGlobal> Source for FileSource<'_, R> {
     }
 }
 
-/// The bytes of a file, or the first 16,777,217 of them.
+/// The bytes of a file, or the first 16,777,217 of them, with no room to spare.
 fn read_file<R: Files + AllocGlobal>(rt: &R, path: &str) -> io::Result<Vec<u8>> {
     let mut bytes = Vec::new(rt.alloc());
     fs::open(rt, path)?
         .take(MOST_BYTES)
         .read_to_end(&mut bytes)?;
+    bytes.shrink_to_fit();
     Ok(bytes)
 }
 
@@ -122,6 +122,3 @@ fn refusal(error: &io::Error) -> SourceError
         _ => SourceError::Unread,
     }
 }
-
-#[cfg(test)]
-mod tests;

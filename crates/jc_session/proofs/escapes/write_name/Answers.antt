@@ -1,7 +1,7 @@
 use Rattle.std.proofs.Common.{sym, ◌∙◌}
 use Rattle.std.proofs.KnownBytes.{Appends-nil}
 use Rattle.jc_base.specs.ModifiedUtf8.{IsWellSpelled}
-use Rattle.jc_session.proofs.EscapeLemmas.{no_units_of, all_units_of, is_ok_unless, not_both}
+use Rattle.jc_session.proofs.texts.EscapedTexts.{no_units_of, all_units_of, is_ok_unless, not_both}
 use Rattle.jc_session.proofs.escapes.write_name.Goals as goal
 
 pub returns-then-is_err-clause-ok : goal.returns-then-is_err-clause-ok

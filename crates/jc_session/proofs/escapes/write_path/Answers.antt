@@ -1,8 +1,8 @@
 use Rattle.std.proofs.Common.{◌≡◌, ◌∷◌, ◌∙◌, ap}
 use Rattle.std.proofs.lemmas.Result.{err_from_is_err_and}
 use Rattle.jc_session.specs.RowText.{path_text}
-use Rattle.jc_session.proofs.WritingLemmas.{part_written, all_written, front_written}
-use Rattle.jc_session.proofs.EscapeLemmas.{plain_path_split, is_empty}
+use Rattle.jc_session.proofs.texts.PartsWritten.{part_written, all_written, front_written}
+use Rattle.jc_session.proofs.texts.EscapedTexts.{plain_path_split, is_empty}
 use Rattle.jc_session.proofs.escapes.write_path.Goals as goal
 
 pub returns-in_err-write_all-clause-front : goal.returns-in_err-write_all-clause-front

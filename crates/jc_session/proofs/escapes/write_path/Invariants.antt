@@ -1,6 +1,6 @@
 use Rattle.std.proofs.Common.{◌≡◌, length}
 use Rattle.jc_session.specs.RowText.{path_text}
-use Rattle.jc_session.proofs.WritingLemmas.{HasWritten}
+use Rattle.jc_session.proofs.texts.PartsWritten.{HasWritten}
 use Rattle.jc_session.proofs.escapes.write_path.Given as goal
 
 abbrev pub invariant-loop-byte : goal.invariant-loop-byte

@@ -2,8 +2,8 @@ use Rattle.std.proofs.Common.{◌∷◌, ◌∙◌, sym, ap}
 use Rattle.std.specs.List.{flat_map}
 use Rattle.std.proofs.lemmas.Result.{err_from_is_err_and}
 use Rattle.jc_session.specs.RowText.{unit_text}
-use Rattle.jc_session.proofs.WritingLemmas.{part_written, all_written, front_written}
-use Rattle.jc_session.proofs.EscapeLemmas.{plain_units_split, fewer_units}
+use Rattle.jc_session.proofs.texts.PartsWritten.{part_written, all_written, front_written}
+use Rattle.jc_session.proofs.texts.EscapedTexts.{plain_units_split, fewer_units}
 use Rattle.jc_session.proofs.escapes.write_units.Goals as goal
 
 pub returns-in_err-write_all-clause-front : goal.returns-in_err-write_all-clause-front

@@ -2,7 +2,7 @@ use Rattle.std.proofs.Common.{◌≡◌, length}
 use Rattle.std.specs.List.{flat_map}
 use Rattle.jc_base.specs.CodeUnits.{units_before}
 use Rattle.jc_session.specs.RowText.{unit_text}
-use Rattle.jc_session.proofs.WritingLemmas.{HasWritten}
+use Rattle.jc_session.proofs.texts.PartsWritten.{HasWritten}
 use Rattle.jc_session.proofs.escapes.write_units.Given as goal
 
 abbrev pub invariant-loop-units : goal.invariant-loop-units

@@ -1,4 +1,4 @@
-use Rattle.jc_session.proofs.WinnerLemmas.{winner_is_least, least_is_winner, none_named, unnamed_none}
+use Rattle.jc_session.proofs.holding.LeastPathWins.{winner_is_least, least_is_winner, none_named, unnamed_none}
 use Rattle.jc_session.proofs.laws.winners_are_least.Goals as goal
 
 pub returns-clause-least : goal.returns-clause-least

@@ -1,11 +1,11 @@
 use Rattle.std.proofs.Common.{◌≡◌, ◌+◌, ◌≤◌, IsSome, length, position}
-use Rattle.jc_session.specs.Commands.{commands_of, is_line_feed}
-use Rattle.jc_session.proofs.LineLemmas.{IsReading}
+use Rattle.jc_session.specs.inside.Reading.{bytes_left, is_line_feed}
+use Rattle.jc_session.proofs.runs.LinesCut.{IsReading}
 use Rattle.jc_session.proofs.lines.read_line.Given as goal
 
 abbrev pub invariant-loop-ahead : goal.invariant-loop-ahead
 invariant-loop-ahead g l = record {
-  reading : IsReading (commands_of l.fn.ahead (g.R.Input.remaining l.fn.input)) l.line l.ahead (g.R.Input.remaining l.input);
+  reading : IsReading (bytes_left l.fn.ahead (g.R.Input.remaining l.fn.input)) l.line l.ahead (g.R.Input.remaining l.input);
   spent : g.R.Input.bound l.input + (length l.ahead + length l.line) ≤ g.R.Input.bound l.fn.input + length l.fn.ahead;
   ahead : IsSome (position is_line_feed l.fn.ahead) → (l.ahead ≡ l.fn.ahead) × (l.input ≡ l.fn.input);
   failures : g.R.Input.failures l.input ≡ g.R.Input.failures l.fn.input;

@@ -3,7 +3,7 @@ use Rattle.std.proofs.lemmas.Result.{err_from_is_err_and}
 use Rattle.std.specs.List.{flat_map}
 use Rattle.jc_base.proofs.WrittenFronts.{front_of_first}
 use Rattle.jc_session.specs.RowText.{row_text}
-use Rattle.jc_session.proofs.WritingLemmas.{part_written, front_written}
+use Rattle.jc_session.proofs.texts.PartsWritten.{part_written, front_written}
 use Rattle.jc_session.proofs.report_text.write_sections.Goals as goal
 
 pub returns-in_err-write_all-clause-front : goal.returns-in_err-write_all-clause-front

@@ -1,7 +1,7 @@
 use Rattle.std.proofs.Common.{◌≡◌}
 use Rattle.std.specs.List.{flat_map}
 use Rattle.jc_session.specs.RowText.{row_text, report_text}
-use Rattle.jc_session.proofs.WritingLemmas.{HasWritten}
+use Rattle.jc_session.proofs.texts.PartsWritten.{HasWritten}
 use Rattle.jc_session.proofs.report_text.write_sections.Given as goal
 
 abbrev pub invariant-loop-row : goal.invariant-loop-row

@@ -1,57 +1,94 @@
-use Rattle.std.proofs.Common.{◌≡◌, ◌∙◌, ap, sym, refl}
-use Rattle.jc_session.specs.Lines.{command_of}
-use Rattle.jc_session.specs.Commands.{command_lent, commands_of}
-use Rattle.jc_session.proofs.RunLemmas.{so_far_begins, so_far_goes_on, so_far_ends, so_far_eof, so_far_stops, so_far_breaks, so_far_lacks}
+use Rattle.std.proofs.Common.{◌≡◌, ◌∙◌, Err, ap, sym, refl}
 use Rattle.std.proofs.lemmas.Result.{err_from_is_err_and}
-use Rattle.std.proofs.KnownBytes.{Keeps-refl}
+use Rattle.jc_session.specs.Lines.{command_of}
+use Rattle.jc_session.specs.inside.Replies.{command_lent}
+use Rattle.jc_session.proofs.runs.RunsSoFar.{so_far_begins, so_far_goes_on, so_far_ends, so_far_stops, so_far_fails, so_far_last}
+use Rattle.jc_session.proofs.runs.ByAnswers.{by_answers_begins, by_answers_goes_on, by_answers_ends, by_answers_stops, by_answers_fails, by_answers_last, not_begun}
 use Rattle.jc_session.proofs.running.run.Goals as goal
 
 pub loop-line-init : goal.loop-line-init
 loop-line-init g c = record {
   so_far = λ bytes s all known. rw c.new-ahead.ensures (so_far_begins _ _ _ _ _ _ all known);
+  by_answers = λ bytes all. rw c.new-ahead.ensures (by_answers_begins _ _ _ _ all);
   reads = refl;
   writes = refl;
 }
 
+pub returns-in_err-read_line-clause-runs : goal.returns-in_err-read_line-clause-runs
+returns-in_err-read_line-clause-runs g c bytes s all known =
+    let exit = err_from_is_err_and c.from_residual-in_err-read_line.result c.from_residual-in_err-read_line.ensures.1 in
+    let fails = so_far_fails _ _ _ _ _ _ _ _ _ (c.loop-line.invariant.so_far bytes s all known) _ c.in_err-read_line.ensures.loses in
+    rw (exit.1, exit.2, c.in_err-read_line.ensures.err) fails
+
+pub returns-in_err-answer-clause-runs : goal.returns-in_err-answer-clause-runs
+returns-in_err-answer-clause-runs g c bytes s all known =
+    let exit = err_from_is_err_and c.from_residual-in_err-answer.result c.from_residual-in_err-answer.ensures.1 in
+    let same : command_lent c.parse_line.result ≡ command_of c.read_line.new.line = c.parse_line.ensures ∙ ap command_of c.bytes.ensures in
+    let takes = rw c.if-branch.true at c.in_ok-read_line.ensures.takes in
+    let stops = so_far_stops _ _ _ _ _ _ _ _ _ (c.loop-line.invariant.so_far bytes s all known) c.read_line.new.line _ c.in_err-answer.field-0.0 c.answer.new.session.files
+    (g.S.Source.answers c.answer.new.source) (g.W.Output.written c.answer.new.out) (g.R.Input.remaining c.read_line.new.input) c.in_err-answer.ensures.err takes
+    (λ u left. rw (sym same) (c.in_err-answer.ensures.gives u left)) (λ u left lacks. rw (sym same) (c.in_err-answer.ensures.lacks u left (ap Err lacks))) in
+    rw (exit.1, exit.2) stops
+
 pub loop-line-preserved : goal.loop-line-preserved
 loop-line-preserved g c =
     let at = c.loop-line.invariant in
-    let same : command_lent c.parse_line-command.result ≡ command_of c.next_line.new.line = c.parse_line-command.ensures ∙ ap command_of c.bytes.ensures in
-    let over = rw c.if-branch.true at c.in_ok-next_line.ensures.hands_over in
+    let same : command_lent c.parse_line.result ≡ command_of c.read_line.new.line = c.parse_line.ensures ∙ ap command_of c.bytes.ensures in
+    let takes = rw c.if-branch.true at c.in_ok-read_line.ensures.takes in
     record {
       so_far = λ bytes s all known.
-          so_far_goes_on _ _ _ _ _ _ _ _ _ _ _ _ _ (at.so_far bytes s all known) over
-          (λ t left. rw (sym same) (rw c.in-Ok-Line.field-0-is at (c.in-Ok-Line.ensures.gives t left)));
-      reads = c.in_ok-next_line.ensures.failures ∙ at.reads;
-      writes = c.in-Ok-Line.ensures.failures ∙ at.writes;
+          so_far_goes_on _ _ _ _ _ _ _ _ _ (at.so_far bytes s all known) c.read_line.new.line c.read_line.new.ahead (g.R.Input.remaining c.read_line.new.input) _ _ _ takes
+          (λ u left. rw (sym same) (rw c.in-Line.is at (c.in_ok-answer.ensures.gives u left)));
+      by_answers = λ bytes all.
+          by_answers_goes_on _ _ _ _ _ _ _ (at.by_answers bytes all) c.read_line.new.line c.read_line.new.ahead (g.R.Input.remaining c.read_line.new.input) _ _ takes
+          (rw (sym same) (rw c.in-Line.is at c.in_ok-answer.ensures.any));
+      reads = c.in_ok-read_line.ensures.failures ∙ at.reads;
+      writes = c.in_ok-answer.ensures.failures ∙ at.writes;
     }
 
-pub returns-in-Ok-Nothing-clause-ended : goal.returns-in-Ok-Nothing-clause-ended
-returns-in-Ok-Nothing-clause-ended g c bytes s all known =
-    let same : command_lent c.parse_line-command.result ≡ command_of c.next_line.new.line = c.parse_line-command.ensures ∙ ap command_of c.bytes.ensures in
-    let over = rw c.if-branch.true at c.in_ok-next_line.ensures.hands_over in
-    so_far_ends _ _ _ _ _ (g.S.Source.answers c.answer.new.source) _ _ _ _ _ _ (c.loop-line.invariant.so_far bytes s all known) over
-    (λ t left. rw (sym same) (rw c.in-Ok-Nothing.field-0-is at (c.in-Ok-Nothing.ensures.gives t left)))
+pub returns-in-Nothing-clause-runs : goal.returns-in-Nothing-clause-runs
+returns-in-Nothing-clause-runs g c bytes s all known =
+    let same : command_lent c.parse_line.result ≡ command_of c.read_line.new.line = c.parse_line.ensures ∙ ap command_of c.bytes.ensures in
+    let takes = rw c.if-branch.true at c.in_ok-read_line.ensures.takes in
+    so_far_ends _ _ _ _ _ _ _ _ _ (c.loop-line.invariant.so_far bytes s all known) c.read_line.new.line _ _ _ _ _ takes
+    (λ u left. rw (sym same) (rw c.in-Nothing.is at (c.in_ok-answer.ensures.gives u left)))
 
-pub returns-clause-ended : goal.returns-clause-ended
-returns-clause-ended g c bytes s all known =
-    so_far_eof _ _ _ _ _ _ _ _ _ (c.loop-line.invariant.so_far bytes s all known) (rw c.if-branch.false at c.in_ok-next_line.ensures.hands_over)
+pub returns-clause-runs : goal.returns-clause-runs
+returns-clause-runs g c bytes s all known =
+    let takes = rw c.if-branch.false at c.in_ok-read_line.ensures.takes in
+    so_far_last _ _ _ _ _ _ _ _ _ (c.loop-line.invariant.so_far bytes s all known) c.read_line.new.line _ _ _ _ _ _ c.answer_last.ensures.err takes
+    (λ u left. rw (sym c.bytes-2.ensures) (c.answer_last.ensures.gives u left)) (λ u left lacks. rw (sym c.bytes-2.ensures) (c.answer_last.ensures.lacks u left lacks))
 
-pub returns-in_err-next_line-clause-stopped : goal.returns-in_err-next_line-clause-stopped
-returns-in_err-next_line-clause-stopped g c bytes s all known =
-    let exit = err_from_is_err_and c.from_residual-in_err-next_line.result c.from_residual-in_err-next_line.ensures.1 in
-    let stops = so_far_stops _ _ _ _ _ _ _ _ (c.loop-line.invariant.so_far bytes s all known) (Keeps-refl (g.W.Output.written c.loop-line.out)) in
-    rw (exit.1, exit.2, c.in_err-next_line.ensures.err) stops
+-- ---- the same of any source
 
-pub returns-in-Err-Write-clause-stopped : goal.returns-in-Err-Write-clause-stopped
-returns-in-Err-Write-clause-stopped g c bytes s all known =
-    let same : command_lent c.parse_line-command.result ≡ command_of c.next_line.new.line = c.parse_line-command.ensures ∙ ap command_of c.bytes.ensures in
-    let over = rw c.if-branch.true at c.in_ok-next_line.ensures.hands_over in
-    so_far_breaks _ _ _ (commands_of c.next_line.new.ahead (g.R.Input.remaining c.next_line.new.input)) _ (g.S.Source.answers c.answer.new.source) _ c.answer.new.session _ _ _ _ (c.loop-line.invariant.so_far bytes s all known) over
-    (λ t left. rw (sym same) (rw c.in-Err-Write.field-0-is at (c.in-Err-Write.ensures.gives t left)))
+pub returns-in_err-line-clause-by_answers : goal.returns-in_err-line-clause-by_answers
+returns-in_err-line-clause-by_answers g c bytes all =
+    let exit = err_from_is_err_and c.from_residual.result c.from_residual.ensures.1 in
+    rw (exit.1, exit.2) (not_begun c.args.session.now.files bytes (g.R.Input.remaining c.args.input.now) (g.W.Output.written c.args.out.now) all)
 
-pub returns-in-Err-NoMemory-clause-stopped : goal.returns-in-Err-NoMemory-clause-stopped
-returns-in-Err-NoMemory-clause-stopped g c bytes s all known =
-    let same : command_lent c.parse_line-command.result ≡ command_of c.next_line.new.line = c.parse_line-command.ensures ∙ ap command_of c.bytes.ensures in
-    so_far_lacks _ _ _ _ (g.S.Source.answers c.answer.new.source) _ c.answer.new.session _ _ _ (command_of c.next_line.new.line) (c.loop-line.invariant.so_far bytes s all known)
-    (λ t left. rw (sym same) (rw c.in-Err-NoMemory.field-0-is at (c.in-Err-NoMemory.ensures.gives t left)))
+pub returns-in_err-read_line-clause-by_answers : goal.returns-in_err-read_line-clause-by_answers
+returns-in_err-read_line-clause-by_answers g c bytes all =
+    let exit = err_from_is_err_and c.from_residual-in_err-read_line.result c.from_residual-in_err-read_line.ensures.1 in
+    let fails = by_answers_fails _ _ _ _ _ _ _ (c.loop-line.invariant.by_answers bytes all) _ c.in_err-read_line.ensures.loses in
+    rw (exit.1, exit.2, c.in_err-read_line.ensures.err) fails
+
+pub returns-in_err-answer-clause-by_answers : goal.returns-in_err-answer-clause-by_answers
+returns-in_err-answer-clause-by_answers g c bytes all =
+    let exit = err_from_is_err_and c.from_residual-in_err-answer.result c.from_residual-in_err-answer.ensures.1 in
+    let same : command_lent c.parse_line.result ≡ command_of c.read_line.new.line = c.parse_line.ensures ∙ ap command_of c.bytes.ensures in
+    let takes = rw c.if-branch.true at c.in_ok-read_line.ensures.takes in
+    let stops = by_answers_stops _ _ _ _ _ _ _ (c.loop-line.invariant.by_answers bytes all) c.read_line.new.line _ c.in_err-answer.field-0.0 c.answer.new.session.files
+    (g.W.Output.written c.answer.new.out) (g.R.Input.remaining c.read_line.new.input) c.in_err-answer.ensures.err takes (rw (sym same) c.in_err-answer.ensures.any) in
+    rw (exit.1, exit.2) stops
+
+pub returns-in-Nothing-clause-by_answers : goal.returns-in-Nothing-clause-by_answers
+returns-in-Nothing-clause-by_answers g c bytes all =
+    let same : command_lent c.parse_line.result ≡ command_of c.read_line.new.line = c.parse_line.ensures ∙ ap command_of c.bytes.ensures in
+    let takes = rw c.if-branch.true at c.in_ok-read_line.ensures.takes in
+    by_answers_ends _ _ _ _ _ _ _ (c.loop-line.invariant.by_answers bytes all) c.read_line.new.line _ _ _ _ takes (rw (sym same) (rw c.in-Nothing.is at c.in_ok-answer.ensures.any))
+
+pub returns-clause-by_answers : goal.returns-clause-by_answers
+returns-clause-by_answers g c bytes all =
+    let takes = rw c.if-branch.false at c.in_ok-read_line.ensures.takes in
+    by_answers_last _ _ _ _ _ _ _ (c.loop-line.invariant.by_answers bytes all) c.read_line.new.line _ _ _ _ _ c.answer_last.ensures.err takes
+    (rw (sym c.bytes-2.ensures) c.answer_last.ensures.any)

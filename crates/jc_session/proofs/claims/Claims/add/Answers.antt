@@ -2,8 +2,8 @@ use Rattle.std.proofs.Common.{◌≡◌, ◌&&◌, ◌||◌, false, ℕ, List, S
 use Rattle.std.specs.FinMap as fin
 use Rattle.jc_base.specs.Bytes.{same_bytes}
 use Rattle.jc_base.proofs.maps.FiniteMaps.{insert_found}
-use Rattle.jc_session.specs.Claims.{NoneEmpty, has_claim, has_path}
-use Rattle.jc_session.proofs.ClaimLemmas.{on_err_any, has_key-empty, has_key-insert, added, insert_fills, none_empty-insert}
+use Rattle.jc_session.specs.inside.Claims.{NoneEmpty, has_claim, has_path}
+use Rattle.jc_session.proofs.holding.ClaimsOfPaths.{on_err_any, has_key-empty, has_key-insert, added, insert_fills, none_empty-insert}
 use Rattle.jc_session.proofs.claims.Claims.add.Goals as goal
 
 pub returns-in_err-insert-clause-err : goal.returns-in_err-insert-clause-err

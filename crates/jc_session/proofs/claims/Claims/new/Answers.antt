@@ -1,6 +1,6 @@
 use Rattle.std.proofs.Common.{sym, ap, subst, ◌∙◌}
-use Rattle.jc_session.specs.Claims.{NoneEmpty, has_claim}
-use Rattle.jc_session.proofs.ClaimLemmas.{has_claim-empty, none_empty-empty}
+use Rattle.jc_session.specs.inside.Claims.{NoneEmpty, has_claim}
+use Rattle.jc_session.proofs.holding.ClaimsOfPaths.{has_claim-empty, none_empty-empty}
 use Rattle.jc_session.proofs.claims.Claims.new.Goals as goal
 
 pub returns : goal.returns

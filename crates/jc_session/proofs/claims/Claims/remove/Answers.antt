@@ -1,8 +1,8 @@
 use Rattle.std.proofs.Common.{◌≡◌, ◌&&◌, not, true, false, ℕ, List, Some, sym, ap, subst, ◌∙◌}
 use Rattle.std.specs.FinMap as fin
 use Rattle.jc_base.specs.Bytes.{same_bytes}
-use Rattle.jc_session.specs.Claims.{NoneEmpty, has_claim, has_path}
-use Rattle.jc_session.proofs.ClaimLemmas.{has_key-remove, removed, emptied, none_empty-insert, none_empty-remove}
+use Rattle.jc_session.specs.inside.Claims.{NoneEmpty, has_claim, has_path}
+use Rattle.jc_session.proofs.holding.ClaimsOfPaths.{has_key-remove, removed, emptied, none_empty-insert, none_empty-remove}
 use Rattle.jc_session.proofs.claims.Claims.remove.Goals as goal
 use Rattle.jc_session.proofs.claims.Claims.remove.Goals.{in-Some-1, in-None-1}
 

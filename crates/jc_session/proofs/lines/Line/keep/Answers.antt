@@ -1,6 +1,6 @@
 use Rattle.std.proofs.Common.{arith}
 use Rattle.std.proofs.lemmas.Grind.{common_steps}
-use Rattle.jc_session.proofs.LineLemmas.{kept}
+use Rattle.jc_session.proofs.runs.LinesCut.{kept}
 use Rattle.jc_session.proofs.lines.Line.keep.Goals as goal
 
 pub returns : goal.returns

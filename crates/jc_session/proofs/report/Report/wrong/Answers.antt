@@ -2,7 +2,7 @@ use Rattle.std.proofs.Common.{ℕ, Bool, not, ◌||◌, List, sym, ap, ◌∙◌
 use Rattle.std.specs.List.{list_any}
 use Rattle.std.specs.Result.{is_ok}
 use Rattle.jc_view.specs.Outcome.{class_named}
-use Rattle.jc_session.proofs.HeldLemmas.{unreadable_rows}
+use Rattle.jc_session.proofs.holding.RowsByClaims.{unreadable_rows}
 use Rattle.jc_session.proofs.report.Report.wrong.Goals as goal
 
 abbrev any_unreadable : List (List ℕ × List ℕ) → Bool

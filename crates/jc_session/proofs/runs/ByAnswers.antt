@@ -1,0 +1,129 @@
+-- A run by the answers that its source gave, whatever the source is.
+use Rattle.std.proofs.Common.{◌≡◌, ◌≢◌, ◌∙◌, ◌++◌, ◌==◌, true, false, length, ℕ, List, [], ◌∷◌, Option, Some, Result, Ok, Err, IfErr, OnOk, OnErr, refl, sym, ap, subst, append_assoc, inl, inr, ⊎_elim, ◌⊎◌}
+use Rattle.std.specs.FinMap as map
+use Rattle.std.specs.Io.KnownBytes.{Appends}
+use Rattle.std.proofs.KnownBytes.{Keeps-refl}
+use Rattle.jc_base.specs.Device.{WritesFront}
+use Rattle.jc_session.specs.declared.answer.Next.{Next}
+use Rattle.jc_session.specs.declared.answer.Next.TheVariants as next
+use Rattle.jc_session.specs.declared.command_line.Fault.{Fault}
+use Rattle.jc_session.specs.declared.command_line.Fault.TheVariants as faults
+use Rattle.jc_session.specs.declared.run_error.Ended.{Ended}
+use Rattle.jc_session.specs.declared.run_error.Ended.TheVariants as ended
+use Rattle.jc_session.specs.declared.run_error.RunError.{RunError}
+use Rattle.jc_session.specs.declared.run_error.RunError.TheVariants as errors
+use Rattle.jc_session.specs.Files.{Files}
+use Rattle.jc_session.specs.Lines.{command_of}
+use Rattle.jc_session.specs.Sources.{SourceAnswers}
+use Rattle.jc_session.specs.Answers.{Reply, Says, reply}
+use Rattle.jc_session.specs.Runs.{LineMayLack, EndsAs, StopsAs, StopsAtRead, RunsAs}
+use Rattle.jc_session.specs.Statuses.{Performs}
+use Rattle.jc_session.specs.inside.Reading.{bytes_left, TakesLine, LosesPart}
+use Rattle.jc_session.specs.inside.Replies.{Gives, GivesLast, GivesByAnswers, GivesLastByAnswers, said_by, next_of}
+use Rattle.jc_session.proofs.runs.RunsSoFar.{IsSoFar, so_far_begins, so_far_goes_on, so_far_ends, so_far_stops, so_far_fails, so_far_last}
+
+-- ---- one line
+
+-- a text that was written, or not whole
+pub said_gives : {E : Type 0} (r : Result (Unit {0}) E) (f : Files) (s : SourceAnswers) (text : List ℕ) (files : Files) (t : SourceAnswers) (before after : Option (List ℕ))
+    → OnOk r (Appends before after text) → OnErr r (WritesFront before after text) → Gives f s (Says text files t) (said_by r) files (Some t) before after
+said_gives (Ok done) f s text files t before after whole front = (refl, refl, whole)
+said_gives (Err fault) f s text files t before after whole front = (refl, refl, front)
+
+pub said_not_lacks : {E P : Type 0} (r : Result (Unit {0}) E) → said_by r ≡ Err errors.NoMemory → P
+said_not_lacks (Ok done) e = absurd cc
+said_not_lacks (Err fault) e = absurd cc
+
+-- with no answer of the source
+pub said_by_none : {E : Type 0} (r : Result (Unit {0}) E) (result : Result Next RunError) (f : Files) (text : List ℕ) (reply_by : SourceAnswers → Reply) (may : SourceAnswers → Type 0) (before after : Option (List ℕ))
+    → ((s : SourceAnswers) → reply_by s ≡ Says text f s) → result ≡ said_by r → OnOk r (Appends before after text) → OnErr r (WritesFront before after text)
+    → GivesByAnswers f reply_by may result f before after
+said_by_none r result f text reply_by may before after says is whole front = (
+  [],
+  λ later. (
+    subst (λ x. Gives f later x result f (Some later) before after) (sym (says later)) (subst (λ x. Gives f later (Says text f later) x f (Some later) before after) (sym is) (said_gives r f later text f later before after whole front)),
+    λ e. said_not_lacks r (sym is ∙ e),
+  ),
+)
+
+-- a last line
+pub last_gives : (f : Files) (line : List ℕ) → (length line == 0) ≡ false → (result : Result Ended RunError) (new : Files) (before after : Option (List ℕ))
+    → GivesByAnswers f (λ s. reply f s (command_of line)) (λ s. LineMayLack f s (command_of line)) (next_of result) new before after → GivesLastByAnswers f line result new before after
+last_gives f [] some result new before after gives = absurd cc
+last_gives f (x ∷ line) some result new before after gives = (gives.0, λ later. ((gives.1 later).0, λ e. (gives.1 later).1 (ap next_of e)))
+
+-- ---- so many lines
+
+-- some answers were given so far, and with any later ones so much was done
+abbrev pub IsSoFarByAnswers : Files → List ℕ → (held : List ℕ) (coming : Option (List ℕ)) (files : Files) (before now : Option (List ℕ)) → Type 0
+IsSoFarByAnswers f bytes held coming files before now =
+    (given : SourceAnswers) × ((later : SourceAnswers) → IsSoFar f (given ++ later) bytes held coming (Some later) files before now)
+
+pub by_answers_begins : (f : Files) (bytes : List ℕ) (coming : Option (List ℕ)) (before : Option (List ℕ)) → coming ≡ Some bytes → IsSoFarByAnswers f bytes [] coming f before before
+by_answers_begins f bytes coming before all = ([], λ later. so_far_begins f later bytes coming (Some later) before all refl)
+
+-- the answers known are those given next
+known : (u v : SourceAnswers) → Some u ≡ Some v → u ≡ v
+known u v e = cc
+
+module _ (f : Files) (bytes : List ℕ) (held : List ℕ) (coming : Option (List ℕ)) (files : Files) (before now : Option (List ℕ)) (so_far : IsSoFarByAnswers f bytes held coming files before now) where
+  -- with the answers to this line too
+  with : (given later : SourceAnswers) → IsSoFar f ((so_far.0 ++ given) ++ later) bytes held coming (Some (given ++ later)) files before now
+  with given later = subst (λ s. IsSoFar f s bytes held coming (Some (given ++ later)) files before now) (sym (append_assoc so_far.0 given later)) (so_far.1 (given ++ later))
+
+  pub by_answers_goes_on : (kept rest_held : List ℕ) (rest_coming : Option (List ℕ)) (new : Files) (later_text : Option (List ℕ))
+      → TakesLine (bytes_left held coming) true kept (bytes_left rest_held rest_coming)
+      → GivesByAnswers files (λ s. reply files s (command_of kept)) (λ s. LineMayLack files s (command_of kept)) (Ok next.Line) new now later_text
+      → IsSoFarByAnswers f bytes rest_held rest_coming new before later_text
+  by_answers_goes_on kept rest_held rest_coming new later_text takes gives = (
+    so_far.0 ++ gives.0,
+    λ later.
+        so_far_goes_on f ((so_far.0 ++ gives.0) ++ later) bytes held coming (Some (gives.0 ++ later)) files before now (with gives.0 later) kept rest_held rest_coming new (Some later) later_text takes
+        (λ u e. subst (λ v. Gives files v (reply files v (command_of kept)) (Ok next.Line) new (Some later) now later_text) (known (gives.0 ++ later) u e) (gives.1 later).0),
+  )
+
+  pub by_answers_ends : (kept : List ℕ) (rest : Option (List ℕ)) (new : Files) (later_text last : Option (List ℕ))
+      → TakesLine (bytes_left held coming) true kept rest
+      → GivesByAnswers files (λ s. reply files s (command_of kept)) (λ s. LineMayLack files s (command_of kept)) (Ok next.Nothing) new now later_text
+      → (s : SourceAnswers) × EndsAs f s bytes ended.End (record { files = new; source = Some []; coming = last; before = before; now = later_text })
+  by_answers_ends kept rest new later_text last takes gives = (
+    (so_far.0 ++ gives.0) ++ [],
+    so_far_ends f ((so_far.0 ++ gives.0) ++ []) bytes held coming (Some (gives.0 ++ [])) files before now (with gives.0 []) kept rest new (Some []) later_text last takes
+        (λ u e. subst (λ v. Gives files v (reply files v (command_of kept)) (Ok next.Nothing) new (Some []) now later_text) (known (gives.0 ++ []) u e) (gives.1 []).0),
+  )
+
+  pub by_answers_stops : (kept : List ℕ) (rest : Option (List ℕ)) (e : RunError) (new : Files) (later_text last : Option (List ℕ)) → e ≢ errors.Read
+      → TakesLine (bytes_left held coming) true kept rest
+      → GivesByAnswers files (λ s. reply files s (command_of kept)) (λ s. LineMayLack files s (command_of kept)) (Err e) new now later_text
+      → (s : SourceAnswers) × StopsAs f s bytes e (record { files = new; source = Some []; coming = last; before = before; now = later_text })
+  by_answers_stops kept rest e new later_text last other takes gives = (
+    (so_far.0 ++ gives.0) ++ [],
+    so_far_stops f ((so_far.0 ++ gives.0) ++ []) bytes held coming (Some (gives.0 ++ [])) files before now (with gives.0 []) kept rest e new (Some []) later_text last other takes
+        (λ u p. subst (λ v. Gives files v (reply files v (command_of kept)) (Err e) new (Some []) now later_text) (known (gives.0 ++ []) u p) (gives.1 []).0)
+        (λ u p q. subst (λ v. LineMayLack files v (command_of kept)) (known (gives.0 ++ []) u p) ((gives.1 []).1 (ap Err q))),
+  )
+
+  pub by_answers_fails : (rest : Option (List ℕ)) → LosesPart (bytes_left held coming) rest
+      → (s : SourceAnswers) × StopsAtRead f s bytes (record { files = files; source = Some []; coming = rest; before = before; now = now })
+  by_answers_fails rest loses = (so_far.0 ++ [], so_far_fails f (so_far.0 ++ []) bytes held coming (Some []) files before now (so_far.1 []) rest loses)
+
+  pub by_answers_last : (kept : List ℕ) (rest : Option (List ℕ)) (result : Result Ended RunError) (new : Files) (later_text last : Option (List ℕ)) → IfErr result (λ e. e ≢ errors.Read)
+      → TakesLine (bytes_left held coming) false kept rest
+      → GivesLastByAnswers files kept result new now later_text
+      → (s : SourceAnswers) × RunsAs f s bytes result (record { files = new; source = Some []; coming = last; before = before; now = later_text })
+  by_answers_last kept rest result new later_text last other takes gives = (
+    (so_far.0 ++ gives.0) ++ [],
+    so_far_last f ((so_far.0 ++ gives.0) ++ []) bytes held coming (Some (gives.0 ++ [])) files before now (with gives.0 []) kept rest result new (Some []) later_text last other takes
+        (λ u p. subst (λ v. GivesLast files v kept result new (Some []) now later_text) (known (gives.0 ++ []) u p) (gives.1 []).0)
+        (λ u p q. subst (λ v. LineMayLack files v (command_of kept)) (known (gives.0 ++ []) u p) ((gives.1 []).1 q)),
+  )
+
+-- nothing was begun, with no answer
+pub not_begun : (f : Files) (bytes : List ℕ) (coming before : Option (List ℕ)) → coming ≡ Some bytes
+    → (s : SourceAnswers) × RunsAs f s bytes (Err errors.NoMemory) (record { files = f; source = Some []; coming = coming; before = before; now = before })
+not_begun f bytes coming before all = ([], inl (record { files = refl; source = refl; coming = all; kept = Keeps-refl before }))
+
+-- words that are refused
+pub words_perform : (fault : Fault) (coming before : Option (List ℕ)) → (fault ≡ faults.Usage) ⊎ (fault ≡ faults.NoMemory) → Performs (Err fault) coming coming before before
+words_perform fault coming before is =
+    ⊎_elim (λ e. inl (ap Err e, Keeps-refl before)) (λ e. inr (Err errors.NoMemory, map.empty, ap Err e, λ bytes all. not_begun map.empty bytes coming before all)) is

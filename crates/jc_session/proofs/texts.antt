@@ -1,0 +1,2 @@
+pub mod PartsWritten
+pub mod EscapedTexts

@@ -1,0 +1,133 @@
+-- How a run over the lines of an input ends, and what it has done by then.
+use Rattle.std.specs.Prelude.{◌≡◌, ℕ, ◌<◌, ◌≤◌, ◌⊎◌, ◌↔◌, Bool, true, false, List, ◌∷◌, ◌++◌, length, take, drop, Option, Some, None, Result, Ok, Err, ⊤}
+use Rattle.std.specs.List.{list_any}
+use Rattle.std.specs.Io.KnownBytes.{Appends, Keeps}
+use Rattle.jc_base.specs.Device.{MoreFaults}
+use Rattle.jc_session.specs.declared.run_error.RunError.{RunError}
+use Rattle.jc_session.specs.declared.run_error.RunError.TheVariants as run_errors
+use Rattle.jc_session.specs.declared.run_error.Ended.{Ended}
+use Rattle.jc_session.specs.declared.run_error.Ended.TheVariants as ended
+use Rattle.jc_session.specs.declared.source.SourceError.{SourceError}
+use Rattle.jc_session.specs.declared.source.SourceError.TheVariants as sources
+use Rattle.jc_session.specs.Files.{Files, Change, Adds, Replaces, judge}
+use Rattle.jc_session.specs.Lines.{Command, Add, Replace, Remove, Report, End, Bad, command_of, lines_of, whole_lines}
+use Rattle.jc_session.specs.Sources.{SourceAnswers, next_answer}
+use Rattle.jc_session.specs.Answers.{Reply, Says, Ends, Lacks, reply, Run, Ending, AtEnd, AtEof, run_of}
+
+-- what a run leaves: the files, the source's answers to come and the input's bytes to come, and what was written before it and is now
+pub record Left : Type 0 where
+  pub files : Files
+  pub source : Option SourceAnswers
+  pub coming : Option (List ℕ)
+  pub before : Option (List ℕ)
+  pub now : Option (List ℕ)
+
+-- the session and the source are left, and the output was written, as by the run over some lines, which ended so
+pub record IsDone (run : Run) (ending : Ending) (left : Left) : Type 0 where
+  pub ends : run.ending ≡ ending
+  pub files : left.files ≡ run.files
+  pub source : left.source ≡ Some run.source
+  pub text : Appends left.before left.now run.text
+
+-- ---- a run that ends
+
+abbrev pub ending_of : Ended → Ending
+ending_of ended.End = AtEnd
+ending_of ended.Eof = AtEof
+
+abbrev pub is_end : Command → Bool
+is_end (Add path) = false
+is_end (Replace path) = false
+is_end (Remove path) = false
+is_end Report = false
+is_end End = true
+is_end Bad = false
+
+-- one of the lines is `end`
+abbrev pub has_end : List (List ℕ) → Bool
+has_end lines = list_any (λ line. is_end (command_of line)) lines
+
+-- all lines were answered, up to the first that is `end`, and the source answered none of them that it had no memory
+pub record EndsAs (f : Files) (s : SourceAnswers) (bytes : List ℕ) (how : Ended) (left : Left) : Type 0 where
+  pub done : IsDone (run_of f s (lines_of bytes)) (ending_of how) left
+  pub by_end : (how ≡ ended.End) ↔ (has_end (lines_of bytes) ≡ true)
+
+-- ---- a run that stops
+
+-- the whole lines that were handed over were answered, none of them `end`
+abbrev pub StopsAtRead : Files → SourceAnswers → List ℕ → Left → Type 0
+StopsAtRead f s bytes left =
+    (front : List ℕ) × (coming : List ℕ) × (bytes ≡ front ++ coming) × (left.coming ≡ Some coming) × IsDone (run_of f s (whole_lines front)) AtEof left
+
+-- the line was done, and a proper beginning of its answer was written behind the text
+abbrev pub BreaksOff : Reply → (text : List ℕ) → Left → Type 0
+BreaksOff (Says said files source) text left =
+    (left.files ≡ files) × (left.source ≡ Some source) × ((n : ℕ) × (n < length said) × Appends left.before left.now (text ++ take n said))
+BreaksOff Ends text left = ⊥
+BreaksOff (Lacks source) text left = ⊥
+
+-- the lines before some line were answered, none of them `end`, and it was done but not answered whole
+abbrev pub StopsAtWrite : Files → SourceAnswers → List ℕ → Left → Type 0
+StopsAtWrite f s bytes left =
+    (lines : List (List ℕ)) × (line : List ℕ) × (rest : List (List ℕ)) × (lines_of bytes ≡ lines ++ line ∷ rest)
+    × (let run = run_of f s lines in (run.ending ≡ AtEof) × BreaksOff (reply run.files run.source (command_of line)) run.text left)
+
+-- bytes that an edit takes may want memory, and so may the source
+abbrev pub MayLack : Files → (List ℕ → Change) → Result (List ℕ) SourceError → Type 0
+MayLack f change (Ok bytes) = judge f (change bytes) ≡ None
+MayLack f change (Err sources.Unread) = ⊥
+MayLack f change (Err sources.NoMemory) = ⊤
+
+-- no other line may
+abbrev pub LineMayLack : Files → SourceAnswers → Command → Type 0
+LineMayLack f s (Add path) = MayLack f (Adds path) (next_answer s path)
+LineMayLack f s (Replace path) = MayLack f (Replaces path) (next_answer s path)
+LineMayLack f s (Remove path) = ⊥
+LineMayLack f s Report = ⊥
+LineMayLack f s End = ⊥
+LineMayLack f s Bad = ⊥
+
+-- nothing was done
+pub record IsNotBegun (f : Files) (s : SourceAnswers) (bytes : List ℕ) (left : Left) : Type 0 where
+  pub files : left.files ≡ f
+  pub source : left.source ≡ Some s
+  pub coming : left.coming ≡ Some bytes
+  pub kept : Keeps left.before left.now
+
+-- the lines before some line were answered, none of them `end`, and of it nothing was done but that the source was asked
+abbrev pub StopsForMemory : Files → SourceAnswers → List ℕ → Left → Type 0
+StopsForMemory f s bytes left =
+    (lines : List (List ℕ)) × (line : List ℕ) × (rest : List (List ℕ)) × (lines_of bytes ≡ lines ++ line ∷ rest)
+    × (let run = run_of f s lines in IsDone (record run { source = drop 1 run.source }) AtEof left × LineMayLack run.files run.source (command_of line))
+
+abbrev pub StopsAs : Files → SourceAnswers → List ℕ → RunError → Left → Type 0
+StopsAs f s bytes run_errors.Read left = StopsAtRead f s bytes left
+StopsAs f s bytes run_errors.Write left = StopsAtWrite f s bytes left
+StopsAs f s bytes run_errors.NoMemory left = IsNotBegun f s bytes left ⊎ StopsForMemory f s bytes left
+
+-- the run over the input ended so, or stopped so
+abbrev pub RunsAs : Files → SourceAnswers → List ℕ → Result Ended RunError → Left → Type 0
+RunsAs f s bytes (Ok how) left = EndsAs f s bytes how left
+RunsAs f s bytes (Err e) left = StopsAs f s bytes e left
+
+-- ---- failures
+
+-- a failed read alone raises the input's count of failures
+abbrev pub CountsReads : {T : Type 0} → Result T RunError → ℕ → ℕ → Type 0
+CountsReads (Ok x) old new = new ≡ old
+CountsReads (Err run_errors.Read) old new = MoreFaults old new × (old ≤ new)
+CountsReads (Err run_errors.Write) old new = new ≡ old
+CountsReads (Err run_errors.NoMemory) old new = new ≡ old
+
+-- and a failed write alone the output's
+abbrev pub CountsWrites : {T : Type 0} → Result T RunError → ℕ → ℕ → Type 0
+CountsWrites (Ok x) old new = new ≡ old
+CountsWrites (Err run_errors.Read) old new = new ≡ old
+CountsWrites (Err run_errors.Write) old new = MoreFaults old new × (old ≤ new)
+CountsWrites (Err run_errors.NoMemory) old new = new ≡ old
+
+-- the number of an error
+abbrev pub run_code : RunError → ℕ
+run_code run_errors.Read = 1
+run_code run_errors.Write = 2
+run_code run_errors.NoMemory = 3
