@@ -7,6 +7,7 @@ use Rattle.std.specs.FinMap as fin
 use Rattle.std.specs.FinMap.Entries.{below_all}
 use Rattle.std.proofs.lemmas.Bool.{cases_Bool}
 use Rattle.jc_base.specs.Bytes.{bytes_cmp, same_bytes}
+use Rattle.jc_base.proofs.Common.{first_holds, less_is, second_holds}
 use Rattle.jc_base.proofs.maps.FiniteMaps.{bytes_cmp_total, same_bytes_equiv, same_bytes_decides, eq_by_cmp-bytes_cmp}
 use Rattle.jc_view.specs.declared.parse_error.ParseError.{ParseError}
 use Rattle.jc_view.specs.Outcome.{class_named}
@@ -16,19 +17,6 @@ use Rattle.jc_session.specs.inside.Claims.{Paths, PathsByName, has_path, first_o
 use Rattle.jc_session.specs.Winners.{NamesAt, IsWinner}
 
 -- ---- the order
-
-is_less : (r : Ordering) → T (is_lt r) → r ≡ Less
-is_less Less h = refl
-is_less Equal h = absurd h
-is_less Greater h = absurd h
-
-front : (a b : Bool) → T (a && b) → T a
-front true b h = tt
-front false b h = absurd h
-
-back : (a b : Bool) → T (a && b) → T b
-back true b h = h
-back false b h = absurd h
 
 false_true : {A : Type 0} (b : Bool) → b ≡ false → b ≡ true → A
 false_true b lacks has = let e : false ≡ true = sym lacks ∙ has in absurd cc
@@ -59,8 +47,8 @@ module _ {V : Type 0} where
   below_found k [] q below h = absurd cc
   below_found k (e ∷ es) q below h =
       ⊎_elim
-      (λ y. subst (λ x. bytes_cmp k x ≡ Less) (sym (exact q e.0 y)) (is_less _ (front _ _ below)))
-      (λ no. below_found k es q (back _ _ below) (ap is_some (sym (found-cons e es q false no)) ∙ h))
+      (λ y. subst (λ x. bytes_cmp k x ≡ Less) (sym (exact q e.0 y)) (less_is _ (first_holds _ _ below)))
+      (λ no. below_found k es q (second_holds _ _ below) (ap is_some (sym (found-cons e es q false no)) ∙ h))
       (cases_Bool (same_bytes q e.0))
 
 -- ---- the first that names a class
@@ -118,8 +106,8 @@ is_first (e ∷ es) n p sorted h =
     ⊎_elim
     (λ y. let s : Some e.0 ≡ Some p = sym (first-cons e es n true y) ∙ h in
     let same : e.0 ≡ p = cc in
-    subst (IsFirst (e ∷ es) n) same (first_here e es n (front _ _ sorted) y))
-    (λ no. first_later e es n p (front _ _ sorted) no (is_first es n p (back _ _ sorted) (sym (first-cons e es n false no) ∙ h)))
+    subst (IsFirst (e ∷ es) n) same (first_here e es n (first_holds _ _ sorted) y))
+    (λ no. first_later e es n p (first_holds _ _ sorted) no (is_first es n p (second_holds _ _ sorted) (sym (first-cons e es n false no) ∙ h)))
     (cases_Bool (names e.1 n))
 
 -- ---- winners
@@ -217,7 +205,7 @@ first_wins f n [] sorted h = no_winner f n (λ q. sym (h q))
 first_wins f n (e ∷ es) sorted h =
     let least : IsLeast f n e.0 = record {
       is_there = sym (h e.0) ∙ ap is_some (found-cons e es e.0 true (same_bytes_equiv.refl e.0));
-      least = λ q there other. below_found e.0 es q (front _ _ sorted) (ap is_some (sym (found-cons e es q false other)) ∙ h q ∙ there);
+      least = λ q there other. below_found e.0 es q (first_holds _ _ sorted) (ap is_some (sym (found-cons e es q false other)) ∙ h q ∙ there);
     } in
     least_winner f n e.0 least
 
