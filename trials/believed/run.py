@@ -109,20 +109,32 @@ def public_clauses(text):
     for at, line in enumerate(lines):
         if re.match(r"\s*pub (const )?fn ", line) or re.match(r"\s+fn ", line) and in_trait(lines, at):
             yield header(lines, at)
-        elif re.match(r"\s*ghost (%s)\b" % "|".join(SEEN_BY_CALLERS), line):
+        elif re.match(r"\s*ghost (%s)\b" % "|".join(SEEN_BY_CALLERS), line) and is_public(text, lines, at):
             yield line
 
 
 def header(lines, at):
     """The signature and the clauses of the function that begins here."""
-    text = ""
+    text, depth = "", 0
     for line in lines[at:]:
         bare = line.strip()
         clause = re.match(r"(requires|ensures|→|×|⊎|\()", bare)
         text += line + "\n"
-        if bare in ("{", "{}") or bare.endswith((";", "{")) and not clause:
+        if depth == 0 and (bare in ("{", "{}") or bare.endswith((";", "{")) and not clause):
             break
+        depth += bare.count("{") - bare.count("}")
     return text
+
+
+def is_public(text, lines, at):
+    """A ghost member stands in a public trait, or in an `impl` of a type that this file makes public."""
+    for line in reversed(lines[:at]):
+        if line.startswith(("pub trait", "trait")):
+            return line.startswith("pub")
+        if line.startswith("impl"):
+            owner = re.sub(r"<.*", "", line.split(" for ")[-1]).strip(" {").lstrip("&")
+            return re.search(r"^pub (struct|enum) %s\b" % re.escape(owner), text, re.M) is not None
+    return False
 
 
 def in_trait(lines, at):

@@ -1,6 +1,5 @@
 -- The texts of answers.
-use Rattle.std.specs.Prelude.{List, ℕ, ◌++◌, Result, Ok, Err, codes, decimal}
-use Rattle.jc_session.specs.declared.edit.Done.{Done}
+use Rattle.std.specs.Prelude.{List, ℕ, ◌++◌, codes, decimal}
 use Rattle.jc_session.specs.declared.edit.EditError.{EditError}
 use Rattle.jc_session.specs.declared.edit.EditError.TheVariants as errors
 use Rattle.jc_session.specs.RowText.{path_text}
@@ -24,11 +23,6 @@ edit_error_name errors.NoMemory = codes "NoMemory"
 -- of an edit that is refused
 abbrev pub refused_text : EditError → List ℕ
 refused_text e = codes "refused " ++ decimal (edit_code e) ++ codes " " ++ edit_error_name e ++ codes "\n"
-
--- of an edit
-abbrev pub edit_text : Result Done EditError → List ℕ
-edit_text (Ok done) = codes "ok\n"
-edit_text (Err e) = refused_text e
 
 -- of a path whose bytes the source does not hand over
 abbrev pub unread_text : List ℕ → List ℕ

@@ -30,16 +30,16 @@ pub data Command : Type 0 where
   End : Command
   Bad : Command
 
-abbrev pub begins_with : List ℕ → List ℕ → Bool
-begins_with word line = starts_with nat_eq line word
+abbrev pub begins_with_word : List ℕ → List ℕ → Bool
+begins_with_word word line = starts_with nat_eq line word
 
 -- all bytes after the one space are the path; a line over 8,192 bytes is bad
 abbrev pub command_of : List ℕ → Command
 command_of line =
     if nat_lt 8192 (length line) then Bad
-    else (if begins_with (codes "add ") line then Add (drop 4 line)
-    else (if begins_with (codes "replace ") line then Replace (drop 8 line)
-    else (if begins_with (codes "remove ") line then Remove (drop 7 line)
+    else (if begins_with_word (codes "add ") line then Add (drop 4 line)
+    else (if begins_with_word (codes "replace ") line then Replace (drop 8 line)
+    else (if begins_with_word (codes "remove ") line then Remove (drop 7 line)
     else (if same_bytes line (codes "report") then Report
     else (if same_bytes line (codes "end") then End
     else Bad)))))

@@ -1,12 +1,5 @@
 -- What contracts see of a session.
-use Rattle.std.specs.Prelude.{refl}
-use Rattle.std.specs.Coded.{Coded, code_by, coded_list, coded_ℕ}
-use Rattle.std.specs.FinMap as map
 use Rattle.jc_session.specs.Files.{Files}
 
 pub record SessionState : Type 0 where
   pub files : Files
-
--- a state is stored as its files
-abbrev pub state_code : Coded SessionState
-state_code = code_by Files (map.code (coded_list coded_ℕ) (coded_list coded_ℕ)) (λ state. state.files) (λ f. record { files = f }) (λ _. refl)

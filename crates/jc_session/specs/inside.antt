@@ -1,5 +1,7 @@
 pub mod Claims
+pub mod EditText
 pub mod Growth
 pub mod HeldFile
 pub mod Reading
 pub mod Replies
+pub mod StateCode

@@ -3,7 +3,8 @@
 ghost use Rattle.std.specs.Prelude.{◌≡◌, ◌++◌, codes, decimal, OnOk, OnErr};
 ghost use Rattle.std.specs.Io.KnownBytes.{Appends};
 ghost use Rattle.jc_base.specs.Device.{CountsFault, WritesFront};
-ghost use Rattle.jc_session.specs.AnswerText.{edit_code, edit_error_name, edit_text, unread_text};
+ghost use Rattle.jc_session.specs.AnswerText.{edit_code, edit_error_name, unread_text};
+ghost use Rattle.jc_session.specs.inside.EditText.{edit_text};
 
 use crate::edit::{Done, EditError};
 use crate::escapes::write_path;

@@ -1,6 +1,6 @@
 //! What a line asks for.
 ghost use Rattle.std.specs.Prelude.{◌≡◌, MatchOption, drop, false, length, true};
-ghost use Rattle.jc_session.specs.Lines.{begins_with, command_of};
+ghost use Rattle.jc_session.specs.Lines.{begins_with_word, command_of};
 ghost use Rattle.jc_session.specs.inside.Replies.{command_lent};
 
 /// The most bytes that a line may have, its LF aside.
@@ -41,8 +41,8 @@ pub(crate) fn parse_line(line: &[u8]) -> Command<'_>
 /// What follows the word at the front of a line that begins with it.
 fn after<'a>(line: &'a [u8], word: &[u8]) -> Option<&'a [u8]>
     ensures { MatchOption result
-        (begins_with word.now line.now ≡ false)
-        (λ rest. (begins_with word.now line.now ≡ true) × (rest.now ≡ drop (length word.now) line.now)) }
+        (begins_with_word word.now line.now ≡ false)
+        (λ rest. (begins_with_word word.now line.now ≡ true) × (rest.now ≡ drop (length word.now) line.now)) }
 {
     if line.starts_with(word) {
         Some(&line[word.len()..])

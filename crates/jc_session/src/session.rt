@@ -24,7 +24,8 @@ pub struct Session {
 }
 
 impl Model for Session {
-    ghost use Rattle.jc_session.specs.SessionState.{SessionState, state_code};
+    ghost use Rattle.jc_session.specs.SessionState.{SessionState};
+    ghost use Rattle.jc_session.specs.inside.StateCode.{state_code};
 
     ghost Value = { SessionState };
 
