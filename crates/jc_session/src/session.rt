@@ -16,7 +16,7 @@ use jc_base::NoMemory;
 use std::alloc::Global;
 use std::marker::Model;
 
-/// Class files by their paths, seen as what [`SessionState`] names.
+/// Class files by their paths, seen as a record whose `files` is a map from paths to bytes.
 #[derive(Drop)]
 pub struct Session {
     alloc: Global,
