@@ -65,12 +65,7 @@ fn write_answer<W: Write>(
     }
 }
 
-fn answer_all<W: Write>(
-    alloc: Global,
-    out: &mut W,
-    asked: Asked,
-    input: &[u8],
-) -> io::Result<()> {
+fn answer_all<W: Write>(alloc: Global, out: &mut W, asked: Asked, input: &[u8]) -> io::Result<()> {
     for frame in Frames::new(input) {
         write_answer(alloc, out, asked, frame)?;
     }

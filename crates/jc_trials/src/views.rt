@@ -164,7 +164,11 @@ fn write_faults<W: Write>(alloc: Global, out: &mut W, view: &ClassView<'_>) -> i
 }
 
 /// All that the view lends, and its format faults, up to a line `end`.
-pub(crate) fn write_view<W: Write>(alloc: Global, out: &mut W, view: &ClassView<'_>) -> io::Result<()> {
+pub(crate) fn write_view<W: Write>(
+    alloc: Global,
+    out: &mut W,
+    view: &ClassView<'_>,
+) -> io::Result<()> {
     write_head(out, view)?;
     write_constants(out, view)?;
     write_members(out, "field", view.fields())?;
@@ -176,7 +180,11 @@ pub(crate) fn write_view<W: Write>(alloc: Global, out: &mut W, view: &ClassView<
 }
 
 /// The faults of a view on one line.
-pub(crate) fn write_fault_line<W: Write>(alloc: Global, out: &mut W, view: &ClassView<'_>) -> io::Result<()> {
+pub(crate) fn write_fault_line<W: Write>(
+    alloc: Global,
+    out: &mut W,
+    view: &ClassView<'_>,
+) -> io::Result<()> {
     let Ok(faults) = format_faults(alloc, view) else {
         return writeln!(out, "no memory");
     };

@@ -1,7 +1,6 @@
 //! Tables of indexes into the constants.
 
 ghost use Rattle.jc_view.specs.Reading.{after, after_indexes, table_value};
-
 ghost use Rattle.jc_view.specs.ConstantPool.{index_value};
 ghost use Rattle.jc_view.specs.Moves.{Lends};
 
@@ -25,7 +24,6 @@ impl<'a> Model for Indexes<'a> {
     ghost Value = { List ConstantIndex };
 
     ghost use Rattle.jc_view.specs.Reading.{after};
-
     ghost use Rattle.jc_view.specs.ConstantPool.{index_value};
     ghost use Rattle.jc_view.specs.inside.Tables.{entries, IsWhole};
 

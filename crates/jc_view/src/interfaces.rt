@@ -19,7 +19,6 @@ impl<'v, 'a> Model for Interfaces<'v, 'a> {
     ghost Value = { InterfacesLeft };
 
     ghost use Rattle.jc_view.specs.Reading.{after};
-
     ghost use Rattle.jc_view.specs.ConstantPool.{index_value};
     ghost use Rattle.jc_view.specs.inside.Tables.{entries, IsWhole};
 

@@ -9,8 +9,8 @@ ghost use Rattle.jc_view.specs.inside.PartsFound.{parts, numbers};
 ghost use Rattle.jc_view.specs.inside.Tables.{LendsTable, HasVersion, HasTables, TablesAtTail};
 
 use crate::constant_pool::{ConstantIndex, ConstantKind};
-use crate::parse_error::ParseError;
 use crate::constant_reader::read_pair;
+use crate::parse_error::ParseError;
 use crate::table::Table;
 use crate::version::Version;
 use jc_base::Cursor;

@@ -14,12 +14,12 @@ ghost use Rattle.jc_view.specs.Refusal.{HasHead, IsLayoutOf, IsNamed, IsReadable
 use crate::attribute_kind::Holder;
 use crate::attributes::Attributes;
 use crate::constant_pool::{Constant, ConstantIndex};
+use crate::constant_reader::entry;
 use crate::indexes::Indexes;
 use crate::interfaces::Interfaces;
+use crate::layout_reader::{ClassNumbers, ClassTables, skip_class};
 use crate::members::Members;
 use crate::parse_error::ParseError;
-use crate::constant_reader::entry;
-use crate::layout_reader::{ClassNumbers, ClassTables, skip_class};
 use crate::version::Version;
 use jc_base::{Cursor, is_class_name};
 use std::alloc::Global;

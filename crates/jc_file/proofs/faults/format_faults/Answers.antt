@@ -16,8 +16,7 @@ violated : (c : goal.After-drop-texts-inside) (items : List Fault) → items ≡
 violated c items e fault =
     let class = c.args.class.now in
     let exact = c.faults_are_exact.ensures.exact class fault in
-    let means = c.faults_are_violations.ensures class fault.rule fault.place (are_bytes c) in
-    (
+    let means = c.faults_are_violations.ensures class fault.rule fault.place (are_bytes c) in (
       λ h. means.0 (exact.0 (subst (λ (l : List Fault). Contains l fault) e h)),
       λ v. subst (λ (l : List Fault). Contains l fault) (sym e) (exact.1 (means.1 v)),
     )
