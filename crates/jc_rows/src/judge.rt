@@ -63,7 +63,10 @@ pub(crate) fn judge_file(
 }
 
 fn new_session(alloc: Global) -> Result<Session, AllocError> {
-    Session::new(alloc).map_err(|_| AllocError)
+    match Session::new(alloc) {
+        Ok(session) => Ok(session),
+        Err(_) => Err(AllocError),
+    }
 }
 
 impl Judge {
@@ -97,7 +100,7 @@ impl Judge {
         let bytes = bytes_of(alloc, &self.names, statement.parts())?;
         let name = Vec::from_slice(alloc, name.as_bytes())?;
         ensure!(!self.names.contains_key(&name), "a name is given twice");
-        self.names.insert(name, bytes).map_err(|_| AllocError)?;
+        ensure!(self.names.insert(name, bytes).is_ok(), "no memory");
         Ok(Found::Definition)
     }
 

@@ -48,7 +48,10 @@ impl Outcome {
 /// An output with the room that is asked for, or with more than the wanted bytes take.
 fn output_for(alloc: Global, room: Option<usize>, wanted: &[u8]) -> Result<MemOutput, AllocError> {
     let room = room.unwrap_or(wanted.len().saturating_add(100));
-    MemOutput::new(alloc, room).map_err(|_| AllocError)
+    match MemOutput::new(alloc, room) {
+        Ok(output) => Ok(output),
+        Err(_) => Err(AllocError),
+    }
 }
 
 /// How a run ends, by number where it stops, and whether the report is wrong then.
