@@ -3,6 +3,7 @@
 use crate::class_answers::{faults_answer, fronts_answer, parse_answer};
 use crate::compare::difference;
 use crate::dialogue::Dialogue;
+use crate::file_answers::read_answer;
 use crate::outcome::{outcome_of_program, outcome_of_run};
 use crate::parts::{Names, bytes_of};
 use crate::row::{Row, head_of, rows_of};
@@ -88,9 +89,7 @@ impl Judge {
             }
             [Token::Word("then"), Token::Quoted(what)] => self.judge_run(alloc, what, row),
             [Token::Word("program"), Token::Quoted(what)] => self.judge_program(rt, what, row),
-            [Token::Word(kind), Token::Quoted(what), ..] => self.judge_bytes(
-                alloc, kind, what, row,
-            ),
+            [Token::Word(kind), Token::Quoted(what), ..] => self.judge_bytes(rt, kind, what, row),
             _ => bail!("neither a definition nor a row"),
         }
     }
@@ -138,10 +137,17 @@ impl Judge {
         )
     }
 
-    fn judge_bytes(&mut self, alloc: Global, kind: &str, what: &str, row: &Row) -> Result<Found> {
+    fn judge_bytes(
+        &mut self,
+        rt: &(impl Files + AllocGlobal),
+        kind: &str,
+        what: &str,
+        row: &Row,
+    ) -> Result<Found> {
+        let alloc = rt.alloc();
         let statement = row.statement(alloc)?;
         let bytes = bytes_of(alloc, &self.names, statement.parts())?;
-        let found = answer(alloc, kind, &bytes)?;
+        let found = answer(rt, kind, &bytes)?;
         let wanted = statement.answer.context("a row without its answer")?;
         if found == wanted {
             return Ok(Found::Right);
@@ -159,8 +165,10 @@ fn judged(alloc: Global, what: &str, difference: Option<String>) -> Result<Found
 }
 
 /// What the call of a kind answers to the bytes.
-fn answer(alloc: Global, kind: &str, bytes: &[u8]) -> Result<String> {
+fn answer(rt: &(impl Files + AllocGlobal), kind: &str, bytes: &[u8]) -> Result<String> {
+    let alloc = rt.alloc();
     Ok(match kind {
+        "read" => read_answer(rt, bytes)?,
         "parse" => parse_answer(alloc, bytes)?,
         "fronts" => fronts_answer(alloc, bytes)?,
         "faults" => faults_answer(alloc, bytes)?,

@@ -17,6 +17,7 @@
 //! - `units`: the code units, four digits each, or `none`; or `bad at PLACE`.
 //! - `name`: what the text is of `unqualified`, `method` and `class`, or `none`.
 //! - `field` and `method`: the parts of a descriptor, or `none`.
+//! - `read`: how much a source of files hands over of a file with these bytes, as `3 bytes`.
 //! - `class-signature`, `method-signature` and `field-signature`: `true` or `false`.
 //!
 //! A row of the kind `run`, `then` or `program` has no bytes of its own. The lines below it tell what goes
@@ -43,6 +44,7 @@ mod class_answers;
 mod compare;
 mod dialogue;
 mod doubles;
+mod file_answers;
 mod judge;
 mod outcome;
 mod parts;

@@ -1,4 +1,4 @@
-//! Tests of public calls that rows of data can't speak of: a map, a cursor, devices and files. It holds no
+//! Tests of public calls that rows of data can't speak of: a map, a cursor and devices. It holds no
 //! function of the product, so that the crates below need no tests of their own.
 #![tactic(auto)]
 
@@ -6,8 +6,6 @@
 mod byte_map;
 #[cfg(test)]
 mod cursor;
-#[cfg(test)]
-mod file_source;
 #[cfg(test)]
 mod mem_devices;
 #[cfg(test)]
