@@ -69,6 +69,11 @@ class Edit:
             text = text.replace(old, new)
         return text
 
+    def meets(self, other):
+        """Whether one of the two writes a text that the other looks for."""
+        pairs = [(a, b) for a in self.pairs for b in other.pairs]
+        return self.file == other.file and any(a[0] in b[1] or b[0] in a[1] for a, b in pairs)
+
     def verdict(self, said):
         """Whether the check refused the edited function. None: a callee of it is not proved."""
         module = [] if self.file == "src/lib.rt" else list(Path(self.file).with_suffix("").parts[1:])
@@ -127,11 +132,11 @@ def checked(edits, crate, copy):
 
 
 def one_of_each(edits):
-    """The edits of which no two are in one function."""
+    """The edits of which no two are in one function, and none writes what another looks for."""
     taken, chosen = set(), []
     for edit in edits:
         here = {(edit.file, it) for it in edit.functions}
-        if not here & taken:
+        if not here & taken and not any(edit.meets(it) for it in chosen):
             taken |= here
             chosen.append(edit)
     return chosen
