@@ -44,7 +44,8 @@ def functions_of(text):
             owner = ""
         elif start:
             ends = (n for n in range(at, len(lines)) if lines[n] in (start[1] + "}", start[1] + "{}"))
-            found[owner, start[2]] = "\n".join(lines[at : next(ends, at) + 1])
+            # (two impls of one trait, as of From, go under one name)
+            found[owner, start[2]] = found.get((owner, start[2]), "") + "\n".join(lines[at : next(ends, at) + 1])
     return found
 
 
