@@ -1,19 +1,14 @@
 -- What is read in the bytes of attributes: `attributes_are_read` says that it is what `Attributes` defines.
-use Rattle.std.specs.Prelude.{◌≡◌, ℕ, ◌+◌, ◌*◌, ◌<◌, ◌^◌, Bool, true, false, ◌&&◌, ◌==◌, nat_lt, List, [], ◌∷◌, ◌++◌, length, take, drop, filter, Option, Some, None, if◌then◌else◌, option_and_then, codes}
+use Rattle.std.specs.Prelude.{ℕ, ◌+◌, ◌*◌, ◌^◌, ◌&&◌, ◌==◌, nat_lt, List, [], ◌∷◌, ◌++◌, length, take, drop, Option, Some, None, if◌then◌else◌, option_and_then}
 use Rattle.std.specs.List.{flat_map}
 use Rattle.std.specs.Option.{option_map_or}
-use Rattle.jc_base.specs.Bytes.{same_bytes}
-use Rattle.jc_base.specs.Endian.{big_bytes, big_number}
+use Rattle.jc_base.specs.Endian.{big_number}
 use Rattle.jc_view.specs.declared.constant_pool.ConstantIndex.{ConstantIndex}
-use Rattle.jc_view.specs.declared.attribute_kind.Holder.{Holder}
-use Rattle.jc_view.specs.declared.attribute_kind.Holder.TheVariants as holders
-use Rattle.jc_view.specs.declared.attribute_kind.AttributeKind.{AttributeKind}
 use Rattle.jc_view.specs.declared.attribute_kind.AttributeKind.TheVariants as kinds
-use Rattle.jc_view.specs.ConstantPool.{IsIndex, index_bytes, index_value}
-use Rattle.jc_view.specs.ClassFile.{Attribute, ClassFile, counted, attribute_bytes, FitsTable, FitsAttribute}
+use Rattle.jc_view.specs.ConstantPool.{index_value}
+use Rattle.jc_view.specs.ClassFile.{ClassFile}
 use Rattle.jc_view.specs.Reading.{after, after_table, after_attribute, after_indexes, attribute_value, table_value}
-use Rattle.jc_view.specs.Lookups.{utf8_at, passes}
-use Rattle.jc_view.specs.Places.{PlacedAttribute, attributes_from, fields_in, methods_in, attributes_in, member_attributes}
+use Rattle.jc_view.specs.Places.{PlacedAttribute, fields_in, methods_in, attributes_in, member_attributes}
 use Rattle.jc_view.specs.Attributes.{Bootstrap, Code, Handler, code_attributes, is_recognised}
 
 -- what stands in all of the bytes

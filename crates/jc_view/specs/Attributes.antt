@@ -1,9 +1,7 @@
 -- The attributes that are recognised, and what is read in them (JVMS 4.7).
-use Rattle.std.specs.Prelude.{◌≡◌, ℕ, ◌+◌, ◌*◌, ◌<◌, ◌^◌, Bool, true, false, ◌&&◌, ◌==◌, nat_lt, List, [], ◌∷◌, ◌++◌, length, take, drop, filter, Option, Some, None, if◌then◌else◌, option_and_then, codes}
-use Rattle.std.specs.List.{flat_map}
-use Rattle.std.specs.Option.{option_map_or}
+use Rattle.std.specs.Prelude.{◌≡◌, ℕ, ◌+◌, ◌<◌, ◌^◌, Bool, true, false, ◌&&◌, List, ◌++◌, length, drop, filter, codes}
 use Rattle.jc_base.specs.Bytes.{same_bytes}
-use Rattle.jc_base.specs.Endian.{big_bytes, big_number}
+use Rattle.jc_base.specs.Endian.{big_bytes}
 use Rattle.jc_view.specs.declared.constant_pool.ConstantIndex.{ConstantIndex}
 use Rattle.jc_view.specs.declared.attribute_kind.Holder.{Holder}
 use Rattle.jc_view.specs.declared.attribute_kind.Holder.TheVariants as holders
@@ -12,7 +10,7 @@ use Rattle.jc_view.specs.declared.attribute_kind.AttributeKind.TheVariants as ki
 use Rattle.jc_view.specs.ConstantPool.{IsIndex, index_bytes, index_value}
 use Rattle.jc_view.specs.ClassFile.{Attribute, ClassFile, counted, attribute_bytes, FitsTable, FitsAttribute, Member}
 use Rattle.jc_view.specs.Lookups.{utf8_at, passes}
-use Rattle.jc_view.specs.Places.{PlacedAttribute, attributes_from, fields_in, methods_in, attributes_in, member_attributes}
+use Rattle.jc_view.specs.Places.{PlacedAttribute, attributes_from}
 
 -- ---- which are recognised, and where
 

@@ -1,8 +1,6 @@
 -- How the reader of a part moves its cursor.
-use Rattle.std.specs.Prelude.{◌≡◌, ℕ, ◌+◌, List, length, Option, Some, None, Result, Ok, Err}
+use Rattle.std.specs.Prelude.{◌≡◌, ℕ, ◌+◌, List, length, Option, Some, None}
 use Rattle.jc_base.specs.Cursor.{Reading}
-use Rattle.jc_view.specs.declared.parse_error.ParseError.{ParseError}
-use Rattle.jc_view.specs.declared.parse_error.ParseError.TheVariants as errors
 
 -- the place counts the bytes that were passed
 abbrev pub KeepsEnd : Reading → Reading → Type 0

@@ -1,10 +1,9 @@
 -- Members and attributes, each with the place in the file where it begins: a number of bytes from its front.
-use Rattle.std.specs.Prelude.{◌≡◌, ℕ, ◌+◌, ◌<◌, ◌^◌, ◌⊎◌, Bool, true, false, List, [], ◌∷◌, ◌++◌, length, Option, Some, None, if◌then◌else◌, ◌==◌, nat_lt, ◌-◌, option_and_then, take, drop, slice_get}
-use Rattle.std.specs.List.{flat_map, AllByRecursion}
-use Rattle.jc_base.specs.Endian.{big_bytes}
-use Rattle.jc_view.specs.ConstantPool.{Constant, constant_bytes, FitsConstant, kind_of, is_wide, index_bytes, IsIndex, class_entry, utf8_text}
+use Rattle.std.specs.Prelude.{◌≡◌, ℕ, ◌+◌, Bool, true, false, List, [], ◌∷◌, ◌++◌, length, Option, Some, None, option_and_then, take, drop, slice_get}
+use Rattle.std.specs.List.{flat_map}
+use Rattle.jc_view.specs.ConstantPool.{Constant, constant_bytes, kind_of, is_wide, index_bytes}
 use Rattle.jc_view.specs.declared.constant_pool.ConstantIndex.{ConstantIndex}
-use Rattle.jc_view.specs.ClassFile.{ClassFile, layout, FitsClassFile, Attribute, Member, counted, attribute_bytes, member_bytes}
+use Rattle.jc_view.specs.ClassFile.{ClassFile, layout, Attribute, Member, counted, attribute_bytes, member_bytes}
 use Rattle.jc_view.specs.declared.attribute_kind.Holder.{Holder}
 use Rattle.jc_view.specs.declared.attribute_kind.Holder.TheVariants as holders
 

@@ -1,5 +1,5 @@
 -- What stands behind the constants: what is read is what was spelled, and what was spelled is read again.
-use Rattle.std.proofs.Common.{◌≡◌, ℕ, ◌^◌, ◌<◌, ◌+◌, List, [], ◌++◌, length, drop, Option, Some, option_and_then, unwrap_or, sym, ap, subst, ◌∙◌, append_assoc, arith}
+use Rattle.std.proofs.Common.{◌≡◌, ℕ, ◌^◌, ◌<◌, ◌+◌, List, ◌++◌, length, drop, Option, Some, option_and_then, sym, ap, subst, ◌∙◌, append_assoc, arith}
 use Rattle.jc_base.proofs.Common.{left_of}
 use Rattle.jc_base.specs.Cursor.{Reading}
 use Rattle.jc_base.specs.Endian.{big_number}

@@ -3,14 +3,12 @@ use Rattle.std.proofs.Common.{◌≡◌, ℕ, List, true, Some, None, option_and
 use Rattle.std.proofs.lemmas.Bool.{cases_Bool}
 use Rattle.jc_base.specs.Names.{IsClassName}
 use Rattle.jc_base.specs.TextTests.{is_class_text}
-use Rattle.jc_base.specs.Cursor.{Reading}
-use Rattle.jc_view.specs.declared.constant_pool.ConstantIndex.{ConstantIndex}
 use Rattle.jc_view.specs.declared.parse_error.ParseError.{ParseError}
 use Rattle.jc_view.specs.declared.parse_error.ParseError.TheVariants as errors
 use Rattle.jc_view.specs.ConstantPool as pool
 use Rattle.jc_view.specs.ConstantPool.{Constant, class_entry, utf8_text}
-use Rattle.jc_view.specs.ClassFile.{ClassFile, constant_at, class_text_at}
-use Rattle.jc_view.specs.Reading.{◌>>=◌, or_refusal, PartsRead, parts_at, class_value}
+use Rattle.jc_view.specs.ClassFile.{ClassFile, class_text_at}
+use Rattle.jc_view.specs.Reading.{◌>>=◌, or_refusal, parts_at, class_value}
 use Rattle.jc_view.specs.Refusal.{IsNamed, IsRefusal}
 use Rattle.jc_view.specs.Outcome.{NamesClass, class_text, name_in, class_named}
 use Rattle.jc_view.proofs.reading.BigEndian.{IsBytes, then_some}

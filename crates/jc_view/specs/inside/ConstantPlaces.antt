@@ -1,7 +1,6 @@
 -- What the places of the constants tell.
-use Rattle.std.specs.Prelude.{◌≡◌, ℕ, ◌+◌, List, ◌∷◌, length, take, drop, Option, Some, None, slice_get, option_and_then}
-use Rattle.jc_view.specs.declared.constant_pool.ConstantIndex.{ConstantIndex}
-use Rattle.jc_view.specs.Places.{PlacedAttribute, places_of}
+use Rattle.std.specs.Prelude.{◌≡◌, ℕ, List, ◌∷◌, Option, None}
+use Rattle.jc_view.specs.Places.{places_of}
 use Rattle.jc_view.specs.ClassFile.{ClassFile, layout, FitsClassFile}
 
 -- the bytes are those of a class file whose constants begin at these places

@@ -1,5 +1,5 @@
 -- The constant that is read at a place.
-use Rattle.std.specs.Prelude.{ℕ, List, drop, Option, Some, option_and_then}
+use Rattle.std.specs.Prelude.{ℕ, List, Option, Some, option_and_then}
 use Rattle.jc_base.specs.Endian.{big_number}
 use Rattle.jc_view.specs.ConstantPool.{Constant, kind_of_tag}
 use Rattle.jc_view.specs.Reading.{after, after_body, body_value}

@@ -7,12 +7,11 @@ use Rattle.jc_view.specs.declared.attributes.AttributeEntry.{AttributeEntry}
 use Rattle.jc_view.specs.declared.members.MemberEntry.{MemberEntry}
 use Rattle.jc_view.specs.declared.code.CodeBody.{CodeBody}
 use Rattle.jc_view.specs.declared.code.Instructions.{Instructions}
-use Rattle.jc_view.specs.declared.code.ExceptionHandler.{ExceptionHandler}
 use Rattle.jc_view.specs.declared.table.Table.{Table}
 use Rattle.jc_view.specs.ClassFile.{Attribute, Member}
 use Rattle.jc_view.specs.Places.{PlacedAttribute, PlacedMember, attributes_from, members_from}
 use Rattle.jc_view.specs.Reading.{after, after_attribute, attribute_value, after_member, member_value}
-use Rattle.jc_view.specs.Attributes.{Code, Handler, code_front}
+use Rattle.jc_view.specs.Attributes.{Code, code_front}
 use Rattle.jc_view.specs.AttributeReading.{code_length, handler_value}
 use Rattle.jc_view.specs.Moves.{KeepsEnd}
 use Rattle.jc_view.specs.inside.Tables.{entries, IsWhole}
