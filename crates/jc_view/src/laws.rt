@@ -3,7 +3,8 @@
 ghost use Rattle.std.specs.Prelude.{◌≡◌, ◌↔◌, ◌++◌, [], ◌∷◌, ℕ, List, Some, Ok, Err, take, codes};
 ghost use Rattle.jc_view.specs.Examples.{class_a, class_a_data, head, constants, tail};
 ghost use Rattle.jc_view.specs.declared.parse_error.ParseError.{ParseError};
-ghost use Rattle.jc_view.specs.ClassFile.{class_text_at, ClassFile, layout, FitsClassFile};
+ghost use Rattle.jc_view.specs.ConstantPool.{Class};
+ghost use Rattle.jc_view.specs.ClassFile.{class_text_at, constant_at, ClassFile, layout, FitsClassFile};
 ghost use Rattle.jc_view.specs.Refusal.{Applies, IsLayoutOf, IsReadable, IsRefusal};
 ghost use Rattle.jc_view.specs.Attributes.{Code, IsCodeOf, AreExceptionsOf, Bootstrap, AreBootstrapsOf};
 ghost use Rattle.jc_view.specs.AttributeReading.{code_of, code_in, exceptions_in, bootstraps_in, all_attributes};
@@ -31,12 +32,12 @@ pub fn attributes_are_read()
     ensures bootstraps { (b : List ℕ) (methods : List Bootstrap) → AreBytes b → (bootstraps_in b ≡ Some methods) ↔ AreBootstrapsOf b methods }
 {}
 
-/// The text of a constant is the part of the file at the constant's place, and that of a Class at its
-/// Utf8's; the bytes of an attribute, one inside a `Code` too, are the part behind its place, its name
+/// The text of a constant is the part of the file at the constant's place, and that of a Class at the
+/// Utf8's that it names; the bytes of an attribute, one inside a `Code` too, are the part behind its place, its name
 /// and its length; and a `Code`'s instructions the part behind the numbers at its front.
 pub fn texts_lie_in_the_layout()
     ensures texts { (c : ClassFile) (index : ConstantIndex) (text : List ℕ) → FitsClassFile c → utf8_at c index ≡ Some text → IsLent c index text }
-    ensures class_texts { (c : ClassFile) (index : ConstantIndex) (text : List ℕ) → FitsClassFile c → class_text_at c index ≡ Some text → (entry : ConstantIndex) × IsLent c entry text }
+    ensures class_texts { (c : ClassFile) (index : ConstantIndex) (text : List ℕ) → FitsClassFile c → class_text_at c index ≡ Some text → (entry : ConstantIndex) × (constant_at c index ≡ Some (Class entry)) × IsLent c entry text }
     ensures codes { (c : ClassFile) (a : PlacedAttribute) (k : Code) → FitsClassFile c → Contains (all_attributes c) a → code_of c a ≡ Some k → HasInstructionsAt (layout c) a.place k.code }
     ensures attributes { (c : ClassFile) (a : PlacedAttribute) → FitsClassFile c → Contains (all_attributes c) a → HasBytesAt (layout c) a }
 {}

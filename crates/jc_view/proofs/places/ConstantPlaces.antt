@@ -192,5 +192,5 @@ class_text_from c index entry text class is =
     ap (option_and_then (λ class. option_and_then (λ entry. option_and_then utf8_text (constant_at c entry)) (class_entry class))) class ∙ ap (option_and_then utf8_text) is
 
 -- the text of a Class constant
-pub class_text_lies : (c : ClassFile) (index : ConstantIndex) (text : List ℕ) → FitsClassFile c → class_text_at c index ≡ Some text → (entry : ConstantIndex) × IsLent c entry text
-class_text_lies c index text fits e = let found = class_text_is c index text e in (found.0, lent c found.0 text fits found.2)
+pub class_text_lies : (c : ClassFile) (index : ConstantIndex) (text : List ℕ) → FitsClassFile c → class_text_at c index ≡ Some text → (entry : ConstantIndex) × (constant_at c index ≡ Some (pool.Class entry)) × IsLent c entry text
+class_text_lies c index text fits e = let found = class_text_is c index text e in (found.0, found.1, lent c found.0 text fits found.2)
