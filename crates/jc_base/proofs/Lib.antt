@@ -4,4 +4,6 @@ pub mod maps
 pub mod texts
 pub mod types
 pub mod WrittenFronts
+pub mod Membership
+pub mod StepByStep
 pub use Rattle.byteorder.specs.Numbers

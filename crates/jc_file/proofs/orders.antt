@@ -1,6 +1,4 @@
-pub mod RulesInOrder
 pub mod FoundAtPlaces
 pub mod NumberedItems
-pub mod Membership
 pub mod FaultOrder
 pub mod TextTables

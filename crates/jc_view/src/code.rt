@@ -1,6 +1,6 @@
 //! The code of a method (JVMS 4.7.3).
 
-ghost use Rattle.std.specs.Prelude.{◌≡◌, ◌+◌, length, IfSome};
+ghost use Rattle.std.specs.Prelude.{◌≡◌, ◌+◌, ◌<◌, ◌^◌, length, IfSome};
 ghost use Rattle.std.specs.Option.{option_map};
 ghost use Rattle.jc_base.specs.Cursor.{Reading};
 ghost use Rattle.jc_view.specs.Reading.{after, after_attribute};
@@ -76,14 +76,17 @@ impl<'v, 'a> Code<'v, 'a> {
 
     /// The array of instructions, of 1 to 65,535 bytes.
     pub fn bytes(&self) -> &'a [u8]
-        ensures { result.now ≡ self.now.code.code }
+        ensures part { result.now ≡ self.now.code.code }
+        ensures some { 0 < length result.now }
+        ensures few { length result.now < 2 ^ 16 }
     {
         self.body.instructions.bytes
     }
 
     /// The exception table, in the order in which handlers are searched (JVMS 2.10).
     pub fn handlers(&self) -> Handlers<'a>
-        ensures { result ≡ self.now.code.handlers }
+        ensures left { result ≡ self.now.code.handlers }
+        ensures few { length self.now.code.handlers < 2 ^ 16 }
     {
         Handlers {
             table: self.body.handlers.fork(),

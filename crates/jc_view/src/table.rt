@@ -1,6 +1,6 @@
 //! Tables of a class file: a count, and so many entries one behind the other (JVMS 4.1).
 
-ghost use Rattle.std.specs.Prelude.{◌≡◌};
+ghost use Rattle.std.specs.Prelude.{◌≡◌, ◌<◌, ◌^◌};
 
 use jc_base::Cursor;
 
@@ -14,11 +14,13 @@ pub(crate) struct Table<'a> {
 impl<'a> Table<'a> {
     /// The same table, to go over it once more.
     pub(crate) fn fork(&self) -> Table<'a>
-        ensures { result ≡ self.now }
+        ensures same { result ≡ self.now }
+        ensures few { result.left < 2 ^ 16 }
     {
+        let Table { left, cursor } = self;
         Table {
-            left: self.left,
-            cursor: self.cursor.fork(),
+            left: *left,
+            cursor: cursor.fork(),
         }
     }
 }

@@ -21,7 +21,7 @@ use Rattle.jc_file.specs.FaultOrder.{rule_number, fault_cmp}
 use Rattle.jc_view.proofs.places.RisingLists.{RisesBy, rises_lower, rises-filter, rises-map, rises-range}
 use Rattle.jc_view.proofs.places.AttributePlaces.{place_of, all_rise, attributes_end}
 use Rattle.jc_file.specs.declared.fault.TheConstants.FormatRule.{ALL}
-use Rattle.jc_file.proofs.orders.Membership.{Has, has_from, from_has, has-map, has-from_map, has-flat_map, has-from_flat_map}
+use Rattle.jc_base.proofs.Membership.{Has, has_from, from_has, has-map, has-from_map, has-flat_map, has-from_flat_map}
 
 -- ---- the places of a rule rise
 

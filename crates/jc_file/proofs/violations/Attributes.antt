@@ -4,7 +4,7 @@ use Rattle.std.specs.Bool.{Decides}
 use Rattle.std.specs.List.{Contains, list_any, flat_map}
 use Rattle.std.specs.Option.{option_map_or}
 use Rattle.std.proofs.lemmas.List.Concat.{flat_map-append}
-use Rattle.jc_file.proofs.orders.Membership.{Has, has_from, from_has, has-cases, has-flat_map, has-from_flat_map}
+use Rattle.jc_base.proofs.Membership.{Has, has_from, from_has, has-cases, has-flat_map, has-from_flat_map}
 use Rattle.jc_file.proofs.violations.Members.{BytesRead}
 use Rattle.jc_file.proofs.violations.ByteParts.{class_have, field_have, method_have}
 use Rattle.jc_view.proofs.reading.BigEndian.{IsBytes}

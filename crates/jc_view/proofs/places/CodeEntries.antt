@@ -1,6 +1,8 @@
 -- What is read in a Code attribute is the code that stands there.
-use Rattle.std.proofs.Common.{◌≡◌, ℕ, ◌+◌, ◌*◌, ◌^◌, Bool, true, false, cond, ltb, ◌&&◌, List, ◌++◌, length, take, drop, Option, Some, None, option_and_then, refl, sym, ap, ◌∙◌, arith, length-append}
+use Rattle.std.proofs.Common.{◌<◌, ◌≡◌, ℕ, ◌+◌, ◌*◌, ◌^◌, Bool, true, false, cond, ltb, ◌&&◌, List, ◌++◌, length, take, drop, Option, Some, None, option_and_then, refl, sym, ap, ◌∙◌, arith, length-append}
+use Rattle.std.proofs.lemmas.Bool.{ltb-true}
 use Rattle.std.proofs.lemmas.List.{length-take, drop-drop}
+use Rattle.jc_base.proofs.Common.{both_true}
 use Rattle.jc_base.specs.Cursor.{Reading, past}
 use Rattle.jc_base.specs.Endian.{big_bytes, big_number}
 use Rattle.jc_view.specs.declared.code.CodeBody.{CodeBody}
@@ -41,10 +43,16 @@ pub record AreInstructions (xs rest : List ℕ) : Type 0 where
   pub size : length xs ≡ 8 + code_length xs + length rest
   pub left : drop (8 + code_length xs) xs ≡ rest
   pub code : length (take (code_length xs) (drop 8 xs)) ≡ code_length xs
+  pub some : 0 < code_length xs
+  pub few : code_length xs < 2 ^ 16
 
 if_some : {A : Type 0} (b : Bool) (o : Option A) (x : A) → cond b o None ≡ Some x → o ≡ Some x
 if_some true o x e = e
 if_some false o x e = absurd cc
+
+is_passed : {A : Type 0} (b : Bool) (o : Option A) (x : A) → cond b o None ≡ Some x → b ≡ true
+is_passed true o x e = refl
+is_passed false o x e = absurd cc
 
 pub are_instructions : (xs rest : List ℕ) → after_instructions xs ≡ Some rest → AreInstructions xs rest
 are_instructions xs rest e =
@@ -53,10 +61,13 @@ are_instructions xs rest e =
     let f = after_some 8 xs b.0 b.1 in
     let code = if_some (ltb 0 n && ltb n (2 ^ 16)) (after n b.0) rest b.2 in
     let g = after_some n b.0 rest code in
+    let bounds = both_true (ltb 0 n) (ltb n (2 ^ 16)) (is_passed (ltb 0 n && ltb n (2 ^ 16)) (after n b.0) rest b.2) in
     record {
       size = omega (arith, after_length 8 xs b.0 b.1, after_length n b.0 rest code);
       left = sym (drop-drop n 8 xs) ∙ ap (drop n) f.left ∙ g.left;
       code = ap (λ (ys : List ℕ). length (take n ys)) f.left ∙ omega (arith, g.long, length-take n b.0);
+      some = ltb-true 0 n bounds.0;
+      few = ltb-true n (2 ^ 16) bounds.1;
     }
 
 pub handlers_size : (xs rest : List ℕ) → after_handlers xs ≡ Some rest → length xs ≡ 2 + 8 * big_number 2 xs + length rest
@@ -151,4 +162,6 @@ module _ (old a b new : Reading) (body : CodeBody) (front : Lends instructions a
     handlers = lent_whole (after 8) a b body.handlers handlers;
     attributes = lent_whole after_attribute b new body.attributes attributes;
     attributes_place = place;
+    some = let at_front = are_instructions old.rest a.rest front.0 in let long : length body.instructions.bytes.now ≡ code_length old.rest = ap (λ p. length p.2) front.2 ∙ at_front.code in omega (arith, long, at_front.some);
+    few = let at_front = are_instructions old.rest a.rest front.0 in let long : length body.instructions.bytes.now ≡ code_length old.rest = ap (λ p. length p.2) front.2 ∙ at_front.code in omega (arith, long, at_front.few);
   }

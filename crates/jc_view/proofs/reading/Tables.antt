@@ -30,7 +30,7 @@ four_is : {a b c x y z : ℕ} {d w : List Attribute} → a ≡ x → b ≡ y →
 four_is e f g h i = record { flags = e i; name = record { 0 = f i }; descriptor = record { 0 = g i }; attributes = h i }
 
 module _ {X : Type 0} {bytes : X → List ℕ} {Fits : X → Type 0} {after_one : List ℕ → Option (List ℕ)} {value : List ℕ → X} where
-  each_takes : Reads bytes Fits after_one value → (n : ℕ) (xs rest : List ℕ) → IsBytes xs → after_each after_one n xs ≡ Some rest
+  pub each_takes : Reads bytes Fits after_one value → (n : ℕ) (xs rest : List ℕ) → IsBytes xs → after_each after_one n xs ≡ Some rest
       → Takes xs (flat_map bytes (each_value after_one value n xs)) rest × AllByRecursion Fits (each_value after_one value n xs) × (length (each_value after_one value n xs) ≡ n)
   unfolding after_each each_value
   each_takes reads zero xs rest fits e =

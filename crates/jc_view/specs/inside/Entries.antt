@@ -1,5 +1,5 @@
 -- What the entries that are read from tables are as data.
-use Rattle.std.specs.Prelude.{◌≡◌, ℕ, ◌+◌, List, length, take, drop, Option, Some, None}
+use Rattle.std.specs.Prelude.{◌≡◌, ℕ, ◌<◌, ◌^◌, ◌+◌, List, length, take, drop, Option, Some, None}
 use Rattle.jc_base.specs.Cursor.{Reading}
 use Rattle.jc_base.specs.Endian.{big_number}
 use Rattle.jc_view.specs.declared.attribute_kind.Holder.{Holder}
@@ -80,3 +80,5 @@ pub record IsCodeBody (place : ℕ) (b : CodeBody) : Type 0 where
   pub handlers : IsWhole (after 8) b.handlers
   pub attributes : IsWhole after_attribute b.attributes
   pub attributes_place : b.attributes.cursor.place ≡ place + length (code_front (body_code b)) + 2
+  pub some : 0 < length b.instructions.bytes.now
+  pub few : length b.instructions.bytes.now < 2 ^ 16

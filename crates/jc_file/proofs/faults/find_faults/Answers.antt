@@ -1,5 +1,5 @@
 use Rattle.jc_file.specs.Faults.{faults_against}
-use Rattle.jc_file.proofs.orders.RulesInOrder.{flat_map_step}
+use Rattle.jc_base.proofs.StepByStep.{flat_map_step}
 use Rattle.jc_file.specs.declared.fault.TheConstants.FormatRule.{ALL}
 use Rattle.jc_file.proofs.faults.find_faults.Goals as goal
 

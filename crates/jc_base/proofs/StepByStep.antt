@@ -1,5 +1,6 @@
--- The faults against the rules, one rule after the other.
-use Rattle.std.proofs.Common.{◌≡◌, ◌∙◌, ℕ, ◌+◌, ◌<◌, List, ◌∷◌, ◌++◌, length, get_or, drop, ap, sym, append_assoc, add-one}
+-- What each item of a list adds, one item after the other.
+use Rattle.std.proofs.Common.{◌≡◌, ◌∙◌, ℕ, ◌+◌, ◌<◌, ◌≤◌, List, ◌∷◌, ◌++◌, length, get_or, drop, ap, sym, append_assoc, append-nil, add-one}
+use Rattle.std.proofs.Math.ListN.{drop_of_length-le}
 use Rattle.std.proofs.Math.Seq.{drop-cons}
 use Rattle.std.specs.List.{flat_map}
 
@@ -11,3 +12,8 @@ flat_map_step f xs i d before after all h k all_is =
     ∙ append_assoc before (f (get_or xs i d)) (flat_map f (drop (i + 1) xs))
     ∙ ap (λ r. before ++ flat_map f r) (sym e)
     ∙ all_is
+
+-- at the end
+pub flat_map_all : {X A : Type 0} (f : X → List A) (xs : List X) (i : ℕ) (before all : List A) → length xs ≤ i → before ++ flat_map f (drop i xs) ≡ all → before ≡ all
+flat_map_all f xs i before all le all_is =
+    sym (append-nil before) ∙ ap (λ r. before ++ flat_map f r) (sym (drop_of_length-le xs le)) ∙ all_is
