@@ -1,0 +1,5 @@
+pub mod clean_code
+pub mod decoding
+pub mod marks
+pub mod orders
+pub mod methods

@@ -1,0 +1,16 @@
+pub mod Behind
+pub mod Tables
+pub mod SwitchParts
+pub mod Opcodes
+pub mod Reading
+pub mod Shorter
+pub mod Steps
+pub mod Signed
+pub mod Spellings
+pub mod SwitchTables
+pub mod SwitchSpellings
+pub mod Taken
+pub mod ReadAgain
+pub mod Standing
+pub mod SwitchPlaces
+pub mod Lengths

@@ -1,0 +1,14 @@
+use Rattle.std.proofs.lemmas.Result.{IfOk-weaker}
+use Rattle.jc_code.proofs.orders.FaultsOfCode.{OneWay, found_rises, found_breaks, breaking_found}
+use Rattle.jc_code.proofs.faults.faults_in.Goals as goal
+
+pub returns-clause-violated : goal.returns-clause-violated
+returns-clause-violated c =
+    let one : OneWay = record { items = c.instructions_are_apart.ensures.items; end = c.instructions_are_apart.ensures.end } in
+    let class = c.args.class.now in
+    let k = c.args.code.now.code in
+    IfOk-weaker c.list_faults.result _ _ (λ found are. λ fault. (found_breaks class k found.items are fault, breaking_found class k found.items are one fault)) c.list_faults.ensures
+
+pub returns-clause-rising : goal.returns-clause-rising
+returns-clause-rising c =
+    IfOk-weaker c.list_faults.result _ _ (λ found are. found_rises c.args.class.now c.args.code.now.code found.items are) c.list_faults.ensures

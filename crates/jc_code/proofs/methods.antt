@@ -1,0 +1,2 @@
+pub mod PlacedCodes
+pub mod MethodsPassed

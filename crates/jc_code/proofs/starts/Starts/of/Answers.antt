@@ -1,0 +1,42 @@
+use Rattle.std.proofs.Common.{◌≡◌, ◌<◌, ◌≤◌, ◌++◌, ◌+◌, ◌∷◌, [], ◌∙◌, ap, sym, subst, arith, refl, length, map, append-nil, append_assoc}
+use Rattle.jc_view.proofs.places.RisingLists.{RisesBy}
+use Rattle.jc_code.specs.declared.insn.Insn.{Insn}
+use Rattle.jc_code.specs.Insns.{IsCode}
+use Rattle.jc_code.specs.inside.Marks.{marked}
+use Rattle.jc_code.proofs.marks.Marked.{has_marked}
+use Rattle.jc_code.proofs.orders.InsnPlaces.{items_rise}
+use Rattle.jc_code.proofs.starts.Starts.of.Goals as goal
+
+pub loop-place-init : goal.loop-place-init
+loop-place-init c =
+    let none = c.in_ok-marks.ensures.items in
+    rw none
+    (record {
+      end = refl;
+      all = refl;
+      rises = items_rise c.args.code.now 0 c.new-insns.result.end c.new-insns.result.left c.new-insns.ensures.code;
+    })
+
+pub loop-place-preserved : goal.loop-place-preserved
+loop-place-preserved c =
+    let rises = subst (λ items. RisesBy (λ item. item.0) (length c.loop-place.marks.items) c.new-insns.result.end items) c.in-Some.ensures.steps.1.0 c.loop-place.invariant.rises in
+    let more = has_marked c.loop-place.marks.items c.pass_to.new.marks.items c.push.new.self.items c.in-Some.place rises.0 c.in_ok-pass_to.ensures c.in_ok-push.ensures.items in
+    record {
+      end = c.in-Some.ensures.steps.0 ∙ c.loop-place.invariant.end;
+      all =
+          ap (λ starts. starts ++ map (λ item. item.0) c.next.new.self.left) more.marked_more
+          ∙ append_assoc (marked c.loop-place.marks.items) (c.in-Some.place ∷ []) (map (λ item. item.0) c.next.new.self.left)
+          ∙ ap (λ items. marked c.loop-place.marks.items ++ map (λ item. item.0) items) (sym c.in-Some.ensures.steps.1.0)
+          ∙ c.loop-place.invariant.all;
+      rises = subst (λ n. RisesBy (λ item. item.0) n c.new-insns.result.end c.next.new.self.left) (sym more.long) rises.1;
+    }
+
+pub returns : goal.returns
+returns c = record {
+  items = c.new-insns.result.left;
+  is_code = subst (λ end. IsCode c.args.code.now c.new-insns.result.left end) (sym (c.rest.ensures.ended c.in_default.ensures.steps.1.1 ∙ c.in_default.ensures.steps.0 ∙ c.loop-place.invariant.end)) c.new-insns.ensures.code;
+  are_starts =
+      sym (append-nil (marked c.loop-place.marks.items))
+      ∙ ap (λ items. marked c.loop-place.marks.items ++ map (λ item. item.0) items) (sym c.in_default.ensures.steps.1.0)
+      ∙ c.loop-place.invariant.all;
+}

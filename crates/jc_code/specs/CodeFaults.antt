@@ -1,0 +1,108 @@
+-- The faults of a method's code: the places where each static constraint is broken.
+use Rattle.std.specs.Prelude.{◌≡◌, ℕ, ◌+◌, ◌==◌, Bool, false, List, [], ◌∷◌, ◌++◌, length, map, filter, cond, Option, Some, None, slice_get, option_and_then, if◌then◌else◌}
+use Rattle.std.specs.List.{flat_map}
+use Rattle.std.specs.Option.{MatchOption, option_map_or}
+use Rattle.jc_code.specs.declared.code_fault.CodeFault.{CodeFault}
+use Rattle.jc_code.specs.declared.code_fault.CodeRule.{CodeRule}
+use Rattle.jc_code.specs.declared.code_fault.CodeRule.TheVariants as rules
+use Rattle.jc_code.specs.declared.code_fault.TheConstants.CodeRule.{ALL}
+use Rattle.jc_code.specs.declared.insn.Insn.{Insn}
+use Rattle.jc_view.specs.ClassFile.{Attribute, ClassFile, Member}
+use Rattle.jc_view.specs.Attributes.{Code, Handler, codes_of}
+use Rattle.jc_view.specs.AttributeReading.{code_in}
+use Rattle.jc_code.specs.Insns.{IsCode}
+use Rattle.jc_code.specs.CodeRules.{Scope, breaks_s2, breaks_s3, breaks_s4, breaks_s5, breaks_s6, breaks_s7, breaks_s8, breaks_s9, breaks_s10, breaks_s11, breaks_s12, breaks_s13, breaks_s14, breaks_s15, breaks_s16, breaks_s17, breaks_s18, breaks_s19, breaks_s20, breaks_s21, breaks_s22, breaks_s23, breaks_s24}
+
+-- ---- the code of a method
+
+-- those of a method's Code attributes that are well-formed
+abbrev pub well_formed : List Attribute → List Code
+well_formed attributes = flat_map (λ a. option_map_or (λ k. k ∷ []) (code_in a.bytes) []) attributes
+
+-- the one that stands there alone
+abbrev pub only : {X : Type 0} → List X → Option X
+only [] = None
+only (x ∷ []) = Some x
+only (x ∷ y ∷ xs) = None
+
+abbrev pub code_of_member : ClassFile → Member → Option Code
+code_of_member c m = only (well_formed (codes_of c m))
+
+-- the code of the method of a number
+abbrev pub code_of_method : ClassFile → ℕ → Option Code
+code_of_method c n = option_and_then (code_of_member c) (slice_get c.methods n)
+
+-- ---- where a rule is broken
+
+-- a rule over instructions
+unfoldable pub insn_breaks : CodeRule → Scope → Insn → Bool
+insn_breaks rules.S2 s insn = breaks_s2 s insn
+insn_breaks rules.S3 s insn = breaks_s3 s insn
+insn_breaks rules.S4 s insn = breaks_s4 s insn
+insn_breaks rules.S5 s insn = breaks_s5 s insn
+insn_breaks rules.S6 s insn = breaks_s6 s insn
+insn_breaks rules.S7 s insn = breaks_s7 s insn
+insn_breaks rules.S8 s insn = breaks_s8 s insn
+insn_breaks rules.S9 s insn = breaks_s9 s insn
+insn_breaks rules.S10 s insn = breaks_s10 s insn
+insn_breaks rules.S11 s insn = breaks_s11 s insn
+insn_breaks rules.S12 s insn = breaks_s12 s insn
+insn_breaks rules.S13 s insn = breaks_s13 s insn
+insn_breaks rules.S14 s insn = breaks_s14 s insn
+insn_breaks rules.S15 s insn = breaks_s15 s insn
+insn_breaks rules.S16 s insn = breaks_s16 s insn
+insn_breaks rules.S17 s insn = breaks_s17 s insn
+insn_breaks rules.S18 s insn = breaks_s18 s insn
+insn_breaks rules.S19 s insn = breaks_s19 s insn
+insn_breaks rules.S20 s insn = breaks_s20 s insn
+insn_breaks rules.S21 s insn = breaks_s21 s insn
+insn_breaks rules.S22 s insn = breaks_s22 s insn
+insn_breaks rule s insn = false
+
+-- a rule over exception handlers
+unfoldable pub handler_breaks : CodeRule → Scope → Handler → Bool
+handler_breaks rules.S23 s h = breaks_s23 s h
+handler_breaks rules.S24 s h = breaks_s24 s h
+handler_breaks rule s h = false
+
+-- the places of those that pass
+abbrev pub places_of : (Insn → Bool) → List (ℕ × Insn) → List ℕ
+places_of test items = map (λ item. item.0) (filter (λ item. test item.1) items)
+
+-- the numbers of those that pass, the first of which is n
+abbrev pub numbers_of : {X : Type 0} → (X → Bool) → ℕ → List X → List ℕ
+numbers_of test n [] = []
+numbers_of test n (x ∷ xs) = cond (test x) (n ∷ []) [] ++ numbers_of test (n + 1) xs
+
+abbrev pub fault_at : CodeRule → ℕ → CodeFault
+fault_at rule place = record { rule = rule; place = place }
+
+-- where instructions break a rule, and then, by number, where handlers do
+abbrev pub places : Scope → List (ℕ × Insn) → List Handler → CodeRule → List ℕ
+places s items handlers rule = places_of (insn_breaks rule s) items ++ numbers_of (handler_breaks rule s) 0 handlers
+
+-- the faults against a rule
+abbrev pub faults_against : Scope → List (ℕ × Insn) → List Handler → CodeRule → List CodeFault
+faults_against s items handlers rule = map (fault_at rule) (places s items handlers rule)
+
+-- what the rules look at
+abbrev pub scope_of : ClassFile → Code → List (ℕ × Insn) → Scope
+scope_of c k items = record { class = c; max_locals = k.max_locals; size = length k.code; starts = map (λ item. item.0) items }
+
+-- all faults of a code whose instructions these are, up to an end: by rule, in the order of the rules, and then by place; only one where they end before the code
+unfoldable pub faults_over : ClassFile → Code → List (ℕ × Insn) → ℕ → List CodeFault
+faults_over c k items end =
+    if end == length k.code
+    then flat_map (faults_against (scope_of c k items) items k.handlers) ALL
+    else fault_at rules.S1 end ∷ []
+
+-- the faults of a code
+pub record AreFaultsOf (c : ClassFile) (k : Code) (found : List CodeFault) : Type 0 where
+  pub items : List (ℕ × Insn)
+  pub end : ℕ
+  pub is_code : IsCode k.code items end
+  pub listed : found ≡ faults_over c k items end
+
+-- the faults of a method: none, where it has no code
+abbrev pub AreFaultsOfMethod : ClassFile → ℕ → List CodeFault → Type 0
+AreFaultsOfMethod c n found = MatchOption (code_of_method c n) (found ≡ []) (λ k. AreFaultsOf c k found)

@@ -1,0 +1,39 @@
+-- Codes and the instructions that stand in them.
+use Rattle.std.specs.Prelude.{ℕ, pos, true, List, [], ◌∷◌}
+use Rattle.jc_code.specs.declared.insn.Insn.{Insn}
+use Rattle.jc_code.specs.declared.insn.Insn.TheVariants as insns
+
+-- aload_0, invokespecial #1, return
+abbrev pub plain_code : List ℕ
+plain_code = 0x2a ∷ 0xb7 ∷ 0 ∷ 1 ∷ 0xb1 ∷ []
+
+abbrev pub plain_insns : List (ℕ × Insn)
+plain_insns = (0, insns.Plain 0x2a) ∷ (1, insns.Invoke 0xb7 (record { 0 = 1 })) ∷ (4, insns.Plain 0xb1) ∷ []
+
+-- nop, and a number that is no opcode
+abbrev pub cut_code : List ℕ
+cut_code = 0 ∷ 0xca ∷ []
+
+abbrev pub cut_insns : List (ℕ × Insn)
+cut_insns = (0, insns.Plain 0) ∷ []
+
+-- nop, and a tableswitch from 3 to 2
+abbrev pub falling_code : List ℕ
+falling_code = 0 ∷ 0xaa ∷ 0 ∷ 0 ∷ 0 ∷ 0 ∷ 0 ∷ 0x10 ∷ 0 ∷ 0 ∷ 0 ∷ 3 ∷ 0 ∷ 0 ∷ 0 ∷ 2 ∷ []
+
+abbrev pub falling_insns : List (ℕ × Insn)
+falling_insns = (0, insns.Plain 0) ∷ []
+
+-- wide iload 1, pop, return
+abbrev pub wide_code : List ℕ
+wide_code = 0xc4 ∷ 0x15 ∷ 0 ∷ 1 ∷ 0x57 ∷ 0xb1 ∷ []
+
+abbrev pub wide_insns : List (ℕ × Insn)
+wide_insns = (0, insns.Local 0x15 1 true) ∷ (4, insns.Plain 0x57) ∷ (5, insns.Plain 0xb1) ∷ []
+
+-- a tableswitch from 1 to 2 whose targets are the return behind it
+abbrev pub switch_code : List ℕ
+switch_code = 0xaa ∷ 0 ∷ 0 ∷ 0 ∷ 0 ∷ 0 ∷ 0 ∷ 0x18 ∷ 0 ∷ 0 ∷ 0 ∷ 1 ∷ 0 ∷ 0 ∷ 0 ∷ 2 ∷ 0 ∷ 0 ∷ 0 ∷ 0x18 ∷ 0 ∷ 0 ∷ 0 ∷ 0x18 ∷ 0xb1 ∷ []
+
+abbrev pub switch_insns : List (ℕ × Insn)
+switch_insns = (0, insns.TableSwitch (record { default = pos 24; low = pos 1; high = pos 2; targets = record { place = 0; left = pos 24 ∷ pos 24 ∷ [] } })) ∷ (24, insns.Plain 0xb1) ∷ []

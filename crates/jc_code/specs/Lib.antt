@@ -1,0 +1,12 @@
+pub mod Opcodes
+pub mod Switches
+pub mod Insns
+pub mod InsnsLeft
+pub mod CodeRules
+pub mod CodeFaults
+pub mod CodeFaultOrder
+pub mod CodeViolations
+pub mod Examples
+pub mod inside
+pub use Rattle.jc_base.specs.Cursor
+pub use Rattle.jc_base.specs.Endian

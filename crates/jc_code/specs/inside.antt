@@ -1,0 +1,4 @@
+pub mod Entries
+pub mod Decoding
+pub mod Marks
+pub mod Clean

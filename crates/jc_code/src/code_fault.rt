@@ -1,0 +1,97 @@
+//! The static constraints of code, and faults against them (JVMS 4.7.3, 4.9.1).
+
+/// A static constraint of a method's code. A rule over an entry or a text that is missing, or of the
+/// wrong kind, is not broken unless it asks for that itself.
+#[derive(Clone, Copy, Debug, PartialEq, Eq)]
+pub enum CodeRule {
+    /// Instructions stand from the first byte of the code to its last (JVMS 4.9.1).
+    S1,
+    /// There is no `jsr` and no `jsr_w` (JVMS 4.9.1).
+    S2,
+    /// The target of a branch is an instruction of the method (JVMS 4.9.1).
+    S3,
+    /// So is each target of a switch (JVMS 4.9.1).
+    S4,
+    /// The values of a `lookupswitch` rise (JVMS 6.5, lookupswitch).
+    S5,
+    /// `ldc` and `ldc_w` load an `Integer`, a `Float`, a `String`, a `Class`, a `MethodType` or a
+    /// `MethodHandle` (JVMS 4.9.1).
+    S6,
+    /// `ldc2_w` loads a `Long` or a `Double` (JVMS 4.9.1).
+    S7,
+    /// `getfield`, `putfield`, `getstatic` and `putstatic` name a `Fieldref` (JVMS 4.9.1).
+    S8,
+    /// `invokevirtual` names a `Methodref` (JVMS 4.9.1).
+    S9,
+    /// `invokespecial` and `invokestatic` name a `Methodref` or, at version 52, an
+    /// `InterfaceMethodref` (JVMS 4.9.1).
+    S10,
+    /// `invokeinterface` names an `InterfaceMethodref` (JVMS 4.9.1).
+    S11,
+    /// Its count is that of the slots of the descriptor's parameters and of the receiver (JVMS 4.9.1).
+    S12,
+    /// Its last byte is 0 (JVMS 4.9.1).
+    S13,
+    /// `invokedynamic` names an `InvokeDynamic` (JVMS 4.9.1).
+    S14,
+    /// Its last two bytes are 0 (JVMS 4.9.1).
+    S15,
+    /// Only `invokespecial` invokes `<init>`, and nothing another method whose name begins with `<`
+    /// (JVMS 4.9.1).
+    S16,
+    /// `new`, `anewarray`, `checkcast`, `instanceof` and `multianewarray` name a `Class` (JVMS 4.9.1).
+    S17,
+    /// `new` makes no array (JVMS 4.9.1).
+    S18,
+    /// `anewarray` makes no array of more than 255 dimensions (JVMS 4.9.1).
+    S19,
+    /// `multianewarray` makes at least one dimension, and no more than the class has (JVMS 4.9.1).
+    S20,
+    /// `newarray` tells a primitive type: 4 to 11 (JVMS 4.9.1).
+    S21,
+    /// A local variable lies below max_locals, with both slots of a `long` or a `double` (JVMS 4.9.1).
+    S22,
+    /// A handler is for the instructions from one to another or to the end of the code, and begins
+    /// with one (JVMS 4.7.3).
+    S23,
+    /// A handler catches a `Class`, or anything (JVMS 4.7.3).
+    S24,
+}
+
+impl CodeRule {
+    /// The rules in their order.
+    pub const ALL: [CodeRule; 24] = [
+        CodeRule::S1,
+        CodeRule::S2,
+        CodeRule::S3,
+        CodeRule::S4,
+        CodeRule::S5,
+        CodeRule::S6,
+        CodeRule::S7,
+        CodeRule::S8,
+        CodeRule::S9,
+        CodeRule::S10,
+        CodeRule::S11,
+        CodeRule::S12,
+        CodeRule::S13,
+        CodeRule::S14,
+        CodeRule::S15,
+        CodeRule::S16,
+        CodeRule::S17,
+        CodeRule::S18,
+        CodeRule::S19,
+        CodeRule::S20,
+        CodeRule::S21,
+        CodeRule::S22,
+        CodeRule::S23,
+        CodeRule::S24,
+    ];
+}
+
+/// Where a rule is broken: the offset of the instruction in the code, or of S23 and S24 the number of
+/// the handler from 0.
+#[derive(Clone, Copy, Debug, PartialEq, Eq)]
+pub struct CodeFault {
+    pub rule: CodeRule,
+    pub place: usize,
+}

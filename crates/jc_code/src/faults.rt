@@ -1,0 +1,252 @@
+//! The faults of a method's code (JVMS 4.7.3, 4.9.1).
+
+ghost use Rattle.std.specs.Prelude.{◌≡◌, ◌<◌, ◌++◌, ◌↔◌, ℕ, List, [], ◌∷◌, cond, length, map, Contains, IfOk, MatchOption, OnOk};
+ghost use Rattle.std.specs.Option.{option_map};
+ghost use Rattle.std.specs.List.{flat_map};
+ghost use Rattle.std.specs.List.Sorted.{IsStrictlySortedBy};
+ghost use Rattle.jc_view.specs.declared.attribute_kind.Holder.TheVariants as holders;
+ghost use Rattle.jc_view.specs.Lent.{handler_of};
+ghost use Rattle.jc_code.specs.declared.code_fault.CodeFault.{CodeFault};
+ghost use Rattle.jc_code.specs.declared.code_fault.TheConstants.CodeRule.{ALL};
+ghost use Rattle.jc_code.specs.declared.insn.Insn.{Insn};
+ghost use Rattle.jc_code.specs.Insns.{IsCode};
+ghost use Rattle.jc_code.specs.CodeFaults.{AreFaultsOf, AreFaultsOfMethod, code_of_member, faults_against, fault_at, handler_breaks, insn_breaks, numbers_of, places_of};
+ghost use Rattle.jc_code.specs.CodeFaultOrder.{fault_cmp};
+ghost use Rattle.jc_code.specs.CodeViolations.{BreaksCode, ViolatesCode};
+
+use crate::clean::is_clean;
+use crate::code_fault::{CodeFault, CodeRule};
+use crate::insn::Insn;
+use crate::insns::Insns;
+use crate::laws::instructions_are_apart;
+use crate::rules::constants::{
+    breaks_s6, breaks_s7, breaks_s8, breaks_s9, breaks_s10, breaks_s11, breaks_s12, breaks_s13,
+    breaks_s14, breaks_s15, breaks_s16, breaks_s17, breaks_s18, breaks_s19, breaks_s20, breaks_s21,
+};
+use crate::rules::handlers::{breaks_s23, breaks_s24};
+use crate::rules::locals::breaks_s22;
+use crate::rules::targets::{breaks_s2, breaks_s3, breaks_s4, breaks_s5};
+use crate::scope::Scope;
+use crate::starts::Starts;
+use jc_base::NoMemory;
+use jc_view::{ClassView, Code, ExceptionHandler, Member};
+use std::alloc::Global;
+
+/// All places of a method's code where a static constraint is broken, by rule and then by place: only
+/// S1 where no instruction stands at some offset. Nothing for a method that has not exactly one
+/// well-formed `Code`, and nothing where no method has this number.
+///
+/// Answers `NoMemory` only where memory was refused. To go through all methods of a class, call
+/// `faults_in` with the code of each: this looks for the method by its number.
+pub fn code_faults(
+    alloc: Global,
+    class: &ClassView,
+    method: usize,
+) -> Result<Vec<CodeFault>, NoMemory>
+    ensures listed { IfOk result (λ found. AreFaultsOfMethod class.now method found.items) }
+    ensures violated { IfOk result (λ found. (fault : CodeFault) → Contains found.items fault ↔ ViolatesCode fault.rule class.now method fault.place) }
+    ensures rising { IfOk result (λ found. IsStrictlySortedBy fault_cmp found.items) }
+{
+    instructions_are_apart();
+    list_method_faults(alloc, class, method)
+}
+
+/// The faults of the method of a number, in their order.
+fn list_method_faults(
+    alloc: Global,
+    class: &ClassView,
+    method: usize,
+) -> Result<Vec<CodeFault>, NoMemory>
+    ensures { IfOk result (λ found. AreFaultsOfMethod class.now method found.items) }
+{
+    match class.methods().nth(method) {
+        Some(member) => list_member_faults(alloc, class, &member),
+        None => Ok(Vec::new(alloc)),
+    }
+}
+
+/// The faults of a method of the class, in their order.
+fn list_member_faults(
+    alloc: Global,
+    class: &ClassView,
+    member: &Member,
+) -> Result<Vec<CodeFault>, NoMemory>
+    requires class { member.now.class ≡ class.now }
+    requires holder { member.now.member.holder ≡ holders.Method }
+    ensures { IfOk result (λ found. MatchOption (code_of_member class.now member.now.member.member) (found.items ≡ []) (λ k. AreFaultsOf class.now k found.items)) }
+{
+    match method_code(member) {
+        Some(code) => list_faults(alloc, class, &code),
+        None => Ok(Vec::new(alloc)),
+    }
+}
+
+/// The code of a method, where it has exactly one well-formed `Code` (JVMS 4.7.3).
+pub fn method_code<'v, 'a>(member: &Member<'v, 'a>) -> Option<Code<'v, 'a>>
+    ensures { member.now.member.holder ≡ holders.Method → option_map (λ lent. lent.code) result ≡ code_of_member member.now.class member.now.member.member }
+{
+    let mut found = None;
+    for attribute in member.attributes() {
+        if let Some(code) = attribute.code() {
+            if found.is_some() {
+                return None;
+            }
+            found = Some(code);
+        }
+    }
+    found
+}
+
+/// The faults of a code of a class.
+///
+/// Answers `NoMemory` only where memory was refused.
+pub fn faults_in(alloc: Global, class: &ClassView, code: &Code) -> Result<Vec<CodeFault>, NoMemory>
+    ensures listed { IfOk result (λ found. AreFaultsOf class.now code.now.code found.items) }
+    ensures violated { IfOk result (λ found. (fault : CodeFault) → Contains found.items fault ↔ BreaksCode fault.rule class.now code.now.code fault.place) }
+    ensures rising { IfOk result (λ found. IsStrictlySortedBy fault_cmp found.items) }
+{
+    instructions_are_apart();
+    list_faults(alloc, class, code)
+}
+
+/// The faults of a code, in their order.
+fn list_faults(alloc: Global, class: &ClassView, code: &Code) -> Result<Vec<CodeFault>, NoMemory>
+    ensures { IfOk result (λ found. AreFaultsOf class.now code.now.code found.items) }
+{
+    let bytes = code.bytes();
+    let (starts, end) = Starts::of(alloc, bytes)?;
+    let scope = Scope {
+        class,
+        max_locals: code.max_locals(),
+        size: bytes.len(),
+        starts,
+    };
+    let mut faults = Vec::new(alloc);
+    if end < scope.size {
+        faults.push(CodeFault {
+            rule: CodeRule::S1,
+            place: end,
+        })?;
+    } else if !is_clean(&scope, code) {
+        add_all_faults(&mut faults, &scope, code)?;
+    }
+    Ok(faults)
+}
+
+/// Adds the faults against all rules, in the order of the rules.
+fn add_all_faults(faults: &mut Vec<CodeFault>, scope: &Scope, code: &Code) -> Result<(), NoMemory>
+    ensures { (items : List (ℕ × Insn)) (end : ℕ) → IsCode code.now.code.code items end → OnOk result (faults.new.items ≡ faults.old.items ++ flat_map (faults_against scope.now items code.now.code.handlers) ALL) }
+{
+    for rule in CodeRule::ALL {
+        add_faults(faults, scope, code, rule)?;
+    }
+    Ok(())
+}
+
+/// Adds the faults against a rule.
+fn add_faults(
+    faults: &mut Vec<CodeFault>,
+    scope: &Scope,
+    code: &Code,
+    rule: CodeRule,
+) -> Result<(), NoMemory>
+    ensures { (items : List (ℕ × Insn)) (end : ℕ) → IsCode code.now.code.code items end → OnOk result (faults.new.items ≡ faults.old.items ++ faults_against scope.now items code.now.code.handlers rule) }
+{
+    add_insn_faults(faults, scope, code, rule)?;
+    add_handler_faults(faults, scope, code, rule)
+}
+
+/// Adds the faults of the instructions against a rule.
+fn add_insn_faults(
+    faults: &mut Vec<CodeFault>,
+    scope: &Scope,
+    code: &Code,
+    rule: CodeRule,
+) -> Result<(), NoMemory>
+    ensures { (items : List (ℕ × Insn)) (end : ℕ) → IsCode code.now.code.code items end → OnOk result (faults.new.items ≡ faults.old.items ++ map (fault_at rule) (places_of (insn_breaks rule scope.now) items)) }
+{
+    instructions_are_apart();
+    for (place, insn) in Insns::new(code.bytes()) {
+        add_if(
+            faults,
+            insn_breaks(scope, rule, &insn),
+            CodeFault {
+                rule,
+                place: place as usize,
+            },
+        )?;
+    }
+    Ok(())
+}
+
+/// Adds the faults of the exception handlers against a rule.
+fn add_handler_faults(
+    faults: &mut Vec<CodeFault>,
+    scope: &Scope,
+    code: &Code,
+    rule: CodeRule,
+) -> Result<(), NoMemory>
+    ensures { OnOk result (faults.new.items ≡ faults.old.items ++ map (fault_at rule) (numbers_of (handler_breaks rule scope.now) 0 code.now.code.handlers)) }
+{
+    for (place, handler) in code.handlers().enumerate() {
+        add_if(
+            faults,
+            handler_breaks(scope, rule, handler),
+            CodeFault { rule, place },
+        )?;
+    }
+    Ok(())
+}
+
+/// Adds a fault where there is one.
+fn add_if(faults: &mut Vec<CodeFault>, is_broken: bool, fault: CodeFault) -> Result<(), NoMemory>
+    ensures { OnOk result (faults.new.items ≡ faults.old.items ++ cond is_broken (fault ∷ []) []) }
+{
+    if is_broken {
+        faults.push(fault)?;
+    }
+    Ok(())
+}
+
+/// Whether an instruction breaks a rule over instructions.
+#[tactic(auto, unfolding(crate::specs::CodeFaults::insn_breaks))]
+fn insn_breaks(scope: &Scope, rule: CodeRule, insn: &Insn) -> bool
+    ensures { result ≡ insn_breaks rule scope.now insn.now }
+{
+    match rule {
+        CodeRule::S2 => breaks_s2(scope, insn),
+        CodeRule::S3 => breaks_s3(scope, insn),
+        CodeRule::S4 => breaks_s4(scope, insn),
+        CodeRule::S5 => breaks_s5(scope, insn),
+        CodeRule::S6 => breaks_s6(scope, insn),
+        CodeRule::S7 => breaks_s7(scope, insn),
+        CodeRule::S8 => breaks_s8(scope, insn),
+        CodeRule::S9 => breaks_s9(scope, insn),
+        CodeRule::S10 => breaks_s10(scope, insn),
+        CodeRule::S11 => breaks_s11(scope, insn),
+        CodeRule::S12 => breaks_s12(scope, insn),
+        CodeRule::S13 => breaks_s13(scope, insn),
+        CodeRule::S14 => breaks_s14(scope, insn),
+        CodeRule::S15 => breaks_s15(scope, insn),
+        CodeRule::S16 => breaks_s16(scope, insn),
+        CodeRule::S17 => breaks_s17(scope, insn),
+        CodeRule::S18 => breaks_s18(scope, insn),
+        CodeRule::S19 => breaks_s19(scope, insn),
+        CodeRule::S20 => breaks_s20(scope, insn),
+        CodeRule::S21 => breaks_s21(scope, insn),
+        CodeRule::S22 => breaks_s22(scope, insn),
+        CodeRule::S1 | CodeRule::S23 | CodeRule::S24 => false,
+    }
+}
+
+/// Whether an exception handler breaks a rule over handlers.
+#[tactic(auto, unfolding(crate::specs::CodeFaults::handler_breaks))]
+fn handler_breaks(scope: &Scope, rule: CodeRule, handler: ExceptionHandler) -> bool
+    ensures { result ≡ handler_breaks rule scope.now (handler_of handler) }
+{
+    match rule {
+        CodeRule::S23 => breaks_s23(scope, handler),
+        CodeRule::S24 => breaks_s24(scope, handler),
+        _ => false,
+    }
+}

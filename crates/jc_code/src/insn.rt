@@ -1,0 +1,171 @@
+//! Instructions (JVMS 6.5).
+
+ghost use Rattle.std.specs.Prelude.{◌≡◌, Some};
+ghost use Rattle.jc_code.specs.Opcodes.{mnemonic_of};
+ghost use Rattle.jc_code.specs.Insns.{opcode_of, field_use, invoke_use, link_use};
+
+use crate::opcode::Opcode;
+use crate::switch::{LookupSwitch, TableSwitch};
+use jc_view::ConstantIndex;
+
+/// An instruction and its operands. Targets are exact: offsets from the front of the code, that can
+/// lie outside it, below 0 too.
+#[derive(Drop)]
+pub enum Insn<'a> {
+    /// An instruction without operands, as `nop`, `iload_0` or `return`.
+    Plain {
+        opcode: Opcode,
+    },
+    /// `bipush` and `sipush`.
+    Push {
+        opcode: Opcode,
+        value: i16,
+    },
+    /// `ldc`, `ldc_w` and `ldc2_w`.
+    Load {
+        opcode: Opcode,
+        index: ConstantIndex,
+    },
+    /// A load, a store or `ret`, `wide` or not.
+    Local {
+        opcode: Opcode,
+        index: u16,
+        wide: bool,
+    },
+    /// `iinc`, `wide` or not.
+    Increment {
+        index: u16,
+        amount: i16,
+        wide: bool,
+    },
+    /// A jump, conditional or not, and `jsr`; with an offset of two bytes or of four.
+    Branch {
+        opcode: Opcode,
+        target: i64,
+    },
+    TableSwitch(TableSwitch<'a>),
+    LookupSwitch(LookupSwitch<'a>),
+    /// `getstatic`, `putstatic`, `getfield` and `putfield`.
+    Field {
+        opcode: Opcode,
+        index: ConstantIndex,
+    },
+    /// `invokevirtual`, `invokespecial` and `invokestatic`.
+    Invoke {
+        opcode: Opcode,
+        index: ConstantIndex,
+    },
+    /// `invokeinterface`: the slots of its arguments with the receiver, and a byte that is to be 0.
+    InvokeInterface {
+        index: ConstantIndex,
+        count: u8,
+        last: u8,
+    },
+    /// `invokedynamic`, and two bytes that are to be 0.
+    InvokeDynamic {
+        index: ConstantIndex,
+        last: u16,
+    },
+    /// `new`, `anewarray`, `checkcast` and `instanceof`.
+    Type {
+        opcode: Opcode,
+        index: ConstantIndex,
+    },
+    /// `newarray`, and the number of a primitive type (JVMS 6.5, table 6.5.newarray-A).
+    NewArray {
+        element: u8,
+    },
+    /// `multianewarray`.
+    MultiNewArray {
+        index: ConstantIndex,
+        dimensions: u8,
+    },
+}
+
+/// The instructions whose reference, once resolved, may still not link (JVMS 6.5).
+#[derive(Clone, Copy, Debug, PartialEq, Eq)]
+pub enum LinkKind {
+    GetStatic,
+    PutStatic,
+    GetField,
+    PutField,
+    InvokeVirtual,
+    InvokeSpecial,
+    InvokeStatic,
+    InvokeInterface,
+    New,
+}
+
+impl<'a> Insn<'a> {
+    /// The opcode; behind `wide` that which it widens.
+    pub fn opcode(&self) -> Opcode
+        ensures { result ≡ opcode_of self.now }
+    {
+        match self {
+            Insn::Plain { opcode }
+            | Insn::Push { opcode, .. }
+            | Insn::Load { opcode, .. }
+            | Insn::Local { opcode, .. }
+            | Insn::Branch { opcode, .. }
+            | Insn::Field { opcode, .. }
+            | Insn::Invoke { opcode, .. }
+            | Insn::Type { opcode, .. } => *opcode,
+            Insn::Increment { .. } => Opcode::IINC,
+            Insn::TableSwitch(_) => Opcode::TABLESWITCH,
+            Insn::LookupSwitch(_) => Opcode::LOOKUPSWITCH,
+            Insn::InvokeInterface { .. } => Opcode::INVOKEINTERFACE,
+            Insn::InvokeDynamic { .. } => Opcode::INVOKEDYNAMIC,
+            Insn::NewArray { .. } => Opcode::NEWARRAY,
+            Insn::MultiNewArray { .. } => Opcode::MULTIANEWARRAY,
+        }
+    }
+
+    /// Its mnemonic; behind `wide` that of the opcode which it widens.
+    pub fn mnemonic(&self) -> &'static str
+        ensures { Some result.now ≡ mnemonic_of (opcode_of self.now) }
+    {
+        self.opcode().mnemonic()
+    }
+
+    /// What the instruction does with the reference that it names, and the index of that; `None` for
+    /// an instruction that links wherever its reference resolves.
+    pub fn link_use(&self) -> Option<(LinkKind, u16)>
+        ensures { result ≡ link_use self.now }
+    {
+        match self {
+            Insn::Field { opcode, index } => Some((field_use(*opcode), index.0)),
+            Insn::Invoke { opcode, index } => Some((invoke_use(*opcode), index.0)),
+            Insn::InvokeInterface { index, .. } => Some((LinkKind::InvokeInterface, index.0)),
+            Insn::Type { opcode, index } if *opcode == Opcode::NEW => {
+                Some((LinkKind::New, index.0))
+            }
+            _ => None,
+        }
+    }
+}
+
+fn field_use(opcode: Opcode) -> LinkKind
+    ensures { result ≡ field_use opcode }
+{
+    if opcode == Opcode::GETSTATIC {
+        LinkKind::GetStatic
+    } else if opcode == Opcode::PUTSTATIC {
+        LinkKind::PutStatic
+    } else if opcode == Opcode::GETFIELD {
+        LinkKind::GetField
+    } else {
+        LinkKind::PutField
+    }
+}
+
+fn invoke_use(opcode: Opcode) -> LinkKind
+    ensures { result ≡ invoke_use opcode }
+{
+    if opcode == Opcode::INVOKEVIRTUAL {
+        LinkKind::InvokeVirtual
+    } else if opcode == Opcode::INVOKESPECIAL {
+        LinkKind::InvokeSpecial
+    } else {
+        LinkKind::InvokeStatic
+    }
+}

@@ -1,0 +1,72 @@
+//! The instructions of a method's code, one after another (JVMS 4.9.1).
+
+ghost use Rattle.std.specs.Prelude.{◌≡◌, ◌<◌, ◌^◌, [], length};
+ghost use Rattle.jc_code.specs.Insns.{IsCode};
+
+use crate::decoder::read_insn;
+use crate::insn::Insn;
+use jc_base::Cursor;
+use std::marker::Model;
+
+/// Instructions, each with its offset from the front of the code. They end at the end of the code or
+/// before the first offset at which no instruction stands.
+///
+/// Seen as those that are left, the offset reached, and the offset at which they end.
+#[derive(Drop)]
+pub struct Insns<'a> {
+    cursor: Cursor<'a>,
+}
+
+impl<'a> Model for Insns<'a> {
+    ghost use Rattle.jc_code.specs.InsnsLeft.{InsnsLeft};
+
+    ghost Value = { InsnsLeft };
+
+    ghost use Rattle.std.specs.Prelude.{◌+◌, ◌<◌, ◌^◌, length};
+    ghost use Rattle.jc_code.specs.inside.Decoding.{end_from, insns_from};
+
+    ghost view = { λ a. record { place = a.cursor.place; left = insns_from a.cursor.place a.cursor.rest; end = end_from a.cursor.place a.cursor.rest } };
+
+    ghost invariant = { λ a. a.cursor.place + length a.cursor.rest < 2 ^ 16 };
+}
+
+impl<'a> Insns<'a> {
+    /// The instructions of a code, which has at most 65,535 bytes.
+    pub fn new(code: &'a [u8]) -> Insns<'a>
+        requires { length code.now < 2 ^ 16 }
+        ensures code { IsCode code.now result.left result.end }
+        ensures place { result.place ≡ 0 }
+    {
+        Insns {
+            cursor: Cursor::new(code),
+        }
+    }
+
+    /// The offset reached: that of the first instruction that is left, and where none is, the offset
+    /// at which they end.
+    pub fn rest(&self) -> u32
+        ensures place { result ≡ self.now.place }
+        ensures ended { self.now.left ≡ [] → result ≡ self.now.end }
+    {
+        self.cursor.place() as u32
+    }
+}
+
+impl<'a> Iterator for Insns<'a> {
+    ghost use Rattle.std.specs.Iterator.{item_count};
+    ghost use Rattle.jc_code.specs.InsnsLeft.{GivesInsn};
+
+    type Item = (u32, Insn<'a>);
+
+    ghost next_gives = { GivesInsn };
+
+    ghost remaining = { item_count (λ it. it.left) };
+
+    fn next(&mut self) -> Option<(u32, Insn<'a>)> {
+        let place = self.cursor.place() as u32;
+        let mut ahead = self.cursor.fork();
+        let insn = read_insn(&mut ahead)?;
+        self.cursor = ahead;
+        Some((place, insn))
+    }
+}

@@ -1,0 +1,43 @@
+//! Laws of the definitions: functions without a body, whose contracts are the laws.
+
+ghost use Rattle.std.specs.Prelude.{◌≡◌, ℕ, List, [], ◌∷◌, Some, length, IsTrue};
+ghost use Rattle.std.specs.List.{flat_map};
+ghost use Rattle.jc_code.specs.declared.insn.Insn.{Insn};
+ghost use Rattle.jc_code.specs.declared.switch.TableSwitch.{TableSwitch};
+ghost use Rattle.jc_code.specs.declared.switch.LookupSwitch.{LookupSwitch};
+ghost use Rattle.jc_code.specs.declared.opcode.Operands.{Operands};
+ghost use Rattle.jc_code.specs.Opcodes.{groups, opcodes, operands_of, operand_size, begin_in_order, HasSize};
+ghost use Rattle.jc_code.specs.Insns.{IsSpelling, Stands, IsCode, IsPartAt, targets_place, cases_place, target_bytes, case_bytes};
+ghost use Rattle.jc_code.specs.Examples.{plain_code, plain_insns, cut_code, cut_insns, falling_code, falling_insns, wide_code, wide_insns, switch_code, switch_insns};
+
+/// At a place of a code stands one instruction at most, and a code is the instructions of one list
+/// and ends at one place.
+pub fn instructions_are_apart()
+    ensures one { (code : List ℕ) (at : ℕ) (a b : Insn) → Stands code at a → Stands code at b → a ≡ b }
+    ensures items { (code : List ℕ) (items more : List (ℕ × Insn)) (end last : ℕ) → IsCode code items end → IsCode code more last → items ≡ more }
+    ensures end { (code : List ℕ) (items more : List (ℕ × Insn)) (end last : ℕ) → IsCode code items end → IsCode code more last → end ≡ last }
+{}
+
+/// There are 202 opcodes, each group of them begins at the number that it says, and behind an opcode
+/// stand as many bytes as its sort of operands says.
+pub fn opcode_table()
+    ensures count { length opcodes ≡ 202 }
+    ensures groups { IsTrue (begin_in_order 0 groups) }
+    ensures lengths { (at : ℕ) (insn : Insn) (opcode : ℕ) (s : List ℕ) (what : Operands) → IsSpelling at insn (opcode ∷ s) → operands_of opcode ≡ Some what → HasSize what → length s ≡ operand_size what }
+{}
+
+/// The bytes of the table of a switch are the part of the code behind the numbers that stand before
+/// it, the first of them at the first multiple of four behind the switch.
+pub fn switch_tables_lie_in_the_code()
+    ensures targets { (code : List ℕ) (at : ℕ) (switch : TableSwitch) → Stands code at (Insn.TableSwitch switch) → IsPartAt code (targets_place at) (flat_map (target_bytes switch.targets.place) switch.targets.left) }
+    ensures cases { (code : List ℕ) (at : ℕ) (switch : LookupSwitch) → Stands code at (Insn.LookupSwitch switch) → IsPartAt code (cases_place at) (flat_map (case_bytes switch.cases.place) switch.cases.left) }
+{}
+
+/// A few codes, and where they end.
+pub fn decoding_examples()
+    ensures plain { IsCode plain_code plain_insns 5 }
+    ensures cut { IsCode cut_code cut_insns 1 }
+    ensures falling { IsCode falling_code falling_insns 1 }
+    ensures wide { IsCode wide_code wide_insns 6 }
+    ensures switch { IsCode switch_code switch_insns 25 }
+{}

@@ -1,0 +1,29 @@
+//! The code of methods: its instructions, and the static constraints that they keep (JVMS 4.7.3,
+//! 4.9.1, 6).
+#![tactic(auto)]
+
+mod clean;
+mod code_fault;
+mod decoder;
+mod fault_laws;
+mod faults;
+mod insn;
+mod insns;
+mod laws;
+mod numbers;
+mod opcode;
+mod rules;
+mod scope;
+mod starts;
+mod switch;
+
+pub use code_fault::{CodeFault, CodeRule};
+pub use fault_laws::faults_are_exact;
+pub use faults::{code_faults, faults_in, method_code};
+pub use insn::{Insn, LinkKind};
+pub use insns::Insns;
+pub use laws::{
+    decoding_examples, instructions_are_apart, opcode_table, switch_tables_lie_in_the_code,
+};
+pub use opcode::{Opcode, Operands};
+pub use switch::{Case, Cases, LookupSwitch, TableSwitch, Targets};

@@ -1,0 +1,241 @@
+//! The rules over the constants that instructions name, and over other operands.
+
+ghost use Rattle.std.specs.Prelude.{◌≡◌, ◌+◌, ◌==◌, ◌&&◌, not};
+ghost use Rattle.std.specs.Option.{option_map};
+ghost use Rattle.jc_view.specs.ClassFile.{class_text_at};
+ghost use Rattle.jc_view.specs.Lookups.{fails, passes};
+ghost use Rattle.jc_code.specs.declared.insn.Insn.TheVariants as insns;
+ghost use Rattle.jc_code.specs.Insns.{invokespecial};
+ghost use Rattle.jc_code.specs.CodeRules.{dimensions_of, is_init, is_special, referred_name, slots_at, breaks_s6, breaks_s7, breaks_s8, breaks_s9, breaks_s10, breaks_s11, breaks_s12, breaks_s13, breaks_s14, breaks_s15, breaks_s16, breaks_s17, breaks_s18, breaks_s19, breaks_s20, breaks_s21};
+
+use crate::insn::Insn;
+use crate::opcode::Opcode;
+use crate::rules::lookups::{
+    dimensions_of, is_double, is_either_method, is_entry, is_init, is_single, is_special,
+    referred_name, slots_at,
+};
+use crate::scope::Scope;
+use jc_view::{ConstantIndex, ConstantKind};
+
+pub(crate) fn breaks_s6(scope: &Scope, insn: &Insn) -> bool
+    ensures { result ≡ breaks_s6 scope.now insn.now }
+{
+    match insn {
+        Insn::Load { opcode, index } => {
+            *opcode != Opcode::LDC2_W && !is_single(scope.class, *index)
+        }
+        _ => false,
+    }
+}
+
+pub(crate) fn breaks_s7(scope: &Scope, insn: &Insn) -> bool
+    ensures { result ≡ breaks_s7 scope.now insn.now }
+{
+    match insn {
+        Insn::Load { opcode, index } => {
+            *opcode == Opcode::LDC2_W && !is_double(scope.class, *index)
+        }
+        _ => false,
+    }
+}
+
+pub(crate) fn breaks_s8(scope: &Scope, insn: &Insn) -> bool
+    ensures { result ≡ breaks_s8 scope.now insn.now }
+{
+    match insn {
+        Insn::Field { index, .. } => !is_entry(scope.class, ConstantKind::Fieldref, *index),
+        _ => false,
+    }
+}
+
+pub(crate) fn breaks_s9(scope: &Scope, insn: &Insn) -> bool
+    ensures { result ≡ breaks_s9 scope.now insn.now }
+{
+    match insn {
+        Insn::Invoke { opcode, index } => {
+            *opcode == Opcode::INVOKEVIRTUAL
+                && !is_entry(scope.class, ConstantKind::Methodref, *index)
+        }
+        _ => false,
+    }
+}
+
+pub(crate) fn breaks_s10(scope: &Scope, insn: &Insn) -> bool
+    ensures { result ≡ breaks_s10 scope.now insn.now }
+{
+    match insn {
+        Insn::Invoke { opcode, index } => {
+            *opcode != Opcode::INVOKEVIRTUAL && !is_either_method(scope.class, *index)
+        }
+        _ => false,
+    }
+}
+
+pub(crate) fn breaks_s11(scope: &Scope, insn: &Insn) -> bool
+    ensures { result ≡ breaks_s11 scope.now insn.now }
+{
+    match insn {
+        Insn::InvokeInterface { index, .. } => {
+            !is_entry(scope.class, ConstantKind::InterfaceMethodref, *index)
+        }
+        _ => false,
+    }
+}
+
+pub(crate) fn breaks_s12(scope: &Scope, insn: &Insn) -> bool
+    ensures { result ≡ breaks_s12 scope.now insn.now }
+{
+    match insn {
+        Insn::InvokeInterface { index, count, .. } => {
+            is_entry(scope.class, ConstantKind::InterfaceMethodref, *index)
+                && is_other_count(scope, *index, *count)
+        }
+        _ => false,
+    }
+}
+
+/// Whether the method takes another number of slots, with the receiver.
+fn is_other_count(scope: &Scope, index: ConstantIndex, count: u8) -> bool
+    ensures { result ≡ fails (λ slots. count == slots + 1) (slots_at scope.now.class index) }
+{
+    match slots_at(scope.class, index) {
+        Some(slots) => u16::from(count) != u16::from(slots) + 1,
+        None => false,
+    }
+}
+
+pub(crate) fn breaks_s13(scope: &Scope, insn: &Insn) -> bool
+    ensures { result ≡ breaks_s13 scope.now insn.now }
+{
+    match insn {
+        Insn::InvokeInterface { last, .. } => *last != 0,
+        _ => false,
+    }
+}
+
+pub(crate) fn breaks_s14(scope: &Scope, insn: &Insn) -> bool
+    ensures { result ≡ breaks_s14 scope.now insn.now }
+{
+    match insn {
+        Insn::InvokeDynamic { index, .. } => {
+            !is_entry(scope.class, ConstantKind::InvokeDynamic, *index)
+        }
+        _ => false,
+    }
+}
+
+pub(crate) fn breaks_s15(scope: &Scope, insn: &Insn) -> bool
+    ensures { result ≡ breaks_s15 scope.now insn.now }
+{
+    match insn {
+        Insn::InvokeDynamic { last, .. } => *last != 0,
+        _ => false,
+    }
+}
+
+pub(crate) fn breaks_s16(scope: &Scope, insn: &Insn) -> bool
+    ensures { result ≡ breaks_s16 scope.now insn.now }
+{
+    match insn {
+        Insn::Invoke { opcode, index } => {
+            is_right_entry(scope, *opcode, *index) && is_bad_special(scope, *opcode, *index)
+        }
+        Insn::InvokeInterface { index, .. } => {
+            is_entry(scope.class, ConstantKind::InterfaceMethodref, *index)
+                && names_special(scope, *index)
+        }
+        _ => false,
+    }
+}
+
+/// Whether an invocation names an entry that it may name.
+fn is_right_entry(scope: &Scope, opcode: Opcode, index: ConstantIndex) -> bool
+    ensures { result ≡ not (breaks_s9 scope.now (insns.Invoke opcode index)) && not (breaks_s10 scope.now (insns.Invoke opcode index)) }
+{
+    if opcode == Opcode::INVOKEVIRTUAL {
+        is_entry(scope.class, ConstantKind::Methodref, index)
+    } else {
+        is_either_method(scope.class, index)
+    }
+}
+
+/// Whether it names a special method that it may not invoke.
+fn is_bad_special(scope: &Scope, opcode: Opcode, index: ConstantIndex) -> bool
+    ensures { result ≡ passes (λ name. is_special name && not (opcode == invokespecial && is_init name)) (referred_name scope.now.class index) }
+{
+    match referred_name(scope.class, index) {
+        Some(name) => is_special(name) && !(opcode == Opcode::INVOKESPECIAL && is_init(name)),
+        None => false,
+    }
+}
+
+fn names_special(scope: &Scope, index: ConstantIndex) -> bool
+    ensures { result ≡ passes is_special (referred_name scope.now.class index) }
+{
+    match referred_name(scope.class, index) {
+        Some(name) => is_special(name),
+        None => false,
+    }
+}
+
+pub(crate) fn breaks_s17(scope: &Scope, insn: &Insn) -> bool
+    ensures { result ≡ breaks_s17 scope.now insn.now }
+{
+    match insn {
+        Insn::Type { index, .. } | Insn::MultiNewArray { index, .. } => {
+            !is_entry(scope.class, ConstantKind::Class, *index)
+        }
+        _ => false,
+    }
+}
+
+/// How many dimensions the class of an index has, if it is there.
+fn dimensions_at(scope: &Scope, index: ConstantIndex) -> Option<u8>
+    ensures { result ≡ option_map dimensions_of (class_text_at scope.now.class index) }
+{
+    Some(dimensions_of(scope.class.class_text(index)?))
+}
+
+pub(crate) fn breaks_s18(scope: &Scope, insn: &Insn) -> bool
+    ensures { result ≡ breaks_s18 scope.now insn.now }
+{
+    match insn {
+        Insn::Type { opcode, index } => {
+            *opcode == Opcode::NEW && dimensions_at(scope, *index).is_some_and(|count| count > 0)
+        }
+        _ => false,
+    }
+}
+
+pub(crate) fn breaks_s19(scope: &Scope, insn: &Insn) -> bool
+    ensures { result ≡ breaks_s19 scope.now insn.now }
+{
+    match insn {
+        Insn::Type { opcode, index } => {
+            *opcode == Opcode::ANEWARRAY
+                && dimensions_at(scope, *index).is_some_and(|count| count == 255)
+        }
+        _ => false,
+    }
+}
+
+pub(crate) fn breaks_s20(scope: &Scope, insn: &Insn) -> bool
+    ensures { result ≡ breaks_s20 scope.now insn.now }
+{
+    match insn {
+        Insn::MultiNewArray { index, dimensions } => {
+            let made = *dimensions;
+            made == 0 || dimensions_at(scope, *index).is_some_and(|count| count < made)
+        }
+        _ => false,
+    }
+}
+
+pub(crate) fn breaks_s21(scope: &Scope, insn: &Insn) -> bool
+    ensures { result ≡ breaks_s21 scope.now insn.now }
+{
+    match insn {
+        Insn::NewArray { element } => *element < 4 || *element > 11,
+        _ => false,
+    }
+}

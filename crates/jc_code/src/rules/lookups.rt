@@ -1,0 +1,136 @@
+//! What an instruction's index leads to.
+
+ghost use Rattle.std.specs.Prelude.{◌≡◌};
+ghost use Rattle.std.specs.Option.{option_copied};
+ghost use Rattle.jc_base.specs.DescriptorTests.{begins_with};
+ghost use Rattle.jc_view.specs.Lookups.{is_entry, name_and_type_at, signature_entry};
+ghost use Rattle.jc_view.specs.Lent.{constant_of};
+ghost use Rattle.jc_code.specs.CodeRules.{dimensions_of, double_kinds, is_either_method, is_init, is_one_of, is_special, referred_descriptor, referred_name, single_kinds, slots_at};
+
+use jc_base::{FieldDesc, MethodDesc};
+use jc_view::{ClassView, Constant, ConstantIndex, ConstantKind};
+
+/// Whether the usable constant of an index is of a kind.
+pub(crate) fn is_entry(class: &ClassView, kind: ConstantKind, index: ConstantIndex) -> bool
+    ensures { result ≡ is_entry class.now kind index }
+{
+    class
+        .constant(index.0)
+        .is_some_and(|constant| constant.kind().tag() == kind.tag())
+}
+
+/// Whether it is a constant that takes one slot.
+pub(crate) fn is_single(class: &ClassView, index: ConstantIndex) -> bool
+    ensures { result ≡ is_one_of class.now single_kinds index }
+{
+    matches!(
+        class.constant(index.0),
+        Some(
+            Constant::Integer(_)
+                | Constant::Float(_)
+                | Constant::String(_)
+                | Constant::Class(_)
+                | Constant::MethodType(_)
+                | Constant::MethodHandle(..)
+        )
+    )
+}
+
+/// Whether it is a `Long` or a `Double`.
+pub(crate) fn is_double(class: &ClassView, index: ConstantIndex) -> bool
+    ensures { result ≡ is_one_of class.now double_kinds index }
+{
+    matches!(
+        class.constant(index.0),
+        Some(Constant::Long(_) | Constant::Double(_))
+    )
+}
+
+/// Whether it is what `invokespecial` and `invokestatic` may name.
+pub(crate) fn is_either_method(class: &ClassView, index: ConstantIndex) -> bool
+    ensures { result ≡ is_either_method class.now index }
+{
+    match class.constant(index.0) {
+        Some(Constant::Methodref(..)) => true,
+        Some(Constant::InterfaceMethodref(..)) => class.version().major == 52,
+        _ => false,
+    }
+}
+
+/// The `NameAndType` of a reference to a member, or of an `InvokeDynamic`.
+fn signature_entry(constant: Constant) -> Option<ConstantIndex>
+    ensures { result ≡ signature_entry (constant_of constant.entry) }
+{
+    match constant {
+        Constant::Fieldref(_, entry)
+        | Constant::Methodref(_, entry)
+        | Constant::InterfaceMethodref(_, entry)
+        | Constant::InvokeDynamic(_, entry) => Some(entry),
+        _ => None,
+    }
+}
+
+/// The name and the descriptor that a `NameAndType` gives.
+fn name_and_type_at(
+    class: &ClassView,
+    entry: ConstantIndex,
+) -> Option<(ConstantIndex, ConstantIndex)>
+    ensures { result ≡ name_and_type_at class.now entry }
+{
+    match class.constant(entry.0)? {
+        Constant::NameAndType(name, descriptor) => Some((name, descriptor)),
+        _ => None,
+    }
+}
+
+/// The name of the member to which an entry refers.
+pub(crate) fn referred_name<'a>(class: &ClassView<'a>, index: ConstantIndex) -> Option<&'a [u8]>
+    ensures { option_copied result ≡ referred_name class.now index }
+{
+    let entry = signature_entry(class.constant(index.0)?)?;
+    let (name, _) = name_and_type_at(class, entry)?;
+    class.utf8(name)
+}
+
+/// Its descriptor.
+fn referred_descriptor<'a>(class: &ClassView<'a>, index: ConstantIndex) -> Option<&'a [u8]>
+    ensures { option_copied result ≡ referred_descriptor class.now index }
+{
+    let entry = signature_entry(class.constant(index.0)?)?;
+    let (_, descriptor) = name_and_type_at(class, entry)?;
+    class.utf8(descriptor)
+}
+
+/// How many slots the parameters of the method take to which an entry refers.
+pub(crate) fn slots_at(class: &ClassView, index: ConstantIndex) -> Option<u8>
+    ensures { result ≡ slots_at class.now index }
+{
+    let descriptor = MethodDesc::read(referred_descriptor(class, index)?)?;
+    Some(descriptor.slots())
+}
+
+/// How many dimensions the class of a text has: none, unless the text is the descriptor of an array.
+pub(crate) fn dimensions_of(text: &[u8]) -> u8
+    ensures { result ≡ dimensions_of text.now }
+{
+    match FieldDesc::read(text) {
+        Some(descriptor) => descriptor.dims(),
+        None => 0,
+    }
+}
+
+/// Whether a method's name begins with `<`.
+pub(crate) fn is_special(name: &[u8]) -> bool
+    ensures { result ≡ is_special name.now }
+{
+    match name {
+        [first, ..] => *first == b'<',
+        [] => false,
+    }
+}
+
+pub(crate) fn is_init(name: &[u8]) -> bool
+    ensures { result ≡ is_init name.now }
+{
+    name == b"<init>".as_slice()
+}
