@@ -1,6 +1,7 @@
 //! Judging the rows of a file, one by one.
 
 use crate::class_answers::{faults_answer, fronts_answer, parse_answer};
+use crate::code_answers::{code_faults_answer, instructions_answer};
 use crate::compare::difference;
 use crate::dialogue::Dialogue;
 use crate::file_answers::read_answer;
@@ -172,6 +173,8 @@ fn answer(rt: &(impl Files + AllocGlobal), kind: &str, bytes: &[u8]) -> Result<S
         "parse" => parse_answer(alloc, bytes)?,
         "fronts" => fronts_answer(alloc, bytes)?,
         "faults" => faults_answer(alloc, bytes)?,
+        "instructions" => instructions_answer(alloc, bytes)?,
+        "code-faults" => code_faults_answer(alloc, bytes)?,
         "units" => units_answer(alloc, bytes)?,
         "name" => name_answer(alloc, bytes)?,
         "field" => field_answer(alloc, bytes)?,

@@ -14,6 +14,9 @@
 //! - `parse`: `class NAME`, or a refusal with its number and place, as `6 Trailing(53)`. `fronts`: the one
 //!   answer of `parse` to each proper beginning of the bytes, how many they may be.
 //! - `faults`: `none`, or each fault's rule and place, as `F1 5, F2 6`.
+//! - `instructions`: of a code each instruction's offset, mnemonic and operands, and the offset where they
+//!   end, as `0 iload 1, rest 2`. `code-faults`: `none`, or each code fault's rule and place of the first
+//!   method.
 //! - `units`: the code units, four digits each, or `none`; or `bad at PLACE`.
 //! - `name`: what the text is of `unqualified`, `method` and `class`, or `none`.
 //! - `field` and `method`: the parts of a descriptor, or `none`.
@@ -41,6 +44,7 @@
 #![tactic(auto)]
 
 mod class_answers;
+mod code_answers;
 mod compare;
 mod dialogue;
 mod doubles;

@@ -5,17 +5,22 @@
 //! - `texts`: `yes` or `no` for each: whether it is a text of the kind that its first byte tells.
 //! - `views`: what the view of each lends and its format faults, or the refusal.
 //! - `faults`: a line for each: its format faults, or the refusal.
-//! - `count-bytes N`, `count-parse N`, `count-faults N`: one number, summed over N rounds: the bytes, how
-//!   many are readable, or how many faults they have.
+//! - `instructions`: the code of each method, a line for each instruction and each handler.
+//! - `code-faults`: a line for each: its code faults, each with its method and place, or the refusal.
+//! - `count-bytes N`, `count-parse N`, `count-faults N`, `count-insns N`, `count-code-faults N`: one number,
+//!   summed over N rounds: the bytes, how many are readable, how many faults they have, how many
+//!   instructions, or how many code faults.
 #![tactic(auto)]
 
 mod counts;
 mod frames;
+mod instructions;
 mod texts;
 mod views;
 
 use counts::{Counted, sum_of_rounds};
 use frames::Frames;
+use instructions::{write_code_faults, write_instructions};
 use jc_file::{ClassView, ParseError, parse};
 use std::alloc::Global;
 use std::io::{BufWriter, Read, Write};
@@ -30,6 +35,8 @@ enum Asked {
     Texts,
     Views,
     Faults,
+    Instructions,
+    CodeFaults,
 }
 
 fn write_name<W: Write>(out: &mut W, view: &ClassView<'_>) -> io::Result<()> {
@@ -60,6 +67,8 @@ fn write_answer<W: Write>(
     match (parse(alloc, frame), asked) {
         (Ok(view), Asked::Views) => write_view(alloc, out, &view),
         (Ok(view), Asked::Faults) => write_fault_line(alloc, out, &view),
+        (Ok(view), Asked::Instructions) => write_instructions(out, &view),
+        (Ok(view), Asked::CodeFaults) => write_code_faults(alloc, out, &view),
         (Ok(view), _) => write_name(out, &view),
         (Err(error), _) => write_refusal(out, asked, error),
     }
@@ -102,9 +111,13 @@ fn main(rt: HostRuntime) -> io::Result<()> {
         "texts" => print_answers(&rt, Asked::Texts, &input),
         "views" => print_answers(&rt, Asked::Views, &input),
         "faults" => print_answers(&rt, Asked::Faults, &input),
+        "instructions" => print_answers(&rt, Asked::Instructions, &input),
+        "code-faults" => print_answers(&rt, Asked::CodeFaults, &input),
         "count-bytes" => print_sum(&rt, Counted::Bytes, rounds, &input),
         "count-parse" => print_sum(&rt, Counted::Readable, rounds, &input),
         "count-faults" => print_sum(&rt, Counted::Faults, rounds, &input),
+        "count-insns" => print_sum(&rt, Counted::Instructions, rounds, &input),
+        "count-code-faults" => print_sum(&rt, Counted::CodeFaults, rounds, &input),
         _ => Err(io::Error::from(io::ErrorKind::InvalidInput)),
     }
 }
