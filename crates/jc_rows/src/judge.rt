@@ -46,12 +46,8 @@ pub(crate) fn judge_file(
     path: &str,
     text: &str,
 ) -> Result<Tally> {
-    let mut judge = Judge::new(rt.alloc())?;
-    let mut tally = Tally { rows: 0, wrong: 0 };
-    for row in &rows_of(rt.alloc(), text)? {
-        tally.count(&judge.judge_and_tell(rt, path, row)?);
-    }
-    Ok(tally)
+    let rows = rows_of(rt.alloc(), text)?;
+    Judge::new(rt.alloc())?.judge_rows(rt, path, &rows)
 }
 
 impl Tally {
@@ -86,6 +82,19 @@ impl Judge {
             names: ByteMap::new(alloc),
             session: new_session(alloc)?,
         })
+    }
+
+    fn judge_rows(
+        &mut self,
+        rt: &(impl Files + AllocGlobal + Print),
+        path: &str,
+        rows: &[Row],
+    ) -> Result<Tally> {
+        let mut tally = Tally { rows: 0, wrong: 0 };
+        for row in rows {
+            tally.count(&self.judge_and_tell(rt, path, row)?);
+        }
+        Ok(tally)
     }
 
     /// Judges a row, and prints it if it is wrong.
@@ -139,22 +148,8 @@ impl Judge {
 
     fn judge_run(&mut self, alloc: Global, what: &str, row: &Row) -> Result<Found> {
         let mut dialogue = Dialogue::read(alloc, &self.names, &row.more)?;
-        let found = outcome_of_run(alloc, &mut self.session, &mut dialogue)?;
-        if let Some(told) = self.unlike(alloc, &dialogue.held)? {
-            return judged(alloc, what, Some(told));
-        }
-        judged(alloc, what, dialogue.wanted.difference(alloc, &found)?)
-    }
-
-    /// What is told where the session holds other bytes than these.
-    fn unlike(&self, alloc: Global, held: &[NamedFile]) -> Result<Option<String>, AllocError> {
-        for file in held {
-            let bytes = self.session.file(file.name.as_bytes()).unwrap_or(&[]);
-            if bytes != file.bytes.as_slice() {
-                return Ok(Some(difference(alloc, file.name, &file.bytes, bytes)?));
-            }
-        }
-        Ok(None)
+        let told = told_of_run(alloc, &mut self.session, &mut dialogue)?;
+        judged(alloc, what, told)
     }
 
     fn judge_program(
@@ -164,14 +159,8 @@ impl Judge {
         row: &Row,
     ) -> Result<Found> {
         let dialogue = Dialogue::read(rt.alloc(), &self.names, &row.more)?;
-        write_files(rt, &dialogue.files)?;
-        let found = outcome_of_program(rt, &dialogue)?;
-        remove_files(rt, &dialogue.files)?;
-        judged(
-            rt.alloc(),
-            what,
-            dialogue.wanted.difference(rt.alloc(), &found)?,
-        )
+        let told = told_of_program(rt, &dialogue)?;
+        judged(rt.alloc(), what, told)
     }
 
     fn judge_bytes(
@@ -181,16 +170,21 @@ impl Judge {
         what: &str,
         row: &Row,
     ) -> Result<Found> {
-        let alloc = rt.alloc();
-        let statement = row.statement(alloc)?;
-        let bytes = bytes_of(alloc, &self.names, statement.parts())?;
+        let (bytes, wanted) = self.asked(rt.alloc(), row)?;
         let found = answer(rt, kind, &bytes)?;
-        let wanted = statement.answer.context("a row without its answer")?;
         if found == wanted {
             return Ok(Found::Right);
         }
-        let told = difference(alloc, kind, wanted.as_bytes(), found.as_bytes())?;
-        judged(alloc, what, Some(told))
+        let told = difference(rt.alloc(), kind, wanted.as_bytes(), found.as_bytes())?;
+        judged(rt.alloc(), what, Some(told))
+    }
+
+    /// The bytes of a row, and the answer that is wanted.
+    fn asked(&self, alloc: Global, row: &Row) -> Result<(Vec<u8>, String)> {
+        let statement = row.statement(alloc)?;
+        let bytes = bytes_of(alloc, &self.names, statement.parts())?;
+        let wanted = statement.answer.context("a row without its answer")?;
+        Ok((bytes, wanted))
     }
 }
 
@@ -200,6 +194,42 @@ fn front_of<'a>(alloc: Global, row: &Row<'a>) -> Result<(&'a str, Token<'a>)> {
         [Token::Word(word), behind, ..] => Ok((*word, *behind)),
         _ => bail!("a row begins with a word"),
     }
+}
+
+/// What is told of a run that goes otherwise than its dialogue.
+fn told_of_run(
+    alloc: Global,
+    session: &mut Session,
+    dialogue: &mut Dialogue,
+) -> Result<Option<String>, AllocError> {
+    let found = outcome_of_run(alloc, session, dialogue)?;
+    match unlike(alloc, session, &dialogue.held)? {
+        None => dialogue.wanted.difference(alloc, &found),
+        told => Ok(told),
+    }
+}
+
+/// What is told where the session holds other bytes than these.
+fn unlike(
+    alloc: Global,
+    session: &Session,
+    held: &[NamedFile],
+) -> Result<Option<String>, AllocError> {
+    for file in held {
+        let bytes = session.file(file.name.as_bytes()).unwrap_or(&[]);
+        if bytes != file.bytes.as_slice() {
+            return Ok(Some(difference(alloc, file.name, &file.bytes, bytes)?));
+        }
+    }
+    Ok(None)
+}
+
+/// What is told of a program that does otherwise than its dialogue.
+fn told_of_program(rt: &(impl Files + AllocGlobal), dialogue: &Dialogue) -> Result<Option<String>> {
+    write_files(rt, &dialogue.files)?;
+    let found = outcome_of_program(rt, dialogue)?;
+    remove_files(rt, &dialogue.files)?;
+    Ok(dialogue.wanted.difference(rt.alloc(), &found)?)
 }
 
 fn write_files(rt: &impl Files, files: &[NamedFile]) -> io::Result<()> {
