@@ -1,7 +1,7 @@
 //! What `parse` and `format_faults` answer.
 
 use crate::compare::shown;
-use jc_file::{ParseError, format_faults, parse};
+use jc_file::{Fault, ParseError, format_faults, parse};
 use std::alloc::{AllocError, Global};
 
 /// The class's name, or the refusal.
@@ -37,8 +37,12 @@ pub(crate) fn faults_answer(alloc: Global, bytes: &[u8]) -> Result<String, Alloc
     let Ok(faults) = format_faults(alloc, &view) else {
         return String::from_str(alloc, "no memory");
     };
+    listed(alloc, &faults)
+}
+
+fn listed(alloc: Global, faults: &[Fault]) -> Result<String, AllocError> {
     let mut text = String::new(alloc);
-    for fault in &faults {
+    for fault in faults {
         let comma = if text.is_empty() { "" } else { ", " };
         write!(text, "{comma}{:?} {}", fault.rule, fault.place)?;
     }

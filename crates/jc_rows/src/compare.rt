@@ -23,6 +23,18 @@ fn excerpt(alloc: Global, bytes: &[u8], place: usize) -> Result<String, AllocErr
     shown(alloc, &behind[..behind.len().min(TOLD)])
 }
 
+/// How many bytes at their fronts are the same.
+fn common(wanted: &[u8], found: &[u8]) -> usize {
+    let mut same: usize = 0;
+    for (a, b) in wanted.iter().zip(found) {
+        if a != b {
+            break;
+        }
+        same = same.saturating_add(1);
+    }
+    same
+}
+
 /// What is told of two texts that are not the same.
 pub(crate) fn difference(
     alloc: Global,
@@ -30,8 +42,7 @@ pub(crate) fn difference(
     wanted: &[u8],
     found: &[u8],
 ) -> Result<String, AllocError> {
-    let same = wanted.iter().zip(found).take_while(|(a, b)| a == b).count();
-    let from = same.saturating_sub(TOLD / 3);
+    let from = common(wanted, found).saturating_sub(TOLD / 3);
     let wanted = excerpt(alloc, wanted, from)?;
     let found = excerpt(alloc, found, from)?;
     format!(in alloc; "{what} from byte {from}: wanted '{wanted}', found '{found}'")

@@ -58,33 +58,68 @@ impl<'a> Dialogue<'a> {
     }
 
     fn add(&mut self, alloc: Global, names: &Names, word: &str, rest: &'a str) -> Result<()> {
+        if let Some(stream) = self.stream(word) {
+            return push_stream(stream, names, word, rest);
+        }
+        if self.switch(word, rest) {
+            return Ok(());
+        }
         match word {
-            "<" => push_line(&mut self.input, rest)?,
-            ">" => push_line(&mut self.wanted.output, rest)?,
-            "!" => push_line(&mut self.wanted.told, rest)?,
-            "<<" => push_parts(&mut self.input, names, rest)?,
-            ">>" => push_parts(&mut self.wanted.output, names, rest)?,
-            "!!" => push_parts(&mut self.wanted.told, names, rest)?,
-            "source" => self.answers.push(source_answer(alloc, names, rest)?)?,
-            "sources" => self.push_answers(alloc, names, rest)?,
-            "words" => self.words = words_of(alloc, rest)?,
-            "file" => self.files.push(named_file(alloc, names, rest)?)?,
-            "holds" => self.held.push(named_file(alloc, names, rest)?)?,
-            "files" if rest == "no-memory" => self.has_files = false,
-            "input" if rest == "fails" => self.fails = true,
-            "output" if rest == "takes nothing" => self.takes_bytes = false,
-            "room" => self.room = Some(rest.parse::<usize>()?),
-            "error-room" => self.error_room = Some(rest.parse::<usize>()?),
-            "ends" => self.wanted.ending.push_str(rest)?,
+            "source" => self.push_answers(alloc, names, 1, rest),
+            "sources" => self.push_counted(alloc, names, rest),
+            "file" => push_file(&mut self.files, names, rest),
+            "holds" => push_file(&mut self.held, names, rest),
+            "words" => push_words(&mut self.words, rest),
+            "ends" => Ok(self.wanted.ending.push_str(rest)?),
+            _ => self.limit(word, rest),
+        }
+    }
+
+    /// What a line that begins so adds to.
+    fn stream(&mut self, word: &str) -> Option<&mut Vec<u8>> {
+        match word {
+            "<" | "<<" => Some(&mut self.input),
+            ">" | ">>" => Some(&mut self.wanted.output),
+            "!" | "!!" => Some(&mut self.wanted.told),
+            _ => None,
+        }
+    }
+
+    /// Takes a line that has no number and no bytes, and says whether it is one.
+    fn switch(&mut self, word: &str, rest: &str) -> bool {
+        match (word, rest) {
+            ("files", "no-memory") => self.has_files = false,
+            ("input", "fails") => self.fails = true,
+            ("output", "takes nothing") => self.takes_bytes = false,
+            _ => return false,
+        }
+        true
+    }
+
+    fn limit(&mut self, word: &str, rest: &str) -> Result<()> {
+        let room = Some(rest.parse::<usize>()?);
+        match word {
+            "room" => self.room = room,
+            "error-room" => self.error_room = room,
             _ => bail!("no such line of a dialogue"),
         }
         Ok(())
     }
 
-    fn push_answers(&mut self, alloc: Global, names: &Names, rest: &str) -> Result<()> {
+    fn push_counted(&mut self, alloc: Global, names: &Names, rest: &str) -> Result<()> {
         let (count, parts) = rest.split_once(' ').unwrap_or((rest, ""));
-        for _ in 0..count.parse::<u32>()? {
-            self.answers.push(source_answer(alloc, names, parts)?)?;
+        self.push_answers(alloc, names, count.parse::<u32>()?, parts)
+    }
+
+    fn push_answers(
+        &mut self,
+        alloc: Global,
+        names: &Names,
+        count: u32,
+        answer: &str,
+    ) -> Result<()> {
+        for _ in 0..count {
+            self.answers.push(source_answer(alloc, names, answer)?)?;
         }
         Ok(())
     }
@@ -96,6 +131,15 @@ fn push_line(bytes: &mut Vec<u8>, line: &str) -> Result<(), AllocError> {
     Ok(())
 }
 
+/// Adds a line where the word is one mark, and else the bytes of parts.
+fn push_stream(bytes: &mut Vec<u8>, names: &Names, word: &str, rest: &str) -> Result<()> {
+    if word.len() == 1 {
+        Ok(push_line(bytes, rest)?)
+    } else {
+        push_parts(bytes, names, rest)
+    }
+}
+
 fn push_parts(bytes: &mut Vec<u8>, names: &Names, parts: &str) -> Result<()> {
     let alloc = *bytes.allocator();
     let (tokens, _) = tokens_of(alloc, parts)?;
@@ -103,11 +147,12 @@ fn push_parts(bytes: &mut Vec<u8>, names: &Names, parts: &str) -> Result<()> {
     Ok(())
 }
 
-fn named_file<'a>(alloc: Global, names: &Names, text: &'a str) -> Result<NamedFile<'a>> {
+fn push_file<'a>(files: &mut Vec<NamedFile<'a>>, names: &Names, text: &'a str) -> Result<()> {
     let (name, parts) = text.split_once(' ').unwrap_or((text, ""));
-    let mut bytes = Vec::new(alloc);
+    let mut bytes = Vec::new(*files.allocator());
     push_parts(&mut bytes, names, parts)?;
-    Ok(NamedFile { name, bytes })
+    files.push(NamedFile { name, bytes })?;
+    Ok(())
 }
 
 fn source_answer(
@@ -115,24 +160,22 @@ fn source_answer(
     names: &Names,
     answer: &str,
 ) -> Result<Result<Vec<u8>, SourceError>> {
-    Ok(match answer {
-        "unread" => Err(SourceError::Unread),
-        "no-memory" => Err(SourceError::NoMemory),
-        parts => {
-            let mut bytes = Vec::new(alloc);
-            push_parts(&mut bytes, names, parts)?;
-            Ok(bytes)
-        }
-    })
+    match answer {
+        "unread" => return Ok(Err(SourceError::Unread)),
+        "no-memory" => return Ok(Err(SourceError::NoMemory)),
+        _ => {}
+    }
+    let mut bytes = Vec::new(alloc);
+    push_parts(&mut bytes, names, answer)?;
+    Ok(Ok(bytes))
 }
 
-fn words_of<'a>(alloc: Global, text: &'a str) -> Result<Vec<&'a str>> {
-    let mut words = Vec::new(alloc);
-    for token in &tokens_of(alloc, text)?.0 {
-        match token {
-            Token::Quoted(word) => words.push(*word)?,
-            _ => bail!("a word without quotes"),
-        }
+fn push_words<'a>(words: &mut Vec<&'a str>, text: &'a str) -> Result<()> {
+    for token in &tokens_of(*words.allocator(), text)?.0 {
+        let Token::Quoted(word) = token else {
+            bail!("a word without quotes");
+        };
+        words.push(*word)?;
     }
-    Ok(words)
+    Ok(())
 }

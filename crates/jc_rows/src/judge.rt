@@ -3,7 +3,7 @@
 use crate::class_answers::{faults_answer, fronts_answer, parse_answer};
 use crate::code_answers::{code_faults_answer, instructions_answer};
 use crate::compare::difference;
-use crate::dialogue::Dialogue;
+use crate::dialogue::{Dialogue, NamedFile};
 use crate::file_answers::read_answer;
 use crate::outcome::{outcome_of_program, outcome_of_run};
 use crate::parts::{Names, bytes_of};
@@ -16,8 +16,8 @@ use anyhow::{Context, Result, bail, ensure};
 use jc_base::{ByteMap, SigKind};
 use jc_session::Session;
 use std::alloc::{AllocError, Global};
-use std::fs;
 use std::rt::Files;
+use std::{fs, io};
 
 /// How many rows a file has, and how many of them are wrong.
 #[derive(Clone, Copy)]
@@ -47,21 +47,27 @@ pub(crate) fn judge_file(
     path: &str,
     text: &str,
 ) -> Result<Tally> {
-    let mut judge = Judge::new(rt.alloc())?;
-    let mut tally = Tally { rows: 0, wrong: 0 };
-    for row in &rows_of(rt.alloc(), text)? {
-        let found = judge
-            .judge(rt, row)
-            .context(format_args!("{path}:{}", row.number))?;
-        if !matches!(&found, Found::Definition) {
-            tally.rows = tally.rows.wrapping_add(1);
+    let rows = rows_of(rt.alloc(), text)?;
+    Judge::new(rt.alloc())?.judge_rows(rt, path, &rows)
+}
+
+impl Tally {
+    fn count(&mut self, found: &Found) {
+        if !matches!(found, Found::Definition) {
+            self.rows = self.rows.wrapping_add(1);
         }
-        if let Found::Wrong(told) = found {
-            tally.wrong = tally.wrong.wrapping_add(1);
-            println!(rt; "{path}:{}: {told}", row.number)?;
+        if matches!(found, Found::Wrong(_)) {
+            self.wrong = self.wrong.wrapping_add(1);
         }
     }
-    Ok(tally)
+}
+
+/// Prints what is told of a row that is wrong.
+fn tell(rt: &impl Print, path: &str, number: usize, found: &Found) -> Result<()> {
+    if let Found::Wrong(told) = found {
+        println!(rt; "{path}:{number}: {told}")?;
+    }
+    Ok(())
 }
 
 fn new_session(alloc: Global) -> Result<Session, AllocError> {
@@ -79,19 +85,56 @@ impl Judge {
         })
     }
 
+    fn judge_rows(
+        &mut self,
+        rt: &(impl Files + AllocGlobal + Print),
+        path: &str,
+        rows: &[Row],
+    ) -> Result<Tally> {
+        let mut tally = Tally { rows: 0, wrong: 0 };
+        for row in rows {
+            tally.count(&self.judge_and_tell(rt, path, row)?);
+        }
+        Ok(tally)
+    }
+
+    /// Judges a row, and prints it if it is wrong.
+    fn judge_and_tell(
+        &mut self,
+        rt: &(impl Files + AllocGlobal + Print),
+        path: &str,
+        row: &Row,
+    ) -> Result<Found> {
+        let found = self
+            .judge(rt, row)
+            .context(format_args!("{path}:{}", row.number))?;
+        tell(rt, path, row.number, &found)?;
+        Ok(found)
+    }
+
     fn judge(&mut self, rt: &(impl Files + AllocGlobal), row: &Row) -> Result<Found> {
-        let alloc = rt.alloc();
-        let head = head_of(alloc, row.head)?;
-        match head.tokens.as_slice() {
-            [Token::Word(name), Token::Equals, ..] => self.define(alloc, name, row),
-            [Token::Word("run"), Token::Quoted(what)] => {
-                self.session = new_session(alloc)?;
-                self.judge_run(alloc, what, row)
-            }
-            [Token::Word("then"), Token::Quoted(what)] => self.judge_run(alloc, what, row),
-            [Token::Word("program"), Token::Quoted(what)] => self.judge_program(rt, what, row),
-            [Token::Word(kind), Token::Quoted(what), ..] => self.judge_bytes(rt, kind, what, row),
+        match front_of(rt.alloc(), row)? {
+            (name, Token::Equals) => self.define(rt.alloc(), name, row),
+            (kind, Token::Quoted(what)) => self.judge_kind(rt, kind, what, row),
             _ => bail!("neither a definition nor a row"),
+        }
+    }
+
+    fn judge_kind(
+        &mut self,
+        rt: &(impl Files + AllocGlobal),
+        kind: &str,
+        what: &str,
+        row: &Row,
+    ) -> Result<Found> {
+        match kind {
+            "run" => {
+                self.session = new_session(rt.alloc())?;
+                self.judge_run(rt.alloc(), what, row)
+            }
+            "then" => self.judge_run(rt.alloc(), what, row),
+            "program" => self.judge_program(rt, what, row),
+            _ => self.judge_bytes(rt, kind, what, row),
         }
     }
 
@@ -106,15 +149,8 @@ impl Judge {
 
     fn judge_run(&mut self, alloc: Global, what: &str, row: &Row) -> Result<Found> {
         let mut dialogue = Dialogue::read(alloc, &self.names, &row.more)?;
-        let found = outcome_of_run(alloc, &mut self.session, &mut dialogue)?;
-        for file in &dialogue.held {
-            let bytes = self.session.file(file.name.as_bytes()).unwrap_or(&[]);
-            if bytes != file.bytes.as_slice() {
-                let told = difference(alloc, file.name, &file.bytes, bytes)?;
-                return judged(alloc, what, Some(told));
-            }
-        }
-        judged(alloc, what, dialogue.wanted.difference(alloc, &found)?)
+        let told = told_of_run(alloc, &mut self.session, &mut dialogue)?;
+        judged(alloc, what, told)
     }
 
     fn judge_program(
@@ -124,18 +160,8 @@ impl Judge {
         row: &Row,
     ) -> Result<Found> {
         let dialogue = Dialogue::read(rt.alloc(), &self.names, &row.more)?;
-        for file in &dialogue.files {
-            fs::write(rt, file.name, file.bytes.as_slice())?;
-        }
-        let found = outcome_of_program(rt, &dialogue)?;
-        for file in &dialogue.files {
-            fs::remove_file(rt, file.name)?;
-        }
-        judged(
-            rt.alloc(),
-            what,
-            dialogue.wanted.difference(rt.alloc(), &found)?,
-        )
+        let told = told_of_program(rt, &dialogue)?;
+        judged(rt.alloc(), what, told)
     }
 
     fn judge_bytes(
@@ -145,17 +171,80 @@ impl Judge {
         what: &str,
         row: &Row,
     ) -> Result<Found> {
-        let alloc = rt.alloc();
-        let statement = row.statement(alloc)?;
-        let bytes = bytes_of(alloc, &self.names, statement.parts())?;
+        let (bytes, wanted) = self.asked(rt.alloc(), row)?;
         let found = answer(rt, kind, &bytes)?;
-        let wanted = statement.answer.context("a row without its answer")?;
         if found == wanted {
             return Ok(Found::Right);
         }
-        let told = difference(alloc, kind, wanted.as_bytes(), found.as_bytes())?;
-        judged(alloc, what, Some(told))
+        let told = difference(rt.alloc(), kind, wanted.as_bytes(), found.as_bytes())?;
+        judged(rt.alloc(), what, Some(told))
     }
+
+    /// The bytes of a row, and the answer that is wanted.
+    fn asked(&self, alloc: Global, row: &Row) -> Result<(Vec<u8>, String)> {
+        let statement = row.statement(alloc)?;
+        let bytes = bytes_of(alloc, &self.names, statement.parts())?;
+        let wanted = statement.answer.context("a row without its answer")?;
+        Ok((bytes, wanted))
+    }
+}
+
+/// The word that a row begins with, and what stands behind it.
+fn front_of<'a>(alloc: Global, row: &Row<'a>) -> Result<(&'a str, Token<'a>)> {
+    match head_of(alloc, row.head)?.tokens.as_slice() {
+        [Token::Word(word), behind, ..] => Ok((*word, *behind)),
+        _ => bail!("a row begins with a word"),
+    }
+}
+
+/// What is told of a run that goes otherwise than its dialogue.
+fn told_of_run(
+    alloc: Global,
+    session: &mut Session,
+    dialogue: &mut Dialogue,
+) -> Result<Option<String>, AllocError> {
+    let found = outcome_of_run(alloc, session, dialogue)?;
+    match unlike(alloc, session, &dialogue.held)? {
+        None => dialogue.wanted.difference(alloc, &found),
+        told => Ok(told),
+    }
+}
+
+/// What is told where the session holds other bytes than these.
+fn unlike(
+    alloc: Global,
+    session: &Session,
+    held: &[NamedFile],
+) -> Result<Option<String>, AllocError> {
+    for file in held {
+        let bytes = session.file(file.name.as_bytes()).unwrap_or(&[]);
+        if bytes != file.bytes.as_slice() {
+            return Ok(Some(difference(alloc, file.name, &file.bytes, bytes)?));
+        }
+    }
+    Ok(None)
+}
+
+/// What is told of a program that does otherwise than its dialogue.
+fn told_of_program(rt: &(impl Files + AllocGlobal), dialogue: &Dialogue) -> Result<Option<String>> {
+    write_files(rt, &dialogue.files)?;
+    let found = outcome_of_program(rt, dialogue)?;
+    remove_files(rt, &dialogue.files)?;
+    Ok(dialogue.wanted.difference(rt.alloc(), &found)?)
+}
+
+fn write_files(rt: &impl Files, files: &[NamedFile]) -> io::Result<()> {
+    for file in files {
+        fs::write(rt, file.name, file.bytes.as_slice())?;
+    }
+    Ok(())
+}
+
+fn remove_files(rt: &impl Files, files: &[NamedFile]) -> io::Result<()> {
+    for file in files {
+        fs::remove_file(rt, file.name)?;
+    }
+    Ok(())
 }
 
 fn judged(alloc: Global, what: &str, difference: Option<String>) -> Result<Found> {
@@ -167,21 +256,26 @@ fn judged(alloc: Global, what: &str, difference: Option<String>) -> Result<Found
 
 /// What the call of a kind answers to the bytes.
 fn answer(rt: &(impl Files + AllocGlobal), kind: &str, bytes: &[u8]) -> Result<String> {
-    let alloc = rt.alloc();
-    Ok(match kind {
-        "read" => read_answer(rt, bytes)?,
-        "parse" => parse_answer(alloc, bytes)?,
-        "fronts" => fronts_answer(alloc, bytes)?,
-        "faults" => faults_answer(alloc, bytes)?,
-        "instructions" => instructions_answer(alloc, bytes)?,
-        "code-faults" => code_faults_answer(alloc, bytes)?,
-        "units" => units_answer(alloc, bytes)?,
-        "name" => name_answer(alloc, bytes)?,
-        "field" => field_answer(alloc, bytes)?,
-        "method" => method_answer(alloc, bytes)?,
-        "class-signature" => signature_answer(alloc, SigKind::Class, bytes)?,
-        "method-signature" => signature_answer(alloc, SigKind::Method, bytes)?,
-        "field-signature" => signature_answer(alloc, SigKind::Field, bytes)?,
-        _ => bail!("no such kind of row: {kind}"),
-    })
+    if kind == "read" {
+        return read_answer(rt, bytes);
+    }
+    Ok(bytes_answer(rt.alloc(), kind, bytes)?)
+}
+
+fn bytes_answer(alloc: Global, kind: &str, bytes: &[u8]) -> Result<String, AllocError> {
+    match kind {
+        "parse" => parse_answer(alloc, bytes),
+        "fronts" => fronts_answer(alloc, bytes),
+        "faults" => faults_answer(alloc, bytes),
+        "instructions" => instructions_answer(alloc, bytes),
+        "code-faults" => code_faults_answer(alloc, bytes),
+        "units" => units_answer(alloc, bytes),
+        "name" => name_answer(alloc, bytes),
+        "field" => field_answer(alloc, bytes),
+        "method" => method_answer(alloc, bytes),
+        "class-signature" => signature_answer(alloc, SigKind::Class, bytes),
+        "method-signature" => signature_answer(alloc, SigKind::Method, bytes),
+        "field-signature" => signature_answer(alloc, SigKind::Field, bytes),
+        _ => String::from_str(alloc, "no such kind of row"),
+    }
 }

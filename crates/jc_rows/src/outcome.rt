@@ -83,11 +83,8 @@ pub(crate) fn outcome_of_run(
         let mut out = StdOutput::new(TakesNothing);
         run(alloc, session, &mut source, &mut input, &mut out)
     };
-    Ok(Outcome {
-        output: Vec::from_slice(alloc, out.bytes())?,
-        told: Vec::new(alloc),
-        ending: ending_of(alloc, ended, session.report().wrong())?,
-    })
+    let ending = ending_of(alloc, ended, session.report().wrong())?;
+    make_outcome(alloc, out.bytes(), &[], ending)
 }
 
 /// What the program gives.
@@ -106,9 +103,23 @@ pub(crate) fn outcome_of_program(
         let files = NoMemoryFiles { rt };
         program(&files, words, &mut input, &mut out, &mut err)
     };
+    make_outcome(
+        alloc,
+        out.bytes(),
+        err.bytes(),
+        format!(in alloc; "{status}")?,
+    )
+}
+
+fn make_outcome(
+    alloc: Global,
+    output: &[u8],
+    told: &[u8],
+    ending: String,
+) -> Result<Outcome, AllocError> {
     Ok(Outcome {
-        output: Vec::from_slice(alloc, out.bytes())?,
-        told: Vec::from_slice(alloc, err.bytes())?,
-        ending: format!(in alloc; "{status}")?,
+        output: Vec::from_slice(alloc, output)?,
+        told: Vec::from_slice(alloc, told)?,
+        ending,
     })
 }

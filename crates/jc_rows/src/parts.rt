@@ -96,42 +96,76 @@ fn part_of(alloc: Global, names: &Names, token: Token) -> Result<Part> {
     let mut part = Part::new(alloc);
     match token {
         Token::Quoted(text) => part.bytes.extend_from_slice(text.as_bytes())?,
-        Token::Word(word) if is_hexadecimal(word) => {
-            part.bytes = hex::decode(alloc, word).context(word)?;
-        }
-        Token::Word(name) => match names.get(name.as_bytes()) {
-            Some(bytes) => part.bytes.extend_from_slice(bytes)?,
-            None => bail!("nothing has the name {name}"),
-        },
+        Token::Word(word) => part.bytes = bytes_of_word(alloc, names, word)?,
         Token::Round => part.rounds.push(0)?,
-        _ => bail!("{token:?} is no part"),
+        _ => bail!("a mark is no part"),
     }
     Ok(part)
 }
 
+/// The bytes of hexadecimal digits or of a name.
+fn bytes_of_word(alloc: Global, names: &Names, word: &str) -> Result<Vec<u8>> {
+    if is_hexadecimal(word) {
+        return hex::decode(alloc, word).context(word);
+    }
+    let Some(bytes) = names.get(word.as_bytes()) else {
+        bail!("nothing has the name {word}");
+    };
+    Ok(Vec::from_slice(alloc, bytes)?)
+}
+
 fn is_hexadecimal(word: &str) -> bool {
-    word.bytes()
-        .all(|byte| matches!(byte, b'0'..=b'9' | b'a'..=b'f'))
+    for byte in word.as_bytes() {
+        if !matches!(byte, b'0'..=b'9' | b'a'..=b'f') {
+            return false;
+        }
+    }
+    true
+}
+
+/// The brackets that are open, and what stands in the innermost of them so far.
+#[derive(Drop)]
+struct Groups {
+    outer: Vec<Group>,
+    group: Group,
+}
+
+impl Groups {
+    fn add(&mut self, alloc: Global, names: &Names, token: Token) -> Result<()> {
+        match token {
+            Token::Open => self.open(alloc)?,
+            Token::Close => self.close()?,
+            Token::Times(times) => self.group.last = self.group.last.repeated(alloc, times)?,
+            _ => self.group.push(part_of(alloc, names, token)?)?,
+        }
+        Ok(())
+    }
+
+    fn open(&mut self, alloc: Global) -> Result<(), AllocError> {
+        let group = mem::replace(&mut self.group, Group::new(alloc));
+        Ok(self.outer.push(group)?)
+    }
+
+    fn close(&mut self) -> Result<()> {
+        let Some(above) = self.outer.pop() else {
+            bail!("a bracket closes that was not opened");
+        };
+        let part = mem::replace(&mut self.group, above).into_part()?;
+        Ok(self.group.push(part)?)
+    }
 }
 
 /// The bytes that the tokens are.
 pub(crate) fn bytes_of(alloc: Global, names: &Names, tokens: &[Token]) -> Result<Vec<u8>> {
-    let mut outer = Vec::new(alloc);
-    let mut group = Group::new(alloc);
+    let mut groups = Groups {
+        outer: Vec::new(alloc),
+        group: Group::new(alloc),
+    };
     for token in tokens {
-        match token {
-            Token::Open => outer.push(mem::replace(&mut group, Group::new(alloc)))?,
-            Token::Close => {
-                let above = outer.pop().context("a bracket closes that was not opened")?;
-                let part = mem::replace(&mut group, above).into_part()?;
-                group.push(part)?;
-            }
-            Token::Times(times) => group.last = group.last.repeated(alloc, *times)?,
-            _ => group.push(part_of(alloc, names, *token)?)?,
-        }
+        groups.add(alloc, names, *token)?;
     }
-    ensure!(outer.is_empty(), "a bracket is not closed");
-    let whole = group.into_part()?;
+    ensure!(groups.outer.is_empty(), "a bracket is not closed");
+    let whole = groups.group.into_part()?;
     ensure!(
         whole.rounds.is_empty(),
         "@ stands in nothing that is repeated"

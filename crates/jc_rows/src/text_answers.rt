@@ -65,16 +65,22 @@ pub(crate) fn method_answer(alloc: Global, text: &[u8]) -> Result<String, AllocE
     let Some(method) = MethodDesc::read(text) else {
         return String::from_str(alloc, "none");
     };
-    let mut answer = format!(in alloc; "slots {}, result ", method.slots())?;
-    match method.result() {
-        Some(result) => answer.push_str(&shown(alloc, result)?)?,
-        None => answer.push_str("none")?,
-    }
-    answer.push_str(", params")?;
+    let result = match method.result() {
+        Some(result) => shown(alloc, result)?,
+        None => String::from_str(alloc, "none")?,
+    };
+    let params = shown_params(alloc, &method)?;
+    format!(in alloc; "slots {}, result {result}, params{params}", method.slots())
+}
+
+/// The parameters, each behind a blank.
+fn shown_params(alloc: Global, method: &MethodDesc) -> Result<String, AllocError> {
+    let mut text = String::new(alloc);
     for param in method.params() {
-        write!(answer, " {}", shown(alloc, param)?)?;
+        text.push(' ')?;
+        text.push_str(&shown(alloc, param)?)?;
     }
-    Ok(answer)
+    Ok(text)
 }
 
 pub(crate) fn signature_answer(

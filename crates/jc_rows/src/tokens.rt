@@ -3,7 +3,7 @@
 use anyhow::{Context, Result};
 use std::alloc::Global;
 
-#[derive(Clone, Copy, Debug, PartialEq, Eq)]
+#[derive(Clone, Copy)]
 pub(crate) enum Token<'a> {
     /// What stood between two quotes.
     Quoted(&'a str),
@@ -67,7 +67,7 @@ pub(crate) fn tokens_of(alloc: Global, line: &str) -> Result<(Vec<Token<'_>>, Op
             break;
         }
         let (token, behind) = first_token(rest)?;
-        if token == Token::Arrow {
+        if matches!(token, Token::Arrow) {
             return Ok((tokens, Some(behind)));
         }
         tokens.push(token)?;

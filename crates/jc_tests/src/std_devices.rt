@@ -65,10 +65,10 @@ fn make_choppy(alloc: Global, cut: Option<usize>, refuses: bool) -> StdOutput<Ch
 fn a_reader_is_read_to_its_end(rt: HostRuntime) {
     let mut input = StdInput::new(b"abc".as_slice());
     let mut buffer = [0; 2];
-    assert_eq!(rt; input.read(&mut buffer), Ok(2));
-    assert_eq!(rt; &buffer, b"ab");
-    assert_eq!(rt; input.read(&mut []), Ok(0));
-    assert_eq!(rt; input.into_inner(), b"c".as_slice());
+    assert!(rt; input.read(&mut buffer) == Ok(2));
+    assert!(rt; &buffer == b"ab");
+    assert!(rt; input.read(&mut []) == Ok(0));
+    assert!(rt; input.into_inner() == b"c".as_slice());
 }
 
 #[test]
@@ -79,30 +79,30 @@ fn an_interrupted_read_fails(rt: HostRuntime) {
         told: false,
     });
     let mut buffer = [0; 4];
-    assert_eq!(rt; input.read(&mut buffer), Ok(2));
-    assert_eq!(rt; input.read(&mut buffer), Err(DeviceFault));
-    assert_eq!(rt; input.read(&mut buffer), Ok(1));
-    assert_eq!(rt; input.read(&mut buffer), Ok(0));
+    assert!(rt; input.read(&mut buffer) == Ok(2));
+    assert!(rt; input.read(&mut buffer) == Err(DeviceFault));
+    assert!(rt; input.read(&mut buffer) == Ok(1));
+    assert!(rt; input.read(&mut buffer) == Ok(0));
 }
 
 #[test]
 fn a_text_is_written_in_several_writes(rt: HostRuntime) {
     let mut output = make_choppy(rt.alloc(), None, false);
-    assert_eq!(rt; write_all(&mut output, b"one, two"), Ok(()));
-    assert_eq!(rt; output.into_inner().got.as_slice(), b"one, two".as_slice());
+    assert!(rt; write_all(&mut output, b"one, two") == Ok(()));
+    assert!(rt; output.into_inner().got.as_slice() == b"one, two".as_slice());
 }
 
 #[test]
 fn an_interrupted_write_is_not_tried_again(rt: HostRuntime) {
     let mut output = make_choppy(rt.alloc(), Some(3), false);
-    assert_eq!(rt; write_all(&mut output, b"one, two"), Err(DeviceFault));
-    assert_eq!(rt; output.into_inner().got.as_slice(), b"one".as_slice());
+    assert!(rt; write_all(&mut output, b"one, two") == Err(DeviceFault));
+    assert!(rt; output.into_inner().got.as_slice() == b"one".as_slice());
 }
 
 #[test]
 fn a_writer_that_takes_nothing_fails(rt: HostRuntime) {
     let mut output = make_choppy(rt.alloc(), Some(0), true);
-    assert_eq!(rt; output.write(b"one"), Err(DeviceFault));
-    assert_eq!(rt; output.write(b""), Ok(0));
-    assert_eq!(rt; output.into_inner().got.len(), 0);
+    assert!(rt; output.write(b"one") == Err(DeviceFault));
+    assert!(rt; output.write(b"") == Ok(0));
+    assert!(rt; output.into_inner().got.len() == 0);
 }
