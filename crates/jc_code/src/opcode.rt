@@ -69,12 +69,9 @@ impl Model for Opcode {
     ghost invariant = { λ o. o.number < 202 };
 }
 
-/// A row of the table of opcodes.
+/// A row of the table of opcodes: the mnemonic, and what stands behind the opcode.
 #[derive(Clone, Copy)]
-struct Entry {
-    mnemonic: &'static str,
-    operands: Operands,
-}
+struct Entry(&'static str, Operands);
 
 impl Opcode {
     pub const BIPUSH: Opcode = Opcode { number: 16 };
@@ -140,14 +137,14 @@ impl Opcode {
     pub fn mnemonic(self) -> &'static str
         ensures { Some result.now ≡ mnemonic_of self }
     {
-        self.entry().mnemonic
+        self.entry().0
     }
 
     /// What stands behind it.
     pub fn operands(self) -> Operands
         ensures { Some result ≡ operands_of self }
     {
-        self.entry().operands
+        self.entry().1
     }
 
     fn entry(self) -> &'static Entry
@@ -167,812 +164,206 @@ fn row<'a>(rows: &'a [Entry], number: u8) -> &'a Entry
 
 /// The opcodes, by number.
 static OPCODES: [Entry; 202] = [
-    Entry {
-        mnemonic: "nop",
-        operands: Operands::Empty,
-    },
-    Entry {
-        mnemonic: "aconst_null",
-        operands: Operands::Empty,
-    },
-    Entry {
-        mnemonic: "iconst_m1",
-        operands: Operands::Empty,
-    },
-    Entry {
-        mnemonic: "iconst_0",
-        operands: Operands::Empty,
-    },
-    Entry {
-        mnemonic: "iconst_1",
-        operands: Operands::Empty,
-    },
-    Entry {
-        mnemonic: "iconst_2",
-        operands: Operands::Empty,
-    },
-    Entry {
-        mnemonic: "iconst_3",
-        operands: Operands::Empty,
-    },
-    Entry {
-        mnemonic: "iconst_4",
-        operands: Operands::Empty,
-    },
-    Entry {
-        mnemonic: "iconst_5",
-        operands: Operands::Empty,
-    },
-    Entry {
-        mnemonic: "lconst_0",
-        operands: Operands::Empty,
-    },
-    Entry {
-        mnemonic: "lconst_1",
-        operands: Operands::Empty,
-    },
-    Entry {
-        mnemonic: "fconst_0",
-        operands: Operands::Empty,
-    },
-    Entry {
-        mnemonic: "fconst_1",
-        operands: Operands::Empty,
-    },
-    Entry {
-        mnemonic: "fconst_2",
-        operands: Operands::Empty,
-    },
-    Entry {
-        mnemonic: "dconst_0",
-        operands: Operands::Empty,
-    },
-    Entry {
-        mnemonic: "dconst_1",
-        operands: Operands::Empty,
-    },
-    Entry {
-        mnemonic: "bipush",
-        operands: Operands::Byte,
-    },
-    Entry {
-        mnemonic: "sipush",
-        operands: Operands::Short,
-    },
-    Entry {
-        mnemonic: "ldc",
-        operands: Operands::ShortLoad,
-    },
-    Entry {
-        mnemonic: "ldc_w",
-        operands: Operands::Load,
-    },
-    Entry {
-        mnemonic: "ldc2_w",
-        operands: Operands::Load,
-    },
-    Entry {
-        mnemonic: "iload",
-        operands: Operands::Local { slots: 1 },
-    },
-    Entry {
-        mnemonic: "lload",
-        operands: Operands::Local { slots: 2 },
-    },
-    Entry {
-        mnemonic: "fload",
-        operands: Operands::Local { slots: 1 },
-    },
-    Entry {
-        mnemonic: "dload",
-        operands: Operands::Local { slots: 2 },
-    },
-    Entry {
-        mnemonic: "aload",
-        operands: Operands::Local { slots: 1 },
-    },
-    Entry {
-        mnemonic: "iload_0",
-        operands: Operands::ImplicitLocal { index: 0, slots: 1 },
-    },
-    Entry {
-        mnemonic: "iload_1",
-        operands: Operands::ImplicitLocal { index: 1, slots: 1 },
-    },
-    Entry {
-        mnemonic: "iload_2",
-        operands: Operands::ImplicitLocal { index: 2, slots: 1 },
-    },
-    Entry {
-        mnemonic: "iload_3",
-        operands: Operands::ImplicitLocal { index: 3, slots: 1 },
-    },
-    Entry {
-        mnemonic: "lload_0",
-        operands: Operands::ImplicitLocal { index: 0, slots: 2 },
-    },
-    Entry {
-        mnemonic: "lload_1",
-        operands: Operands::ImplicitLocal { index: 1, slots: 2 },
-    },
-    Entry {
-        mnemonic: "lload_2",
-        operands: Operands::ImplicitLocal { index: 2, slots: 2 },
-    },
-    Entry {
-        mnemonic: "lload_3",
-        operands: Operands::ImplicitLocal { index: 3, slots: 2 },
-    },
-    Entry {
-        mnemonic: "fload_0",
-        operands: Operands::ImplicitLocal { index: 0, slots: 1 },
-    },
-    Entry {
-        mnemonic: "fload_1",
-        operands: Operands::ImplicitLocal { index: 1, slots: 1 },
-    },
-    Entry {
-        mnemonic: "fload_2",
-        operands: Operands::ImplicitLocal { index: 2, slots: 1 },
-    },
-    Entry {
-        mnemonic: "fload_3",
-        operands: Operands::ImplicitLocal { index: 3, slots: 1 },
-    },
-    Entry {
-        mnemonic: "dload_0",
-        operands: Operands::ImplicitLocal { index: 0, slots: 2 },
-    },
-    Entry {
-        mnemonic: "dload_1",
-        operands: Operands::ImplicitLocal { index: 1, slots: 2 },
-    },
-    Entry {
-        mnemonic: "dload_2",
-        operands: Operands::ImplicitLocal { index: 2, slots: 2 },
-    },
-    Entry {
-        mnemonic: "dload_3",
-        operands: Operands::ImplicitLocal { index: 3, slots: 2 },
-    },
-    Entry {
-        mnemonic: "aload_0",
-        operands: Operands::ImplicitLocal { index: 0, slots: 1 },
-    },
-    Entry {
-        mnemonic: "aload_1",
-        operands: Operands::ImplicitLocal { index: 1, slots: 1 },
-    },
-    Entry {
-        mnemonic: "aload_2",
-        operands: Operands::ImplicitLocal { index: 2, slots: 1 },
-    },
-    Entry {
-        mnemonic: "aload_3",
-        operands: Operands::ImplicitLocal { index: 3, slots: 1 },
-    },
-    Entry {
-        mnemonic: "iaload",
-        operands: Operands::Empty,
-    },
-    Entry {
-        mnemonic: "laload",
-        operands: Operands::Empty,
-    },
-    Entry {
-        mnemonic: "faload",
-        operands: Operands::Empty,
-    },
-    Entry {
-        mnemonic: "daload",
-        operands: Operands::Empty,
-    },
-    Entry {
-        mnemonic: "aaload",
-        operands: Operands::Empty,
-    },
-    Entry {
-        mnemonic: "baload",
-        operands: Operands::Empty,
-    },
-    Entry {
-        mnemonic: "caload",
-        operands: Operands::Empty,
-    },
-    Entry {
-        mnemonic: "saload",
-        operands: Operands::Empty,
-    },
-    Entry {
-        mnemonic: "istore",
-        operands: Operands::Local { slots: 1 },
-    },
-    Entry {
-        mnemonic: "lstore",
-        operands: Operands::Local { slots: 2 },
-    },
-    Entry {
-        mnemonic: "fstore",
-        operands: Operands::Local { slots: 1 },
-    },
-    Entry {
-        mnemonic: "dstore",
-        operands: Operands::Local { slots: 2 },
-    },
-    Entry {
-        mnemonic: "astore",
-        operands: Operands::Local { slots: 1 },
-    },
-    Entry {
-        mnemonic: "istore_0",
-        operands: Operands::ImplicitLocal { index: 0, slots: 1 },
-    },
-    Entry {
-        mnemonic: "istore_1",
-        operands: Operands::ImplicitLocal { index: 1, slots: 1 },
-    },
-    Entry {
-        mnemonic: "istore_2",
-        operands: Operands::ImplicitLocal { index: 2, slots: 1 },
-    },
-    Entry {
-        mnemonic: "istore_3",
-        operands: Operands::ImplicitLocal { index: 3, slots: 1 },
-    },
-    Entry {
-        mnemonic: "lstore_0",
-        operands: Operands::ImplicitLocal { index: 0, slots: 2 },
-    },
-    Entry {
-        mnemonic: "lstore_1",
-        operands: Operands::ImplicitLocal { index: 1, slots: 2 },
-    },
-    Entry {
-        mnemonic: "lstore_2",
-        operands: Operands::ImplicitLocal { index: 2, slots: 2 },
-    },
-    Entry {
-        mnemonic: "lstore_3",
-        operands: Operands::ImplicitLocal { index: 3, slots: 2 },
-    },
-    Entry {
-        mnemonic: "fstore_0",
-        operands: Operands::ImplicitLocal { index: 0, slots: 1 },
-    },
-    Entry {
-        mnemonic: "fstore_1",
-        operands: Operands::ImplicitLocal { index: 1, slots: 1 },
-    },
-    Entry {
-        mnemonic: "fstore_2",
-        operands: Operands::ImplicitLocal { index: 2, slots: 1 },
-    },
-    Entry {
-        mnemonic: "fstore_3",
-        operands: Operands::ImplicitLocal { index: 3, slots: 1 },
-    },
-    Entry {
-        mnemonic: "dstore_0",
-        operands: Operands::ImplicitLocal { index: 0, slots: 2 },
-    },
-    Entry {
-        mnemonic: "dstore_1",
-        operands: Operands::ImplicitLocal { index: 1, slots: 2 },
-    },
-    Entry {
-        mnemonic: "dstore_2",
-        operands: Operands::ImplicitLocal { index: 2, slots: 2 },
-    },
-    Entry {
-        mnemonic: "dstore_3",
-        operands: Operands::ImplicitLocal { index: 3, slots: 2 },
-    },
-    Entry {
-        mnemonic: "astore_0",
-        operands: Operands::ImplicitLocal { index: 0, slots: 1 },
-    },
-    Entry {
-        mnemonic: "astore_1",
-        operands: Operands::ImplicitLocal { index: 1, slots: 1 },
-    },
-    Entry {
-        mnemonic: "astore_2",
-        operands: Operands::ImplicitLocal { index: 2, slots: 1 },
-    },
-    Entry {
-        mnemonic: "astore_3",
-        operands: Operands::ImplicitLocal { index: 3, slots: 1 },
-    },
-    Entry {
-        mnemonic: "iastore",
-        operands: Operands::Empty,
-    },
-    Entry {
-        mnemonic: "lastore",
-        operands: Operands::Empty,
-    },
-    Entry {
-        mnemonic: "fastore",
-        operands: Operands::Empty,
-    },
-    Entry {
-        mnemonic: "dastore",
-        operands: Operands::Empty,
-    },
-    Entry {
-        mnemonic: "aastore",
-        operands: Operands::Empty,
-    },
-    Entry {
-        mnemonic: "bastore",
-        operands: Operands::Empty,
-    },
-    Entry {
-        mnemonic: "castore",
-        operands: Operands::Empty,
-    },
-    Entry {
-        mnemonic: "sastore",
-        operands: Operands::Empty,
-    },
-    Entry {
-        mnemonic: "pop",
-        operands: Operands::Empty,
-    },
-    Entry {
-        mnemonic: "pop2",
-        operands: Operands::Empty,
-    },
-    Entry {
-        mnemonic: "dup",
-        operands: Operands::Empty,
-    },
-    Entry {
-        mnemonic: "dup_x1",
-        operands: Operands::Empty,
-    },
-    Entry {
-        mnemonic: "dup_x2",
-        operands: Operands::Empty,
-    },
-    Entry {
-        mnemonic: "dup2",
-        operands: Operands::Empty,
-    },
-    Entry {
-        mnemonic: "dup2_x1",
-        operands: Operands::Empty,
-    },
-    Entry {
-        mnemonic: "dup2_x2",
-        operands: Operands::Empty,
-    },
-    Entry {
-        mnemonic: "swap",
-        operands: Operands::Empty,
-    },
-    Entry {
-        mnemonic: "iadd",
-        operands: Operands::Empty,
-    },
-    Entry {
-        mnemonic: "ladd",
-        operands: Operands::Empty,
-    },
-    Entry {
-        mnemonic: "fadd",
-        operands: Operands::Empty,
-    },
-    Entry {
-        mnemonic: "dadd",
-        operands: Operands::Empty,
-    },
-    Entry {
-        mnemonic: "isub",
-        operands: Operands::Empty,
-    },
-    Entry {
-        mnemonic: "lsub",
-        operands: Operands::Empty,
-    },
-    Entry {
-        mnemonic: "fsub",
-        operands: Operands::Empty,
-    },
-    Entry {
-        mnemonic: "dsub",
-        operands: Operands::Empty,
-    },
-    Entry {
-        mnemonic: "imul",
-        operands: Operands::Empty,
-    },
-    Entry {
-        mnemonic: "lmul",
-        operands: Operands::Empty,
-    },
-    Entry {
-        mnemonic: "fmul",
-        operands: Operands::Empty,
-    },
-    Entry {
-        mnemonic: "dmul",
-        operands: Operands::Empty,
-    },
-    Entry {
-        mnemonic: "idiv",
-        operands: Operands::Empty,
-    },
-    Entry {
-        mnemonic: "ldiv",
-        operands: Operands::Empty,
-    },
-    Entry {
-        mnemonic: "fdiv",
-        operands: Operands::Empty,
-    },
-    Entry {
-        mnemonic: "ddiv",
-        operands: Operands::Empty,
-    },
-    Entry {
-        mnemonic: "irem",
-        operands: Operands::Empty,
-    },
-    Entry {
-        mnemonic: "lrem",
-        operands: Operands::Empty,
-    },
-    Entry {
-        mnemonic: "frem",
-        operands: Operands::Empty,
-    },
-    Entry {
-        mnemonic: "drem",
-        operands: Operands::Empty,
-    },
-    Entry {
-        mnemonic: "ineg",
-        operands: Operands::Empty,
-    },
-    Entry {
-        mnemonic: "lneg",
-        operands: Operands::Empty,
-    },
-    Entry {
-        mnemonic: "fneg",
-        operands: Operands::Empty,
-    },
-    Entry {
-        mnemonic: "dneg",
-        operands: Operands::Empty,
-    },
-    Entry {
-        mnemonic: "ishl",
-        operands: Operands::Empty,
-    },
-    Entry {
-        mnemonic: "lshl",
-        operands: Operands::Empty,
-    },
-    Entry {
-        mnemonic: "ishr",
-        operands: Operands::Empty,
-    },
-    Entry {
-        mnemonic: "lshr",
-        operands: Operands::Empty,
-    },
-    Entry {
-        mnemonic: "iushr",
-        operands: Operands::Empty,
-    },
-    Entry {
-        mnemonic: "lushr",
-        operands: Operands::Empty,
-    },
-    Entry {
-        mnemonic: "iand",
-        operands: Operands::Empty,
-    },
-    Entry {
-        mnemonic: "land",
-        operands: Operands::Empty,
-    },
-    Entry {
-        mnemonic: "ior",
-        operands: Operands::Empty,
-    },
-    Entry {
-        mnemonic: "lor",
-        operands: Operands::Empty,
-    },
-    Entry {
-        mnemonic: "ixor",
-        operands: Operands::Empty,
-    },
-    Entry {
-        mnemonic: "lxor",
-        operands: Operands::Empty,
-    },
-    Entry {
-        mnemonic: "iinc",
-        operands: Operands::Increment,
-    },
-    Entry {
-        mnemonic: "i2l",
-        operands: Operands::Empty,
-    },
-    Entry {
-        mnemonic: "i2f",
-        operands: Operands::Empty,
-    },
-    Entry {
-        mnemonic: "i2d",
-        operands: Operands::Empty,
-    },
-    Entry {
-        mnemonic: "l2i",
-        operands: Operands::Empty,
-    },
-    Entry {
-        mnemonic: "l2f",
-        operands: Operands::Empty,
-    },
-    Entry {
-        mnemonic: "l2d",
-        operands: Operands::Empty,
-    },
-    Entry {
-        mnemonic: "f2i",
-        operands: Operands::Empty,
-    },
-    Entry {
-        mnemonic: "f2l",
-        operands: Operands::Empty,
-    },
-    Entry {
-        mnemonic: "f2d",
-        operands: Operands::Empty,
-    },
-    Entry {
-        mnemonic: "d2i",
-        operands: Operands::Empty,
-    },
-    Entry {
-        mnemonic: "d2l",
-        operands: Operands::Empty,
-    },
-    Entry {
-        mnemonic: "d2f",
-        operands: Operands::Empty,
-    },
-    Entry {
-        mnemonic: "i2b",
-        operands: Operands::Empty,
-    },
-    Entry {
-        mnemonic: "i2c",
-        operands: Operands::Empty,
-    },
-    Entry {
-        mnemonic: "i2s",
-        operands: Operands::Empty,
-    },
-    Entry {
-        mnemonic: "lcmp",
-        operands: Operands::Empty,
-    },
-    Entry {
-        mnemonic: "fcmpl",
-        operands: Operands::Empty,
-    },
-    Entry {
-        mnemonic: "fcmpg",
-        operands: Operands::Empty,
-    },
-    Entry {
-        mnemonic: "dcmpl",
-        operands: Operands::Empty,
-    },
-    Entry {
-        mnemonic: "dcmpg",
-        operands: Operands::Empty,
-    },
-    Entry {
-        mnemonic: "ifeq",
-        operands: Operands::Branch,
-    },
-    Entry {
-        mnemonic: "ifne",
-        operands: Operands::Branch,
-    },
-    Entry {
-        mnemonic: "iflt",
-        operands: Operands::Branch,
-    },
-    Entry {
-        mnemonic: "ifge",
-        operands: Operands::Branch,
-    },
-    Entry {
-        mnemonic: "ifgt",
-        operands: Operands::Branch,
-    },
-    Entry {
-        mnemonic: "ifle",
-        operands: Operands::Branch,
-    },
-    Entry {
-        mnemonic: "if_icmpeq",
-        operands: Operands::Branch,
-    },
-    Entry {
-        mnemonic: "if_icmpne",
-        operands: Operands::Branch,
-    },
-    Entry {
-        mnemonic: "if_icmplt",
-        operands: Operands::Branch,
-    },
-    Entry {
-        mnemonic: "if_icmpge",
-        operands: Operands::Branch,
-    },
-    Entry {
-        mnemonic: "if_icmpgt",
-        operands: Operands::Branch,
-    },
-    Entry {
-        mnemonic: "if_icmple",
-        operands: Operands::Branch,
-    },
-    Entry {
-        mnemonic: "if_acmpeq",
-        operands: Operands::Branch,
-    },
-    Entry {
-        mnemonic: "if_acmpne",
-        operands: Operands::Branch,
-    },
-    Entry {
-        mnemonic: "goto",
-        operands: Operands::Branch,
-    },
-    Entry {
-        mnemonic: "jsr",
-        operands: Operands::Branch,
-    },
-    Entry {
-        mnemonic: "ret",
-        operands: Operands::Local { slots: 1 },
-    },
-    Entry {
-        mnemonic: "tableswitch",
-        operands: Operands::TableSwitch,
-    },
-    Entry {
-        mnemonic: "lookupswitch",
-        operands: Operands::LookupSwitch,
-    },
-    Entry {
-        mnemonic: "ireturn",
-        operands: Operands::Empty,
-    },
-    Entry {
-        mnemonic: "lreturn",
-        operands: Operands::Empty,
-    },
-    Entry {
-        mnemonic: "freturn",
-        operands: Operands::Empty,
-    },
-    Entry {
-        mnemonic: "dreturn",
-        operands: Operands::Empty,
-    },
-    Entry {
-        mnemonic: "areturn",
-        operands: Operands::Empty,
-    },
-    Entry {
-        mnemonic: "return",
-        operands: Operands::Empty,
-    },
-    Entry {
-        mnemonic: "getstatic",
-        operands: Operands::Field,
-    },
-    Entry {
-        mnemonic: "putstatic",
-        operands: Operands::Field,
-    },
-    Entry {
-        mnemonic: "getfield",
-        operands: Operands::Field,
-    },
-    Entry {
-        mnemonic: "putfield",
-        operands: Operands::Field,
-    },
-    Entry {
-        mnemonic: "invokevirtual",
-        operands: Operands::Invoke,
-    },
-    Entry {
-        mnemonic: "invokespecial",
-        operands: Operands::Invoke,
-    },
-    Entry {
-        mnemonic: "invokestatic",
-        operands: Operands::Invoke,
-    },
-    Entry {
-        mnemonic: "invokeinterface",
-        operands: Operands::InvokeInterface,
-    },
-    Entry {
-        mnemonic: "invokedynamic",
-        operands: Operands::InvokeDynamic,
-    },
-    Entry {
-        mnemonic: "new",
-        operands: Operands::Type,
-    },
-    Entry {
-        mnemonic: "newarray",
-        operands: Operands::NewArray,
-    },
-    Entry {
-        mnemonic: "anewarray",
-        operands: Operands::Type,
-    },
-    Entry {
-        mnemonic: "arraylength",
-        operands: Operands::Empty,
-    },
-    Entry {
-        mnemonic: "athrow",
-        operands: Operands::Empty,
-    },
-    Entry {
-        mnemonic: "checkcast",
-        operands: Operands::Type,
-    },
-    Entry {
-        mnemonic: "instanceof",
-        operands: Operands::Type,
-    },
-    Entry {
-        mnemonic: "monitorenter",
-        operands: Operands::Empty,
-    },
-    Entry {
-        mnemonic: "monitorexit",
-        operands: Operands::Empty,
-    },
-    Entry {
-        mnemonic: "wide",
-        operands: Operands::Wide,
-    },
-    Entry {
-        mnemonic: "multianewarray",
-        operands: Operands::MultiNewArray,
-    },
-    Entry {
-        mnemonic: "ifnull",
-        operands: Operands::Branch,
-    },
-    Entry {
-        mnemonic: "ifnonnull",
-        operands: Operands::Branch,
-    },
-    Entry {
-        mnemonic: "goto_w",
-        operands: Operands::WideBranch,
-    },
-    Entry {
-        mnemonic: "jsr_w",
-        operands: Operands::WideBranch,
-    },
+    Entry("nop", Operands::Empty),
+    Entry("aconst_null", Operands::Empty),
+    Entry("iconst_m1", Operands::Empty),
+    Entry("iconst_0", Operands::Empty),
+    Entry("iconst_1", Operands::Empty),
+    Entry("iconst_2", Operands::Empty),
+    Entry("iconst_3", Operands::Empty),
+    Entry("iconst_4", Operands::Empty),
+    Entry("iconst_5", Operands::Empty),
+    Entry("lconst_0", Operands::Empty),
+    Entry("lconst_1", Operands::Empty),
+    Entry("fconst_0", Operands::Empty),
+    Entry("fconst_1", Operands::Empty),
+    Entry("fconst_2", Operands::Empty),
+    Entry("dconst_0", Operands::Empty),
+    Entry("dconst_1", Operands::Empty),
+    Entry("bipush", Operands::Byte),
+    Entry("sipush", Operands::Short),
+    Entry("ldc", Operands::ShortLoad),
+    Entry("ldc_w", Operands::Load),
+    Entry("ldc2_w", Operands::Load),
+    Entry("iload", Operands::Local { slots: 1 }),
+    Entry("lload", Operands::Local { slots: 2 }),
+    Entry("fload", Operands::Local { slots: 1 }),
+    Entry("dload", Operands::Local { slots: 2 }),
+    Entry("aload", Operands::Local { slots: 1 }),
+    Entry("iload_0", Operands::ImplicitLocal { index: 0, slots: 1 }),
+    Entry("iload_1", Operands::ImplicitLocal { index: 1, slots: 1 }),
+    Entry("iload_2", Operands::ImplicitLocal { index: 2, slots: 1 }),
+    Entry("iload_3", Operands::ImplicitLocal { index: 3, slots: 1 }),
+    Entry("lload_0", Operands::ImplicitLocal { index: 0, slots: 2 }),
+    Entry("lload_1", Operands::ImplicitLocal { index: 1, slots: 2 }),
+    Entry("lload_2", Operands::ImplicitLocal { index: 2, slots: 2 }),
+    Entry("lload_3", Operands::ImplicitLocal { index: 3, slots: 2 }),
+    Entry("fload_0", Operands::ImplicitLocal { index: 0, slots: 1 }),
+    Entry("fload_1", Operands::ImplicitLocal { index: 1, slots: 1 }),
+    Entry("fload_2", Operands::ImplicitLocal { index: 2, slots: 1 }),
+    Entry("fload_3", Operands::ImplicitLocal { index: 3, slots: 1 }),
+    Entry("dload_0", Operands::ImplicitLocal { index: 0, slots: 2 }),
+    Entry("dload_1", Operands::ImplicitLocal { index: 1, slots: 2 }),
+    Entry("dload_2", Operands::ImplicitLocal { index: 2, slots: 2 }),
+    Entry("dload_3", Operands::ImplicitLocal { index: 3, slots: 2 }),
+    Entry("aload_0", Operands::ImplicitLocal { index: 0, slots: 1 }),
+    Entry("aload_1", Operands::ImplicitLocal { index: 1, slots: 1 }),
+    Entry("aload_2", Operands::ImplicitLocal { index: 2, slots: 1 }),
+    Entry("aload_3", Operands::ImplicitLocal { index: 3, slots: 1 }),
+    Entry("iaload", Operands::Empty),
+    Entry("laload", Operands::Empty),
+    Entry("faload", Operands::Empty),
+    Entry("daload", Operands::Empty),
+    Entry("aaload", Operands::Empty),
+    Entry("baload", Operands::Empty),
+    Entry("caload", Operands::Empty),
+    Entry("saload", Operands::Empty),
+    Entry("istore", Operands::Local { slots: 1 }),
+    Entry("lstore", Operands::Local { slots: 2 }),
+    Entry("fstore", Operands::Local { slots: 1 }),
+    Entry("dstore", Operands::Local { slots: 2 }),
+    Entry("astore", Operands::Local { slots: 1 }),
+    Entry("istore_0", Operands::ImplicitLocal { index: 0, slots: 1 }),
+    Entry("istore_1", Operands::ImplicitLocal { index: 1, slots: 1 }),
+    Entry("istore_2", Operands::ImplicitLocal { index: 2, slots: 1 }),
+    Entry("istore_3", Operands::ImplicitLocal { index: 3, slots: 1 }),
+    Entry("lstore_0", Operands::ImplicitLocal { index: 0, slots: 2 }),
+    Entry("lstore_1", Operands::ImplicitLocal { index: 1, slots: 2 }),
+    Entry("lstore_2", Operands::ImplicitLocal { index: 2, slots: 2 }),
+    Entry("lstore_3", Operands::ImplicitLocal { index: 3, slots: 2 }),
+    Entry("fstore_0", Operands::ImplicitLocal { index: 0, slots: 1 }),
+    Entry("fstore_1", Operands::ImplicitLocal { index: 1, slots: 1 }),
+    Entry("fstore_2", Operands::ImplicitLocal { index: 2, slots: 1 }),
+    Entry("fstore_3", Operands::ImplicitLocal { index: 3, slots: 1 }),
+    Entry("dstore_0", Operands::ImplicitLocal { index: 0, slots: 2 }),
+    Entry("dstore_1", Operands::ImplicitLocal { index: 1, slots: 2 }),
+    Entry("dstore_2", Operands::ImplicitLocal { index: 2, slots: 2 }),
+    Entry("dstore_3", Operands::ImplicitLocal { index: 3, slots: 2 }),
+    Entry("astore_0", Operands::ImplicitLocal { index: 0, slots: 1 }),
+    Entry("astore_1", Operands::ImplicitLocal { index: 1, slots: 1 }),
+    Entry("astore_2", Operands::ImplicitLocal { index: 2, slots: 1 }),
+    Entry("astore_3", Operands::ImplicitLocal { index: 3, slots: 1 }),
+    Entry("iastore", Operands::Empty),
+    Entry("lastore", Operands::Empty),
+    Entry("fastore", Operands::Empty),
+    Entry("dastore", Operands::Empty),
+    Entry("aastore", Operands::Empty),
+    Entry("bastore", Operands::Empty),
+    Entry("castore", Operands::Empty),
+    Entry("sastore", Operands::Empty),
+    Entry("pop", Operands::Empty),
+    Entry("pop2", Operands::Empty),
+    Entry("dup", Operands::Empty),
+    Entry("dup_x1", Operands::Empty),
+    Entry("dup_x2", Operands::Empty),
+    Entry("dup2", Operands::Empty),
+    Entry("dup2_x1", Operands::Empty),
+    Entry("dup2_x2", Operands::Empty),
+    Entry("swap", Operands::Empty),
+    Entry("iadd", Operands::Empty),
+    Entry("ladd", Operands::Empty),
+    Entry("fadd", Operands::Empty),
+    Entry("dadd", Operands::Empty),
+    Entry("isub", Operands::Empty),
+    Entry("lsub", Operands::Empty),
+    Entry("fsub", Operands::Empty),
+    Entry("dsub", Operands::Empty),
+    Entry("imul", Operands::Empty),
+    Entry("lmul", Operands::Empty),
+    Entry("fmul", Operands::Empty),
+    Entry("dmul", Operands::Empty),
+    Entry("idiv", Operands::Empty),
+    Entry("ldiv", Operands::Empty),
+    Entry("fdiv", Operands::Empty),
+    Entry("ddiv", Operands::Empty),
+    Entry("irem", Operands::Empty),
+    Entry("lrem", Operands::Empty),
+    Entry("frem", Operands::Empty),
+    Entry("drem", Operands::Empty),
+    Entry("ineg", Operands::Empty),
+    Entry("lneg", Operands::Empty),
+    Entry("fneg", Operands::Empty),
+    Entry("dneg", Operands::Empty),
+    Entry("ishl", Operands::Empty),
+    Entry("lshl", Operands::Empty),
+    Entry("ishr", Operands::Empty),
+    Entry("lshr", Operands::Empty),
+    Entry("iushr", Operands::Empty),
+    Entry("lushr", Operands::Empty),
+    Entry("iand", Operands::Empty),
+    Entry("land", Operands::Empty),
+    Entry("ior", Operands::Empty),
+    Entry("lor", Operands::Empty),
+    Entry("ixor", Operands::Empty),
+    Entry("lxor", Operands::Empty),
+    Entry("iinc", Operands::Increment),
+    Entry("i2l", Operands::Empty),
+    Entry("i2f", Operands::Empty),
+    Entry("i2d", Operands::Empty),
+    Entry("l2i", Operands::Empty),
+    Entry("l2f", Operands::Empty),
+    Entry("l2d", Operands::Empty),
+    Entry("f2i", Operands::Empty),
+    Entry("f2l", Operands::Empty),
+    Entry("f2d", Operands::Empty),
+    Entry("d2i", Operands::Empty),
+    Entry("d2l", Operands::Empty),
+    Entry("d2f", Operands::Empty),
+    Entry("i2b", Operands::Empty),
+    Entry("i2c", Operands::Empty),
+    Entry("i2s", Operands::Empty),
+    Entry("lcmp", Operands::Empty),
+    Entry("fcmpl", Operands::Empty),
+    Entry("fcmpg", Operands::Empty),
+    Entry("dcmpl", Operands::Empty),
+    Entry("dcmpg", Operands::Empty),
+    Entry("ifeq", Operands::Branch),
+    Entry("ifne", Operands::Branch),
+    Entry("iflt", Operands::Branch),
+    Entry("ifge", Operands::Branch),
+    Entry("ifgt", Operands::Branch),
+    Entry("ifle", Operands::Branch),
+    Entry("if_icmpeq", Operands::Branch),
+    Entry("if_icmpne", Operands::Branch),
+    Entry("if_icmplt", Operands::Branch),
+    Entry("if_icmpge", Operands::Branch),
+    Entry("if_icmpgt", Operands::Branch),
+    Entry("if_icmple", Operands::Branch),
+    Entry("if_acmpeq", Operands::Branch),
+    Entry("if_acmpne", Operands::Branch),
+    Entry("goto", Operands::Branch),
+    Entry("jsr", Operands::Branch),
+    Entry("ret", Operands::Local { slots: 1 }),
+    Entry("tableswitch", Operands::TableSwitch),
+    Entry("lookupswitch", Operands::LookupSwitch),
+    Entry("ireturn", Operands::Empty),
+    Entry("lreturn", Operands::Empty),
+    Entry("freturn", Operands::Empty),
+    Entry("dreturn", Operands::Empty),
+    Entry("areturn", Operands::Empty),
+    Entry("return", Operands::Empty),
+    Entry("getstatic", Operands::Field),
+    Entry("putstatic", Operands::Field),
+    Entry("getfield", Operands::Field),
+    Entry("putfield", Operands::Field),
+    Entry("invokevirtual", Operands::Invoke),
+    Entry("invokespecial", Operands::Invoke),
+    Entry("invokestatic", Operands::Invoke),
+    Entry("invokeinterface", Operands::InvokeInterface),
+    Entry("invokedynamic", Operands::InvokeDynamic),
+    Entry("new", Operands::Type),
+    Entry("newarray", Operands::NewArray),
+    Entry("anewarray", Operands::Type),
+    Entry("arraylength", Operands::Empty),
+    Entry("athrow", Operands::Empty),
+    Entry("checkcast", Operands::Type),
+    Entry("instanceof", Operands::Type),
+    Entry("monitorenter", Operands::Empty),
+    Entry("monitorexit", Operands::Empty),
+    Entry("wide", Operands::Wide),
+    Entry("multianewarray", Operands::MultiNewArray),
+    Entry("ifnull", Operands::Branch),
+    Entry("ifnonnull", Operands::Branch),
+    Entry("goto_w", Operands::WideBranch),
+    Entry("jsr_w", Operands::WideBranch),
 ];
