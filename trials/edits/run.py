@@ -6,7 +6,7 @@
 
 A file CRATE/MODULE-FUNCTION-WHAT.edit has the form of a must-fail edit: a line `file: src/x.rt`, then
 pairs of lines `old: TEXT` and `new: TEXT`, and each old text stands in that file exactly once. The
-merge gate tries one edit for each public function, and these here are the others.
+merge gate tries one edit for many of the public functions, and these here are the others.
 
 A check of a crate costs far more than one function's proof. So one check, on a copy of the crate and
 of those below it, tries an edit of each function. It says nothing of a function that calls one which

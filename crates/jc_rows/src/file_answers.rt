@@ -1,7 +1,7 @@
 //! What a source of files hands over.
 
 use anyhow::Result;
-use jc_session::{FileSource, Source};
+use jc_session::{FileSource, Source, SourceError};
 use std::fs;
 use std::rt::Files;
 
@@ -9,10 +9,14 @@ use std::rt::Files;
 pub(crate) fn read_answer(rt: &(impl Files + AllocGlobal), bytes: &[u8]) -> Result<String> {
     let path = "row";
     fs::write(rt, path, bytes)?;
-    let read = FileSource::new(rt).read(path.as_bytes());
+    let read = length_of_read(rt, path);
     fs::remove_file(rt, path)?;
     Ok(match read {
-        Ok(read) => format!(in rt.alloc(); "{} bytes", read.len())?,
+        Ok(length) => format!(in rt.alloc(); "{length} bytes")?,
         Err(error) => format!(in rt.alloc(); "{error:?}")?,
     })
+}
+
+fn length_of_read(rt: &(impl Files + AllocGlobal), path: &str) -> Result<usize, SourceError> {
+    Ok(FileSource::new(rt).read(path.as_bytes())?.len())
 }

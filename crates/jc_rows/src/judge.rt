@@ -12,7 +12,7 @@ use crate::text_answers::{
     field_answer, method_answer, name_answer, signature_answer, units_answer,
 };
 use crate::tokens::Token;
-use anyhow::{Context, Result, bail, ensure};
+use anyhow::{Context, Result, bail};
 use jc_base::{ByteMap, SigKind};
 use jc_session::Session;
 use std::alloc::{AllocError, Global};
@@ -142,9 +142,11 @@ impl Judge {
         let statement = row.statement(alloc)?;
         let bytes = bytes_of(alloc, &self.names, statement.parts())?;
         let name = Vec::from_slice(alloc, name.as_bytes())?;
-        ensure!(!self.names.contains_key(&name), "a name is given twice");
-        ensure!(self.names.insert(name, bytes).is_ok(), "no memory");
-        Ok(Found::Definition)
+        match self.names.insert(name, bytes) {
+            Ok(None) => Ok(Found::Definition),
+            Ok(Some(_)) => bail!("a name is given twice"),
+            Err(_) => bail!("no memory"),
+        }
     }
 
     fn judge_run(&mut self, alloc: Global, what: &str, row: &Row) -> Result<Found> {
