@@ -1,4 +1,4 @@
-use Rattle.std.proofs.Common.{◌++◌, ◌-◌, ◌∙◌, ap, arith, false, length, replicate}
+use Rattle.std.proofs.Common.{◌++◌, ◌∙◌, ap, arith, false, replicate}
 use Rattle.jc_code.proofs.starts.pass_to.Goals as goal
 
 pub returns : goal.returns

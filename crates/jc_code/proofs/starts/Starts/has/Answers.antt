@@ -1,4 +1,4 @@
-use Rattle.std.proofs.Common.{nat_lt, length, sym, subst, ◌≡◌, ◌∙◌, ap, ◌==◌, true, false}
+use Rattle.std.proofs.Common.{sym, ◌∙◌, ap, ◌==◌}
 use Rattle.std.specs.List.{list_any}
 use Rattle.jc_code.specs.inside.Marks.{marked}
 use Rattle.jc_code.proofs.marks.Marked.{mark_past, mark_within}
