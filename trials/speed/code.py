@@ -20,7 +20,7 @@ sys.dont_write_bytecode = True
 sys.path.insert(0, str(pathlib.Path(__file__).resolve().parent.parent))
 import common
 from common import class_file, number, utf8
-from measure import processor_seconds, round_seconds, write_frames
+from measure import doubled_rows, round_seconds, write_frames
 
 ROUNDS = 6
 TREE_BYTES = 16_000_000
@@ -101,15 +101,10 @@ def measure_tree(work, options):
 def measure_doubled(work):
     print("\n| | bytes of code, or handlers | faults | microseconds | nanoseconds each | times the row above |")
     print("|---|---|---|---|---|---|")
-    for make in (plain, branches, switches, one_switch, lookups, handlers, broken):
-        frames = [write_frames(work, f"{make.__name__}{size}", [make(size)]) for size in SIZES]
-        found = [processor_seconds(path, "count-code-faults", 1)[1] for path in frames]
-        rounds = [max(20, 4_000_000 // size) for size in SIZES]
-        before = None
-        for size, faults, seconds in zip(SIZES, found, round_seconds(frames, "count-code-faults", rounds)):
-            ratio = f"{seconds / before:.2f}" if before else ""
-            print(f"| {make.__name__} | {size} | {faults} | {seconds * 1e6:.0f} | {seconds / size * 1e9:.1f} | {ratio} |")
-            before = seconds
+    makes = (plain, branches, switches, one_switch, lookups, handlers, broken)
+    rounds = [max(20, 4_000_000 // size) for size in SIZES]
+    for name, count, _, faults, seconds, ratio in doubled_rows(work, makes, SIZES, "count-code-faults", rounds):
+        print(f"| {name} | {count} | {faults} | {seconds * 1e6:.0f} | {seconds / count * 1e9:.1f} | {ratio} |")
 
 
 def main():

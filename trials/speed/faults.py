@@ -15,7 +15,7 @@ sys.dont_write_bytecode = True
 sys.path.insert(0, str(pathlib.Path(__file__).resolve().parent.parent))
 import common
 from common import class_file, number, utf8
-from measure import processor_seconds, round_seconds, write_frames
+from measure import doubled_rows, round_seconds, write_frames
 
 ROUNDS = 6
 DOUBLED = (4_000, 8_000, 16_000, 32_000)
@@ -83,15 +83,10 @@ def measure_tree(work):
 def measure_doubled(work):
     print("\n| | count | bytes | faults | microseconds | nanoseconds each | times the row above |")
     print("|---|---|---|---|---|---|---|")
-    for make in (texts, classes, references, call_sites, fields, fields_of_one_name, methods, attributes):
-        frames = [write_frames(work, f"{make.__name__}{count}", [make(count)]) for count in DOUBLED]
-        found = [processor_seconds(path, "count-faults", 1)[1] for path in frames]
-        rounds = [max(3, 100_000 // count) for count in DOUBLED]
-        before = None
-        for count, faults, seconds in zip(DOUBLED, found, round_seconds(frames, "count-faults", rounds)):
-            ratio = f"{seconds / before:.2f}" if before else ""
-            print(f"| {make.__name__} | {count} | {len(make(count))} | {faults} | {seconds * 1e6:.0f} | {seconds / count * 1e9:.1f} | {ratio} |")
-            before = seconds
+    makes = (texts, classes, references, call_sites, fields, fields_of_one_name, methods, attributes)
+    rounds = [max(3, 100_000 // count) for count in DOUBLED]
+    for name, count, size, faults, seconds, ratio in doubled_rows(work, makes, DOUBLED, "count-faults", rounds):
+        print(f"| {name} | {count} | {size} | {faults} | {seconds * 1e6:.0f} | {seconds / count * 1e9:.1f} | {ratio} |")
 
 
 def main():

@@ -33,3 +33,16 @@ def write_frames(work, name, files):
     path = work / name
     path.write_bytes(common.framed(files))
     return path
+
+
+def doubled_rows(work, makes, counts, word, rounds):
+    """For each kind of file and each count, whose rounds stand beside it: name, count, bytes, the number
+    that is printed, the seconds of a round, and how many times those of the count before it."""
+    for make in makes:
+        files = [make(count) for count in counts]
+        frames = [write_frames(work, f"{make.__name__}{count}", [file]) for count, file in zip(counts, files)]
+        found = [processor_seconds(path, word, 1)[1] for path in frames]
+        before = None
+        for count, file, number, seconds in zip(counts, files, found, round_seconds(frames, word, rounds)):
+            yield make.__name__, count, len(file), number, seconds, f"{seconds / before:.2f}" if before else ""
+            before = seconds
