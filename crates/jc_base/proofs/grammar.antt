@@ -4,4 +4,5 @@ pub mod Identifiers
 pub mod SignaturesAreTexts
 pub mod Stack
 pub mod Steps
+pub mod TestDecides
 pub mod WaysToDerive

@@ -10,6 +10,7 @@ pub mod MemDevices
 pub mod ModifiedUtf8
 pub mod Names
 pub mod Params
+pub mod SignatureTests
 pub mod Signatures
 pub mod StdDevices
 pub mod TextTests

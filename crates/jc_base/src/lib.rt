@@ -33,6 +33,9 @@ pub use names::{
     texts_are_decided,
 };
 pub use no_memory::NoMemory;
-pub use signatures::{SigKind, check_signature, signature_examples, signatures_are_well_spelled};
+pub use signatures::{
+    SigKind, check_signature, signature_examples, signatures_are_decided,
+    signatures_are_well_spelled,
+};
 pub use std_devices::{StdInput, StdOutput};
 pub use writing::{write_all, write_parts};

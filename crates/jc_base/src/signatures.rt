@@ -7,6 +7,7 @@ ghost use Rattle.std.specs.Option.{option_map};
 ghost use Rattle.jc_base.specs.ModifiedUtf8.{IsWellSpelled};
 ghost use Rattle.jc_base.specs.Names.{Lacks};
 ghost use Rattle.jc_base.specs.Signatures.{identifier_stops, Symbol, Derives, Mark, Maybe, Many, JavaType, ReferenceType, ClassType, Thrown, Throws, Argument, Result, Arguments, Suffix, IsSignature};
+ghost use Rattle.jc_base.specs.SignatureTests.{is_signature};
 ghost use Rattle.jc_base.specs.inside.Owed.{symbols_of, tail_of, before, both_before, stack_before, GivesTop, GivesStackStep, GivesEntry, GivesAfter, GivesNamed, GivesRest, GivesStep, IsCut, BeginsWithName, BeginsWithNoName, EndsAtColon};
 
 use crate::descriptors::is_base_letter;
@@ -28,6 +29,11 @@ pub enum SigKind {
 /// Signatures are texts of modified UTF-8.
 pub fn signatures_are_well_spelled()
     ensures { (kind : SigKind) (b : List ℕ) → IsSignature kind b → IsWellSpelled b }
+{}
+
+/// The test of signatures that definitions compute with decides what the grammar says.
+pub fn signatures_are_decided()
+    ensures { (kind : SigKind) (b : List ℕ) → IsTrue (is_signature kind b) ↔ IsSignature kind b }
 {}
 
 /// Some signatures, and some texts that are none.
@@ -491,6 +497,7 @@ fn push_after(stack: &mut Vec<Owed>, after: After) -> Result<(), NoMemory>
 /// none.
 pub fn check_signature(alloc: Global, kind: SigKind, text: &[u8]) -> Result<bool, NoMemory>
     ensures ok { IfOk result (λ holds. IsTrue holds ↔ IsSignature kind text.now) }
+    ensures test { IfOk result (λ holds. holds ≡ is_signature kind text.now) }
     ensures empty { text.now ≡ [] → IsOk result }
 {
     if text.is_empty() {

@@ -103,14 +103,24 @@ lacks_test (c ∷ b) stops h = and_from _ _ (not_any c stops h.0) (lacks_test b 
 has_none_from : (b stops : List ℕ) → Lacks b stops → has_none_of stops b ≡ true
 has_none_from b stops h = lacks_test b stops (recursion_from_All (λ c. Contains stops c → ⊥) b h)
 
+lacking_fact : (stops b : List ℕ) → is_some (units_of b) && (not (eqb (length b) 0) && has_none_of stops b) ≡ true → IsWellSpelled b × (b ≢ []) × Lacks b stops
+lacking_fact stops b e =
+    let w = and_parts (is_some (units_of b)) (not (eqb (length b) 0) && has_none_of stops b) e in
+    let l = and_parts (not (eqb (length b) 0)) (has_none_of stops b) w.1 in
+    (well_spelled b w.0, (λ nil. absurd (let none = eq-eqb (length b) 0 (ap length nil) in let some = l.0 in cc)), lacks_by_test b stops l.1)
+
+lacking_test : (stops b : List ℕ) → IsWellSpelled b × (b ≢ []) × Lacks b stops → is_some (units_of b) && (not (eqb (length b) 0) && has_none_of stops b) ≡ true
+lacking_test stops b h = and_from _ _ (well_spelled_test b h.0) (and_from _ _ (not_empty b h.1) (has_none_from b stops h.2))
+
+-- a text that is not empty and has none of these characters
+pub lacking_decides : (stops b : List ℕ) → ((is_some (units_of b) && (not (eqb (length b) 0) && has_none_of stops b) ≡ true) → IsWellSpelled b × (b ≢ []) × Lacks b stops) × (IsWellSpelled b × (b ≢ []) × Lacks b stops → (is_some (units_of b) && (not (eqb (length b) 0) && has_none_of stops b) ≡ true))
+lacking_decides stops b = (lacking_fact stops b, lacking_test stops b)
+
 unqualified_fact : (b : List ℕ) → is_unqualified_text b ≡ true → IsUnqualifiedName b
-unqualified_fact b e =
-    let w = and_parts (is_some (units_of b)) (not (eqb (length b) 0) && has_none_of name_stops b) e in
-    let l = and_parts (not (eqb (length b) 0)) (has_none_of name_stops b) w.1 in
-    (well_spelled b w.0, (λ nil. absurd (let none = eq-eqb (length b) 0 (ap length nil) in let some = l.0 in cc)), lacks_by_test b name_stops l.1)
+unqualified_fact = lacking_fact name_stops
 
 unqualified_test : (b : List ℕ) → IsUnqualifiedName b → is_unqualified_text b ≡ true
-unqualified_test b h = and_from _ _ (well_spelled_test b h.0) (and_from _ _ (not_empty b h.1) (has_none_from b name_stops h.2))
+unqualified_test = lacking_test name_stops
 
 special_fact : (b : List ℕ) → same_bytes b (codes "<init>") || same_bytes b (codes "<clinit>") ≡ true → IsSpecialMethodName b
 special_fact b e =

@@ -1,6 +1,8 @@
-use Rattle.std.proofs.Common.{◌≡◌, vec_len, ◌<◌, length, subst, sym, ◌∙◌}
+use Rattle.std.proofs.Common.{◌≡◌, vec_len, ◌<◌, length, subst, sym, ◌∙◌, rules}
 use Rattle.std.proofs.lemmas.Bool.{false≢true, eqb-true, eq-eqb}
 use Rattle.jc_base.proofs.grammar.Stack.{judge_refuses, judge_ends, no_empty_signature}
+use Rattle.jc_base.proofs.grammar.TestDecides.{signature_decides}
+use Rattle.jc_base.proofs.texts.TestsDecide.{same_answer}
 use Rattle.jc_base.proofs.signatures.check_signature.Goals as goal
 
 pub returns-then-is_empty-clause-ok : goal.returns-then-is_empty-clause-ok
@@ -23,3 +25,18 @@ returns-clause-ok c =
       λ e. ends.1 (items ∙ eqb-true (vec_len c.loop-rest.stack) 0 (sym c.is_empty-2.ensures ∙ e)),
       λ is. c.is_empty-2.ensures ∙ eq-eqb (vec_len c.loop-rest.stack) 0 (sym items ∙ ends.0 is),
     )
+
+pub returns-in_default-clause-ok : goal.returns-in_default-clause-ok
+returns-in_default-clause-ok c = search rules
+
+pub returns-then-is_empty-clause-test : goal.returns-then-is_empty-clause-test
+returns-then-is_empty-clause-test c = same_answer _ _ (returns-then-is_empty-clause-ok c) (signature_decides c.args.kind c.args.text.now)
+
+pub returns-in_default-clause-test : goal.returns-in_default-clause-test
+returns-in_default-clause-test c = same_answer _ _ (returns-in_default-clause-ok c) (signature_decides c.args.kind c.args.text.now)
+
+pub returns-then-len-rest-clause-test : goal.returns-then-len-rest-clause-test
+returns-then-len-rest-clause-test c = same_answer _ _ (returns-then-len-rest-clause-ok c) (signature_decides c.args.kind c.args.text.now)
+
+pub returns-clause-test : goal.returns-clause-test
+returns-clause-test c = same_answer _ _ (returns-clause-ok c) (signature_decides c.args.kind c.args.text.now)
