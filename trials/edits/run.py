@@ -81,11 +81,18 @@ class Edit:
         reasons = []
         for name, reason in re.findall(r"^fn \w+::(\S+): (.*)$", said, re.M):
             path = name.split("::")
-            if path[: len(module)] == module and any(stands_in(it, path[len(module) :]) for it in self.functions):
+            if any(is_named(it, module, path) for it in self.functions):
                 reasons.append(reason)
         if any(it != "proved" and "it calls `" not in it for it in reasons):
             return True
         return None if any("it calls `" in it for it in reasons) else False
+
+
+def is_named(function, module, path):
+    """Whether a name of the check is this function's: a method of another module's type goes under that module."""
+    if path[: len(module)] == module:
+        return stands_in(function, path[len(module) :])
+    return function[0] in path and stands_in(function, path)
 
 
 def stands_in(function, path):

@@ -1,7 +1,5 @@
 -- What the calls of a device do to its count of failures and to what was written.
 use Rattle.std.specs.Prelude.{ℕ, ◌+◌, ◌-◌, ◌^◌, ◌<◌, ◌≤◌, ◌≡◌, max, min, List, length, take, Result, Option, MatchResult}
-use Rattle.std.specs.Borrow.{Bor}
-use Rattle.std.specs.List.{flat_map}
 use Rattle.std.specs.Io.KnownBytes.{Appends}
 
 -- the count with n more, which stays at the top of a `u64`
@@ -19,7 +17,3 @@ CountsFault result old new = MatchResult result (λ _. new ≡ old) (λ _. MoreF
 -- a proper beginning of the text was appended to what is known to be written
 abbrev pub WritesFront : Option (List ℕ) → Option (List ℕ) → List ℕ → Type 0
 WritesFront old new text = (n : ℕ) × (n < length text) × Appends old new (take n text)
-
--- the parts, one after another
-abbrev pub joined : List (Bor (List ℕ)) → List ℕ
-joined parts = flat_map (λ part. part.now) parts

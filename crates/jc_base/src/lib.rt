@@ -38,4 +38,4 @@ pub use signatures::{
     signatures_are_well_spelled,
 };
 pub use std_devices::{StdInput, StdOutput};
-pub use writing::{write_all, write_parts};
+pub use writing::write_all;

@@ -1,3 +1,2 @@
 pub mod holding
-pub mod texts
 pub mod runs

@@ -2,7 +2,7 @@
 use Rattle.std.specs.Prelude.{List, ℕ, ◌++◌, codes, decimal}
 use Rattle.jc_session.specs.declared.edit.EditError.{EditError}
 use Rattle.jc_session.specs.declared.edit.EditError.TheVariants as errors
-use Rattle.jc_session.specs.RowText.{path_text}
+use Rattle.jc_text.specs.Escapes.{path_text}
 
 abbrev pub edit_code : EditError → ℕ
 edit_code errors.AlreadyThere = 1

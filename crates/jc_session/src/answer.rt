@@ -8,14 +8,14 @@ ghost use Rattle.jc_session.specs.Runs.{CountsWrites, LineMayLack, MayLack};
 ghost use Rattle.jc_session.specs.inside.Growth.{MayGrow, change_lent};
 ghost use Rattle.jc_session.specs.inside.Replies.{Gives, GivesByAnswers, command_lent, placed, said_by};
 
-use crate::answer_text::{write_edit_answer, write_unread};
+use crate::answer_text::{write_bad_line, write_edit_answer, write_unread};
 use crate::command::Command;
 use crate::edit::{EditError, LentEdit};
 use crate::report_text::write_report;
 use crate::run_error::RunError;
 use crate::session::Session;
 use crate::source::{Source, SourceError};
-use jc_base::{Output, write_all};
+use jc_base::Output;
 
 /// What comes after an answer.
 #[derive(Clone, Copy, Debug)]
@@ -62,7 +62,7 @@ pub(crate) fn answer<S: Source, W: Output>(
         Command::Replace(path) => answer_sourced(session, source, path, Placing::Other, out),
         Command::Remove(path) => answer_edit(session, LentEdit::Remove(path), out),
         Command::Report => said(write_report(session.report(), out)),
-        Command::Bad => said(write_all(out, b"bad line\n")),
+        Command::Bad => said(write_bad_line(out)),
         Command::End => Ok(Next::Nothing),
     }
 }

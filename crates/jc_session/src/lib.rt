@@ -8,7 +8,6 @@ mod claims;
 mod command;
 mod command_line;
 mod edit;
-mod escapes;
 mod file;
 mod file_row;
 mod held;

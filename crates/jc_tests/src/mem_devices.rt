@@ -1,6 +1,6 @@
 //! Devices over memory, and writing whole texts.
 
-use jc_base::{DeviceFault, Input, MemInput, MemOutput, NoMemory, Output, write_all, write_parts};
+use jc_base::{DeviceFault, Input, MemInput, MemOutput, NoMemory, Output, write_all};
 use std::test::Fail;
 
 #[test]
@@ -28,7 +28,7 @@ fn an_input_fails_after_its_bytes(rt: HostRuntime) {
 fn an_output_takes_what_fits(rt: HostRuntime) -> Result<(), Fail> {
     let mut output = MemOutput::new(rt.alloc(), 7)?;
     assert!(rt; write_all(&mut output, b"one") == Ok(()));
-    assert!(rt; write_parts(&mut output, &[b", ", b"two"]) == Err(DeviceFault));
+    assert!(rt; write_all(&mut output, b", two") == Err(DeviceFault));
     assert!(rt; output.write(b"") == Ok(0));
     assert!(rt; output.bytes() == b"one, tw".as_slice());
     Ok(())
@@ -37,7 +37,7 @@ fn an_output_takes_what_fits(rt: HostRuntime) -> Result<(), Fail> {
 #[test]
 fn an_output_of_no_room_takes_nothing(rt: HostRuntime) -> Result<(), Fail> {
     let mut output = MemOutput::new(rt.alloc(), 0)?;
-    assert!(rt; write_parts(&mut output, &[b"", b""]) == Ok(()));
+    assert!(rt; write_all(&mut output, b"") == Ok(()));
     assert!(rt; output.write(b"a") == Err(DeviceFault));
     Ok(())
 }

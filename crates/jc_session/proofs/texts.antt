@@ -1,2 +1,0 @@
-pub mod PartsWritten
-pub mod EscapedTexts

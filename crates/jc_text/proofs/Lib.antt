@@ -1,0 +1,3 @@
+pub mod Sending
+mod texts
+mod WritesAtOnce

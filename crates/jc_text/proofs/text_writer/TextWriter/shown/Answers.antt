@@ -1,0 +1,17 @@
+use Rattle.std.proofs.Common.{sym, ◌∙◌}
+use Rattle.jc_text.proofs.Sending.{◌⟫◌, sends_equal}
+use Rattle.jc_text.proofs.texts.PlainRuns.{shown_plain, shown_spelled, shown_unspelled}
+use Rattle.jc_text.proofs.text_writer.TextWriter.shown.Goals as goal
+
+pub returns-then-plain_len-text : goal.returns-then-plain_len-text
+returns-then-plain_len-text g c = sends_equal (sym (shown_plain c.args.text.now (sym c.plain_len.ensures.length ∙ c.if-plain_len-text.true))) c.text.ensures
+
+pub returns-then-is_ok : goal.returns-then-is_ok
+returns-then-is_ok g c =
+    let spelled = sym c.check_units.ensures.computed ∙ sym c.is_ok.ensures.value ∙ c.if-is_ok.true in
+    sends_equal (sym (shown_spelled c.args.text.now spelled)) c.units.ensures
+
+pub returns-else-is_ok : goal.returns-else-is_ok
+returns-else-is_ok g c =
+    let spelled = sym c.check_units.ensures.computed ∙ sym c.is_ok.ensures.value ∙ c.if-is_ok.false in
+    sends_equal (sym (shown_unspelled c.args.text.now spelled)) (c.text-else-is_ok.ensures ⟫ c.hexadecimal.ensures)

@@ -1,0 +1,3 @@
+pub mod Escapes
+pub mod Numbers
+pub mod Sends

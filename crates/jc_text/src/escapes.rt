@@ -1,0 +1,113 @@
+//! Names, texts and paths as printable ASCII.
+
+ghost use Rattle.std.specs.Prelude.{◌≡◌, ◌≤◌, length, take, drop};
+ghost use Rattle.std.specs.List.{flat_map, prefix_len};
+ghost use Rattle.jc_base.specs.CodeUnits.{units_before};
+ghost use Rattle.jc_text.specs.Sends.{Sends};
+ghost use Rattle.jc_text.specs.Escapes.{is_plain, path_byte_text, path_text, shown, unit_text};
+
+use crate::text_writer::TextWriter;
+use jc_base::{Output, Units, check_units};
+
+impl<'w, W: Output> TextWriter<'w, W> {
+    /// Hands over a text by its code units (JVMS 4.4.7): plain ones as they are, a backslash twice, and
+    /// any other as `\uNNNN`. A text that is no modified UTF-8 is shown as `!` and its bytes, two
+    /// hexadecimal digits each.
+    pub fn shown(&mut self, text: &[u8])
+        ensures { Sends W.written W.failures self.old self.new (shown text.now) }
+    {
+        if plain_len(text) == text.len() {
+            self.text(text);
+        } else if check_units(text).is_ok() {
+            self.units(text);
+        } else {
+            self.text(b"!");
+            self.hexadecimal(text);
+        }
+    }
+
+    /// Hands over a path: plain bytes as they are, a backslash twice, and any other byte as `\xNN`.
+    pub fn path(&mut self, path: &[u8])
+        ensures { Sends W.written W.failures self.old self.new (path_text path.now) }
+    {
+        let mut left = path;
+        loop {
+            let (plain, escaped) = split_plain(left);
+            self.text(plain);
+            let Some((byte, rest)) = escaped.split_first() else {
+                return;
+            };
+            self.path_byte(*byte);
+            left = rest;
+        }
+    }
+
+    // The units that stand before the first wrong spelling.
+    fn units(&mut self, text: &[u8])
+        ensures { Sends W.written W.failures self.old self.new (flat_map unit_text (units_before text.now)) }
+    {
+        let mut left = text;
+        loop {
+            let (plain, escaped) = split_plain(left);
+            self.text(plain);
+            let mut units = Units::new(escaped);
+            let Some(unit) = units.next() else {
+                return;
+            };
+            self.unit(unit);
+            left = units.rest();
+        }
+    }
+
+    fn path_byte(&mut self, byte: u8)
+        ensures { Sends W.written W.failures self.old self.new (path_byte_text byte) }
+    {
+        if is_plain(u16::from(byte)) {
+            self.text(&[byte]);
+        } else if byte == b'\\' {
+            self.text(b"\\\\");
+        } else {
+            self.text(b"\\x");
+            self.hexadecimal(&[byte]);
+        }
+    }
+
+    fn unit(&mut self, unit: u16)
+        ensures { Sends W.written W.failures self.old self.new (unit_text unit) }
+    {
+        if is_plain(unit) {
+            self.text(&[unit as u8]);
+        } else if unit == u16::from(b'\\') {
+            self.text(b"\\\\");
+        } else {
+            self.text(b"\\u");
+            self.hexadecimal(&unit.to_be_bytes());
+        }
+    }
+}
+
+// The plain bytes at the front, and what follows them.
+fn split_plain(bytes: &[u8]) -> (&[u8], &[u8])
+    ensures plain { result.0.now ≡ take (prefix_len is_plain bytes.now) bytes.now }
+    ensures escaped { result.1.now ≡ drop (prefix_len is_plain bytes.now) bytes.now }
+{
+    bytes.split_at(plain_len(bytes))
+}
+
+// How many bytes at the front are plain.
+fn plain_len(bytes: &[u8]) -> usize
+    ensures length { result ≡ prefix_len is_plain bytes.now }
+    ensures within { result ≤ length bytes.now }
+{
+    bytes
+        .iter()
+        .take_while(|byte| is_plain(u16::from(**byte)))
+        .count()
+}
+
+// Whether a unit is printable ASCII and no backslash.
+fn is_plain(unit: u16) -> bool
+    ensures { result ≡ is_plain unit }
+{
+    0x20 <= unit && unit <= 0x7e && unit != 0x5c
+}
