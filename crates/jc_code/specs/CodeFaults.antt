@@ -11,6 +11,7 @@ use Rattle.jc_view.specs.ClassFile.{Attribute, ClassFile, Member}
 use Rattle.jc_view.specs.Attributes.{Code, Handler, codes_of}
 use Rattle.jc_view.specs.AttributeReading.{code_in}
 use Rattle.jc_code.specs.Insns.{IsCode}
+use Rattle.jc_code.specs.InsnReading.{end_of, insns_of}
 use Rattle.jc_code.specs.CodeRules.{Scope, breaks_s2, breaks_s3, breaks_s4, breaks_s5, breaks_s6, breaks_s7, breaks_s8, breaks_s9, breaks_s10, breaks_s11, breaks_s12, breaks_s13, breaks_s14, breaks_s15, breaks_s16, breaks_s17, breaks_s18, breaks_s19, breaks_s20, breaks_s21, breaks_s22, breaks_s23, breaks_s24}
 
 -- ---- the code of a method
@@ -95,6 +96,10 @@ faults_over c k items end =
     if end == length k.code
     then flat_map (faults_against (scope_of c k items) items k.handlers) ALL
     else fault_at rules.S1 end ∷ []
+
+-- the faults of a code, by the instructions that are read in it
+unfoldable pub faults_of : ClassFile → Code → List CodeFault
+faults_of c k = faults_over c k (insns_of k.code) (end_of k.code)
 
 -- the faults of a code
 pub record AreFaultsOf (c : ClassFile) (k : Code) (found : List CodeFault) : Type 0 where

@@ -2,6 +2,7 @@ pub mod Opcodes
 pub mod Switches
 pub mod Insns
 pub mod InsnsLeft
+pub mod InsnReading
 pub mod CodeRules
 pub mod CodeFaults
 pub mod CodeFaultOrder

@@ -1,5 +1,8 @@
 //! The static constraints of code, and faults against them (JVMS 4.7.3, 4.9.1).
 
+ghost use Rattle.std.specs.Prelude.{◌≡◌};
+ghost use Rattle.jc_code.specs.CodeFaultOrder.{rule_number};
+
 /// A static constraint of a method's code. A rule over an entry or a text that is missing, or of the
 /// wrong kind, is not broken unless it asks for that itself.
 #[derive(Clone, Copy, Debug, PartialEq, Eq)]
@@ -59,6 +62,38 @@ pub enum CodeRule {
 }
 
 impl CodeRule {
+    /// Its number, from 1.
+    pub fn number(self) -> u8
+        ensures { result ≡ rule_number self }
+    {
+        match self {
+            CodeRule::S1 => 1,
+            CodeRule::S2 => 2,
+            CodeRule::S3 => 3,
+            CodeRule::S4 => 4,
+            CodeRule::S5 => 5,
+            CodeRule::S6 => 6,
+            CodeRule::S7 => 7,
+            CodeRule::S8 => 8,
+            CodeRule::S9 => 9,
+            CodeRule::S10 => 10,
+            CodeRule::S11 => 11,
+            CodeRule::S12 => 12,
+            CodeRule::S13 => 13,
+            CodeRule::S14 => 14,
+            CodeRule::S15 => 15,
+            CodeRule::S16 => 16,
+            CodeRule::S17 => 17,
+            CodeRule::S18 => 18,
+            CodeRule::S19 => 19,
+            CodeRule::S20 => 20,
+            CodeRule::S21 => 21,
+            CodeRule::S22 => 22,
+            CodeRule::S23 => 23,
+            CodeRule::S24 => 24,
+        }
+    }
+
     /// The rules in their order.
     pub const ALL: [CodeRule; 24] = [
         CodeRule::S1,

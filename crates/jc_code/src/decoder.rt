@@ -6,7 +6,8 @@ ghost use Rattle.jc_view.specs.Moves.{Lends};
 ghost use Rattle.jc_code.specs.declared.opcode.Operands.{Operands};
 ghost use Rattle.jc_code.specs.declared.opcode.Operands.TheVariants as operands;
 ghost use Rattle.jc_code.specs.Opcodes.{operands_of};
-ghost use Rattle.jc_code.specs.inside.Decoding.{pad, target_count, same, table_head_value, lookup_head_value, after_insn, after_lookup_switch, after_operands, after_table_switch, after_wide, after_widened, insn_value, lookup_switch_value, operands_value, table_switch_value, wide_value, widened_value};
+ghost use Rattle.jc_code.specs.InsnReading.{pad, target_count, after_insn, after_lookup_switch, after_operands, after_table_switch, after_wide, after_widened, insn_value, lookup_switch_value, operands_value, table_switch_value, wide_value, widened_value};
+ghost use Rattle.jc_code.specs.inside.Decoding.{same, table_head_value, lookup_head_value};
 
 use crate::insn::Insn;
 use crate::numbers::{read_byte, read_int, read_short, target};
@@ -16,7 +17,7 @@ use jc_base::Cursor;
 use jc_view::{ConstantIndex, read_index};
 
 /// The instruction at the cursor, whose place counts from the front of the code.
-#[tactic(auto, unfolding(crate::specs::inside::Decoding::after_insn, crate::specs::inside::Decoding::insn_value))]
+#[tactic(auto, unfolding(crate::specs::InsnReading::after_insn, crate::specs::InsnReading::insn_value))]
 pub(crate) fn read_insn<'a>(cursor: &mut Cursor<'a>) -> Option<Insn<'a>>
     requires { cursor.old.place + length cursor.old.rest < 2 ^ 16 }
     ensures { Lends same (after_insn cursor.old.place) (insn_value cursor.old.place) cursor.old result cursor.new }

@@ -10,7 +10,7 @@ ghost use Rattle.jc_code.specs.declared.code_fault.CodeFault.{CodeFault};
 ghost use Rattle.jc_code.specs.declared.code_fault.TheConstants.CodeRule.{ALL};
 ghost use Rattle.jc_code.specs.declared.insn.Insn.{Insn};
 ghost use Rattle.jc_code.specs.Insns.{IsCode};
-ghost use Rattle.jc_code.specs.CodeFaults.{AreFaultsOf, AreFaultsOfMethod, code_of_member, faults_against, fault_at, handler_breaks, insn_breaks, numbers_of, places_of};
+ghost use Rattle.jc_code.specs.CodeFaults.{AreFaultsOf, AreFaultsOfMethod, code_of_member, faults_against, faults_of, fault_at, handler_breaks, insn_breaks, numbers_of, places_of};
 ghost use Rattle.jc_code.specs.CodeFaultOrder.{fault_cmp};
 ghost use Rattle.jc_code.specs.CodeViolations.{BreaksCode, ViolatesCode};
 
@@ -18,7 +18,8 @@ use crate::clean::is_clean;
 use crate::code_fault::{CodeFault, CodeRule};
 use crate::insn::Insn;
 use crate::insns::Insns;
-use crate::laws::instructions_are_apart;
+use crate::laws::{codes_are_read, instructions_are_apart};
+use crate::numbers::as_bytes;
 use crate::rules::constants::{
     breaks_s6, breaks_s7, breaks_s8, breaks_s9, breaks_s10, breaks_s11, breaks_s12, breaks_s13,
     breaks_s14, breaks_s15, breaks_s16, breaks_s17, breaks_s18, breaks_s19, breaks_s20, breaks_s21,
@@ -104,7 +105,10 @@ pub fn faults_in(alloc: Global, class: &ClassView, code: &Code) -> Result<Vec<Co
     ensures listed { IfOk result (λ found. AreFaultsOf class.now code.now.code found.items) }
     ensures violated { IfOk result (λ found. (fault : CodeFault) → Contains found.items fault ↔ BreaksCode fault.rule class.now code.now.code fault.place) }
     ensures rising { IfOk result (λ found. IsStrictlySortedBy fault_cmp found.items) }
+    ensures computed { IfOk result (λ found. found.items ≡ faults_of class.now code.now.code) }
 {
+    let _bytes = as_bytes(code.bytes());
+    codes_are_read();
     instructions_are_apart();
     list_faults(alloc, class, code)
 }

@@ -2,6 +2,7 @@
 
 ghost use Rattle.std.specs.Prelude.{◌≡◌, ◌<◌, ◌^◌, [], length};
 ghost use Rattle.jc_code.specs.Insns.{IsCode};
+ghost use Rattle.jc_code.specs.InsnReading.{end_of, insns_of};
 
 use crate::decoder::read_insn;
 use crate::insn::Insn;
@@ -23,7 +24,7 @@ impl<'a> Model for Insns<'a> {
     ghost Value = { InsnsLeft };
 
     ghost use Rattle.std.specs.Prelude.{◌+◌, ◌<◌, ◌^◌, length};
-    ghost use Rattle.jc_code.specs.inside.Decoding.{end_from, insns_from};
+    ghost use Rattle.jc_code.specs.InsnReading.{end_from, insns_from};
 
     ghost view = { λ a. record { place = a.cursor.place; left = insns_from a.cursor.place a.cursor.rest; end = end_from a.cursor.place a.cursor.rest } };
 
@@ -35,7 +36,7 @@ impl<'a> Insns<'a> {
     pub fn new(code: &'a [u8]) -> Insns<'a>
         requires { length code.now < 2 ^ 16 }
         ensures code { IsCode code.now result.left result.end }
-        ensures place { result.place ≡ 0 }
+        ensures read { result ≡ record { place = 0; left = insns_of code.now; end = end_of code.now } }
     {
         Insns {
             cursor: Cursor::new(code),

@@ -8,6 +8,8 @@ ghost use Rattle.jc_code.specs.declared.switch.LookupSwitch.{LookupSwitch};
 ghost use Rattle.jc_code.specs.declared.opcode.Operands.{Operands};
 ghost use Rattle.jc_code.specs.Opcodes.{groups, opcodes, operands_of, operand_size, begin_in_order, HasSize};
 ghost use Rattle.jc_code.specs.Insns.{IsSpelling, Stands, IsCode, IsPartAt, targets_place, cases_place, target_bytes, case_bytes};
+ghost use Rattle.jc_code.specs.InsnReading.{end_of, insns_of};
+ghost use Rattle.jc_view.specs.Outcome.{AreBytes};
 ghost use Rattle.jc_code.specs.Examples.{plain_code, plain_insns, cut_code, cut_insns, falling_code, falling_insns, wide_code, wide_insns, switch_code, switch_insns};
 
 /// At a place of a code stands one instruction at most, and a code is the instructions of one list
@@ -16,6 +18,11 @@ pub fn instructions_are_apart()
     ensures one { (code : List ℕ) (at : ℕ) (a b : Insn) → Stands code at a → Stands code at b → a ≡ b }
     ensures items { (code : List ℕ) (items more : List (ℕ × Insn)) (end last : ℕ) → IsCode code items end → IsCode code more last → items ≡ more }
     ensures end { (code : List ℕ) (items more : List (ℕ × Insn)) (end last : ℕ) → IsCode code items end → IsCode code more last → end ≡ last }
+{}
+
+/// Each code of bytes is instructions up to an end: those that are read from its front.
+pub fn codes_are_read()
+    ensures { (code : List ℕ) → AreBytes code → IsCode code (insns_of code) (end_of code) }
 {}
 
 /// There are 202 opcodes, each group of them begins at the number that it says, and behind an opcode

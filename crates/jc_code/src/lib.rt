@@ -23,7 +23,8 @@ pub use faults::{code_faults, faults_in, method_code};
 pub use insn::{Insn, LinkKind};
 pub use insns::Insns;
 pub use laws::{
-    decoding_examples, instructions_are_apart, opcode_table, switch_tables_lie_in_the_code,
+    codes_are_read, decoding_examples, instructions_are_apart, opcode_table,
+    switch_tables_lie_in_the_code,
 };
 pub use opcode::{Opcode, Operands};
 pub use switch::{Case, Cases, LookupSwitch, TableSwitch, Targets};

@@ -4,7 +4,8 @@ ghost use Rattle.std.specs.Prelude.{◌≡◌, ◌<◌, ◌^◌, pos, ◌+ℤ◌
 ghost use Rattle.jc_view.specs.Reading.{after};
 ghost use Rattle.jc_view.specs.Moves.{Lends};
 ghost use Rattle.jc_view.specs.Outcome.{AreBytes};
-ghost use Rattle.jc_code.specs.inside.Decoding.{same, byte_value, short_value, int_value};
+ghost use Rattle.jc_code.specs.InsnReading.{byte_value, short_value, int_value};
+ghost use Rattle.jc_code.specs.inside.Decoding.{same};
 
 use jc_base::Cursor;
 

@@ -5,7 +5,8 @@ ghost use Rattle.std.specs.List.{flat_map};
 ghost use Rattle.jc_view.specs.Reading.{after};
 ghost use Rattle.jc_view.specs.Moves.{Lends};
 ghost use Rattle.jc_code.specs.Insns.{target_bytes, case_bytes};
-ghost use Rattle.jc_code.specs.inside.Decoding.{same, case_value};
+ghost use Rattle.jc_code.specs.InsnReading.{case_value};
+ghost use Rattle.jc_code.specs.inside.Decoding.{same};
 
 use crate::numbers::{as_bytes, read_int, target};
 use jc_base::Cursor;

@@ -1,5 +1,8 @@
 //! The format rules, and faults against them (JVMS 4.1 to 4.8).
 
+ghost use Rattle.std.specs.Prelude.{◌≡◌};
+ghost use Rattle.jc_file.specs.FaultOrder.{rule_number};
+
 /// A rule of the class file format. A rule over an entry or a text that is missing, or of the wrong
 /// kind, is not broken unless it asks for that itself.
 #[derive(Clone, Copy, Debug, PartialEq, Eq)]
@@ -72,6 +75,44 @@ pub enum FormatRule {
 }
 
 impl FormatRule {
+    /// Its number, from 1.
+    pub fn number(self) -> u8
+        ensures { result ≡ rule_number self }
+    {
+        match self {
+            FormatRule::F1 => 1,
+            FormatRule::F2 => 2,
+            FormatRule::F3 => 3,
+            FormatRule::F4 => 4,
+            FormatRule::F5 => 5,
+            FormatRule::F6 => 6,
+            FormatRule::F7 => 7,
+            FormatRule::F8 => 8,
+            FormatRule::F9 => 9,
+            FormatRule::F10 => 10,
+            FormatRule::F11 => 11,
+            FormatRule::F12 => 12,
+            FormatRule::F13 => 13,
+            FormatRule::F14 => 14,
+            FormatRule::F15 => 15,
+            FormatRule::F16 => 16,
+            FormatRule::F17 => 17,
+            FormatRule::F18 => 18,
+            FormatRule::F19 => 19,
+            FormatRule::F20 => 20,
+            FormatRule::F21 => 21,
+            FormatRule::F22 => 22,
+            FormatRule::F23 => 23,
+            FormatRule::F24 => 24,
+            FormatRule::F25 => 25,
+            FormatRule::F26 => 26,
+            FormatRule::F27 => 27,
+            FormatRule::F28 => 28,
+            FormatRule::F29 => 29,
+            FormatRule::F30 => 30,
+        }
+    }
+
     /// The rules in their order.
     pub const ALL: [FormatRule; 30] = [
         FormatRule::F1,

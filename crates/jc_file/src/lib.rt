@@ -2,6 +2,7 @@
 //! where. Reading a class file and what it lends are `jc_view`'s, and stand here under the same names.
 #![tactic(auto)]
 
+mod access_flag;
 mod fault;
 mod fault_laws;
 mod faults;
@@ -9,6 +10,7 @@ mod rules;
 mod text_table;
 mod texts;
 
+pub use access_flag::AccessFlag;
 pub use fault::{Fault, FormatRule};
 pub use fault_laws::{
     attributes_are_recognised, fault_examples, faults_are_exact, faults_are_violations,

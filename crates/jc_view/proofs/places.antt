@@ -4,5 +4,6 @@ pub mod Entries
 pub mod CodeEntries
 pub mod BytesInLayout
 pub mod IndexTables
+pub mod MemberCounts
 pub mod AttributePlaces
 pub mod RisingLists

@@ -1,6 +1,6 @@
 -- Constants, their tags and their bytes (JVMS 4.4).
 use Rattle.jc_base.specs.Endian.{big_number, big_bytes}
-use Rattle.std.specs.Prelude.{ℕ, ◌<◌, ◌^◌, Bool, true, false, List, [], ◌∷◌, ◌++◌, length, Option, Some, None, if◌then◌else◌, ◌==◌}
+use Rattle.std.specs.Prelude.{ℕ, ◌<◌, ◌^◌, Bool, true, false, List, [], ◌∷◌, ◌++◌, length, Option, Some, None, if◌then◌else◌, ◌==◌, codes}
 use Rattle.jc_view.specs.declared.constant_pool.ConstantIndex.{ConstantIndex}
 use Rattle.jc_view.specs.declared.constant_pool.ConstantKind.{ConstantKind}
 use Rattle.jc_view.specs.declared.constant_pool.ConstantKind.TheVariants as kinds
@@ -54,6 +54,22 @@ tag_of kinds.NameAndType = 12
 tag_of kinds.MethodHandle = 15
 tag_of kinds.MethodType = 16
 tag_of kinds.InvokeDynamic = 18
+
+abbrev pub kind_name : ConstantKind → List ℕ
+kind_name kinds.Utf8 = codes "Utf8"
+kind_name kinds.Integer = codes "Integer"
+kind_name kinds.Float = codes "Float"
+kind_name kinds.Long = codes "Long"
+kind_name kinds.Double = codes "Double"
+kind_name kinds.Class = codes "Class"
+kind_name kinds.String = codes "String"
+kind_name kinds.Fieldref = codes "Fieldref"
+kind_name kinds.Methodref = codes "Methodref"
+kind_name kinds.InterfaceMethodref = codes "InterfaceMethodref"
+kind_name kinds.NameAndType = codes "NameAndType"
+kind_name kinds.MethodHandle = codes "MethodHandle"
+kind_name kinds.MethodType = codes "MethodType"
+kind_name kinds.InvokeDynamic = codes "InvokeDynamic"
 
 -- each kind, once
 abbrev pub all_kinds : List ConstantKind

@@ -1,5 +1,5 @@
--- The class that bytes name, or why they name none, as a function.
-use Rattle.std.specs.Prelude.{◌<◌, ℕ, List, slice_index, Option, Some, None, Result, if◌then◌else◌, option_and_then}
+-- The class file that bytes are and the class that they name, or why there is none, as functions.
+use Rattle.std.specs.Prelude.{◌<◌, ℕ, List, slice_index, Option, Some, None, Result, Ok, if◌then◌else◌, option_and_then}
 use Rattle.jc_base.specs.TextTests.{is_class_text}
 use Rattle.jc_view.specs.declared.parse_error.ParseError.{ParseError}
 use Rattle.jc_view.specs.declared.parse_error.ParseError.TheVariants as errors
@@ -27,3 +27,10 @@ unfoldable pub class_named : List ℕ → Result (List ℕ) ParseError
 class_named b = do
   found ← parts_at (record { place = 0; rest = b })
   or_refusal (name_in (class_value b found.0.places found.0.tail)) errors.NoName
+
+-- the class file that bytes are, where it names a class, or the first refusal that applies
+unfoldable pub class_read : List ℕ → Result ClassFile ParseError
+class_read b = do
+  found ← parts_at (record { place = 0; rest = b })
+  name ← or_refusal (name_in (class_value b found.0.places found.0.tail)) errors.NoName
+  Ok (class_value b found.0.places found.0.tail)

@@ -99,6 +99,13 @@ impl<'v, 'a> Attribute<'v, 'a> {
         self.class
     }
 
+    /// What it belongs to.
+    pub fn holder(&self) -> Holder
+        ensures { result ≡ self.now.attribute.holder }
+    {
+        self.holder
+    }
+
     /// Where the attribute begins in the file, with its name: so many bytes from the file's front.
     pub fn place(&self) -> usize
         ensures { result ≡ self.now.attribute.place }

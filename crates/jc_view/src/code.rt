@@ -60,6 +60,13 @@ impl<'v, 'a> Model for Code<'v, 'a> {
 }
 
 impl<'v, 'a> Code<'v, 'a> {
+    /// The class that it is of.
+    pub fn class(&self) -> &'v ClassView<'a>
+        ensures { result.now ≡ self.now.class }
+    {
+        self.class
+    }
+
     /// How many entries the operand stack has at most.
     pub fn max_stack(&self) -> u16
         ensures { result ≡ self.now.code.max_stack }

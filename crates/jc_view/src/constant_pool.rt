@@ -1,7 +1,7 @@
 //! The constant pool (JVMS 4.4).
 
 ghost use Rattle.std.specs.Prelude.{◌≡◌};
-ghost use Rattle.jc_view.specs.ConstantPool.{kind_of_tag, is_wide, tag_of};
+ghost use Rattle.jc_view.specs.ConstantPool.{kind_name, kind_of_tag, is_wide, tag_of};
 
 /// An index into the constant pool.
 #[derive(Clone, Copy, Debug, PartialEq, Eq, PartialOrd, Ord, Hash)]
@@ -88,6 +88,28 @@ impl ConstantKind {
             ConstantKind::MethodHandle => 15,
             ConstantKind::MethodType => 16,
             ConstantKind::InvokeDynamic => 18,
+        }
+    }
+
+    /// Its name in the standard, without `CONSTANT_` (JVMS 4.4, table 4.4-A).
+    pub fn name(self) -> &'static str
+        ensures { result.now ≡ kind_name self }
+    {
+        match self {
+            ConstantKind::Utf8 => "Utf8",
+            ConstantKind::Integer => "Integer",
+            ConstantKind::Float => "Float",
+            ConstantKind::Long => "Long",
+            ConstantKind::Double => "Double",
+            ConstantKind::Class => "Class",
+            ConstantKind::String => "String",
+            ConstantKind::Fieldref => "Fieldref",
+            ConstantKind::Methodref => "Methodref",
+            ConstantKind::InterfaceMethodref => "InterfaceMethodref",
+            ConstantKind::NameAndType => "NameAndType",
+            ConstantKind::MethodHandle => "MethodHandle",
+            ConstantKind::MethodType => "MethodType",
+            ConstantKind::InvokeDynamic => "InvokeDynamic",
         }
     }
 

@@ -5,19 +5,22 @@ ghost use Rattle.jc_view.specs.Examples.{class_a, class_a_data, head, constants,
 ghost use Rattle.jc_view.specs.declared.parse_error.ParseError.{ParseError};
 ghost use Rattle.jc_view.specs.ConstantPool.{Class};
 ghost use Rattle.jc_view.specs.ClassFile.{class_text_at, constant_at, ClassFile, layout, FitsClassFile};
-ghost use Rattle.jc_view.specs.Refusal.{Applies, IsLayoutOf, IsReadable, IsRefusal};
+ghost use Rattle.jc_view.specs.Refusal.{Applies, IsLayoutOf, IsNamed, IsReadable, IsRefusal};
 ghost use Rattle.jc_view.specs.Attributes.{Code, IsCodeOf, AreExceptionsOf, Bootstrap, AreBootstrapsOf};
 ghost use Rattle.jc_view.specs.AttributeReading.{code_of, code_in, exceptions_in, bootstraps_in, all_attributes};
 ghost use Rattle.std.specs.List.{Contains};
 ghost use Rattle.jc_view.specs.declared.constant_pool.ConstantIndex.{ConstantIndex};
 ghost use Rattle.jc_view.specs.Lookups.{utf8_at};
 ghost use Rattle.jc_view.specs.Places.{HasInstructionsAt, PlacedAttribute, IsLent, HasBytesAt};
-ghost use Rattle.jc_view.specs.Outcome.{AreBytes, NamesClass, class_named};
+ghost use Rattle.jc_view.specs.Outcome.{AreBytes, NamesClass, class_named, class_read};
 
 use jc_base::texts_are_decided;
 
-/// The class that bytes name, as a function, and its refusals, are what the definitions say.
+/// The class that bytes name and the class file that they are, as functions, and the refusals, are what
+/// the definitions say.
 pub fn outcomes_are_exact()
+    ensures read { (b : List ℕ) (c : ClassFile) (name : List ℕ) → AreBytes b → IsLayoutOf c b → IsNamed c name → class_read b ≡ Ok c }
+    ensures unread { (b : List ℕ) (e : ParseError) → AreBytes b → IsRefusal b e → class_read b ≡ Err e }
     ensures named { (b name : List ℕ) → AreBytes b → (class_named b ≡ Ok name) ↔ NamesClass b name }
     ensures refused { (b : List ℕ) (e : ParseError) → AreBytes b → (class_named b ≡ Err e) ↔ IsRefusal b e }
 {

@@ -4,7 +4,7 @@ ghost use Rattle.std.specs.Prelude.{◌≡◌, ◌⊎◌, ◌+◌, ◌<◌, ◌^
 ghost use Rattle.jc_view.specs.declared.parse_error.ParseError.TheVariants.{NoMemory};
 ghost use Rattle.std.specs.Option.{option_copied, option_map};
 ghost use Rattle.jc_view.specs.ClassFile.{ClassFile, all_slots, class_text_at, constant_at};
-ghost use Rattle.jc_view.specs.Lookups.{utf8_at};
+ghost use Rattle.jc_view.specs.Lookups.{descriptor_at, is_entry, name_at, utf8_at};
 ghost use Rattle.jc_view.specs.Places.{fields_in, methods_in, attributes_in, IsLent};
 ghost use Rattle.jc_view.specs.Lent.{constant_of};
 ghost use Rattle.jc_view.specs.inside.ConstantPlaces.{Holds};
@@ -13,7 +13,7 @@ ghost use Rattle.jc_view.specs.Refusal.{HasHead, IsLayoutOf, IsNamed, IsReadable
 
 use crate::attribute_kind::Holder;
 use crate::attributes::Attributes;
-use crate::constant_pool::{Constant, ConstantIndex};
+use crate::constant_pool::{Constant, ConstantIndex, ConstantKind};
 use crate::constant_reader::entry;
 use crate::indexes::Indexes;
 use crate::interfaces::Interfaces;
@@ -139,6 +139,7 @@ impl<'a> ClassView<'a> {
     pub fn fields(&self) -> Members<'_, 'a>
         ensures left { result ≡ record { class = self.now; left = fields_in self.now } }
         ensures few { length self.now.fields < 2 ^ 16 }
+        ensures all { length result.left ≡ length self.now.fields }
     {
         Members {
             class: self,
@@ -151,6 +152,7 @@ impl<'a> ClassView<'a> {
     pub fn methods(&self) -> Members<'_, 'a>
         ensures left { result ≡ record { class = self.now; left = methods_in self.now } }
         ensures few { length self.now.methods < 2 ^ 16 }
+        ensures all { length result.left ≡ length self.now.methods }
     {
         Members {
             class: self,
@@ -186,6 +188,34 @@ impl<'a> ClassView<'a> {
         ensures { option_copied result ≡ class_text_at self.now index }
     {
         class_text(self.bytes, &self.offsets, index)
+    }
+
+    /// The name that the NameAndType of an index gives; `None` where one of the two is missing.
+    pub fn name_at(&self, index: ConstantIndex) -> Option<&'a [u8]>
+        ensures { option_copied result ≡ name_at self.now index }
+    {
+        let Constant::NameAndType(name, _) = self.constant(index.0)? else {
+            return None;
+        };
+        self.utf8(name)
+    }
+
+    /// The descriptor that it gives.
+    pub fn descriptor_at(&self, index: ConstantIndex) -> Option<&'a [u8]>
+        ensures { option_copied result ≡ descriptor_at self.now index }
+    {
+        let Constant::NameAndType(_, descriptor) = self.constant(index.0)? else {
+            return None;
+        };
+        self.utf8(descriptor)
+    }
+
+    /// Whether the usable constant of an index is of a kind.
+    pub fn is_entry(&self, kind: ConstantKind, index: ConstantIndex) -> bool
+        ensures { result ≡ is_entry self.now kind index }
+    {
+        self.constant(index.0)
+            .is_some_and(|constant| constant.kind().tag() == kind.tag())
     }
 
     /// The constant of an index; `None` for 0, for one past the last, and for the second index of a

@@ -6,7 +6,7 @@ use Rattle.jc_code.specs.declared.opcode.Operands.TheVariants as operands
 use Rattle.jc_code.specs.declared.insn.Insn.{Insn}
 use Rattle.jc_code.specs.Opcodes.{operands_of, operand_size, HasSize}
 use Rattle.jc_code.specs.Insns.{IsSpelling}
-use Rattle.jc_code.specs.inside.Decoding.{after_operands, after_insn}
+use Rattle.jc_code.specs.InsnReading.{after_operands, after_insn}
 use Rattle.jc_code.proofs.decoding.ReadAgain.{insn_again}
 
 sized_front : (at : ℕ) (what : Operands) (xs : List ℕ) → HasSize what → after_operands at what xs ≡ Some [] → length xs ≡ operand_size what

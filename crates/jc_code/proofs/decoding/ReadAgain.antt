@@ -14,7 +14,7 @@ use Rattle.jc_code.specs.declared.opcode.Operands.TheVariants as operands
 use Rattle.jc_code.specs.declared.insn.Insn.{Insn}
 use Rattle.jc_code.specs.declared.insn.Insn.TheVariants as insns
 use Rattle.jc_code.specs.Insns.{Has, IsSpelling, byte_bytes, short_bytes, offset_to, target_bytes, iinc, wide, tableswitch, lookupswitch, invokeinterface, invokedynamic, newarray, multianewarray}
-use Rattle.jc_code.specs.inside.Decoding.{byte_value, short_value, target_value, after_widened, widened_value, after_operands, operands_value, after_insn, insn_value}
+use Rattle.jc_code.specs.InsnReading.{byte_value, short_value, target_value, after_widened, widened_value, after_operands, operands_value, after_insn, insn_value}
 use Rattle.jc_code.proofs.decoding.Behind.{both_behind}
 use Rattle.jc_code.proofs.decoding.Opcodes.{follows_iinc, follows_tableswitch, follows_lookupswitch, follows_invokeinterface, follows_invokedynamic, follows_newarray, follows_wide, follows_multianewarray}
 use Rattle.jc_code.proofs.decoding.Signed.{again_signed, again_offset}

@@ -7,7 +7,8 @@ use Rattle.jc_view.specs.Moves.{Lends}
 use Rattle.jc_code.specs.declared.opcode.Operands.{Operands}
 use Rattle.jc_code.specs.declared.insn.Insn.{Insn}
 use Rattle.jc_code.specs.Opcodes.{opcode_at, operands_of}
-use Rattle.jc_code.specs.inside.Decoding.{same, first_operands, after_operands, operands_value, after_insn, insn_value}
+use Rattle.jc_code.specs.InsnReading.{first_operands, after_operands, operands_value, after_insn, insn_value}
+use Rattle.jc_code.specs.inside.Decoding.{same}
 use Rattle.jc_code.proofs.decoding.Opcodes.{no_operands}
 
 pub first_operands_are : (xs : List ℕ) → 1 ≤ length xs → first_operands xs ≡ operands_of (big_number 1 xs)

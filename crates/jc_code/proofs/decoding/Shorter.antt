@@ -8,7 +8,7 @@ use Rattle.jc_view.proofs.places.Entries.{after_length}
 use Rattle.jc_code.specs.declared.opcode.Operands.{Operands}
 use Rattle.jc_code.specs.declared.opcode.Operands.TheVariants as operands
 use Rattle.jc_code.specs.Opcodes.{operand_size}
-use Rattle.jc_code.specs.inside.Decoding.{pad, low_value, high_value, target_count, case_count, first_operands, after_table_switch, after_lookup_switch, after_widened, after_wide, after_operands, after_insn}
+use Rattle.jc_code.specs.InsnReading.{pad, low_value, high_value, target_count, case_count, first_operands, after_table_switch, after_lookup_switch, after_widened, after_wide, after_operands, after_insn}
 
 after_fixed : (n : ℕ) (xs rest : List ℕ) → after n xs ≡ Some rest → length rest ≤ length xs
 after_fixed n xs rest e = let size = after_length n xs rest e in omega arith

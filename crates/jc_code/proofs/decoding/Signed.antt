@@ -9,7 +9,7 @@ use Rattle.jc_base.specs.Endian.{big_bytes, big_number}
 use Rattle.jc_view.specs.Reading.{after}
 use Rattle.jc_view.proofs.reading.BigEndian.{IsBytes, IsWidth, width4, Takes, takes_number, again_number}
 use Rattle.jc_code.specs.Insns.{offset_to, target_bytes, IsIntTarget}
-use Rattle.jc_code.specs.inside.Decoding.{target_value}
+use Rattle.jc_code.specs.InsnReading.{target_value}
 
 abbrev pub signed_bytes : Width → ℕ → ℤ → List ℕ
 signed_bytes w n z = big_bytes n (cast_unsigned w z)

@@ -8,7 +8,7 @@ use Rattle.jc_view.proofs.reading.BigEndian.{IsBytes}
 use Rattle.jc_view.proofs.refusals.ByteTests.{are_bytes}
 use Rattle.jc_code.specs.declared.insn.Insn.{Insn}
 use Rattle.jc_code.specs.Insns.{Stands, StandsAs, StandFrom, IsCode}
-use Rattle.jc_code.specs.inside.Decoding.{after_insn, insn_value, insns_within, end_within, insns_from, end_from}
+use Rattle.jc_code.specs.InsnReading.{after_insn, insn_value, insns_within, end_within, insns_from, end_from}
 use Rattle.jc_code.proofs.decoding.Taken.{insn_taken}
 use Rattle.jc_code.proofs.decoding.ReadAgain.{insn_again}
 use Rattle.jc_code.proofs.decoding.Shorter.{insn_shorter}

@@ -1,7 +1,7 @@
 -- The instructions of a code, one at each step.
 use Rattle.std.proofs.Common.{◌≡◌, ℕ, zero, suc, ◌+◌, ◌-◌, ◌≤◌, List, [], ◌∷◌, length, Option, Some, None, ◌⊎◌, inl, inr, refl, sym, ap, ◌∙◌, arith}
 use Rattle.jc_code.specs.declared.insn.Insn.{Insn}
-use Rattle.jc_code.specs.inside.Decoding.{after_insn, insn_value, insns_within, end_within, insns_from, end_from}
+use Rattle.jc_code.specs.InsnReading.{after_insn, insn_value, insns_within, end_within, insns_from, end_from}
 use Rattle.jc_code.proofs.decoding.Shorter.{insn_shorter}
 
 -- the place behind the first instruction

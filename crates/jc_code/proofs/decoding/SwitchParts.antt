@@ -13,7 +13,8 @@ use Rattle.jc_code.specs.declared.insn.Insn.TheVariants as insns
 use Rattle.jc_code.specs.declared.switch.Case.{Case}
 use Rattle.jc_code.specs.declared.decoder.TableHead.{TableHead}
 use Rattle.jc_code.specs.declared.decoder.LookupHead.{LookupHead}
-use Rattle.jc_code.specs.inside.Decoding.{pad, target_value, case_value, table_head_value, lookup_head_value, target_count, after_table_switch, table_switch_value, after_lookup_switch, lookup_switch_value}
+use Rattle.jc_code.specs.InsnReading.{pad, target_value, case_value, target_count, after_table_switch, table_switch_value, after_lookup_switch, lookup_switch_value}
+use Rattle.jc_code.specs.inside.Decoding.{table_head_value, lookup_head_value}
 use Rattle.jc_code.proofs.decoding.Tables.{IsInFront}
 
 pub target_in_front : (at : ℕ) → IsInFront 4 (target_value at)

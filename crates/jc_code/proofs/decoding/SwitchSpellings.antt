@@ -15,7 +15,8 @@ use Rattle.jc_code.specs.declared.switch.LookupSwitch.{LookupSwitch}
 use Rattle.jc_code.specs.declared.decoder.TableHead.{TableHead}
 use Rattle.jc_code.specs.declared.decoder.LookupHead.{LookupHead}
 use Rattle.jc_code.specs.Insns.{int_bytes, target_bytes, case_bytes, IsPad, IsIntTarget, IsTableSwitch, IsLookupSwitch, tableswitch, lookupswitch}
-use Rattle.jc_code.specs.inside.Decoding.{pad, int_value, target_value, case_value, low_value, high_value, target_count, case_count, table_head_value, lookup_head_value, after_table_switch, table_switch_value, after_lookup_switch, lookup_switch_value}
+use Rattle.jc_code.specs.InsnReading.{pad, int_value, target_value, case_value, low_value, high_value, target_count, case_count, after_table_switch, table_switch_value, after_lookup_switch, lookup_switch_value}
+use Rattle.jc_code.specs.inside.Decoding.{table_head_value, lookup_head_value}
 use Rattle.jc_code.proofs.decoding.Behind.{both_behind, split_behind}
 use Rattle.jc_code.proofs.decoding.Signed.{takes_signed, again_signed, takes_target, again_target}
 use Rattle.jc_code.proofs.decoding.Spellings.{IsReadAgain}

@@ -12,7 +12,7 @@ use Rattle.jc_view.proofs.reading.BigEndian.{IsBytes, width4, Takes, Takes-then,
 use Rattle.jc_view.proofs.reading.Tables.{Reads, each_takes}
 use Rattle.jc_code.specs.declared.switch.Case.{Case}
 use Rattle.jc_code.specs.Insns.{int_bytes, target_bytes, case_bytes, IsIntTarget, IsCase}
-use Rattle.jc_code.specs.inside.Decoding.{int_value, target_value, case_value, target_count}
+use Rattle.jc_code.specs.InsnReading.{int_value, target_value, case_value, target_count}
 use Rattle.jc_code.proofs.decoding.Behind.{both_behind}
 use Rattle.jc_code.proofs.decoding.Signed.{takes_signed, again_signed, takes_target, again_target}
 

@@ -11,7 +11,7 @@ use Rattle.jc_code.specs.declared.insn.Insn.{Insn}
 use Rattle.jc_code.specs.declared.insn.Insn.TheVariants as insns
 use Rattle.jc_code.specs.Opcodes.{operands_of}
 use Rattle.jc_code.specs.Insns.{Has, IsSpelling, byte_bytes, short_bytes, wide, tableswitch, lookupswitch}
-use Rattle.jc_code.specs.inside.Decoding.{byte_value, short_value, after_widened, widened_value, after_wide, wide_value, after_operands, operands_value, table_switch_value, lookup_switch_value, after_table_switch, after_lookup_switch, after_insn, insn_value}
+use Rattle.jc_code.specs.InsnReading.{byte_value, short_value, after_widened, widened_value, after_wide, wide_value, after_operands, operands_value, table_switch_value, lookup_switch_value, after_table_switch, after_lookup_switch, after_insn, insn_value}
 use Rattle.jc_code.proofs.decoding.Opcodes.{only_iinc, only_tableswitch, only_lookupswitch, only_invokeinterface, only_invokedynamic, only_newarray, only_wide, only_multianewarray}
 use Rattle.jc_code.proofs.decoding.Signed.{takes_signed, takes_offset}
 use Rattle.jc_code.proofs.decoding.Spellings.{TakesBody}

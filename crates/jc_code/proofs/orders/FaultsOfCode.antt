@@ -11,8 +11,9 @@ use Rattle.jc_code.specs.declared.code_fault.CodeRule.TheVariants as rules
 use Rattle.jc_code.specs.declared.code_fault.TheConstants.CodeRule.{ALL}
 use Rattle.jc_code.specs.declared.insn.Insn.{Insn}
 use Rattle.jc_code.specs.Insns.{IsCode}
+use Rattle.jc_code.specs.InsnReading.{insns_of, end_of}
 use Rattle.jc_code.specs.CodeRules.{Scope}
-use Rattle.jc_code.specs.CodeFaults.{AreFaultsOf, AreFaultsOfMethod, code_of_method, fault_at, faults_against, handler_breaks, insn_breaks, numbers_of, places, places_of, scope_of}
+use Rattle.jc_code.specs.CodeFaults.{AreFaultsOf, AreFaultsOfMethod, code_of_method, fault_at, faults_against, faults_of, faults_over, handler_breaks, insn_breaks, numbers_of, places, places_of, scope_of}
 use Rattle.jc_code.specs.CodeFaultOrder.{fault_cmp}
 use Rattle.jc_code.specs.CodeViolations.{BreaksCode, ViolatesCode, ViolatesIn}
 use Rattle.jc_code.specs.inside.Clean.{AreKept, IsKept, IsKeptBy}
@@ -40,6 +41,14 @@ module _ (c : ClassFile) (k : Code) (found : List CodeFault) (are : AreFaultsOf 
       let here : ViolatesIn fault.rule c k are.items end fault.place = subst (λ is. ViolatesIn fault.rule c k is end fault.place) same_items violates in
       let there : ViolatesIn fault.rule c k are.items are.end fault.place = subst (λ n. ViolatesIn fault.rule c k are.items n fault.place) same_end here in
       subst (λ fs. Contains fs fault) (sym are.listed) (violating_listed c k are.items are.end fault there)
+
+  -- they are those by the instructions that are read
+  pub found_computed : OneWay → IsCode k.code (insns_of k.code) (end_of k.code) → found ≡ faults_of c k
+  unfolding faults_of
+  found_computed one read =
+      are.listed
+      ∙ ap (λ items. faults_over c k items are.end) (one.items k.code are.items (insns_of k.code) are.end (end_of k.code) are.is_code read)
+      ∙ ap (λ end. faults_over c k (insns_of k.code) end) (one.end k.code are.items (insns_of k.code) are.end (end_of k.code) are.is_code read)
 
 -- ---- of a method
 

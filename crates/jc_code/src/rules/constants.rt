@@ -11,8 +11,8 @@ ghost use Rattle.jc_code.specs.CodeRules.{dimensions_of, is_init, is_special, re
 use crate::insn::Insn;
 use crate::opcode::Opcode;
 use crate::rules::lookups::{
-    dimensions_of, is_double, is_either_method, is_entry, is_init, is_single, is_special,
-    referred_name, slots_at,
+    dimensions_of, is_double, is_either_method, is_init, is_single, is_special, referred_name,
+    slots_at,
 };
 use crate::scope::Scope;
 use jc_view::{ConstantIndex, ConstantKind};
@@ -43,7 +43,7 @@ pub(crate) fn breaks_s8(scope: &Scope, insn: &Insn) -> bool
     ensures { result ≡ breaks_s8 scope.now insn.now }
 {
     match insn {
-        Insn::Field { index, .. } => !is_entry(scope.class, ConstantKind::Fieldref, *index),
+        Insn::Field { index, .. } => !scope.class.is_entry(ConstantKind::Fieldref, *index),
         _ => false,
     }
 }
@@ -54,7 +54,7 @@ pub(crate) fn breaks_s9(scope: &Scope, insn: &Insn) -> bool
     match insn {
         Insn::Invoke { opcode, index } => {
             *opcode == Opcode::INVOKEVIRTUAL
-                && !is_entry(scope.class, ConstantKind::Methodref, *index)
+                && !scope.class.is_entry(ConstantKind::Methodref, *index)
         }
         _ => false,
     }
@@ -76,7 +76,9 @@ pub(crate) fn breaks_s11(scope: &Scope, insn: &Insn) -> bool
 {
     match insn {
         Insn::InvokeInterface { index, .. } => {
-            !is_entry(scope.class, ConstantKind::InterfaceMethodref, *index)
+            !scope
+                .class
+                .is_entry(ConstantKind::InterfaceMethodref, *index)
         }
         _ => false,
     }
@@ -87,7 +89,9 @@ pub(crate) fn breaks_s12(scope: &Scope, insn: &Insn) -> bool
 {
     match insn {
         Insn::InvokeInterface { index, count, .. } => {
-            is_entry(scope.class, ConstantKind::InterfaceMethodref, *index)
+            scope
+                .class
+                .is_entry(ConstantKind::InterfaceMethodref, *index)
                 && is_other_count(scope, *index, *count)
         }
         _ => false,
@@ -118,7 +122,7 @@ pub(crate) fn breaks_s14(scope: &Scope, insn: &Insn) -> bool
 {
     match insn {
         Insn::InvokeDynamic { index, .. } => {
-            !is_entry(scope.class, ConstantKind::InvokeDynamic, *index)
+            !scope.class.is_entry(ConstantKind::InvokeDynamic, *index)
         }
         _ => false,
     }
@@ -141,7 +145,9 @@ pub(crate) fn breaks_s16(scope: &Scope, insn: &Insn) -> bool
             is_right_entry(scope, *opcode, *index) && is_bad_special(scope, *opcode, *index)
         }
         Insn::InvokeInterface { index, .. } => {
-            is_entry(scope.class, ConstantKind::InterfaceMethodref, *index)
+            scope
+                .class
+                .is_entry(ConstantKind::InterfaceMethodref, *index)
                 && names_special(scope, *index)
         }
         _ => false,
@@ -153,7 +159,7 @@ fn is_right_entry(scope: &Scope, opcode: Opcode, index: ConstantIndex) -> bool
     ensures { result ≡ not (breaks_s9 scope.now (insns.Invoke opcode index)) && not (breaks_s10 scope.now (insns.Invoke opcode index)) }
 {
     if opcode == Opcode::INVOKEVIRTUAL {
-        is_entry(scope.class, ConstantKind::Methodref, index)
+        scope.class.is_entry(ConstantKind::Methodref, index)
     } else {
         is_either_method(scope.class, index)
     }
@@ -183,7 +189,7 @@ pub(crate) fn breaks_s17(scope: &Scope, insn: &Insn) -> bool
 {
     match insn {
         Insn::Type { index, .. } | Insn::MultiNewArray { index, .. } => {
-            !is_entry(scope.class, ConstantKind::Class, *index)
+            !scope.class.is_entry(ConstantKind::Class, *index)
         }
         _ => false,
     }

@@ -4,7 +4,6 @@ ghost use Rattle.std.specs.Prelude.{◌≡◌};
 ghost use Rattle.jc_view.specs.Lent.{handler_of};
 ghost use Rattle.jc_code.specs.CodeRules.{breaks_s23, breaks_s24};
 
-use crate::rules::lookups::is_entry;
 use crate::scope::Scope;
 use jc_view::{ConstantKind, ExceptionHandler};
 
@@ -22,5 +21,8 @@ pub(crate) fn breaks_s23(scope: &Scope, handler: ExceptionHandler) -> bool
 pub(crate) fn breaks_s24(scope: &Scope, handler: ExceptionHandler) -> bool
     ensures { result ≡ breaks_s24 scope.now (handler_of handler) }
 {
-    handler.catch_type.0 != 0 && !is_entry(scope.class, ConstantKind::Class, handler.catch_type)
+    handler.catch_type.0 != 0
+        && !scope
+            .class
+            .is_entry(ConstantKind::Class, handler.catch_type)
 }

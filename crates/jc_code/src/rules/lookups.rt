@@ -3,21 +3,12 @@
 ghost use Rattle.std.specs.Prelude.{◌≡◌};
 ghost use Rattle.std.specs.Option.{option_copied};
 ghost use Rattle.jc_base.specs.DescriptorTests.{begins_with};
-ghost use Rattle.jc_view.specs.Lookups.{is_entry, name_and_type_at, signature_entry};
+ghost use Rattle.jc_view.specs.Lookups.{signature_entry};
 ghost use Rattle.jc_view.specs.Lent.{constant_of};
 ghost use Rattle.jc_code.specs.CodeRules.{dimensions_of, double_kinds, is_either_method, is_init, is_one_of, is_special, referred_descriptor, referred_name, single_kinds, slots_at};
 
 use jc_base::{FieldDesc, MethodDesc};
-use jc_view::{ClassView, Constant, ConstantIndex, ConstantKind};
-
-/// Whether the usable constant of an index is of a kind.
-pub(crate) fn is_entry(class: &ClassView, kind: ConstantKind, index: ConstantIndex) -> bool
-    ensures { result ≡ is_entry class.now kind index }
-{
-    class
-        .constant(index.0)
-        .is_some_and(|constant| constant.kind().tag() == kind.tag())
-}
+use jc_view::{ClassView, Constant, ConstantIndex};
 
 /// Whether it is a constant that takes one slot.
 pub(crate) fn is_single(class: &ClassView, index: ConstantIndex) -> bool
@@ -70,35 +61,18 @@ fn signature_entry(constant: Constant) -> Option<ConstantIndex>
     }
 }
 
-/// The name and the descriptor that a `NameAndType` gives.
-fn name_and_type_at(
-    class: &ClassView,
-    entry: ConstantIndex,
-) -> Option<(ConstantIndex, ConstantIndex)>
-    ensures { result ≡ name_and_type_at class.now entry }
-{
-    match class.constant(entry.0)? {
-        Constant::NameAndType(name, descriptor) => Some((name, descriptor)),
-        _ => None,
-    }
-}
-
 /// The name of the member to which an entry refers.
 pub(crate) fn referred_name<'a>(class: &ClassView<'a>, index: ConstantIndex) -> Option<&'a [u8]>
     ensures { option_copied result ≡ referred_name class.now index }
 {
-    let entry = signature_entry(class.constant(index.0)?)?;
-    let (name, _) = name_and_type_at(class, entry)?;
-    class.utf8(name)
+    class.name_at(signature_entry(class.constant(index.0)?)?)
 }
 
 /// Its descriptor.
 fn referred_descriptor<'a>(class: &ClassView<'a>, index: ConstantIndex) -> Option<&'a [u8]>
     ensures { option_copied result ≡ referred_descriptor class.now index }
 {
-    let entry = signature_entry(class.constant(index.0)?)?;
-    let (_, descriptor) = name_and_type_at(class, entry)?;
-    class.utf8(descriptor)
+    class.descriptor_at(signature_entry(class.constant(index.0)?)?)
 }
 
 /// How many slots the parameters of the method take to which an entry refers.

@@ -22,6 +22,8 @@ pub(crate) const VOLATILE: u16 = 0x0040;
 pub(crate) const BRIDGE: u16 = 0x0040;
 /// Of a field.
 pub(crate) const TRANSIENT: u16 = 0x0080;
+/// Of a method.
+pub(crate) const VARARGS: u16 = 0x0080;
 
 pub(crate) const NATIVE: u16 = 0x0100;
 
@@ -30,6 +32,8 @@ pub(crate) const INTERFACE: u16 = 0x0200;
 pub(crate) const ABSTRACT: u16 = 0x0400;
 
 pub(crate) const STRICT: u16 = 0x0800;
+
+pub(crate) const SYNTHETIC: u16 = 0x1000;
 
 pub(crate) const ANNOTATION: u16 = 0x2000;
 

@@ -1,5 +1,5 @@
 -- The class that bytes name, as a function, is what the definitions say.
-use Rattle.std.proofs.Common.{◌≡◌, ℕ, List, true, Some, None, option_and_then, Result, Ok, Err, refl, sym, ap, subst, ◌∙◌, inl, inr}
+use Rattle.std.proofs.Common.{◌≡◌, ℕ, List, true, Some, None, Option, option_and_then, Result, Ok, Err, refl, sym, ap, subst, ◌∙◌, inl, inr}
 use Rattle.std.proofs.lemmas.Bool.{cases_Bool}
 use Rattle.jc_base.specs.Names.{IsClassName}
 use Rattle.jc_base.specs.TextTests.{is_class_text}
@@ -9,8 +9,8 @@ use Rattle.jc_view.specs.ConstantPool as pool
 use Rattle.jc_view.specs.ConstantPool.{Constant, class_entry, utf8_text}
 use Rattle.jc_view.specs.ClassFile.{ClassFile, class_text_at}
 use Rattle.jc_view.specs.Reading.{◌>>=◌, or_refusal, parts_at, class_value}
-use Rattle.jc_view.specs.Refusal.{IsNamed, IsRefusal}
-use Rattle.jc_view.specs.Outcome.{NamesClass, class_text, name_in, class_named}
+use Rattle.jc_view.specs.Refusal.{IsLayoutOf, IsNamed, IsRefusal}
+use Rattle.jc_view.specs.Outcome.{NamesClass, class_text, name_in, class_named, class_read}
 use Rattle.jc_view.proofs.reading.BigEndian.{IsBytes, then_some}
 use Rattle.jc_view.proofs.reading.Steps.{bind_ok, bind_err, or_ok, or_err}
 use Rattle.jc_view.proofs.refusals.FirstRefusal.{is_refusal}
@@ -82,3 +82,31 @@ is_refused_by decided b e (Err d) fits h refusal = ap (λ (x : ParseError). Err 
 
 pub is_refused : Decided → (b : List ℕ) (e : ParseError) → IsBytes b → IsRefusal b e → class_named b ≡ Err e
 is_refused decided b e fits refusal = is_refused_by decided b e (class_named b) fits refl refusal
+
+-- ---- the class file itself
+
+pub layout_read : Decided → (b : List ℕ) (c : ClassFile) (name : List ℕ) → IsBytes b → IsLayoutOf c b → IsNamed c name → class_read b ≡ Ok c
+unfolding class_read
+layout_read decided b c name fits layout is =
+    let found = is_read b c layout in
+    let here = parsed b found.0.0 found.0.1 fits found.1 in
+    let same = one_class b c (class_value b found.0.0.places found.0.0.tail) layout here.is_layout in
+    let named = name_from decided (class_value b found.0.0.places found.0.0.tail) name (subst (λ (x : ClassFile). IsNamed x name) same is) in
+    ap (λ r. r >>= λ found. or_refusal (name_in (class_value b found.0.places found.0.tail)) errors.NoName >>= λ _. Ok (class_value b found.0.places found.0.tail)) found.1
+    ∙ ap (λ o. or_refusal o errors.NoName >>= λ _. Ok (class_value b found.0.0.places found.0.0.tail)) named
+    ∙ ap (λ (x : ClassFile). Ok x) (sym same)
+
+err_behind : {N B : Type 0} (o : Option N) (x : B) (d e : ParseError) → or_refusal o d ≡ Err e → (or_refusal o d >>= λ _. Ok x) ≡ Err e
+err_behind None x d e h = ap Err (let f = h in cc)
+err_behind (Some n) x d e h = absurd cc
+
+err_kept : {A N B : Type 0} (r : Result A ParseError) (f : A → Option N) (g : A → B) (d e : ParseError) → (r >>= λ x. or_refusal (f x) d) ≡ Err e
+    → (r >>= λ x. or_refusal (f x) d >>= λ _. Ok (g x)) ≡ Err e
+err_kept (Ok x) f g d e h = err_behind (f x) (g x) d e h
+err_kept (Err x) f g d e h = ap Err (let f = h in cc)
+
+pub refusal_read : Decided → (b : List ℕ) (e : ParseError) → IsBytes b → IsRefusal b e → class_read b ≡ Err e
+unfolding class_read class_named
+refusal_read decided b e fits refusal =
+    err_kept (parts_at (start b)) (λ found. name_in (class_value b found.0.places found.0.tail)) (λ found. class_value b found.0.places found.0.tail) errors.NoName e
+    (is_refused decided b e fits refusal)

@@ -1,6 +1,6 @@
 use Rattle.std.proofs.Common.{◌≡◌, Some, refl, sym, ap, ◌∙◌}
 use Rattle.jc_code.specs.Opcodes.{operands_of}
-use Rattle.jc_code.specs.inside.Decoding.{first_operands}
+use Rattle.jc_code.specs.InsnReading.{first_operands}
 use Rattle.jc_code.proofs.decoding.Opcodes.{opcode_is, some_operands}
 use Rattle.jc_code.proofs.decoding.Reading.{no_first, insn_cut, insn_lends_at, first_operands_are}
 use Rattle.jc_code.proofs.decoder.read_insn.Goals as goal

@@ -9,7 +9,7 @@ use Rattle.jc_base.specs.Endian.{big_number}
 use Rattle.jc_view.specs.Reading.{after}
 use Rattle.jc_view.proofs.reading.BigEndian.{after_some, after_front}
 use Rattle.jc_code.specs.declared.decoder.LookupHead.{LookupHead}
-use Rattle.jc_code.specs.inside.Decoding.{pad, int_value}
+use Rattle.jc_code.specs.InsnReading.{pad, int_value}
 use Rattle.jc_code.proofs.decoding.Behind.{both_behind}
 use Rattle.jc_code.proofs.decoder.read_lookup_head.Goals as goal
 

@@ -8,7 +8,7 @@ use Rattle.jc_base.specs.Cursor.{Reading}
 use Rattle.jc_view.specs.Reading.{after, after_each, each_value}
 use Rattle.jc_view.proofs.reading.BigEndian.{after_front}
 use Rattle.jc_code.specs.declared.insn.Insn.TheVariants as insns
-use Rattle.jc_code.specs.inside.Decoding.{case_value}
+use Rattle.jc_code.specs.InsnReading.{case_value}
 use Rattle.jc_code.proofs.decoding.Tables.{part_is_whole, part_values}
 use Rattle.jc_code.proofs.decoding.SwitchParts.{case_in_front, behind_lookup_switch, lookup_switch_is}
 use Rattle.jc_code.proofs.decoder.read_lookup_switch.Goals as goal

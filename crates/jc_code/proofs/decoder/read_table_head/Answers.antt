@@ -5,7 +5,7 @@ use Rattle.std.proofs.Common.{◌≡◌, ◌+◌, drop, rules, refl, sym, ap, �
 use Rattle.std.proofs.lemmas.Int.{to_z-of_z}
 use Rattle.jc_view.proofs.reading.BigEndian.{after_some}
 use Rattle.jc_code.specs.declared.decoder.TableHead.{TableHead}
-use Rattle.jc_code.specs.inside.Decoding.{pad, int_value}
+use Rattle.jc_code.specs.InsnReading.{pad, int_value}
 use Rattle.jc_code.proofs.decoding.Behind.{both_behind, second_cut}
 use Rattle.jc_code.proofs.decoder.read_table_head.Goals as goal
 

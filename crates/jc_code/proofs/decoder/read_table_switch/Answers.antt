@@ -8,7 +8,7 @@ use Rattle.jc_base.specs.Cursor.{Reading}
 use Rattle.jc_view.specs.Reading.{after, after_each, each_value}
 use Rattle.jc_view.proofs.reading.BigEndian.{after_front}
 use Rattle.jc_code.specs.declared.insn.Insn.TheVariants as insns
-use Rattle.jc_code.specs.inside.Decoding.{target_value, target_count}
+use Rattle.jc_code.specs.InsnReading.{target_value, target_count}
 use Rattle.jc_code.proofs.decoding.Behind.{not_left}
 use Rattle.jc_code.proofs.decoding.Tables.{part_is_whole, part_values}
 use Rattle.jc_code.proofs.decoding.SwitchParts.{target_in_front, behind_table_switch, table_switch_is}

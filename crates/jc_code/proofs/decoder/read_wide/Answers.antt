@@ -1,5 +1,5 @@
 use Rattle.std.proofs.Common.{◌≡◌, None, refl}
-use Rattle.jc_code.specs.inside.Decoding.{first_operands}
+use Rattle.jc_code.specs.InsnReading.{first_operands}
 use Rattle.jc_code.proofs.decoding.Reading.{no_first}
 use Rattle.jc_code.proofs.decoder.read_wide.Goals as goal
 

@@ -1,5 +1,8 @@
+use Rattle.std.proofs.Common.{subst, ◌∙◌}
+use Rattle.jc_code.specs.Insns.{IsCode}
+use Rattle.jc_code.specs.InsnReading.{insns_of, end_of}
 use Rattle.std.proofs.lemmas.Result.{IfOk-weaker}
-use Rattle.jc_code.proofs.orders.FaultsOfCode.{OneWay, found_rises, found_breaks, breaking_found}
+use Rattle.jc_code.proofs.orders.FaultsOfCode.{OneWay, found_rises, found_breaks, breaking_found, found_computed}
 use Rattle.jc_code.proofs.faults.faults_in.Goals as goal
 
 pub returns-clause-violated : goal.returns-clause-violated
@@ -12,3 +15,11 @@ returns-clause-violated c =
 pub returns-clause-rising : goal.returns-clause-rising
 returns-clause-rising c =
     IfOk-weaker c.list_faults.result _ _ (λ found are. found_rises c.args.class.now c.args.code.now.code found.items are) c.list_faults.ensures
+
+pub returns-clause-computed : goal.returns-clause-computed
+returns-clause-computed c =
+    let one : OneWay = record { items = c.instructions_are_apart.ensures.items; end = c.instructions_are_apart.ensures.end } in
+    let class = c.args.class.now in
+    let k = c.args.code.now.code in
+    let read = subst (λ code. IsCode code (insns_of code) (end_of code)) (c.as_bytes-bytes.ensures.same ∙ c.bytes.ensures.part) (c.codes_are_read.ensures c.as_bytes-bytes.result.now c.as_bytes-bytes.ensures.bytes) in
+    IfOk-weaker c.list_faults.result _ _ (λ found are. found_computed class k found.items are one read) c.list_faults.ensures

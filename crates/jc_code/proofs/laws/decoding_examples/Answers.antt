@@ -2,7 +2,7 @@ use Rattle.std.proofs.Common.{refl}
 use Rattle.jc_view.specs.Reading.{each_value}
 use Rattle.jc_code.specs.Opcodes.{groups, opcodes}
 use Rattle.jc_code.specs.Examples.{plain_code, plain_insns, cut_code, cut_insns, falling_code, falling_insns, wide_code, wide_insns, switch_code, switch_insns}
-use Rattle.jc_code.specs.inside.Decoding.{after_insn, insn_value, insns_within, end_within, insns_from, end_from}
+use Rattle.jc_code.specs.InsnReading.{after_insn, insn_value, insns_within, end_within, insns_from, end_from}
 use Rattle.jc_code.proofs.decoding.Standing.{is_code}
 use Rattle.jc_code.proofs.laws.decoding_examples.Goals as goal
 

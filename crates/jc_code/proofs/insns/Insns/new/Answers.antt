@@ -1,7 +1,7 @@
 use Rattle.std.proofs.Common.{◌≡◌, ℕ, List, sym, subst, arith}
 use Rattle.jc_base.specs.Cursor.{Reading}
 use Rattle.jc_code.specs.Insns.{IsCode}
-use Rattle.jc_code.specs.inside.Decoding.{insns_from, end_from}
+use Rattle.jc_code.specs.InsnReading.{insns_from, end_from}
 use Rattle.jc_code.proofs.decoding.Standing.{code_is_read}
 use Rattle.jc_code.proofs.insns.Insns.new.Goals as goal
 

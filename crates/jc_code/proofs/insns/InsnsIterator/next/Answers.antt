@@ -3,7 +3,7 @@ use Rattle.jc_base.proofs.Common.{same_pair}
 use Rattle.jc_base.specs.Cursor.{Reading}
 use Rattle.jc_code.specs.InsnsLeft.{InsnsLeft}
 use Rattle.jc_code.specs.declared.insn.Insn.{Insn}
-use Rattle.jc_code.specs.inside.Decoding.{insn_value, insns_from, end_from}
+use Rattle.jc_code.specs.InsnReading.{insn_value, insns_from, end_from}
 use Rattle.jc_code.proofs.decoding.Steps.{none_from, first_from, behind}
 use Rattle.jc_code.proofs.insns.InsnsIterator.next.Goals as goal
 

@@ -2,7 +2,7 @@ use Rattle.std.proofs.Common.{◌≡◌, ◌∷◌, [], length, rules, refl, sym
 use Rattle.jc_view.specs.Reading.{after, each_value}
 use Rattle.jc_view.proofs.places.Entries.{none_left}
 use Rattle.jc_code.specs.declared.switch.Case.{Case}
-use Rattle.jc_code.specs.inside.Decoding.{case_value}
+use Rattle.jc_code.specs.InsnReading.{case_value}
 use Rattle.jc_code.proofs.decoding.Tables.{never_cut, next_entry, IsNext}
 use Rattle.jc_code.proofs.switch.CasesIterator.next.Goals as goal
 

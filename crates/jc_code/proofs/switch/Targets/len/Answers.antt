@@ -1,6 +1,6 @@
 use Rattle.std.proofs.Common.{length, sym, ap, ◌∙◌}
 use Rattle.jc_view.specs.Reading.{after}
-use Rattle.jc_code.specs.inside.Decoding.{target_value}
+use Rattle.jc_code.specs.InsnReading.{target_value}
 use Rattle.jc_code.proofs.decoding.Tables.{length-each}
 use Rattle.jc_code.proofs.switch.Targets.len.Goals as goal
 

@@ -5,7 +5,7 @@ use Rattle.std.proofs.Common.{◌≡◌, ◌∷◌, [], length, rules, refl, sym
 use Rattle.std.proofs.lemmas.Int.{to_z-of_z}
 use Rattle.jc_view.specs.Reading.{after, each_value}
 use Rattle.jc_view.proofs.places.Entries.{none_left}
-use Rattle.jc_code.specs.inside.Decoding.{target_value}
+use Rattle.jc_code.specs.InsnReading.{target_value}
 use Rattle.jc_code.proofs.decoding.Tables.{never_cut, next_entry, IsNext}
 use Rattle.jc_code.proofs.switch.TargetsIterator.next.Goals as goal
 
