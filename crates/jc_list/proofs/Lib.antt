@@ -1,0 +1,4 @@
+pub mod fronts
+pub mod lines
+pub mod methods
+pub mod told

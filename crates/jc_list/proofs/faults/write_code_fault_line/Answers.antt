@@ -1,0 +1,6 @@
+use Rattle.std.proofs.Common.{ap, decimal}
+use Rattle.jc_text.proofs.Sending.{◌⟫◌, sends_equal}
+use Rattle.jc_list.proofs.faults.write_code_fault_line.Goals as goal
+
+pub returns : goal.returns
+returns g c = c.text.ensures ⟫ sends_equal (ap decimal c.number.ensures) c.decimal.ensures ⟫ c.text-2.ensures ⟫ c.decimal-2.ensures ⟫ c.text-3.ensures ⟫ c.decimal-3.ensures ⟫ c.text-4.ensures

@@ -1,0 +1,2 @@
+pub mod OneBehindAnother
+pub mod WrittenAtLast

@@ -1,0 +1,16 @@
+use Rattle.std.proofs.Common.{[], ◌∙◌, ap, sym}
+use Rattle.std.specs.Option.{option_map, option_map_or}
+use Rattle.jc_view.specs.Lent.{constant_of}
+use Rattle.jc_text.proofs.Sending.{sends_equal, sends_nothing}
+use Rattle.jc_list.specs.Texts.{reference_of}
+use Rattle.jc_list.proofs.texts.write_reference.Goals as goal
+
+pub returns-in-Some : goal.returns-in-Some
+returns-in-Some g c =
+    let stands = ap (option_map constant_of) (sym c.in-Some.is) ∙ c.constant.ensures in
+    sends_equal (ap (λ k. option_map_or (reference_of c.args.class.now) k []) stands) c.write_reference_of.ensures
+
+pub returns-in_default : goal.returns-in_default
+returns-in_default g c =
+    let stands = ap (option_map constant_of) (sym c.in_default.is) ∙ c.constant.ensures in
+    sends_equal (ap (λ k. option_map_or (reference_of c.args.class.now) k []) stands) (sends_nothing _ _ _)

@@ -1,0 +1,10 @@
+pub mod Texts
+pub mod ClassLines
+pub mod ConstantLines
+pub mod InsnLines
+pub mod AttributeLines
+pub mod MemberLines
+pub mod FaultLines
+pub mod Listing
+pub mod ListErrors
+pub mod inside

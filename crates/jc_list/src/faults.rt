@@ -1,0 +1,93 @@
+//! A line for each fault.
+
+ghost use Rattle.std.specs.Prelude.{◌≡◌, ◌==◌, IfOk, length, map, not};
+ghost use Rattle.std.specs.List.{flat_map};
+ghost use Rattle.jc_text.specs.Sends.{Sends};
+ghost use Rattle.jc_view.specs.declared.attribute_kind.Holder.TheVariants as holders;
+ghost use Rattle.jc_file.specs.Faults.{faults};
+ghost use Rattle.jc_list.specs.FaultLines.{code_fault_line, code_faults, format_line, method_faults};
+ghost use Rattle.jc_list.specs.inside.Fronts.{Lists};
+
+use jc_base::{NoMemory, Output};
+use jc_code::{CodeFault, faults_in, method_code};
+use jc_file::{Fault, format_faults};
+use jc_text::TextWriter;
+use jc_view::{ClassView, Member};
+use std::alloc::Global;
+
+/// The faults of the format, and whether there is one.
+pub(crate) fn write_format_faults<W: Output>(
+    alloc: Global,
+    out: &mut TextWriter<'_, W>,
+    class: &ClassView,
+) -> Result<bool, NoMemory>
+    ensures lists { Lists W.written W.failures result out.old out.new (flat_map format_line (faults class.now)) }
+    ensures some { IfOk result (λ some. some ≡ not (length (faults class.now) == 0)) }
+{
+    let faults = format_faults(alloc, class)?;
+    for fault in &faults {
+        write_format_line(out, *fault);
+    }
+    Ok(!faults.is_empty())
+}
+
+fn write_format_line<W: Output>(out: &mut TextWriter<'_, W>, fault: Fault)
+    ensures { Sends W.written W.failures out.old out.new (format_line fault) }
+{
+    out.text(b"format F");
+    out.decimal(fault.rule.number());
+    out.text(b" ");
+    out.decimal(fault.place);
+    out.text(b"\n");
+}
+
+/// The faults of the methods' codes, by method, and whether there is one.
+pub(crate) fn write_code_faults<W: Output>(
+    alloc: Global,
+    out: &mut TextWriter<'_, W>,
+    class: &ClassView,
+) -> Result<bool, NoMemory>
+    ensures lists { Lists W.written W.failures result out.old out.new (flat_map code_fault_line (code_faults class.now)) }
+    ensures some { IfOk result (λ some. some ≡ not (length (code_faults class.now) == 0)) }
+{
+    let mut some = false;
+    for (number, method) in class.methods().enumerate() {
+        some |= write_method_faults(alloc, out, class, &method, number)?;
+    }
+    Ok(some)
+}
+
+/// The faults of a method's code, and whether there is one.
+fn write_method_faults<W: Output>(
+    alloc: Global,
+    out: &mut TextWriter<'_, W>,
+    class: &ClassView,
+    method: &Member,
+    number: usize,
+) -> Result<bool, NoMemory>
+    requires class { method.now.class ≡ class.now }
+    requires holder { method.now.member.holder ≡ holders.Method }
+    ensures lists { Lists W.written W.failures result out.old out.new (flat_map code_fault_line (map (λ fault. (number, fault)) (method_faults class.now method.now.member.member))) }
+    ensures some { IfOk result (λ some. some ≡ not (length (method_faults class.now method.now.member.member) == 0)) }
+{
+    let Some(code) = method_code(method) else {
+        return Ok(false);
+    };
+    let faults = faults_in(alloc, class, &code)?;
+    for fault in &faults {
+        write_code_fault_line(out, number, *fault);
+    }
+    Ok(!faults.is_empty())
+}
+
+fn write_code_fault_line<W: Output>(out: &mut TextWriter<'_, W>, number: usize, fault: CodeFault)
+    ensures { Sends W.written W.failures out.old out.new (code_fault_line (number, fault)) }
+{
+    out.text(b"code S");
+    out.decimal(fault.rule.number());
+    out.text(b" ");
+    out.decimal(number);
+    out.text(b" ");
+    out.decimal(fault.place);
+    out.text(b"\n");
+}

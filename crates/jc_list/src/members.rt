@@ -1,0 +1,72 @@
+//! A line for each field and each method, with its attributes.
+
+ghost use Rattle.jc_text.specs.Sends.{Sends};
+ghost use Rattle.jc_list.specs.MemberLines.{field_lines, member_line, member_lines, method_lines};
+ghost use Rattle.jc_list.specs.inside.Fronts.{Lists};
+
+use crate::attributes::write_attributes;
+use crate::texts::{write_flags, write_text};
+use jc_base::{NoMemory, Output};
+use jc_file::AccessFlag;
+use jc_text::TextWriter;
+use jc_view::{ClassView, Member};
+use std::alloc::Global;
+
+/// The fields, in the order of the file.
+pub(crate) fn write_field_lines<W: Output>(
+    alloc: Global,
+    out: &mut TextWriter<'_, W>,
+    class: &ClassView,
+) -> Result<(), NoMemory>
+    ensures { Lists W.written W.failures result out.old out.new (field_lines class.now) }
+{
+    for field in class.fields() {
+        write_member(alloc, out, &field, b"field", &AccessFlag::OF_FIELD)?;
+    }
+    Ok(())
+}
+
+/// The methods, in the order of the file.
+pub(crate) fn write_method_lines<W: Output>(
+    alloc: Global,
+    out: &mut TextWriter<'_, W>,
+    class: &ClassView,
+) -> Result<(), NoMemory>
+    ensures { Lists W.written W.failures result out.old out.new (method_lines class.now) }
+{
+    for method in class.methods() {
+        write_member(alloc, out, &method, b"method", &AccessFlag::OF_METHOD)?;
+    }
+    Ok(())
+}
+
+fn write_member<W: Output>(
+    alloc: Global,
+    out: &mut TextWriter<'_, W>,
+    member: &Member,
+    word: &[u8],
+    flags: &[AccessFlag],
+) -> Result<(), NoMemory>
+    ensures { Lists W.written W.failures result out.old out.new (member_lines member.now.class word.now flags.now member.now.member) }
+{
+    write_member_line(out, member, word, flags);
+    write_attributes(alloc, out, member.attributes(), b"  ")
+}
+
+fn write_member_line<W: Output>(
+    out: &mut TextWriter<'_, W>,
+    member: &Member,
+    word: &[u8],
+    flags: &[AccessFlag],
+)
+    ensures { Sends W.written W.failures out.old out.new (member_line member.now.class word.now flags.now member.now.member.member) }
+{
+    out.text(word);
+    out.text(b" ");
+    write_text(out, member.name());
+    out.text(b" ");
+    write_text(out, member.descriptor());
+    out.text(b" ");
+    write_flags(out, flags, member.flags());
+    out.text(b"\n");
+}

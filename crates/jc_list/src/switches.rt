@@ -1,0 +1,63 @@
+//! Switches, and a line for each of their targets.
+
+ghost use Rattle.std.specs.Prelude.{◌++◌, codes, length};
+ghost use Rattle.std.specs.List.{flat_map};
+ghost use Rattle.jc_text.specs.Sends.{Sends};
+ghost use Rattle.jc_list.specs.InsnLines.{blank_decimal, blank_signed, case_line, switch_line, target_lines};
+
+use crate::texts::write_number;
+use jc_base::Output;
+use jc_code::{LookupSwitch, TableSwitch};
+use jc_text::TextWriter;
+
+/// The lowest and the highest value, and the target for all others.
+pub(crate) fn write_table_switch<W: Output>(out: &mut TextWriter<'_, W>, switch: &TableSwitch)
+    ensures { Sends W.written W.failures out.old out.new (blank_signed switch.now.low ++ blank_signed switch.now.high ++ codes " default" ++ blank_signed switch.now.default) }
+{
+    write_number(out, switch.low);
+    write_number(out, switch.high);
+    out.text(b" default");
+    write_number(out, switch.default);
+}
+
+/// How many values have a target, and the target for all others.
+pub(crate) fn write_lookup_switch<W: Output>(out: &mut TextWriter<'_, W>, switch: &LookupSwitch)
+    ensures { Sends W.written W.failures out.old out.new (blank_decimal (length switch.now.cases.left) ++ codes " default" ++ blank_signed switch.now.default) }
+{
+    write_number(out, switch.cases().len());
+    out.text(b" default");
+    write_number(out, switch.default);
+}
+
+/// The targets of the values from the lowest on.
+pub(crate) fn write_target_lines<W: Output>(out: &mut TextWriter<'_, W>, switch: &TableSwitch)
+    ensures { Sends W.written W.failures out.old out.new (target_lines switch.now.low switch.now.targets.left) }
+{
+    let low = i64::from(switch.low);
+    let mut targets = switch.targets();
+    for index in 0..targets.len() {
+        let Some(target) = targets.next() else {
+            return;
+        };
+        write_switch_line(out, low + i64::from(index), target);
+    }
+}
+
+/// The values and their targets.
+pub(crate) fn write_case_lines<W: Output>(out: &mut TextWriter<'_, W>, switch: &LookupSwitch)
+    ensures { Sends W.written W.failures out.old out.new (flat_map case_line switch.now.cases.left) }
+{
+    for case in switch.cases() {
+        write_switch_line(out, i64::from(case.value), case.target);
+    }
+}
+
+fn write_switch_line<W: Output>(out: &mut TextWriter<'_, W>, value: i64, target: i64)
+    ensures { Sends W.written W.failures out.old out.new (switch_line value target) }
+{
+    out.text(b"      ");
+    out.decimal(value);
+    out.text(b": ");
+    out.decimal(target);
+    out.text(b"\n");
+}

@@ -1,0 +1,133 @@
+//! What several lines show.
+
+ghost use Rattle.std.specs.Prelude.{◌≡◌, ◌++◌, [], codes, decimal};
+ghost use Rattle.std.specs.Option.{option_copied};
+ghost use Rattle.jc_text.specs.Sends.{Sends};
+ghost use Rattle.jc_view.specs.Lookups.{utf8_at};
+ghost use Rattle.jc_view.specs.Lent.{constant_of};
+ghost use Rattle.jc_list.specs.Texts.{flag_text, flags_text, index_text, index_with_reference, member_reference, reference_of, reference_text, shown_text};
+
+use itoa::Integer;
+use jc_base::Output;
+use jc_file::AccessFlag;
+use jc_text::TextWriter;
+use jc_view::{ClassView, Constant, ConstantIndex};
+
+/// A text, or `?` where it is missing.
+pub(crate) fn write_text<W: Output>(out: &mut TextWriter<'_, W>, text: Option<&[u8]>)
+    ensures { Sends W.written W.failures out.old out.new (shown_text (option_copied text.entry)) }
+{
+    match text {
+        Some(text) => out.shown(text),
+        None => out.text(b"?"),
+    }
+}
+
+/// An index into the constants.
+pub(crate) fn write_index<W: Output>(out: &mut TextWriter<'_, W>, index: ConstantIndex)
+    ensures { Sends W.written W.failures out.old out.new (index_text index) }
+{
+    out.text(b"#");
+    out.decimal(index.0);
+}
+
+/// A number behind a blank.
+pub(crate) fn write_number<W: Output, I: Integer>(out: &mut TextWriter<'_, W>, number: I)
+    ensures { Sends W.written W.failures out.old out.new (codes " " ++ I.text number) }
+{
+    out.text(b" ");
+    out.decimal(number);
+}
+
+/// All bits of the access flags, and the names of those that are set and mean something.
+pub(crate) fn write_flags<W: Output>(out: &mut TextWriter<'_, W>, flags: &[AccessFlag], bits: u16)
+    ensures { Sends W.written W.failures out.old out.new (flags_text flags.now bits) }
+{
+    out.text(b"0x");
+    out.hexadecimal(&bits.to_be_bytes());
+    for flag in flags {
+        write_flag(out, *flag, bits);
+    }
+}
+
+fn write_flag<W: Output>(out: &mut TextWriter<'_, W>, flag: AccessFlag, bits: u16)
+    ensures { Sends W.written W.failures out.old out.new (flag_text bits flag) }
+{
+    if flag.is_in(bits) {
+        out.text(b" ");
+        out.text(flag.name().as_bytes());
+    }
+}
+
+/// An index, and behind it what the class, the field or the method is that stands there.
+pub(crate) fn write_index_with_reference<W: Output>(
+    out: &mut TextWriter<'_, W>,
+    class: &ClassView,
+    index: ConstantIndex,
+)
+    ensures { Sends W.written W.failures out.old out.new (index_with_reference class.now index) }
+{
+    write_index(out, index);
+    write_reference(out, class, index);
+}
+
+/// Behind a blank, what the class, the field or the method is that stands at an index.
+pub(crate) fn write_reference<W: Output>(
+    out: &mut TextWriter<'_, W>,
+    class: &ClassView,
+    index: ConstantIndex,
+)
+    ensures { Sends W.written W.failures out.old out.new (reference_text class.now index) }
+{
+    if let Some(constant) = class.constant(index.0) {
+        write_reference_of(out, class, constant);
+    }
+}
+
+fn write_reference_of<W: Output>(out: &mut TextWriter<'_, W>, class: &ClassView, constant: Constant)
+    ensures { Sends W.written W.failures out.old out.new (reference_of class.now (constant_of constant.entry)) }
+{
+    match constant {
+        Constant::Class(name) => write_class_reference(out, class, name),
+        Constant::Fieldref(of, entry) => {
+            out.text(b" field ");
+            write_member_reference(out, class, of, entry);
+        }
+        Constant::Methodref(of, entry) => {
+            out.text(b" method ");
+            write_member_reference(out, class, of, entry);
+        }
+        Constant::InterfaceMethodref(of, entry) => {
+            out.text(b" imethod ");
+            write_member_reference(out, class, of, entry);
+        }
+        _ => {}
+    }
+}
+
+fn write_class_reference<W: Output>(
+    out: &mut TextWriter<'_, W>,
+    class: &ClassView,
+    name: ConstantIndex,
+)
+    ensures { Sends W.written W.failures out.old out.new (codes " class " ++ shown_text (utf8_at class.now name)) }
+{
+    out.text(b" class ");
+    write_text(out, class.utf8(name));
+}
+
+/// A member: its class, its name and its descriptor.
+fn write_member_reference<W: Output>(
+    out: &mut TextWriter<'_, W>,
+    class: &ClassView,
+    of: ConstantIndex,
+    entry: ConstantIndex,
+)
+    ensures { Sends W.written W.failures out.old out.new (member_reference class.now of entry) }
+{
+    write_text(out, class.class_text(of));
+    out.text(b".");
+    write_text(out, class.name_at(entry));
+    out.text(b":");
+    write_text(out, class.descriptor_at(entry));
+}
