@@ -1,2 +1,3 @@
 pub mod holding
+pub mod listings
 pub mod runs

@@ -6,13 +6,16 @@ use Rattle.jc_session.specs.declared.source.SourceError.TheVariants as sources
 use Rattle.jc_session.specs.Files.{Files, Change, Adds, Replaces, Removes, judge, after}
 use Rattle.jc_session.specs.RowText.{report_text}
 use Rattle.jc_session.specs.AnswerText.{refused_text, unread_text}
-use Rattle.jc_session.specs.Lines.{Command, Add, Replace, Remove, Report, End, Bad, command_of}
+use Rattle.jc_session.specs.ListedText.{listed_text}
+use Rattle.jc_session.specs.Lines.{Command, Add, Replace, Remove, Report, Listing, End, Bad, command_of}
 use Rattle.jc_session.specs.Sources.{SourceAnswers, next_answer}
 
 -- what one line is answered, and what is then
 pub data Reply : Type 0 where
   -- this text, with these files and these answers of the source to come
   Says : (text : List ℕ) (files : Files) (source : SourceAnswers) → Reply
+  -- this text, which may want memory, with nothing changed
+  Lists : (text : List ℕ) → Reply
   -- nothing, and no line after it is read
   Ends : Reply
   -- the source had no memory, with these answers to come
@@ -41,6 +44,7 @@ reply f s (Add path) = sourced_reply f s path (Adds path)
 reply f s (Replace path) = sourced_reply f s path (Replaces path)
 reply f s (Remove path) = edit_reply f s (Removes path)
 reply f s Report = Says (report_text f) f s
+reply f s (Listing name) = Lists (listed_text f name)
 reply f s End = Ends
 reply f s Bad = Says (codes "bad line\n") f s
 
@@ -64,6 +68,7 @@ run_of f s [] = record { text = []; files = f; source = s; ending = AtEof }
 run_of f s (line ∷ lines) =
     elim (reply f s (command_of line)) [
       | Says text files source ↦ after_text text (run_of files source lines)
+      | Lists text ↦ after_text text (run_of f s lines)
       | Ends ↦ record { text = []; files = f; source = s; ending = AtEnd }
       | Lacks source ↦ record { text = []; files = f; source = source; ending = WithoutMemory }
     ]

@@ -5,6 +5,7 @@ pub mod FileSource
 pub mod Files
 pub mod Judged
 pub mod Lines
+pub mod ListedText
 pub mod RowText
 pub mod Rows
 pub mod Runs

@@ -27,13 +27,14 @@ pub data Command : Type 0 where
   Replace : (path : List ℕ) → Command
   Remove : (path : List ℕ) → Command
   Report : Command
+  Listing : (name : List ℕ) → Command
   End : Command
   Bad : Command
 
 abbrev pub begins_with_word : List ℕ → List ℕ → Bool
 begins_with_word word line = starts_with nat_eq line word
 
--- all bytes after the one space are the path; a line over 8,192 bytes is bad
+-- all bytes after the one space are the path or the name; a line over 8,192 bytes is bad
 abbrev pub command_of : List ℕ → Command
 command_of line =
     if nat_lt 8192 (length line) then Bad
@@ -41,5 +42,6 @@ command_of line =
     else (if begins_with_word (codes "replace ") line then Replace (drop 8 line)
     else (if begins_with_word (codes "remove ") line then Remove (drop 7 line)
     else (if same_bytes line (codes "report") then Report
+    else (if begins_with_word (codes "list ") line then Listing (drop 5 line)
     else (if same_bytes line (codes "end") then End
-    else Bad)))))
+    else Bad))))))

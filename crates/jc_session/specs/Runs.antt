@@ -1,5 +1,5 @@
 -- How a run over the lines of an input ends, and what it has done by then.
-use Rattle.std.specs.Prelude.{◌≡◌, ℕ, ◌<◌, ◌≤◌, ◌⊎◌, ◌↔◌, Bool, true, false, List, ◌∷◌, ◌++◌, length, take, drop, Option, Some, None, Result, Ok, Err, ⊤}
+use Rattle.std.specs.Prelude.{◌≡◌, ℕ, ◌<◌, ◌≤◌, ◌⊎◌, ◌↔◌, Bool, true, false, List, ◌∷◌, ◌++◌, length, take, drop, Option, Some, None, Result, Ok, Err, ⊤, IsSome}
 use Rattle.std.specs.List.{list_any}
 use Rattle.std.specs.Io.KnownBytes.{Appends, Keeps}
 use Rattle.jc_base.specs.Device.{MoreFaults}
@@ -10,9 +10,10 @@ use Rattle.jc_session.specs.declared.run_error.Ended.TheVariants as ended
 use Rattle.jc_session.specs.declared.source.SourceError.{SourceError}
 use Rattle.jc_session.specs.declared.source.SourceError.TheVariants as sources
 use Rattle.jc_session.specs.Files.{Files, Change, Adds, Replaces, judge}
-use Rattle.jc_session.specs.Lines.{Command, Add, Replace, Remove, Report, End, Bad, command_of, lines_of, whole_lines}
+use Rattle.jc_session.specs.Rows.{winner}
+use Rattle.jc_session.specs.Lines.{Command, Add, Replace, Remove, Report, Listing, End, Bad, command_of, lines_of, whole_lines}
 use Rattle.jc_session.specs.Sources.{SourceAnswers, next_answer}
-use Rattle.jc_session.specs.Answers.{Reply, Says, Ends, Lacks, reply, Run, Ending, AtEnd, AtEof, run_of}
+use Rattle.jc_session.specs.Answers.{Reply, Says, Lists, Ends, Lacks, reply, Run, Ending, AtEnd, AtEof, run_of}
 
 -- what a run leaves: the files, the source's answers to come and the input's bytes to come, and what was written before it and is now
 pub record Left : Type 0 where
@@ -40,6 +41,7 @@ is_end (Add path) = false
 is_end (Replace path) = false
 is_end (Remove path) = false
 is_end Report = false
+is_end (Listing name) = false
 is_end End = true
 is_end Bad = false
 
@@ -59,18 +61,22 @@ abbrev pub StopsAtRead : Files → SourceAnswers → List ℕ → Left → Type 
 StopsAtRead f s bytes left =
     (front : List ℕ) × (coming : List ℕ) × (bytes ≡ front ++ coming) × (left.coming ≡ Some coming) × IsDone (run_of f s (whole_lines front)) AtEof left
 
--- the line was done, and a proper beginning of its answer was written behind the text
-abbrev pub BreaksOff : Reply → (text : List ℕ) → Left → Type 0
-BreaksOff (Says said files source) text left =
-    (left.files ≡ files) × (left.source ≡ Some source) × ((n : ℕ) × (n < length said) × Appends left.before left.now (text ++ take n said))
-BreaksOff Ends text left = ⊥
-BreaksOff (Lacks source) text left = ⊥
+-- a proper beginning of an answer was written behind the text of the lines before
+abbrev pub BreaksText : List ℕ → (text : List ℕ) → Left → Type 0
+BreaksText said text left = (n : ℕ) × (n < length said) × Appends left.before left.now (text ++ take n said)
+
+-- behind a run the line was done, and a proper beginning of its answer was written
+abbrev pub BreaksOff : Reply → Run → Left → Type 0
+BreaksOff (Says said files source) run left = (left.files ≡ files) × (left.source ≡ Some source) × BreaksText said run.text left
+BreaksOff (Lists said) run left = (left.files ≡ run.files) × (left.source ≡ Some run.source) × BreaksText said run.text left
+BreaksOff Ends run left = ⊥
+BreaksOff (Lacks source) run left = ⊥
 
 -- the lines before some line were answered, none of them `end`, and it was done but not answered whole
 abbrev pub StopsAtWrite : Files → SourceAnswers → List ℕ → Left → Type 0
 StopsAtWrite f s bytes left =
     (lines : List (List ℕ)) × (line : List ℕ) × (rest : List (List ℕ)) × (lines_of bytes ≡ lines ++ line ∷ rest)
-    × (let run = run_of f s lines in (run.ending ≡ AtEof) × BreaksOff (reply run.files run.source (command_of line)) run.text left)
+    × (let run = run_of f s lines in (run.ending ≡ AtEof) × BreaksOff (reply run.files run.source (command_of line)) run left)
 
 -- bytes that an edit takes may want memory, and so may the source
 abbrev pub MayLack : Files → (List ℕ → Change) → Result (List ℕ) SourceError → Type 0
@@ -78,12 +84,13 @@ MayLack f change (Ok bytes) = judge f (change bytes) ≡ None
 MayLack f change (Err sources.Unread) = ⊥
 MayLack f change (Err sources.NoMemory) = ⊤
 
--- no other line may
+-- a listing may too, and no other line
 abbrev pub LineMayLack : Files → SourceAnswers → Command → Type 0
 LineMayLack f s (Add path) = MayLack f (Adds path) (next_answer s path)
 LineMayLack f s (Replace path) = MayLack f (Replaces path) (next_answer s path)
 LineMayLack f s (Remove path) = ⊥
 LineMayLack f s Report = ⊥
+LineMayLack f s (Listing name) = IsSome (winner f name)
 LineMayLack f s End = ⊥
 LineMayLack f s Bad = ⊥
 
@@ -94,11 +101,18 @@ pub record IsNotBegun (f : Files) (s : SourceAnswers) (bytes : List ℕ) (left :
   pub coming : left.coming ≡ Some bytes
   pub kept : Keeps left.before left.now
 
--- the lines before some line were answered, none of them `end`, and of it nothing was done but that the source was asked
+-- behind a run a line was not done: of a listing a beginning may be written, and of an edit nothing is, but the source was asked
+abbrev pub GivesUp : Reply → Run → Left → Type 0
+GivesUp (Says said files source) run left = IsDone (record run { source = drop 1 run.source }) AtEof left
+GivesUp (Lists said) run left = (n : ℕ) × (n ≤ length said) × IsDone (record run { text = run.text ++ take n said }) AtEof left
+GivesUp Ends run left = ⊥
+GivesUp (Lacks source) run left = IsDone (record run { source = drop 1 run.source }) AtEof left
+
+-- the lines before some line were answered, none of them `end`, and it wanted memory
 abbrev pub StopsForMemory : Files → SourceAnswers → List ℕ → Left → Type 0
 StopsForMemory f s bytes left =
     (lines : List (List ℕ)) × (line : List ℕ) × (rest : List (List ℕ)) × (lines_of bytes ≡ lines ++ line ∷ rest)
-    × (let run = run_of f s lines in IsDone (record run { source = drop 1 run.source }) AtEof left × LineMayLack run.files run.source (command_of line))
+    × (let run = run_of f s lines in GivesUp (reply run.files run.source (command_of line)) run left × LineMayLack run.files run.source (command_of line))
 
 abbrev pub StopsAs : Files → SourceAnswers → List ℕ → RunError → Left → Type 0
 StopsAs f s bytes run_errors.Read left = StopsAtRead f s bytes left

@@ -1,5 +1,5 @@
 -- How the program ends, and what it tells on standard error.
-use Rattle.std.specs.Prelude.{◌≡◌, ℕ, ◌≤◌, ◌⊎◌, Bool, true, false, List, [], Option, Some, Result, Ok, Err, codes}
+use Rattle.std.specs.Prelude.{◌≡◌, ℕ, ◌≤◌, ◌⊎◌, Bool, true, false, List, [], ◌++◌, Option, Some, Result, Ok, Err, MatchOption, codes}
 use Rattle.std.specs.FinMap as map
 use Rattle.std.specs.List.{list_any}
 use Rattle.std.specs.Io.KnownBytes.{Appends, Keeps}
@@ -7,21 +7,34 @@ use Rattle.jc_base.specs.Device.{MoreFaults, WritesFront}
 use Rattle.jc_session.specs.declared.run_error.Ended.{Ended}
 use Rattle.jc_session.specs.declared.run_error.RunError.{RunError}
 use Rattle.jc_session.specs.declared.run_error.RunError.TheVariants as run_errors
-use Rattle.jc_session.specs.declared.command_line.Fault.{Fault}
-use Rattle.jc_session.specs.declared.command_line.Fault.TheVariants as faults
-use Rattle.jc_session.specs.Files.{Files}
+use Rattle.jc_session.specs.declared.source.SourceError.{SourceError}
+use Rattle.jc_session.specs.declared.source.SourceError.TheVariants as sources
+use Rattle.jc_text.specs.Escapes.{path_text}
+use Rattle.jc_list.specs.Listing.{WritesBeginning}
+use Rattle.jc_session.specs.ListedText.{file_text, is_faulty_file}
+use Rattle.jc_session.specs.Files.{Files, size_fault}
 use Rattle.jc_session.specs.Sources.{SourceAnswers}
 use Rattle.jc_session.specs.Runs.{RunsAs}
 use Rattle.jc_session.specs.Rows.{rows, is_unreadable}
 
--- whether the report is wrong, or why there is none
+-- why the program ends with a line on standard error
+pub data Fault : Type 0 where
+  Usage : Fault
+  Input : Fault
+  Output : Fault
+  NoMemory : Fault
+  -- the file at a path can't be read, or is over the limit
+  Unread : (path : List ℕ) → Fault
+  TooLarge : (path : List ℕ) → Fault
+
+-- whether what was told is wrong, or why nothing was
 abbrev pub Outcome : Type 0
 Outcome = Result Bool Fault
 
 abbrev pub fault_of : RunError → Fault
-fault_of run_errors.Read = faults.Input
-fault_of run_errors.Write = faults.Output
-fault_of run_errors.NoMemory = faults.NoMemory
+fault_of run_errors.Read = Input
+fault_of run_errors.Write = Output
+fault_of run_errors.NoMemory = NoMemory
 
 -- of a run, by the files held at its end
 abbrev pub outcome_of : Result Ended RunError → Files → Outcome
@@ -33,17 +46,33 @@ abbrev pub RunsByAnswers : Result Ended RunError → Files → (input coming bef
 RunsByAnswers ending f input coming before now =
     (bytes : List ℕ) → input ≡ Some bytes → (s : SourceAnswers) × RunsAs map.empty s bytes ending (record { files = f; source = Some []; coming = coming; before = before; now = now })
 
--- the words were refused and nothing was written, or there was a run
+-- the listing of a file was written, or why the bytes are none, or not all of it
+abbrev pub ListsFile : List ℕ → Outcome → (before now : Option (List ℕ)) → Type 0
+ListsFile bytes outcome before now =
+    ((outcome ≡ Ok (is_faulty_file bytes)) × Appends before now (file_text bytes))
+    ⊎ ((outcome ≡ Err Output) × WritesFront before now (file_text bytes))
+    ⊎ ((outcome ≡ Err NoMemory) × WritesBeginning before now (file_text bytes))
+
+-- the file at a path was listed, by what the source answered
+abbrev pub ListsAs : (path : List ℕ) → Result (List ℕ) SourceError → Outcome → (before now : Option (List ℕ)) → Type 0
+ListsAs path (Ok bytes) outcome before now = MatchOption (size_fault bytes) (ListsFile bytes outcome before now) (λ _. (outcome ≡ Err (TooLarge path)) × Keeps before now)
+ListsAs path (Err sources.Unread) outcome before now = (outcome ≡ Err (Unread path)) × Keeps before now
+ListsAs path (Err sources.NoMemory) outcome before now = (outcome ≡ Err NoMemory) × Keeps before now
+
+-- the words were refused and nothing was written, or there was a run, or a file was listed
 abbrev pub Performs : Outcome → (input coming before now : Option (List ℕ)) → Type 0
 Performs outcome input coming before now =
-    ((outcome ≡ Err faults.Usage) × Keeps before now)
+    ((outcome ≡ Err Usage) × Keeps before now)
     ⊎ ((ending : Result Ended RunError) × (f : Files) × (outcome ≡ outcome_of ending f) × RunsByAnswers ending f input coming before now)
+    ⊎ ((path : List ℕ) × (answer : Result (List ℕ) SourceError) × ListsAs path answer outcome before now × (coming ≡ input))
 
 abbrev pub fault_status : Fault → ℕ
-fault_status faults.Usage = 2
-fault_status faults.Input = 3
-fault_status faults.Output = 3
-fault_status faults.NoMemory = 4
+fault_status Usage = 2
+fault_status Input = 3
+fault_status Output = 3
+fault_status NoMemory = 4
+fault_status (Unread path) = 3
+fault_status (TooLarge path) = 3
 
 abbrev pub status_of : Outcome → ℕ
 status_of (Ok false) = 0
@@ -52,10 +81,12 @@ status_of (Err fault) = fault_status fault
 
 -- the line on standard error
 abbrev pub fault_text : Fault → List ℕ
-fault_text faults.Usage = codes "jclink: usage\n"
-fault_text faults.Input = codes "jclink: cannot read input\n"
-fault_text faults.Output = codes "jclink: cannot write\n"
-fault_text faults.NoMemory = codes "jclink: no memory\n"
+fault_text Usage = codes "jclink: usage\n"
+fault_text Input = codes "jclink: cannot read input\n"
+fault_text Output = codes "jclink: cannot write\n"
+fault_text NoMemory = codes "jclink: no memory\n"
+fault_text (Unread path) = codes "jclink: cannot read " ++ path_text path ++ codes "\n"
+fault_text (TooLarge path) = codes "jclink: refused 3 TooLarge " ++ path_text path ++ codes "\n"
 
 -- the text was written, or a proper beginning of it and then the device failed
 abbrev pub WritesUnlessFailed : List ℕ → (before after : Option (List ℕ)) (old new : ℕ) → Type 0
@@ -70,15 +101,19 @@ Tells (Err fault) before after old new = WritesUnlessFailed (fault_text fault) b
 -- the input's count of failures rises with this fault alone
 abbrev pub CountsInput : Outcome → ℕ → ℕ → Type 0
 CountsInput (Ok x) old new = new ≡ old
-CountsInput (Err faults.Usage) old new = new ≡ old
-CountsInput (Err faults.Input) old new = MoreFaults old new × (old ≤ new)
-CountsInput (Err faults.Output) old new = new ≡ old
-CountsInput (Err faults.NoMemory) old new = new ≡ old
+CountsInput (Err Usage) old new = new ≡ old
+CountsInput (Err Input) old new = MoreFaults old new × (old ≤ new)
+CountsInput (Err Output) old new = new ≡ old
+CountsInput (Err NoMemory) old new = new ≡ old
+CountsInput (Err (Unread path)) old new = new ≡ old
+CountsInput (Err (TooLarge path)) old new = new ≡ old
 
 -- and the output's with this one
 abbrev pub CountsOutput : Outcome → ℕ → ℕ → Type 0
 CountsOutput (Ok x) old new = new ≡ old
-CountsOutput (Err faults.Usage) old new = new ≡ old
-CountsOutput (Err faults.Input) old new = new ≡ old
-CountsOutput (Err faults.Output) old new = MoreFaults old new × (old ≤ new)
-CountsOutput (Err faults.NoMemory) old new = new ≡ old
+CountsOutput (Err Usage) old new = new ≡ old
+CountsOutput (Err Input) old new = new ≡ old
+CountsOutput (Err Output) old new = MoreFaults old new × (old ≤ new)
+CountsOutput (Err NoMemory) old new = new ≡ old
+CountsOutput (Err (Unread path)) old new = new ≡ old
+CountsOutput (Err (TooLarge path)) old new = new ≡ old

@@ -1,9 +1,11 @@
 //! The answer to one line.
-ghost use Rattle.std.specs.Prelude.{◌≡◌, ◌≢◌, IfErr, None, Some};
+ghost use Rattle.std.specs.Prelude.{◌≡◌, ◌≢◌, IfErr, IsSome, None, Some};
 ghost use Rattle.jc_session.specs.declared.run_error.RunError.TheVariants.{NoMemory, Read};
 ghost use Rattle.jc_session.specs.Files.{judge};
 ghost use Rattle.jc_session.specs.Sources.{SourceAnswers, next_answer};
-ghost use Rattle.jc_session.specs.Answers.{edit_reply, reply, sourced_reply};
+ghost use Rattle.jc_session.specs.Answers.{Lists, edit_reply, reply, sourced_reply};
+ghost use Rattle.jc_session.specs.ListedText.{listed_text};
+ghost use Rattle.jc_session.specs.Rows.{winner};
 ghost use Rattle.jc_session.specs.Runs.{CountsWrites, LineMayLack, MayLack};
 ghost use Rattle.jc_session.specs.inside.Growth.{MayGrow, change_lent};
 ghost use Rattle.jc_session.specs.inside.Replies.{Gives, GivesByAnswers, command_lent, placed, said_by};
@@ -16,6 +18,7 @@ use crate::run_error::RunError;
 use crate::session::Session;
 use crate::source::{Source, SourceError};
 use jc_base::Output;
+use jc_list::ListError;
 
 /// What comes after an answer.
 #[derive(Clone, Copy, Debug)]
@@ -62,6 +65,7 @@ pub(crate) fn answer<S: Source, W: Output>(
         Command::Replace(path) => answer_sourced(session, source, path, Placing::Other, out),
         Command::Remove(path) => answer_edit(session, LentEdit::Remove(path), out),
         Command::Report => said(write_report(session.report(), out)),
+        Command::List(name) => answer_listing(session, name, out),
         Command::Bad => said(write_bad_line(out)),
         Command::End => Ok(Next::Nothing),
     }
@@ -105,6 +109,21 @@ fn answer_edit<W: Output>(
     match session.make(edit) {
         Err(EditError::NoMemory) => Err(RunError::NoMemory),
         answer => said(write_edit_answer(out, answer)),
+    }
+}
+
+/// Lists the file that a class is taken from.
+fn answer_listing<W: Output>(session: &Session, name: &[u8], out: &mut W) -> Result<Next, RunError>
+    ensures gives { (s : SourceAnswers) → Gives session.now.files s (Lists (listed_text session.now.files name.now))
+        result session.now.files (Some s) (W.written out.old) (W.written out.new) }
+    ensures lacks { result ≡ Err NoMemory → IsSome (winner session.now.files name.now) }
+    ensures failures { CountsWrites result (W.failures out.old) (W.failures out.new) }
+    ensures err { IfErr result (λ e. e ≢ Read) }
+{
+    match session.list(name, out) {
+        Ok(()) => Ok(Next::Line),
+        Err(ListError::Write) => Err(RunError::Write),
+        Err(ListError::NoMemory) => Err(RunError::NoMemory),
     }
 }
 

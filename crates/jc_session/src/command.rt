@@ -6,13 +6,14 @@ ghost use Rattle.jc_session.specs.inside.Replies.{command_lent};
 /// The most bytes that a line may have, its LF aside.
 const LONGEST_LINE: usize = 8192;
 
-/// What a line asks for. Paths are borrowed from the line.
+/// What a line asks for. Paths and names are borrowed from the line.
 #[derive(Clone, Copy, Debug)]
 pub(crate) enum Command<'a> {
     Add(&'a [u8]),
     Replace(&'a [u8]),
     Remove(&'a [u8]),
     Report,
+    List(&'a [u8]),
     End,
     Bad,
 }
@@ -31,6 +32,8 @@ pub(crate) fn parse_line(line: &[u8]) -> Command<'_>
         Command::Remove(path)
     } else if line == b"report".as_slice() {
         Command::Report
+    } else if let Some(name) = after(line, b"list ") {
+        Command::List(name)
     } else if line == b"end".as_slice() {
         Command::End
     } else {

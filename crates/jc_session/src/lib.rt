@@ -9,6 +9,7 @@ mod command;
 mod command_line;
 mod edit;
 mod file;
+mod file_listing;
 mod file_row;
 mod held;
 mod judge;

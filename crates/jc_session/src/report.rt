@@ -1,6 +1,6 @@
 //! The report that a session holds.
 
-ghost use Rattle.std.specs.Prelude.{◌≡◌};
+ghost use Rattle.std.specs.Prelude.{◌≡◌, option_and_then};
 ghost use Rattle.std.specs.Option.{option_map};
 ghost use Rattle.std.specs.List.{list_any};
 ghost use Rattle.std.specs.FinMap as map;
@@ -62,6 +62,13 @@ impl Report {
             files: self.held.files.iter(),
             claims: &self.held.claims,
         }
+    }
+
+    /// The bytes of the file that a class is taken from.
+    pub(crate) fn winning_file(&self, name: &[u8]) -> Option<&[u8]>
+        ensures { option_map (λ bytes. bytes.now) result ≡ option_and_then (map.get self.now) (rows_of.winner self.now name.now) }
+    {
+        self.file(self.held.claims.first(name)?)
     }
 
     /// The bytes of the file at the path.

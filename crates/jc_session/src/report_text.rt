@@ -88,7 +88,7 @@ fn write_unreadable<W: Output>(text: &mut TextWriter<'_, W>, refusal: ParseError
 }
 
 // A refusal: its number, its name and its place, if it has one.
-fn write_refusal<W: Output>(text: &mut TextWriter<'_, W>, refusal: ParseError)
+pub(crate) fn write_refusal<W: Output>(text: &mut TextWriter<'_, W>, refusal: ParseError)
     ensures { Sends W.written W.failures text.old text.new (refusal_text refusal) }
 {
     text.decimal(refusal.code());

@@ -15,9 +15,9 @@ use crate::source::Source;
 use jc_base::{Input, Output};
 use std::alloc::Global;
 
-/// Answers the lines of an input one by one: `add PATH`, `replace PATH`, `remove PATH`, `report` and
-/// `end`. A line's answer is written before more of the input is read, and nothing is read behind the
-/// end of the input. An edit is made before it is answered.
+/// Answers the lines of an input one by one: `add PATH`, `replace PATH`, `remove PATH`, `report`,
+/// `list NAME` and `end`. A line's answer is written before more of the input is read, and nothing is
+/// read behind the end of the input. An edit is made before it is answered.
 pub fn run<S: Source, R: Input, W: Output>(
     alloc: Global,
     session: &mut Session,

@@ -1,18 +1,24 @@
 //! A session over class files.
 
-ghost use Rattle.std.specs.Prelude.{◌≡◌, None, IfOk, OnOk, OnErr, MatchResult};
+ghost use Rattle.std.specs.Prelude.{◌≡◌, None, IsSome, IfOk, OnOk, OnErr, MatchResult};
 ghost use Rattle.std.specs.Option.{option_map};
 ghost use Rattle.std.specs.FinMap as map;
 ghost use Rattle.jc_session.specs.declared.edit.EditError.TheVariants as errors;
+ghost use Rattle.jc_list.specs.declared.list_error.ListError.TheVariants as lists;
+ghost use Rattle.jc_list.specs.ListErrors.{CountsWrites, WritesListing};
+ghost use Rattle.jc_session.specs.ListedText.{listed_text};
+ghost use Rattle.jc_session.specs.Rows.{winner};
 ghost use Rattle.jc_session.specs.Files.{after, change_of, judge};
 ghost use Rattle.jc_session.specs.Judged.{IsJudged};
 ghost use Rattle.jc_session.specs.inside.Growth.{MayGrow, change_lent};
 
 use crate::edit::{Done, Edit, EditError, LentEdit};
+use crate::file_listing::{list_file, write_none};
 use crate::held::{commit, grow};
 use crate::judge::judge;
 use crate::report::Report;
-use jc_base::NoMemory;
+use jc_base::{NoMemory, Output};
+use jc_list::ListError;
 use std::alloc::Global;
 use std::marker::Model;
 
@@ -81,6 +87,21 @@ impl Session {
         ensures { result.now ≡ self.now.files }
     {
         &self.report
+    }
+
+    /// Writes the listing of the file that a class is taken from, or `none` where no file names it.
+    pub(crate) fn list<W: Output>(&self, name: &[u8], out: &mut W) -> Result<(), ListError>
+        ensures listing { WritesListing result (W.written out.old) (W.written out.new) (listed_text self.now.files name.now) }
+        ensures memory { result ≡ Err lists.NoMemory → IsSome (winner self.now.files name.now) }
+        ensures failures { CountsWrites result (W.failures out.old) (W.failures out.new) }
+    {
+        match self.report.winning_file(name) {
+            Some(bytes) => {
+                list_file(self.alloc, bytes, out)?;
+                Ok(())
+            }
+            None => write_none(out),
+        }
     }
 
     /// The bytes of the file at the path.

@@ -6,8 +6,6 @@ use Rattle.std.proofs.KnownBytes.{Keeps-refl}
 use Rattle.jc_base.specs.Device.{WritesFront}
 use Rattle.jc_session.specs.declared.answer.Next.{Next}
 use Rattle.jc_session.specs.declared.answer.Next.TheVariants as next
-use Rattle.jc_session.specs.declared.command_line.Fault.{Fault}
-use Rattle.jc_session.specs.declared.command_line.Fault.TheVariants as faults
 use Rattle.jc_session.specs.declared.run_error.Ended.{Ended}
 use Rattle.jc_session.specs.declared.run_error.Ended.TheVariants as ended
 use Rattle.jc_session.specs.declared.run_error.RunError.{RunError}
@@ -17,7 +15,7 @@ use Rattle.jc_session.specs.Lines.{command_of}
 use Rattle.jc_session.specs.Sources.{SourceAnswers}
 use Rattle.jc_session.specs.Answers.{Reply, Says, reply}
 use Rattle.jc_session.specs.Runs.{LineMayLack, EndsAs, StopsAs, StopsAtRead, RunsAs}
-use Rattle.jc_session.specs.Statuses.{Performs}
+use Rattle.jc_session.specs.Statuses.{Fault, NoMemory, Performs, Usage}
 use Rattle.jc_session.specs.inside.Reading.{bytes_left, TakesLine, LosesPart}
 use Rattle.jc_session.specs.inside.Replies.{Gives, GivesLast, GivesByAnswers, GivesLastByAnswers, said_by, next_of}
 use Rattle.jc_session.proofs.runs.RunsSoFar.{IsSoFar, so_far_begins, so_far_goes_on, so_far_ends, so_far_stops, so_far_fails, so_far_last}
@@ -124,6 +122,6 @@ pub not_begun : (f : Files) (bytes : List ℕ) (coming before : Option (List ℕ
 not_begun f bytes coming before all = ([], inl (record { files = refl; source = refl; coming = all; kept = Keeps-refl before }))
 
 -- words that are refused
-pub words_perform : (fault : Fault) (coming before : Option (List ℕ)) → (fault ≡ faults.Usage) ⊎ (fault ≡ faults.NoMemory) → Performs (Err fault) coming coming before before
+pub words_perform : (fault : Fault) (coming before : Option (List ℕ)) → (fault ≡ Usage) ⊎ (fault ≡ NoMemory) → Performs (Err fault) coming coming before before
 words_perform fault coming before is =
-    ⊎_elim (λ e. inl (ap Err e, Keeps-refl before)) (λ e. inr (Err errors.NoMemory, map.empty, ap Err e, λ bytes all. not_begun map.empty bytes coming before all)) is
+    ⊎_elim (λ e. inl (ap Err e, Keeps-refl before)) (λ e. inr (inl (Err errors.NoMemory, map.empty, ap Err e, λ bytes all. not_begun map.empty bytes coming before all))) is

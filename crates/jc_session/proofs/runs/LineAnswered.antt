@@ -11,52 +11,70 @@ use Rattle.jc_session.specs.declared.run_error.RunError.TheVariants as errors
 use Rattle.jc_session.specs.declared.source.SourceError.{SourceError}
 use Rattle.jc_session.specs.declared.source.SourceError.TheVariants as sources
 use Rattle.jc_session.specs.Files.{Files, Change, Adds, Replaces, judge}
-use Rattle.jc_session.specs.Lines.{Command, Add, Replace, Remove, Report, End, Bad, command_of, lines_of}
+use Rattle.jc_session.specs.ListedText.{listed_text}
+use Rattle.jc_session.specs.Lines.{Command, Add, Replace, Remove, Report, Listing, End, Bad, command_of, lines_of}
 use Rattle.jc_session.specs.Sources.{SourceAnswers, next_answer}
-use Rattle.jc_session.specs.Answers.{Reply, Says, Ends, Lacks, reply, judged_reply, told_reply, Run, AtEof, after_text, run_of}
-use Rattle.jc_session.specs.Runs.{IsDone, EndsAs, StopsAtWrite, BreaksOff, StopsForMemory, LineMayLack, RunsAs}
+use Rattle.jc_session.specs.Answers.{Reply, Says, Lists, Ends, Lacks, reply, judged_reply, told_reply, Run, AtEof, after_text, run_of}
+use Rattle.jc_session.specs.Runs.{IsDone, EndsAs, StopsAtWrite, BreaksOff, StopsForMemory, GivesUp, LineMayLack, RunsAs}
 use Rattle.jc_session.specs.inside.Replies.{Gives, next_of}
-use Rattle.jc_session.proofs.runs.RunsOverLines.{run_of-cons, IsAnswered, run_at, answered_more, by_end}
+use Rattle.jc_session.proofs.runs.RunsOverLines.{run_of-cons, IsAnswered, IsSaid, run_at, answered_more, by_end}
 
 pub gave_line : (f : Files) (s : SourceAnswers) (r : Reply) (new : Files) (source : Option SourceAnswers) (before now : Option (List ℕ)) → Gives f s r (Ok next.Line) new source before now
-    → (text : List ℕ) × (files : Files) × (t : SourceAnswers) × (r ≡ Says text files t) × (new ≡ files) × (source ≡ Some t) × Appends before now text
-gave_line f s (Says text files t) new source before now gives = (text, files, t, refl, gives.0, gives.1, gives.2)
+    → (text : List ℕ) × (files : Files) × (t : SourceAnswers) × IsSaid f s r text files t × (new ≡ files) × (source ≡ Some t) × Appends before now text
+gave_line f s (Says text files t) new source before now gives = (text, files, t, λ more. refl, gives.0, gives.1, gives.2)
+gave_line f s (Lists text) new source before now gives = (text, f, s, λ more. refl, gives.0, gives.1, gives.2)
 gave_line f s Ends new source before now gives = absurd gives
 gave_line f s (Lacks t) new source before now gives = absurd gives
 
 gave_nothing : (f : Files) (s : SourceAnswers) (r : Reply) (new : Files) (source : Option SourceAnswers) (before now : Option (List ℕ)) → Gives f s r (Ok next.Nothing) new source before now
     → (r ≡ Ends) × (new ≡ f) × (source ≡ Some s) × Keeps before now
 gave_nothing f s (Says text files t) new source before now gives = absurd gives
+gave_nothing f s (Lists text) new source before now gives = absurd gives
 gave_nothing f s Ends new source before now gives = (refl, gives.0, gives.1, gives.2)
 gave_nothing f s (Lacks t) new source before now gives = absurd gives
 
-gave_front : (f : Files) (s : SourceAnswers) (r : Reply) (text : List ℕ) (new : Files) (source : Option SourceAnswers) (coming before now later : Option (List ℕ)) → Appends before now text
-    → Gives f s r (Err errors.Write) new source now later → BreaksOff r text (record { files = new; source = source; coming = coming; before = before; now = later })
-gave_front f s (Says said files t) text new source coming before now later written gives =
-    (gives.0, gives.1, (gives.2.0, gives.2.1, Appends-trans before now later text (take gives.2.0 said) written gives.2.2))
-gave_front f s Ends text new source coming before now later written gives = absurd gives
-gave_front f s (Lacks t) text new source coming before now later written gives = absurd gives
+gave_front : (run : Run) (r : Reply) (new : Files) (source : Option SourceAnswers) (coming before now later : Option (List ℕ)) → Appends before now run.text
+    → Gives run.files run.source r (Err errors.Write) new source now later → BreaksOff r run (record { files = new; source = source; coming = coming; before = before; now = later })
+gave_front run (Says said files t) new source coming before now later written gives =
+    (gives.0, gives.1, (gives.2.0, gives.2.1, Appends-trans before now later run.text (take gives.2.0 said) written gives.2.2))
+gave_front run (Lists said) new source coming before now later written gives =
+    (gives.0, gives.1, (gives.2.0, gives.2.1, Appends-trans before now later run.text (take gives.2.0 said) written gives.2.2))
+gave_front run Ends new source coming before now later written gives = absurd gives
+gave_front run (Lacks t) new source coming before now later written gives = absurd gives
 
-judged_lacked : (f : Files) (s t : SourceAnswers) (change : Change) (o : Option EditError) (new : Files) (source : Option SourceAnswers) (before now : Option (List ℕ))
-    → Gives f s (judged_reply f t change o) (Err errors.NoMemory) new source before now → (new ≡ f) × (source ≡ Some t) × Keeps before now
-judged_lacked f s t change None new source before now gives = gives
-judged_lacked f s t change (Some e) new source before now gives = gives
+-- ---- memory that was refused
 
-told_lacked : (f : Files) (s t : SourceAnswers) (path : List ℕ) (change : List ℕ → Change) (a : Result (List ℕ) SourceError) (new : Files) (source : Option SourceAnswers) (before now : Option (List ℕ))
-    → Gives f s (told_reply f t path change a) (Err errors.NoMemory) new source before now → (new ≡ f) × (source ≡ Some t) × Keeps before now
-told_lacked f s t path change (Ok bytes) new source before now gives = judged_lacked f s t (change bytes) (judge f (change bytes)) new source before now gives
-told_lacked f s t path change (Err sources.Unread) new source before now gives = gives
-told_lacked f s t path change (Err sources.NoMemory) new source before now gives = gives
+module _ (run : Run) (new : Files) (source : Option SourceAnswers) (coming before now later : Option (List ℕ)) (goes : run.ending ≡ AtEof) (written : Appends before now run.text) where
+  -- the source was asked
+  unsaid : (new ≡ run.files) × (source ≡ Some (drop 1 run.source)) × Keeps now later
+      → IsDone (record run { source = drop 1 run.source }) AtEof (record { files = new; source = source; coming = coming; before = before; now = later })
+  unsaid gives = record { ends = goes; files = gives.0; source = gives.1; text = Appends-kept before now later run.text written gives.2 }
 
--- where memory was refused the source was asked
-gave_memory : (f : Files) (s : SourceAnswers) (command : Command) (new : Files) (source : Option SourceAnswers) (before now : Option (List ℕ)) → LineMayLack f s command
-    → Gives f s (reply f s command) (Err errors.NoMemory) new source before now → (new ≡ f) × (source ≡ Some (drop 1 s)) × Keeps before now
-gave_memory f s (Add path) new source before now may gives = told_lacked f s (drop 1 s) path (Adds path) (next_answer s path) new source before now gives
-gave_memory f s (Replace path) new source before now may gives = told_lacked f s (drop 1 s) path (Replaces path) (next_answer s path) new source before now gives
-gave_memory f s (Remove path) new source before now may gives = absurd may
-gave_memory f s Report new source before now may gives = absurd may
-gave_memory f s End new source before now may gives = absurd may
-gave_memory f s Bad new source before now may gives = absurd may
+  judged_lacked : (change : Change) (o : Option EditError) → Gives run.files run.source (judged_reply run.files (drop 1 run.source) change o) (Err errors.NoMemory) new source now later
+      → GivesUp (judged_reply run.files (drop 1 run.source) change o) run (record { files = new; source = source; coming = coming; before = before; now = later })
+  judged_lacked change None gives = unsaid gives
+  judged_lacked change (Some e) gives = unsaid gives
+
+  told_lacked : (path : List ℕ) (change : List ℕ → Change) (a : Result (List ℕ) SourceError)
+      → Gives run.files run.source (told_reply run.files (drop 1 run.source) path change a) (Err errors.NoMemory) new source now later
+      → GivesUp (told_reply run.files (drop 1 run.source) path change a) run (record { files = new; source = source; coming = coming; before = before; now = later })
+  told_lacked path change (Ok bytes) gives = judged_lacked (change bytes) (judge run.files (change bytes)) gives
+  told_lacked path change (Err sources.Unread) gives = unsaid gives
+  told_lacked path change (Err sources.NoMemory) gives = unsaid gives
+
+  gave_memory : (command : Command) → LineMayLack run.files run.source command → Gives run.files run.source (reply run.files run.source command) (Err errors.NoMemory) new source now later
+      → GivesUp (reply run.files run.source command) run (record { files = new; source = source; coming = coming; before = before; now = later })
+  gave_memory (Add path) may gives = told_lacked path (Adds path) (next_answer run.source path) gives
+  gave_memory (Replace path) may gives = told_lacked path (Replaces path) (next_answer run.source path) gives
+  gave_memory (Remove path) may gives = absurd may
+  gave_memory Report may gives = absurd may
+  gave_memory (Listing name) may gives = (
+    gives.2.0,
+    gives.2.1,
+    record { ends = goes; files = gives.0; source = gives.1; text = Appends-trans before now later run.text (take gives.2.0 (listed_text run.files name)) written gives.2.2 },
+  )
+  gave_memory End may gives = absurd may
+  gave_memory Bad may gives = absurd may
 
 -- ---- the line after them
 
@@ -65,6 +83,10 @@ module _ (f : Files) (s : SourceAnswers) (bytes : List ℕ) (lines : List (List 
     (new : Files) (left : Option SourceAnswers) (coming later : Option (List ℕ)) where
   from_here : run_of f s (lines_of bytes) ≡ after_text text (run_of files source (line ∷ rest))
   from_here = ap (run_of f s) cut ∙ owed (line ∷ rest)
+
+  -- the run so far
+  abbrev here : Run
+  here = record { text = text; files = files; source = source; ending = AtEof }
 
   pub line_ends : Gives files source (reply files source (command_of line)) (Ok next.Nothing) new left now later
       → EndsAs f s bytes ended.End (record { files = new; source = left; coming = coming; before = before; now = later })
@@ -100,28 +122,15 @@ module _ (f : Files) (s : SourceAnswers) (bytes : List ℕ) (lines : List (List 
   pub line_breaks : Gives files source (reply files source (command_of line)) (Err errors.Write) new left now later
       → StopsAtWrite f s bytes (record { files = new; source = left; coming = coming; before = before; now = later })
   line_breaks gives =
-      let P : Run → Type 0 = λ run. (run.ending ≡ AtEof) × BreaksOff (reply run.files run.source (command_of line)) run.text (record { files = new; source = left; coming = coming; before = before; now = later }) in
-      (lines, line, rest, cut, subst P (sym (run_at f s lines text files source owed)) (refl, gave_front files source (reply files source (command_of line)) text new left coming before now later said gives))
+      let P : Run → Type 0 = λ run. (run.ending ≡ AtEof) × BreaksOff (reply run.files run.source (command_of line)) run (record { files = new; source = left; coming = coming; before = before; now = later }) in
+      (lines, line, rest, cut, subst P (sym (run_at f s lines text files source owed)) (refl, gave_front here (reply files source (command_of line)) new left coming before now later said gives))
 
   pub line_lacks : LineMayLack files source (command_of line) → Gives files source (reply files source (command_of line)) (Err errors.NoMemory) new left now later
       → StopsForMemory f s bytes (record { files = new; source = left; coming = coming; before = before; now = later })
   line_lacks may gives =
-      let given = gave_memory files source (command_of line) new left now later may gives in
-      let P : Run → Type 0 = λ run. IsDone (record run { source = drop 1 run.source }) AtEof (record { files = new; source = left; coming = coming; before = before; now = later }) × LineMayLack run.files run.source (command_of line) in (
-        lines,
-        line,
-        rest,
-        cut,
-        subst P (sym (run_at f s lines text files source owed)) (
-          record {
-            ends = refl;
-            files = given.0;
-            source = given.1;
-            text = Appends-kept before now later text said given.2;
-          },
-          may,
-        ),
-      )
+      let P : Run → Type 0 = λ run. GivesUp (reply run.files run.source (command_of line)) run (record { files = new; source = left; coming = coming; before = before; now = later })
+      × LineMayLack run.files run.source (command_of line) in
+      (lines, line, rest, cut, subst P (sym (run_at f s lines text files source owed)) (gave_memory here new left coming before now later refl said (command_of line) may gives, may))
 
   pub line_last : (result : Result Ended RunError) → IfErr result (λ e. e ≢ errors.Read) → rest ≡ [] → Gives files source (reply files source (command_of line)) (next_of result) new left now later
       → (result ≡ Err errors.NoMemory → LineMayLack files source (command_of line))

@@ -1,19 +1,20 @@
 -- A run over lines, from its front and from its end, and by which line it ends.
-use Rattle.std.proofs.Common.{◌≡◌, ◌∙◌, ◌++◌, ◌||◌, ◌↔◌, ℕ, Bool, true, false, List, [], ◌∷◌, Option, Some, None, Result, Ok, Err, refl, sym, ap, append_assoc, append-nil, drop}
+use Rattle.std.proofs.Common.{◌≡◌, ◌≢◌, ◌∙◌, ◌++◌, ◌||◌, ◌↔◌, ℕ, Bool, true, false, List, [], ◌∷◌, Option, Some, None, Result, Ok, Err, refl, sym, ap, append_assoc, append-nil, drop}
 use Rattle.jc_session.specs.declared.edit.EditError.{EditError}
 use Rattle.jc_session.specs.declared.run_error.Ended.{Ended}
 use Rattle.jc_session.specs.declared.run_error.Ended.TheVariants as ended
 use Rattle.jc_session.specs.declared.source.SourceError.{SourceError}
 use Rattle.jc_session.specs.declared.source.SourceError.TheVariants as sources
 use Rattle.jc_session.specs.Files.{Files, Change, Adds, Replaces, Removes, judge}
-use Rattle.jc_session.specs.Lines.{Command, Add, Replace, Remove, Report, End, Bad, command_of}
+use Rattle.jc_session.specs.Lines.{Command, Add, Replace, Remove, Report, Listing, End, Bad, command_of}
 use Rattle.jc_session.specs.Sources.{SourceAnswers, next_answer}
-use Rattle.jc_session.specs.Answers.{Reply, Says, Ends, Lacks, reply, judged_reply, told_reply, Run, Ending, AtEnd, AtEof, WithoutMemory, after_text, run_of}
+use Rattle.jc_session.specs.Answers.{Reply, Says, Lists, Ends, Lacks, reply, judged_reply, told_reply, Run, Ending, AtEnd, AtEof, WithoutMemory, after_text, run_of}
 use Rattle.jc_session.specs.Runs.{ending_of, is_end, has_end}
 
 -- a run from a reply on
 abbrev pub goes_on : Files → SourceAnswers → Reply → List (List ℕ) → Run
 goes_on f s (Says text files source) lines = after_text text (run_of files source lines)
+goes_on f s (Lists text) lines = after_text text (run_of f s lines)
 goes_on f s Ends lines = record { text = []; files = f; source = s; ending = AtEnd }
 goes_on f s (Lacks source) lines = record { text = []; files = f; source = source; ending = WithoutMemory }
 
@@ -21,6 +22,7 @@ pub run_of-cons : (f : Files) (s : SourceAnswers) (line : List ℕ) (lines : Lis
     → run_of f s (line ∷ lines) ≡ goes_on f s r lines
 unfolding run_of
 run_of-cons f s line lines (Says text files source) e = rw (e, run_of) refl
+run_of-cons f s line lines (Lists text) e = rw (e, run_of) refl
 run_of-cons f s line lines Ends e = rw (e, run_of) refl
 run_of-cons f s line lines (Lacks source) e = rw (e, run_of) refl
 
@@ -36,6 +38,9 @@ after_text-twice first second run =
 
 says_not_ends : {text : List ℕ} {f : Files} {s : SourceAnswers} {P : Type 0} → Says text f s ≡ Ends → P
 says_not_ends e = absurd cc
+
+lists_not_ends : {text : List ℕ} {P : Type 0} → Lists text ≡ Ends → P
+lists_not_ends e = absurd cc
 
 lacks_not_ends : {s : SourceAnswers} {P : Type 0} → Lacks s ≡ Ends → P
 lacks_not_ends e = absurd cc
@@ -55,16 +60,18 @@ ends_by f s (Add path) e = told_not_ends f (drop 1 s) path (Adds path) (next_ans
 ends_by f s (Replace path) e = told_not_ends f (drop 1 s) path (Replaces path) (next_answer s path) e
 ends_by f s (Remove path) e = judged_not_ends f s (Removes path) (judge f (Removes path)) e
 ends_by f s Report e = says_not_ends e
+ends_by f s (Listing name) e = lists_not_ends e
 ends_by f s End e = refl
 ends_by f s Bad e = says_not_ends e
 
-says_by : (f : Files) (s : SourceAnswers) (command : Command) (text : List ℕ) (files : Files) (source : SourceAnswers) → reply f s command ≡ Says text files source → is_end command ≡ false
-says_by f s (Add path) text files source e = refl
-says_by f s (Replace path) text files source e = refl
-says_by f s (Remove path) text files source e = refl
-says_by f s Report text files source e = refl
-says_by f s End text files source e = says_not_ends (sym e)
-says_by f s Bad text files source e = refl
+not_end_by : (f : Files) (s : SourceAnswers) (command : Command) → reply f s command ≢ Ends → is_end command ≡ false
+not_end_by f s (Add path) other = refl
+not_end_by f s (Replace path) other = refl
+not_end_by f s (Remove path) other = refl
+not_end_by f s Report other = refl
+not_end_by f s (Listing name) other = refl
+not_end_by f s End other = absurd (other refl)
+not_end_by f s Bad other = refl
 
 or_true : (b : Bool) → (b || true) ≡ true
 or_true true = refl
@@ -78,6 +85,8 @@ at_end_by : (f : Files) (s : SourceAnswers) (line : List ℕ) (lines : List (Lis
     → ((g : Files) (t : SourceAnswers) → (run_of g t lines).ending ≡ AtEnd → has_end lines ≡ true) → (run_of f s (line ∷ lines)).ending ≡ AtEnd → has_end (line ∷ lines) ≡ true
 at_end_by f s line lines (Says text files source) is later e =
     ap (λ b. is_end (command_of line) || b) (later files source (ending_by f s line lines (Says text files source) AtEnd is e)) ∙ or_true (is_end (command_of line))
+at_end_by f s line lines (Lists text) is later e =
+    ap (λ b. is_end (command_of line) || b) (later f s (ending_by f s line lines (Lists text) AtEnd is e)) ∙ or_true (is_end (command_of line))
 at_end_by f s line lines Ends is later e = ap (λ b. b || has_end lines) (ends_by f s (command_of line) is)
 at_end_by f s line lines (Lacks source) is later e = absurd (let h : WithoutMemory ≡ AtEnd = ending_by f s line lines (Lacks source) AtEnd is e in cc)
 
@@ -88,7 +97,9 @@ at_end (line ∷ lines) f s e = at_end_by f s line lines (reply f s (command_of 
 at_eof_by : (f : Files) (s : SourceAnswers) (line : List ℕ) (lines : List (List ℕ)) (r : Reply) → reply f s (command_of line) ≡ r
     → ((g : Files) (t : SourceAnswers) → (run_of g t lines).ending ≡ AtEof → has_end lines ≡ false) → (run_of f s (line ∷ lines)).ending ≡ AtEof → has_end (line ∷ lines) ≡ false
 at_eof_by f s line lines (Says text files source) is later e =
-    ap (λ b. b || has_end lines) (says_by f s (command_of line) text files source is) ∙ later files source (ending_by f s line lines (Says text files source) AtEof is e)
+    ap (λ b. b || has_end lines) (not_end_by f s (command_of line) (λ ends. says_not_ends (sym is ∙ ends))) ∙ later files source (ending_by f s line lines (Says text files source) AtEof is e)
+at_eof_by f s line lines (Lists text) is later e =
+    ap (λ b. b || has_end lines) (not_end_by f s (command_of line) (λ ends. lists_not_ends (sym is ∙ ends))) ∙ later f s (ending_by f s line lines (Lists text) AtEof is e)
 at_eof_by f s line lines Ends is later e = absurd (let h : AtEnd ≡ AtEof = ending_by f s line lines Ends AtEof is e in cc)
 at_eof_by f s line lines (Lacks source) is later e = absurd (let h : WithoutMemory ≡ AtEof = ending_by f s line lines (Lacks source) AtEof is e in cc)
 
@@ -119,8 +130,13 @@ run_at f s lines text files source owed =
     sym (ap (run_of f s) (append-nil lines)) ∙ owed [] ∙ ap (after_text text) (run_of-nil files source)
     ∙ ap (λ (t : List ℕ). let r : Run = record { text = t; files = files; source = source; ending = AtEof } in r) (append-nil text)
 
+-- a reply says this text, and a run goes on behind it from these files and answers
+abbrev pub IsSaid : Files → SourceAnswers → Reply → (text : List ℕ) (files : Files) (source : SourceAnswers) → Type 0
+IsSaid f s r text files source = (more : List (List ℕ)) → goes_on f s r more ≡ after_text text (run_of files source more)
+
 pub answered_more : (f : Files) (s : SourceAnswers) (lines : List (List ℕ)) (text : List ℕ) (files : Files) (source : SourceAnswers) (line said : List ℕ) (new : Files) (left : SourceAnswers)
-    → IsAnswered f s lines text files source → reply files source (command_of line) ≡ Says said new left → IsAnswered f s (lines ++ line ∷ []) (text ++ said) new left
-answered_more f s lines text files source line said new left owed is more =
-    ap (run_of f s) (append_assoc lines (line ∷ []) more) ∙ owed (line ∷ more) ∙ ap (after_text text) (run_of-cons files source line more (Says said new left) is)
+    → IsAnswered f s lines text files source → IsSaid files source (reply files source (command_of line)) said new left → IsAnswered f s (lines ++ line ∷ []) (text ++ said) new left
+answered_more f s lines text files source line said new left owed says more =
+    ap (run_of f s) (append_assoc lines (line ∷ []) more) ∙ owed (line ∷ more)
+    ∙ ap (after_text text) (run_of-cons files source line more (reply files source (command_of line)) refl ∙ says more)
     ∙ after_text-twice text said (run_of new left more)

@@ -2,6 +2,7 @@
 use Rattle.std.specs.Prelude.{◌≡◌, ℕ, List, [], ◌∷◌, ◌++◌, Option, Some, Result, Ok, Err}
 use Rattle.std.specs.Io.KnownBytes.{Appends, Keeps}
 use Rattle.jc_base.specs.Device.{WritesFront}
+use Rattle.jc_list.specs.Listing.{WritesBeginning}
 use Rattle.jc_session.specs.declared.answer.Next.{Next}
 use Rattle.jc_session.specs.declared.answer.Next.TheVariants as next
 use Rattle.jc_session.specs.declared.answer.Placing.{Placing}
@@ -13,10 +14,10 @@ use Rattle.jc_session.specs.declared.run_error.Ended.TheVariants as ended
 use Rattle.jc_session.specs.declared.command.Command.{Command as LentCommand}
 use Rattle.jc_session.specs.declared.command.Command.TheVariants as lent
 use Rattle.jc_session.specs.Files.{Files, Change, Adds, Replaces}
-use Rattle.jc_session.specs.Lines.{Command, Add, Replace, Remove, Report, End, Bad, command_of}
+use Rattle.jc_session.specs.Lines.{Command, Add, Replace, Remove, Report, Listing, End, Bad, command_of}
 use Rattle.jc_session.specs.Sources.{SourceAnswers}
 use Rattle.jc_session.specs.Runs.{LineMayLack}
-use Rattle.jc_session.specs.Answers.{Reply, Says, Ends, Lacks, reply}
+use Rattle.jc_session.specs.Answers.{Reply, Says, Lists, Ends, Lacks, reply}
 
 -- a borrowed command, with its path as bytes
 abbrev pub command_lent : LentCommand → Command
@@ -24,6 +25,7 @@ command_lent (lent.Add path) = Add path.now
 command_lent (lent.Replace path) = Replace path.now
 command_lent (lent.Remove path) = Remove path.now
 command_lent lent.Report = Report
+command_lent (lent.List name) = Listing name.now
 command_lent lent.End = End
 command_lent lent.Bad = Bad
 
@@ -44,6 +46,11 @@ Gives f s (Says text files t) (Ok next.Nothing) new source before after = ⊥
 Gives f s (Says text files t) (Err run_errors.Read) new source before after = ⊥
 Gives f s (Says text files t) (Err run_errors.Write) new source before after = (new ≡ files) × (source ≡ Some t) × WritesFront before after text
 Gives f s (Says text files t) (Err run_errors.NoMemory) new source before after = (new ≡ f) × (source ≡ Some t) × Keeps before after
+Gives f s (Lists text) (Ok next.Line) new source before after = (new ≡ f) × (source ≡ Some s) × Appends before after text
+Gives f s (Lists text) (Ok next.Nothing) new source before after = ⊥
+Gives f s (Lists text) (Err run_errors.Read) new source before after = ⊥
+Gives f s (Lists text) (Err run_errors.Write) new source before after = (new ≡ f) × (source ≡ Some s) × WritesFront before after text
+Gives f s (Lists text) (Err run_errors.NoMemory) new source before after = (new ≡ f) × (source ≡ Some s) × WritesBeginning before after text
 Gives f s Ends (Ok next.Line) new source before after = ⊥
 Gives f s Ends (Ok next.Nothing) new source before after = (new ≡ f) × (source ≡ Some s) × Keeps before after
 Gives f s Ends (Err e) new source before after = ⊥

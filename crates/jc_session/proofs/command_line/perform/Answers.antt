@@ -7,6 +7,7 @@ use Rattle.jc_session.specs.declared.run_error.RunError.TheVariants as errors
 use Rattle.jc_session.specs.Files.{Files}
 use Rattle.jc_session.specs.Rows.{rows, is_unreadable}
 use Rattle.jc_session.specs.Runs.{RunsAs}
+use Rattle.jc_session.specs.inside.LentFaults.{outcome_lent}
 use Rattle.jc_session.proofs.runs.FailuresCounted.{input_counts, output_counts}
 use Rattle.jc_session.proofs.runs.ByAnswers.{not_begun}
 use Rattle.jc_session.proofs.command_line.perform.Goals as goal
@@ -16,7 +17,7 @@ returns-in_err-session g c =
     let exit = err_from_is_err_and c.from_residual.result c.from_residual.ensures.1 in (
       Err errors.NoMemory,
       map.empty,
-      exit.1 ∙ ap Err exit.2,
+      ap outcome_lent exit.1 ∙ ap Err exit.2,
       refl,
       refl,
       λ bytes s all known. inl (record {

@@ -1,15 +1,16 @@
-use Rattle.std.proofs.Common.{Err, inr, refl}
+use Rattle.std.proofs.Common.{Err, inl, inr, refl}
 use Rattle.jc_session.proofs.runs.FailuresCounted.{input_idle, output_idle}
 use Rattle.jc_session.proofs.runs.ByAnswers.{words_perform}
 use Rattle.jc_session.specs.Statuses.{outcome_of}
+use Rattle.jc_session.specs.inside.LentFaults.{fault_lent}
 use Rattle.jc_session.proofs.command_line.program.Goals as goal
 
-pub returns-in-Ok : goal.returns-in-Ok
-returns-in-Ok g c =
+pub returns-in-Ok-Session : goal.returns-in-Ok-Session
+returns-in-Ok-Session g c =
     let did = c.serve.ensures in
-    (outcome_of did.0 did.1, inr (did.0, did.1, refl, did.7), did.2, did.3, did.4, did.5)
+    (outcome_of did.0 did.1, inr (inl (did.0, did.1, refl, did.7)), did.2, did.3, did.4, did.5)
 
 pub returns-in-Err : goal.returns-in-Err
 returns-in-Err g c =
-    let fault = c.in-Err.fault in
+    let fault = fault_lent c.in-Err.fault in
     (Err fault, words_perform fault (g.R.Input.remaining c.args.input.now) (g.W.Output.written c.args.out.now) c.in-Err.ensures, c.conclude.ensures.status, input_idle fault _ c.in-Err.ensures, output_idle fault _ c.in-Err.ensures, c.conclude.ensures.tells)

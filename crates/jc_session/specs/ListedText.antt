@@ -1,0 +1,32 @@
+-- The text that is listed for a file, and for a class.
+use Rattle.std.specs.Prelude.{ℕ, Bool, true, List, ◌++◌, Result, Ok, Err, option_and_then, codes}
+use Rattle.std.specs.FinMap as map
+use Rattle.std.specs.Option.{option_map_or}
+use Rattle.jc_view.specs.declared.parse_error.ParseError.{ParseError}
+use Rattle.jc_view.specs.ClassFile.{ClassFile}
+use Rattle.jc_view.specs.Outcome.{class_read}
+use Rattle.jc_list.specs.Listing.{listing}
+use Rattle.jc_list.specs.FaultLines.{is_faulty}
+use Rattle.jc_session.specs.Files.{Files}
+use Rattle.jc_session.specs.Rows.{winner}
+use Rattle.jc_session.specs.RowText.{refusal_text}
+
+abbrev pub text_by : Result ClassFile ParseError → List ℕ
+text_by (Ok c) = listing c
+text_by (Err refusal) = codes "unreadable " ++ refusal_text refusal ++ codes "\n"
+
+abbrev pub faulty_by : Result ClassFile ParseError → Bool
+faulty_by (Ok c) = is_faulty c
+faulty_by (Err refusal) = true
+
+-- the listing of the class file that bytes are, or why they are none
+abbrev pub file_text : List ℕ → List ℕ
+file_text bytes = text_by (class_read bytes)
+
+-- whether they are none, or have a fault
+abbrev pub is_faulty_file : List ℕ → Bool
+is_faulty_file bytes = faulty_by (class_read bytes)
+
+-- of the file that a class is taken from
+abbrev pub listed_text : Files → List ℕ → List ℕ
+listed_text f name = option_map_or file_text (option_and_then (map.get f) (winner f name)) (codes "none\n")

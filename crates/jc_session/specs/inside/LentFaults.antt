@@ -1,0 +1,23 @@
+-- How the program ends, from what the code holds.
+use Rattle.std.specs.Prelude.{Bool, Result, Ok, Err}
+use Rattle.jc_session.specs.declared.command_line.Fault.{Fault as LentFault}
+use Rattle.jc_session.specs.declared.command_line.Fault.TheVariants as lent
+use Rattle.jc_list.specs.declared.list_error.ListError.{ListError}
+use Rattle.jc_list.specs.declared.list_error.ListError.TheVariants as lists
+use Rattle.jc_session.specs.Statuses.{Fault, Usage, Input, Output, NoMemory, Unread, TooLarge, Outcome}
+
+abbrev pub fault_lent : LentFault → Fault
+fault_lent lent.Usage = Usage
+fault_lent lent.Input = Input
+fault_lent lent.Output = Output
+fault_lent lent.NoMemory = NoMemory
+fault_lent (lent.Unread path) = Unread path.now
+fault_lent (lent.TooLarge path) = TooLarge path.now
+
+abbrev pub outcome_lent : Result Bool LentFault → Outcome
+outcome_lent (Ok wrong) = Ok wrong
+outcome_lent (Err fault) = Err (fault_lent fault)
+
+abbrev pub fault_of_listing : ListError → Fault
+fault_of_listing lists.Write = Output
+fault_of_listing lists.NoMemory = NoMemory
