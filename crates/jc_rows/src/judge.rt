@@ -5,6 +5,7 @@ use crate::code_answers::{code_faults_answer, instructions_answer};
 use crate::compare::difference;
 use crate::dialogue::{Dialogue, NamedFile};
 use crate::file_answers::read_answer;
+use crate::listing_answers::listing_answer;
 use crate::outcome::{outcome_of_program, outcome_of_run};
 use crate::parts::{Names, bytes_of};
 use crate::row::{Row, head_of, rows_of};
@@ -271,6 +272,7 @@ fn bytes_answer(alloc: Global, kind: &str, bytes: &[u8]) -> Result<String, Alloc
         "faults" => faults_answer(alloc, bytes),
         "instructions" => instructions_answer(alloc, bytes),
         "code-faults" => code_faults_answer(alloc, bytes),
+        "listing" => listing_answer(alloc, bytes),
         "units" => units_answer(alloc, bytes),
         "name" => name_answer(alloc, bytes),
         "field" => field_answer(alloc, bytes),

@@ -17,6 +17,7 @@
 //! - `instructions`: of a code each instruction's offset, mnemonic and operands, and the offset where they
 //!   end, as `0 iload 1, rest 2`. `code-faults`: `none`, or each code fault's rule and place of the first
 //!   method.
+//! - `listing`: the listing in one line, ` /` in place of LF and `@` in place of `#`.
 //! - `units`: the code units, four digits each, or `none`; or `bad at PLACE`.
 //! - `name`: what the text is of `unqualified`, `method` and `class`, or `none`.
 //! - `field` and `method`: the parts of a descriptor, or `none`.
@@ -50,6 +51,7 @@ mod dialogue;
 mod doubles;
 mod file_answers;
 mod judge;
+mod listing_answers;
 mod outcome;
 mod parts;
 mod row;

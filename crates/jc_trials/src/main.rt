@@ -7,6 +7,8 @@
 //! - `faults`: a line for each: its format faults, or the refusal.
 //! - `instructions`: the code of each method, a line for each instruction and each handler.
 //! - `code-faults`: a line for each: its code faults, each with its method and place, or the refusal.
+//! - `listings`: the listing of each, or `refused`, and a line `end` behind it; last, in a line, how
+//!   many have a fault.
 //! - `count-bytes N`, `count-parse N`, `count-faults N`, `count-insns N`, `count-code-faults N`: one number,
 //!   summed over N rounds: the bytes, how many are readable, how many faults they have, how many
 //!   instructions, or how many code faults.
@@ -15,13 +17,16 @@
 mod counts;
 mod frames;
 mod instructions;
+mod listings;
 mod texts;
 mod views;
 
 use counts::{Counted, sum_of_rounds};
 use frames::Frames;
 use instructions::{write_code_faults, write_instructions};
+use jc_base::StdOutput;
 use jc_file::{ClassView, ParseError, parse};
+use listings::write_listings;
 use std::alloc::Global;
 use std::io::{BufWriter, Read, Write};
 use std::{env, io};
@@ -87,6 +92,15 @@ fn print_answers(rt: &(impl Print + AllocGlobal), asked: Asked, input: &[u8]) ->
     answer_all(rt.alloc(), &mut out, asked, input)
 }
 
+/// Prints the listings of all frames.
+fn print_listings(rt: &(impl Print + AllocGlobal), input: &[u8]) -> io::Result<()> {
+    let mut out = StdOutput::new(io::writer(rt));
+    match write_listings(rt.alloc(), &mut out, input) {
+        Ok(faulty) => println!(rt; "{faulty}"),
+        Err(_) => Err(io::Error::from(io::ErrorKind::Other)),
+    }
+}
+
 fn print_sum(
     rt: &(impl Print + AllocGlobal),
     counted: Counted,
@@ -113,6 +127,7 @@ fn main(rt: HostRuntime) -> io::Result<()> {
         "faults" => print_answers(&rt, Asked::Faults, &input),
         "instructions" => print_answers(&rt, Asked::Instructions, &input),
         "code-faults" => print_answers(&rt, Asked::CodeFaults, &input),
+        "listings" => print_listings(&rt, &input),
         "count-bytes" => print_sum(&rt, Counted::Bytes, rounds, &input),
         "count-parse" => print_sum(&rt, Counted::Readable, rounds, &input),
         "count-faults" => print_sum(&rt, Counted::Faults, rounds, &input),
