@@ -3,12 +3,15 @@
 A trial is run from anywhere by its path, as trials/parse/run.py. The program jc_trials answers frames of
 its input; its first word says what is asked of them.
 """
+import argparse
 import os
 import pathlib
+import random
 import shutil
 import subprocess
 import sys
 import tempfile
+import zipfile
 
 TOP = pathlib.Path(__file__).resolve().parent.parent
 TRIALS = TOP / "trials"
@@ -138,3 +141,41 @@ def run_refused(command, text, folder, shim, at):
     env = {"LD_PRELOAD": str(shim), "REFUSE": str(at), "COUNT": str(count)}
     done = subprocess.run(command, input=text, cwd=folder, env=env, capture_output=True, timeout=60)
     return done.returncode, done.stdout, done.stderr, int(count.read_text())
+
+
+def class_files_of(folder, work):
+    """The class files of versions 51 and 52 in the jars of a folder, each different one once."""
+    seen, paths = set(), []
+    for jar in sorted(pathlib.Path(folder).rglob("*.jar")):
+        try:
+            with zipfile.ZipFile(jar) as archive:
+                for name in archive.namelist():
+                    if not name.endswith(".class"):
+                        continue
+                    data = archive.read(name)
+                    if data[:4] == b"\xca\xfe\xba\xbe" and data[6:8] in (b"\0\x33", b"\0\x34") and data not in seen:
+                        seen.add(data)
+                        path = work / f"{len(seen)}.class"
+                        path.write_bytes(data)
+                        paths.append(path)
+        except (zipfile.BadZipFile, OSError):
+            continue
+    return paths
+
+
+def trees_parser():
+    """The words of a trial over class files of javac and, with --jars, those of a folder's jars."""
+    parser = argparse.ArgumentParser()
+    parser.add_argument("--seed", type=int, default=1)
+    parser.add_argument("--jars")
+    return parser
+
+
+def files_of_trees(work, options):
+    """These class files, and how many of them are javac's."""
+    files = compile_all(work, FOR_VIEWS, random.Random(options.seed))
+    of_javac = len(files)
+    if options.jars:
+        (work / "jars").mkdir()
+        files += class_files_of(options.jars, work / "jars")
+    return files, of_javac

@@ -8,13 +8,10 @@ javac's files must have no code fault.
 
 Usage: javap.py [--seed N] [--jars FOLDER]. It builds the program by `rt run`, and needs javac and javap.
 """
-import argparse
 import pathlib
-import random
 import re
 import subprocess
 import sys
-import zipfile
 
 sys.dont_write_bytecode = True
 sys.path.insert(0, str(pathlib.Path(__file__).resolve().parent.parent))
@@ -99,38 +96,11 @@ def javaps(paths):
     return blocks
 
 
-def class_files_of(folder, work):
-    """The class files of versions 51 and 52 in the jars of a folder, each different one once."""
-    seen, paths = set(), []
-    for jar in sorted(pathlib.Path(folder).rglob("*.jar")):
-        try:
-            with zipfile.ZipFile(jar) as archive:
-                for name in archive.namelist():
-                    if not name.endswith(".class"):
-                        continue
-                    data = archive.read(name)
-                    if data[:4] == b"\xca\xfe\xba\xbe" and data[6:8] in (b"\0\x33", b"\0\x34") and data not in seen:
-                        seen.add(data)
-                        path = work / f"{len(seen)}.class"
-                        path.write_bytes(data)
-                        paths.append(path)
-        except (zipfile.BadZipFile, OSError):
-            continue
-    return paths
-
-
 def main():
-    parser = argparse.ArgumentParser()
-    parser.add_argument("--seed", type=int, default=1)
-    parser.add_argument("--jars")
-    options = parser.parse_args()
+    options = common.trees_parser().parse_args()
     common.build()
     with common.Workplace() as work:
-        files = common.compile_all(work, common.FOR_VIEWS, random.Random(options.seed))
-        of_javac = len(files)
-        if options.jars:
-            (work / "jars").mkdir()
-            files += class_files_of(options.jars, work / "jars")
+        files, of_javac = common.files_of_trees(work, options)
         faults = [0, 0]
         counts = {"methods": 0, "instructions": 0, "switches": 0, "handlers": 0, "wide": 0, "differences": 0}
         for at in range(0, len(files), 200):

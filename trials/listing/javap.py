@@ -10,9 +10,7 @@ With --jars also over the class files of versions 51 and 52 in the jars of a fol
 Usage: javap.py [--seed N] [--jars FOLDER] [--most N]. It builds the program by `rt run`, and needs javac
 and javap.
 """
-import argparse
 import pathlib
-import random
 import re
 import struct
 import subprocess
@@ -21,9 +19,7 @@ from collections import Counter
 
 sys.dont_write_bytecode = True
 sys.path.insert(0, str(pathlib.Path(__file__).resolve().parent.parent))
-sys.path.insert(0, str(pathlib.Path(__file__).resolve().parent.parent / "code"))
 import common
-from javap import class_files_of
 
 ELEMENTS = {4: "boolean", 5: "char", 6: "float", 7: "double", 8: "byte", 9: "short", 10: "int", 11: "long"}
 KINDS = {"class": "class", "field": "Field", "method": "Method", "imethod": "InterfaceMethod"}
@@ -136,7 +132,7 @@ def ours(lines):
             out.append(f"{words[0]} {plain(words[1])} {plain(words[2])} {' '.join(words[3:])}")
         elif line.lstrip().startswith("attribute ") and line.split()[1] in TWICE_SHOWN:
             out.append(line.split()[1] + " " + plain(line.split(" ", line.index("attribute") + 3)[-1]))
-        elif line.split()[0] in ("format", "cut"):
+        elif line.split()[0] in ("format", "code", "cut"):
             out.append(line)
     return out
 
@@ -317,18 +313,12 @@ def sort_of(line):
 
 
 def main():
-    parser = argparse.ArgumentParser()
-    parser.add_argument("--seed", type=int, default=1)
-    parser.add_argument("--jars")
+    parser = common.trees_parser()
     parser.add_argument("--most", type=int, default=10 ** 9)
     options = parser.parse_args()
     common.build()
     with common.Workplace() as work:
-        files = common.compile_all(work, common.FOR_VIEWS, random.Random(options.seed))
-        of_javac = len(files)
-        if options.jars:
-            (work / "jars").mkdir()
-            files += class_files_of(options.jars, work / "jars")
+        files, of_javac = common.files_of_trees(work, options)
         counts, differences, unlike = Counter(), 0, Counter()
         files = files[:options.most]
         for at in range(0, len(files), 200):

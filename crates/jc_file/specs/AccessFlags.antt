@@ -1,5 +1,5 @@
 -- Access flags (JVMS 4.1, 4.5, 4.6). Other bits mean nothing.
-use Rattle.std.specs.Prelude.{ℕ, Bool, not, ◌&&◌, ◌||◌, bit_and, ◌==◌, List, codes}
+use Rattle.std.specs.Prelude.{ℕ, Bool, not, ◌&&◌, ◌||◌, bit_and, ◌==◌, List, [], ◌∷◌, codes}
 use Rattle.jc_file.specs.declared.access_flag.AccessFlag.{AccessFlag}
 use Rattle.jc_file.specs.declared.access_flag.AccessFlag.TheVariants as flags
 
@@ -114,3 +114,17 @@ two_of a b c = a && b || a && c || b && c
 -- more than one of the three kinds of access
 abbrev pub has_two_accesses : ℕ → Bool
 has_two_accesses bits = two_of (has bits public) (has bits private) (has bits protected)
+
+-- ---- the flags that mean something, by rising bit
+
+-- of a class (JVMS 4.1, table 4.1-B)
+abbrev pub class_flags : List AccessFlag
+class_flags = flags.Public ∷ flags.Final ∷ flags.Super ∷ flags.Interface ∷ flags.Abstract ∷ flags.Synthetic ∷ flags.Annotation ∷ flags.Enum ∷ []
+
+-- of a field (JVMS 4.5, table 4.5-A)
+abbrev pub field_flags : List AccessFlag
+field_flags = flags.Public ∷ flags.Private ∷ flags.Protected ∷ flags.Static ∷ flags.Final ∷ flags.Volatile ∷ flags.Transient ∷ flags.Synthetic ∷ flags.Enum ∷ []
+
+-- of a method (JVMS 4.6, table 4.6-A)
+abbrev pub method_flags : List AccessFlag
+method_flags = flags.Public ∷ flags.Private ∷ flags.Protected ∷ flags.Static ∷ flags.Final ∷ flags.Synchronized ∷ flags.Bridge ∷ flags.Varargs ∷ flags.Native ∷ flags.Abstract ∷ flags.Strict ∷ flags.Synthetic ∷ []

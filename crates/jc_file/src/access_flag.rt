@@ -1,7 +1,8 @@
 //! Access flags and their names (JVMS 4.1, table 4.1-B; 4.5, table 4.5-A; 4.6, table 4.6-A).
 
 ghost use Rattle.std.specs.Prelude.{◌≡◌};
-ghost use Rattle.jc_file.specs.AccessFlags.{flag_name, has, mask_of};
+ghost use Rattle.jc_file.specs.declared.access_flag.TheConstants.AccessFlag.{OF_CLASS, OF_FIELD, OF_METHOD};
+ghost use Rattle.jc_file.specs.AccessFlags.{class_flags, field_flags, flag_name, has, mask_of, method_flags};
 
 use crate::rules::access_flags::{
     ABSTRACT, ANNOTATION, BRIDGE, ENUM, FINAL, INTERFACE, NATIVE, PRIVATE, PROTECTED, PUBLIC,
@@ -132,3 +133,10 @@ impl AccessFlag {
         has(flags, self.mask())
     }
 }
+
+/// The tables of flags are those of the standard.
+pub fn access_flags_are_tabled()
+    ensures class { OF_CLASS ≡ class_flags }
+    ensures field { OF_FIELD ≡ field_flags }
+    ensures method { OF_METHOD ≡ method_flags }
+{}

@@ -10,7 +10,7 @@ mod rules;
 mod text_table;
 mod texts;
 
-pub use access_flag::AccessFlag;
+pub use access_flag::{AccessFlag, access_flags_are_tabled};
 pub use fault::{Fault, FormatRule};
 pub use fault_laws::{
     attributes_are_recognised, fault_examples, faults_are_exact, faults_are_violations,

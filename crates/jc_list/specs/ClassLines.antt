@@ -3,14 +3,14 @@ use Rattle.std.specs.Prelude.{ℕ, List, ◌++◌, codes, decimal, ◌==◌, if�
 use Rattle.std.specs.List.{flat_map}
 use Rattle.jc_view.specs.declared.constant_pool.ConstantIndex.{ConstantIndex}
 use Rattle.jc_view.specs.ClassFile.{ClassFile, all_slots, class_text_at}
-use Rattle.jc_file.specs.declared.access_flag.TheConstants.AccessFlag.{OF_CLASS}
+use Rattle.jc_file.specs.AccessFlags.{class_flags}
 use Rattle.jc_list.specs.Texts.{shown_text, flags_text}
 
 abbrev pub name_line : ClassFile → List ℕ
 name_line c = codes "class " ++ shown_text (class_text_at c c.this_class) ++ codes "\n"
 
 abbrev pub flags_line : ClassFile → List ℕ
-flags_line c = codes "flags " ++ flags_text OF_CLASS c.flags ++ codes "\n"
+flags_line c = codes "flags " ++ flags_text class_flags c.flags ++ codes "\n"
 
 abbrev pub version_line : ClassFile → List ℕ
 version_line c = codes "version " ++ decimal c.major ++ codes "." ++ decimal c.minor ++ codes "\n"

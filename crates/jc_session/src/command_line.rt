@@ -15,6 +15,7 @@ ghost use Rattle.jc_session.specs.Statuses.{CountsInput, CountsOutput, ListsAs, 
 ghost use Rattle.jc_session.specs.inside.LentFaults.{fault_lent, fault_of_listing, outcome_lent};
 
 use crate::file_listing::list_file;
+use crate::judge::LARGEST_FILE;
 use crate::run_error::RunError;
 use crate::running::run;
 use crate::session::Session;
@@ -26,9 +27,6 @@ use jc_list::ListError;
 use jc_text::TextWriter;
 use std::alloc::{AllocError, Global};
 use std::rt::Files;
-
-/// The most bytes that a file may have.
-const LARGEST_FILE: usize = 16_777_216;
 
 /// What the words ask for.
 #[derive(Clone, Copy, Debug)]

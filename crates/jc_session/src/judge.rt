@@ -10,7 +10,8 @@ use jc_base::ByteMap;
 
 const LONGEST_PATH: usize = 4_096;
 
-const LARGEST_FILE: usize = 16_777_216;
+/// The most bytes that a file may have.
+pub(crate) const LARGEST_FILE: usize = 16_777_216;
 
 const MOST_FILES: usize = 65_535;
 

@@ -1,6 +1,6 @@
 use Rattle.std.proofs.Common.{◌≡◌, codes}
 use Rattle.std.specs.List.{flat_map}
-use Rattle.jc_file.specs.declared.access_flag.TheConstants.AccessFlag.{OF_METHOD}
+use Rattle.jc_file.specs.AccessFlags.{method_flags}
 use Rattle.jc_text.proofs.Sending.{HasSent}
 use Rattle.jc_list.specs.MemberLines.{member_lines, method_lines}
 use Rattle.jc_list.proofs.members.write_method_lines.Given as goal
@@ -9,5 +9,5 @@ use Rattle.jc_list.proofs.members.write_method_lines.Given as goal
 abbrev pub invariant-loop-method : goal.invariant-loop-method
 invariant-loop-method g l = record {
   class : l.method-iterator.class ≡ l.class;
-  sent : HasSent g.W.Output.written g.W.Output.failures l.fn.out l.out (method_lines l.class) (flat_map (member_lines l.class (codes "method") OF_METHOD) l.method-iterator.left);
+  sent : HasSent g.W.Output.written g.W.Output.failures l.fn.out l.out (method_lines l.class) (flat_map (member_lines l.class (codes "method") method_flags) l.method-iterator.left);
 }
