@@ -1,5 +1,6 @@
 pub mod FirstUnitIsSpelled
 pub mod Names
+pub mod PlainNames
 pub mod SpelledBytes
 pub mod TestsDecide
 pub mod UnitsBefore

@@ -1,3 +1,4 @@
 pub mod ByteMap
 pub mod MethodParts
 pub mod Owed
+pub mod PlainNames

@@ -1,5 +1,5 @@
 //! An ordered map keyed by byte strings, seen as a finite map from lists of bytes.
-ghost use Rattle.std.specs.Prelude.{◌≡◌, ◌^◌, ◌<◌, ◌↔◌, IsTrue, IfOk, IfErr, OnOk, OnErr, length};
+ghost use Rattle.std.specs.Prelude.{◌≡◌, ◌^◌, ◌<◌, ◌↔◌, IsTrue, IfOk, IfErr, OnOk, OnErr, length, map as map_each};
 ghost use Rattle.std.specs.declared.option.Option.TheVariants.{None, Some};
 ghost use Rattle.std.specs.Option.{option_copied, option_copied_mut};
 ghost use Rattle.std.specs.Borrow.{LendsIf, sem};
@@ -8,6 +8,7 @@ ghost use Rattle.std.specs.Iterator.{YieldsFirstBy, YieldsFirstRef, item_count};
 ghost use Rattle.std.specs.Map.Iter.{deref_pair};
 ghost use Rattle.std.specs.FinMap as map;
 
+use crate::no_memory::NoMemory;
 use std::alloc::{AllocFailed, Global};
 use std::collections::{BTreeMap, btree_map};
 use std::marker::Model;
@@ -138,6 +139,19 @@ impl<V> ByteMap<V> {
         Keys {
             keys: self.entries.keys(),
         }
+    }
+
+    /// The keys in their order, moved out of the map. Memory is taken for the list alone.
+    pub fn into_keys(self, alloc: Global) -> Result<Vec<Vec<u8>>, NoMemory>
+    where
+        V: Drop,
+        ensures { IfOk result (λ keys. map_each (λ k. k.items) keys.items ≡ map.keys self) }
+    {
+        let mut keys = Vec::new(alloc);
+        for key in self.entries.into_keys() {
+            keys.push(key)?;
+        }
+        Ok(keys)
     }
 }
 

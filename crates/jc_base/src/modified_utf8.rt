@@ -1,6 +1,7 @@
 //! Modified UTF-8, in which class files write their texts (JVMS 4.4.7).
 
-ghost use Rattle.std.specs.Prelude.{◌≡◌, ℕ, ◌+◌, ◌*◌, ◌<◌, ◌≤◌, ◌↔◌, List, [], ◌∷◌, ◌++◌, length, take, All, Contains, IsOk, IfOk, IfErr, IfSome, OnSome, is_ok, is_some};
+ghost use Rattle.std.specs.Prelude.{◌≡◌, ℕ, ◌+◌, ◌*◌, ◌<◌, ◌≤◌, ◌↔◌, List, [], ◌∷◌, ◌++◌, ◌&&◌, nat_lt, length, take, All, Contains, IsOk, IfOk, IfErr, IfSome, OnSome, is_ok, is_some};
+ghost use Rattle.std.specs.List.{list_all};
 ghost use Rattle.jc_base.specs.declared.modified_utf8.UnitsError.TheVariants.{NoMemory};
 ghost use Rattle.jc_base.specs.ModifiedUtf8.{IsUnit, spelling, spelled, Spells, IsWellSpelled, IsLongestFront};
 ghost use Rattle.jc_base.specs.TextTests.{units_of};
@@ -16,6 +17,9 @@ pub fn check_units(text: &[u8]) -> Result<(), usize>
     ensures computed { is_ok result ≡ is_some (units_of text.now) }
     ensures place { IfErr result (IsLongestFront text.now) }
 {
+    if is_plain(text) {
+        return Ok(());
+    }
     let mut place = 0;
     while place < text.len() {
         match unit_at(&text[place..]) {
@@ -24,6 +28,23 @@ pub fn check_units(text: &[u8]) -> Result<(), usize>
         }
     }
     Ok(())
+}
+
+// Whether each byte is a unit by itself, as in nearly all texts.
+fn is_plain(text: &[u8]) -> bool
+    ensures { result ≡ list_all (λ byte. nat_lt 0 byte && nat_lt byte 0x80) text.now }
+{
+    let mut plain = true;
+    for byte in text {
+        plain &= is_plain_byte(*byte);
+    }
+    plain
+}
+
+fn is_plain_byte(byte: u8) -> bool
+    ensures { result ≡ (nat_lt 0 byte && nat_lt byte 0x80) }
+{
+    0 < byte && byte < 0x80
 }
 
 /// The UTF-16 code units that `text` spells. A text that is not modified UTF-8 is told first: the

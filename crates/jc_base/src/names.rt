@@ -1,8 +1,9 @@
 //! Names of classes, interfaces, fields and methods, as class files write them (JVMS 4.2).
 
-ghost use Rattle.std.specs.Prelude.{◌≡◌, ◌↔◌, ℕ, List, Some, Contains, IsTrue, codes};
+ghost use Rattle.std.specs.Prelude.{◌≡◌, ◌↔◌, true, ℕ, List, Some, Contains, IsTrue, codes};
 ghost use Rattle.jc_base.specs.Names.{Lacks, name_stops, method_name_stops, IsUnqualifiedName, IsSpecialMethodName, IsMethodName, IsClassName};
 ghost use Rattle.jc_base.specs.ModifiedUtf8.{IsWellSpelled, Spells};
+ghost use Rattle.jc_base.specs.inside.PlainNames.{are_plain_parts, is_plain_byte, may_follow};
 ghost use Rattle.jc_base.specs.TextTests.{units_of, is_unqualified_text, is_method_name_text, is_class_text};
 
 use crate::modified_utf8::check_units;
@@ -31,7 +32,39 @@ pub fn is_class_name(text: &[u8]) -> bool
     ensures name { IsTrue result ↔ IsClassName text.now }
     ensures computed { result ≡ is_class_text text.now }
 {
-    text.split(|byte| *byte == b'/').all(is_unqualified)
+    is_plain_class_name(text) || text.split(|byte| *byte == b'/').all(is_unqualified)
+}
+
+// Whether `text` is a class name of characters below 0x80, as nearly all are.
+fn is_plain_class_name(text: &[u8]) -> bool
+    ensures { result ≡ are_plain_parts true text.now }
+{
+    let mut begins = true;
+    for byte in text {
+        if !may_follow(begins, *byte) {
+            return false;
+        }
+        begins = *byte == b'/';
+    }
+    !begins
+}
+
+// Whether a character below 0x80 may stand here: a `/` not where a part of the name begins.
+fn may_follow(begins: bool, byte: u8) -> bool
+    ensures { result ≡ may_follow begins byte }
+{
+    if byte == b'/' {
+        !begins
+    } else {
+        is_plain_byte(byte)
+    }
+}
+
+// Whether the byte is a character below 0x80 that an unqualified name may have.
+fn is_plain_byte(byte: u8) -> bool
+    ensures { result ≡ is_plain_byte byte }
+{
+    0 < byte && byte < 0x80 && byte != b'.' && byte != b';' && byte != b'[' && byte != b'/'
 }
 
 const INSTANCE_INITIALIZER: &[u8] = b"<init>";

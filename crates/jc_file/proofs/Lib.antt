@@ -1,3 +1,4 @@
+pub mod clean_file
 pub mod orders
 pub mod kinds
 pub mod repeats

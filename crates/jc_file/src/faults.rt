@@ -13,7 +13,7 @@ mod class;
 mod constants;
 mod list;
 mod members;
-mod repeated;
+pub(crate) mod repeated;
 mod text_numbers;
 
 use self::attributes::add_attribute_faults;
@@ -21,6 +21,7 @@ use self::class::{add_class_fault, add_interface_faults};
 use self::constants::{add_constant_faults, add_untold_faults};
 use self::members::{add_field_faults, add_method_faults};
 use self::repeated::{add_repeated_fields, add_repeated_methods};
+use crate::clean::is_clean;
 use crate::fault::{Fault, FormatRule};
 use crate::fault_laws::{faults_are_exact, faults_are_violations};
 use crate::rules::bootstraps::breaks_f27;
@@ -41,12 +42,22 @@ pub fn format_faults(alloc: Global, class: &ClassView) -> Result<Vec<Fault>, NoM
     let _file = class.bytes();
     faults_are_exact();
     faults_are_violations();
+    find_faults(alloc, class)
+}
+
+/// Looks for faults rule by rule only where not all is clean at one look.
+fn find_faults(alloc: Global, class: &ClassView) -> Result<Vec<Fault>, NoMemory>
+    ensures { IfOk result (λ found. found.items ≡ faults class.now) }
+{
+    if is_clean(alloc, class)? {
+        return Ok(Vec::new(alloc));
+    }
     let texts = TextTable::new(alloc, class)?;
-    find_faults(alloc, &texts)
+    faults_by_rule(alloc, &texts)
 }
 
 #[tactic(auto, unfolding(crate::specs::Faults::faults))]
-fn find_faults(alloc: Global, texts: &TextTable) -> Result<Vec<Fault>, NoMemory>
+fn faults_by_rule(alloc: Global, texts: &TextTable) -> Result<Vec<Fault>, NoMemory>
     ensures { IfOk result (λ found. found.items ≡ faults texts.now) }
 {
     let mut faults = Vec::new(alloc);

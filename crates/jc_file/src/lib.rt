@@ -3,6 +3,7 @@
 #![tactic(auto)]
 
 mod access_flag;
+mod clean;
 mod fault;
 mod fault_laws;
 mod faults;

@@ -9,7 +9,7 @@ use Rattle.jc_view.specs.Lookups.{utf8_at}
 use Rattle.jc_file.specs.inside.TextNumbers.{number_of, IsNumberAt, AreNumbers, KeepsNumbers}
 
 -- what stands in a list once an item is set
-set_cases : {X : Type 0} (xs : List X) (i : ℕ) (v : X) (j : ℕ) (w : X) → slice_get (slice_set xs i v) j ≡ Some w → (slice_get xs j ≡ Some w) ⊎ ((j ≡ i) × (w ≡ v))
+pub set_cases : {X : Type 0} (xs : List X) (i : ℕ) (v : X) (j : ℕ) (w : X) → slice_get (slice_set xs i v) j ≡ Some w → (slice_get xs j ≡ Some w) ⊎ ((j ≡ i) × (w ≡ v))
 set_cases [] i v j w e = inl e
 set_cases (x ∷ xs) zero v zero w e = inr (refl, sym (ap (λ o. unwrap_or o v) e))
 set_cases (x ∷ xs) zero v (suc j) w e = inl e

@@ -62,7 +62,7 @@ within_slots (constant ∷ constants) i entry e =
           omega arith
     ]
 
-usable_within : (c : ClassFile) (k : ℕ) (entry : Constant) → IsEntry c (record { 0 = k }) entry → (1 ≤ k) × (k < 1 + all_slots c.constants)
+pub usable_within : (c : ClassFile) (k : ℕ) (entry : Constant) → IsEntry c (record { 0 = k }) entry → (1 ≤ k) × (k < 1 + all_slots c.constants)
 usable_within c k entry e =
     elim (cases_eq k 0) [
       | inl first ↦ absurd (let none : constant_at c (record { 0 = k }) ≡ None = cond-true (eqb k 0) None (constant_from_first c.constants (k - 1)) (eq-eqb k 0 first) in let some = e in cc)

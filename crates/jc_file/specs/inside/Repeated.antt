@@ -1,6 +1,7 @@
 -- Members that repeat an earlier one, gone through one after the other.
 use Rattle.std.specs.Prelude.{ℕ, ◌+◌, Bool, false, ◌||◌, cond, List, [], ◌∷◌, ◌++◌, map, Option}
 use Rattle.std.specs.Option.{option_map_or}
+use Rattle.std.specs.Borrow.{Bor}
 use Rattle.jc_view.specs.Lent.{MembersLeft}
 use Rattle.jc_file.specs.Faults.{key_of}
 
@@ -12,3 +13,7 @@ repeats same seen n (key ∷ keys) = cond (option_map_or seen key false) (n ∷ 
 -- the keys of the members that are left
 abbrev pub keys_left : MembersLeft → List (Option (List ℕ × List ℕ))
 keys_left members = map (λ m. key_of members.class m.member) members.left
+
+-- a name and a descriptor that are lent
+abbrev pub key_now : Bor (List ℕ) × Bor (List ℕ) → List ℕ × List ℕ
+key_now key = (key.0.now, key.1.now)

@@ -26,14 +26,14 @@ pub(crate) fn attribute_breaks(rule: FormatRule, attribute: &Attribute) -> bool
 }
 
 /// Whether the name is missing.
-fn breaks_f28(attribute: &Attribute) -> bool
+pub(crate) fn breaks_f28(attribute: &Attribute) -> bool
     ensures { result ≡ breaks_f28 attribute.now.class attribute.now.attribute }
 {
     attribute.name().is_none()
 }
 
 /// Whether an attribute of fixed length has another.
-fn breaks_f29(attribute: &Attribute) -> bool
+pub(crate) fn breaks_f29(attribute: &Attribute) -> bool
     ensures { result ≡ breaks_f29 attribute.now.class attribute.now.attribute }
 {
     is_missized(attribute, AttributeKind::ConstantValue, 2)
@@ -45,7 +45,7 @@ fn breaks_f29(attribute: &Attribute) -> bool
 }
 
 /// Whether an attribute of fixed length, and of this length, names what it may not.
-fn breaks_f30(attribute: &Attribute) -> bool
+pub(crate) fn breaks_f30(attribute: &Attribute) -> bool
     ensures { result ≡ breaks_f30 attribute.now.class attribute.now.attribute }
 {
     lacks_text(attribute) || encloses_amiss(attribute)

@@ -169,7 +169,7 @@ fn breaks_f8(texts: &TextTable, constant: Constant) -> bool
 
 /// Whether a reference by a handle of this kind, in a file of this version, may be such an entry
 /// (JVMS 4.4.8).
-fn fits_handle(major: u16, kind: u8, entry: Constant) -> bool
+pub(crate) fn fits_handle(major: u16, kind: u8, entry: Constant) -> bool
     ensures { result ≡ fits_handle major kind (constant_of entry.entry) }
 {
     1 <= kind && kind <= 4 && is_kind(ConstantKind::Fieldref, entry)
@@ -194,7 +194,7 @@ fn breaks_f9(texts: &TextTable, constant: Constant) -> bool
 }
 
 /// Whether a method to which a handle of this kind refers has a name that it may not have.
-fn is_name_amiss(kind: u8, name: &[u8]) -> bool
+pub(crate) fn is_name_amiss(kind: u8, name: &[u8]) -> bool
     ensures { result ≡ is_name_amiss kind name.now }
 {
     kind == 8 && !is_init(name)

@@ -54,7 +54,7 @@ fn breaks_f16(texts: &TextTable, field: &Member) -> bool
 }
 
 /// Whether the field's flags don't go together.
-fn breaks_f17(field: &Member) -> bool
+pub(crate) fn breaks_f17(field: &Member) -> bool
     ensures { result ≡ breaks_f17 field.now.class field.now.member.member }
 {
     let flags = field.flags();
@@ -78,7 +78,7 @@ fn are_constant_flags(flags: u16) -> bool
 }
 
 /// Whether a static field has more than one `ConstantValue`, or one that is not of its type.
-fn breaks_f25(field: &Member) -> bool
+pub(crate) fn breaks_f25(field: &Member) -> bool
     requires { field.now.member.holder ≡ holders.Field }
     ensures { result ≡ breaks_f25 field.now.class field.now.member.member }
 {

@@ -73,7 +73,7 @@ fn fits_slots(method: &Member, text: &Text) -> bool
 }
 
 /// Whether the method's flags don't go together.
-fn breaks_f21(method: &Member) -> bool
+pub(crate) fn breaks_f21(method: &Member) -> bool
     ensures { result ≡ breaks_f21 method.now.class method.now.member.member }
 {
     let flags = method.flags();
@@ -85,7 +85,7 @@ fn breaks_f21(method: &Member) -> bool
             || is_named_init(method) && has_more_than_constructor(flags))
 }
 
-fn is_named_clinit(method: &Member) -> bool
+pub(crate) fn is_named_clinit(method: &Member) -> bool
     ensures { result ≡ is_named_clinit method.now.class method.now.member.member }
 {
     method.name().is_some_and(is_clinit)
@@ -191,7 +191,7 @@ fn has_bad_exceptions(method: &Member) -> bool
 }
 
 /// Whether the bytes are no list of classes behind their count (JVMS 4.7.5).
-fn lacks_classes(class: &ClassView, bytes: &[u8]) -> bool
+pub(crate) fn lacks_classes(class: &ClassView, bytes: &[u8]) -> bool
     ensures { result ≡ lacks (list_all (is_entry class.now kinds.Class)) (exceptions_in bytes.now) }
 {
     let mut cursor = Cursor::new(bytes);

@@ -2,7 +2,7 @@ use Rattle.std.proofs.Common.{sym, ◌∙◌, refl, subst}
 use Rattle.std.proofs.lemmas.Bool.{false≢true}
 use Rattle.std.proofs.lemmas.List.{take_all}
 use Rattle.jc_base.specs.ModifiedUtf8.{IsWellSpelled}
-use Rattle.jc_base.proofs.texts.WellSpelledFronts.{one_more, longest_front, whole_front}
+use Rattle.jc_base.proofs.texts.WellSpelledFronts.{ascii_spelled, one_more, longest_front, whole_front}
 use Rattle.jc_base.proofs.texts.TestsDecide.{same_answer, spelled_decides}
 use Rattle.jc_base.proofs.modified_utf8.check_units.Goals as goal
 
@@ -27,3 +27,9 @@ pub returns-clause-computed : goal.returns-clause-computed
 returns-clause-computed c =
     let text = subst IsWellSpelled (take_all c.loop-place.place c.args.text.now c.loop-place-test.false) c.loop-place.invariant.1 in
     same_answer _ _ (λ _. text, λ _. refl) (spelled_decides c.args.text.now)
+
+pub returns-then-is_plain-clause-ok : goal.returns-then-is_plain-clause-ok
+returns-then-is_plain-clause-ok c = (λ _. ascii_spelled c.args.text.now (sym c.is_plain.ensures ∙ c.if-is_plain.true), λ _. refl)
+
+pub returns-then-is_plain-clause-computed : goal.returns-then-is_plain-clause-computed
+returns-then-is_plain-clause-computed c = same_answer _ _ (returns-then-is_plain-clause-ok c) (spelled_decides c.args.text.now)

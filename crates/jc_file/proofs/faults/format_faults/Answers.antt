@@ -1,4 +1,4 @@
-use Rattle.std.proofs.Common.{◌≡◌, List, sym, ap, subst, ◌∙◌}
+use Rattle.std.proofs.Common.{◌≡◌, List, sym, subst}
 use Rattle.std.proofs.lemmas.Result.{IfOk-weaker}
 use Rattle.std.specs.List.{Contains}
 use Rattle.jc_file.specs.declared.fault.Fault.{Fault}
@@ -8,10 +8,10 @@ use Rattle.jc_file.specs.Faults.{faults}
 use Rattle.jc_file.specs.Violations.{Violates}
 use Rattle.jc_file.proofs.faults.format_faults.Goals as goal
 
-are_bytes : (c : goal.After-drop-texts-inside) → AreBytes (layout c.args.class.now)
+are_bytes : (c : goal.After-find_faults) → AreBytes (layout c.args.class.now)
 are_bytes c = subst AreBytes (sym c.bytes-file.ensures.layout.bytes) c.bytes-file.ensures.numbers
 
-violated : (c : goal.After-drop-texts-inside) (items : List Fault) → items ≡ faults c.args.class.now → (fault : Fault)
+violated : (c : goal.After-find_faults) (items : List Fault) → items ≡ faults c.args.class.now → (fault : Fault)
     → (Contains items fault → Violates fault.rule c.args.class.now fault.place) × (Violates fault.rule c.args.class.now fault.place → Contains items fault)
 violated c items e fault =
     let class = c.args.class.now in
@@ -22,7 +22,4 @@ violated c items e fault =
     )
 
 pub returns-clause-violated : goal.returns-clause-violated
-returns-clause-violated c =
-    IfOk-weaker c.find_faults.result _ _
-    (λ found e. violated c found.items (e ∙ ap faults c.in_ok-texts.ensures))
-    c.find_faults.ensures
+returns-clause-violated c = IfOk-weaker c.find_faults.result _ _ (λ found e. violated c found.items e) c.find_faults.ensures

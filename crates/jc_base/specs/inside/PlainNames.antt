@@ -1,0 +1,15 @@
+-- Names of classes in which each character is below 0x80.
+use Rattle.std.specs.Prelude.{ℕ, Bool, not, ◌&&◌, ◌==◌, nat_lt, List, [], ◌∷◌, if◌then◌else◌}
+
+-- a character that an unqualified name may have, none of `.;[/`
+abbrev pub is_plain_byte : ℕ → Bool
+is_plain_byte c = nat_lt 0 c && nat_lt c 0x80 && not (c == 46) && not (c == 59) && not (c == 91) && not (c == 47)
+
+-- a character may stand here, where a part of the name begins or not
+abbrev pub may_follow : Bool → ℕ → Bool
+may_follow begins c = if c == 47 then not begins else is_plain_byte c
+
+-- each may, and no part is empty
+abbrev pub are_plain_parts : Bool → List ℕ → Bool
+are_plain_parts begins [] = not begins
+are_plain_parts begins (c ∷ rest) = may_follow begins c && are_plain_parts (c == 47) rest

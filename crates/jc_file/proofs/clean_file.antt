@@ -1,0 +1,10 @@
+pub mod DescriptorsApart
+pub mod Entries
+pub mod KeysApart
+pub mod NoFaults
+pub mod Noted
+pub mod RolesKept
+pub mod RolesNoted
+pub mod Steps
+pub mod Tests
+pub mod Unruled
