@@ -1,0 +1,2 @@
+pub mod walks
+pub mod marked

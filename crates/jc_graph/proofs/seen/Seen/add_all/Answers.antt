@@ -1,0 +1,13 @@
+use Rattle.std.proofs.Common.{take, sym, subst}
+use Rattle.std.proofs.lemmas.List.{take_more}
+use Rattle.jc_graph.specs.Seen.{Grows}
+use Rattle.jc_graph.proofs.marked.SeenLemmas.{grows_more}
+use Rattle.jc_graph.proofs.seen.Seen.add_all.Goals as goal
+
+pub loop-node-preserved : goal.loop-node-preserved
+loop-node-preserved c =
+    let f = c.args.self.now.flags.items in
+    let l = c.args.self.now.list.items in
+    let i = c.loop-node.node-index in
+    let more = grows_more f l c.loop-node.self.flags.items c.loop-node.self.list.items c.add_once.new.self.flags.items c.add_once.new.self.list.items (take i c.args.nodes.now) _ c.loop-node.invariant c.in_ok-add_once.ensures in
+    subst (λ z. Grows f l c.add_once.new.self.flags.items c.add_once.new.self.list.items z) (sym (take_more c.args.nodes.now i 0 c.loop-node-test.true)) more

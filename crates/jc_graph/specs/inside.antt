@@ -1,0 +1,3 @@
+pub mod Climb
+pub mod Marks
+pub mod Walk

@@ -1,0 +1,147 @@
+-- A walk over the nodes.
+use Rattle.std.specs.Prelude.{◌≡◌, ◌⊎◌, ℕ, ◌+◌, ◌*◌, ◌^◌, ◌<◌, ◌≤◌, Bool, true, false, List, [], ◌∷◌, ◌++◌, length, slice_index_or, slice_set, take, drop, ◌-◌}
+use Rattle.std.specs.List.{Contains, All}
+use Rattle.jc_graph.specs.declared.walk.Place.{Place}
+use Rattle.jc_graph.specs.declared.walk.Place.TheVariants.{Unseen, On, Done}
+use Rattle.jc_graph.specs.declared.walk.Segment.{Segment}
+use Rattle.jc_graph.specs.declared.walk.Walk.{Walk}
+use Rattle.std.specs.Bool.{Decides}
+use Rattle.jc_graph.specs.inside.Marks.{set_all}
+use Rattle.jc_graph.specs.Graph.{Ups, Above}
+
+pub record State : Type 0 where
+  pub path : List ℕ
+  pub segments : List Segment
+  pub steps : List ℕ
+  pub place : List Place
+  pub circular : List Bool
+  pub order : List ℕ
+
+abbrev pub state_of : Walk → State
+state_of w = record { path = w.path.items; segments = w.segments.items; steps = w.steps.items; place = w.place.items; circular = w.circular.items; order = w.order.items }
+
+abbrev pub node_at : List ℕ → ℕ → ℕ
+node_at nodes i = slice_index_or nodes i 0
+
+abbrev pub place_at : List Place → ℕ → Place
+place_at places v = slice_index_or places v Unseen
+
+abbrev pub flag_at : List Bool → ℕ → Bool
+flag_at flags v = slice_index_or flags v false
+
+abbrev pub segment_at : List Segment → ℕ → Segment
+segment_at segments k = slice_index_or segments k (record { path_from = 0; steps_from = 0 })
+
+-- the segment of p doesn't begin after q
+abbrev pub Leads : List Segment → ℕ → ℕ → Type 0
+Leads segments p q = All (λ g. g.path_from ≤ p → g.path_from ≤ q) segments
+
+abbrev pub Way : Ups → ℕ → ℕ → Type 0
+Way up a b = (a ≡ b) ⊎ Above up a b
+
+-- a step that waits leads from a place of the path
+pub record Source (up : Ups) (s : State) (i : ℕ) : Type 0 where
+  pub at : ℕ
+  pub within : at < length s.path
+  pub leads : Contains (up (node_at s.path at)) (node_at s.steps i)
+  pub after : All (λ g. g.steps_from ≤ i → g.path_from ≤ at) s.segments
+  pub before : All (λ g. i < g.steps_from → at < g.path_from) s.segments
+
+-- a step from the place p to w waits, or it was taken: w is done, or stands on the path and not before the segment of p
+pub data Told (s : State) (p w : ℕ) : Type 0 where
+  waits : (i : ℕ) → i < length s.steps → node_at s.steps i ≡ w → All (λ g. g.path_from ≤ p → g.steps_from ≤ i) s.segments → Told s p w
+  done : place_at s.place w ≡ Done → Told s p w
+  back : (q : ℕ) → place_at s.place w ≡ On q → Leads s.segments p q → Told s p w
+
+pub record IsPath (up : Ups) (s : State) : Type 0 where
+  pub on_path : (p : ℕ) → p < length s.path → place_at s.place (node_at s.path p) ≡ On p
+  pub has_place : (v p : ℕ) → place_at s.place v ≡ On p → (p < length s.path) × (node_at s.path p ≡ v)
+  pub first : (segment_at s.segments 0).path_from ≡ 0
+  pub covers : length s.segments ≡ 0 → length s.path ≡ 0
+  pub rising : (j k : ℕ) → j ≤ k → k < length s.segments → (segment_at s.segments j).path_from ≤ (segment_at s.segments k).path_from
+  pub within : All (λ g. (g.path_from ≤ length s.path) × (g.steps_from ≤ length s.steps)) s.segments
+  pub joined : (p q : ℕ) → p < length s.path → q < length s.path → Leads s.segments p q → Way up (node_at s.path p) (node_at s.path q)
+  pub sources : (i : ℕ) → i < length s.steps → Source up s i
+  pub told : (p w : ℕ) → p < length s.path → Contains (up (node_at s.path p)) w → Told s p w
+
+pub record IsDone (up : Ups) (place : List Place) (circular : List Bool) (order : List ℕ) : Type 0 where
+  pub closed : (v w : ℕ) → place_at place v ≡ Done → Contains (up v) w → place_at place w ≡ Done
+  pub ring : (v : ℕ) → place_at place v ≡ Done → flag_at circular v ≡ true → Above up v v
+  pub plain : (v : ℕ) → place_at place v ≡ Done → flag_at circular v ≡ false → Above up v v → ⊥
+  pub listed : (v : ℕ) → place_at place v ≡ Done → Contains order v
+  pub done : (k : ℕ) → k < length order → place_at place (node_at order k) ≡ Done
+  pub before : (k w : ℕ) → k < length order → flag_at circular (node_at order k) ≡ false → Contains (up (node_at order k)) w → (j : ℕ) × (j < k) × (node_at order j ≡ w)
+
+pub record IsWalk (up : Ups) (count : ℕ) (s : State) : Type 0 where
+  pub places : length s.place ≡ count
+  pub flags : length s.circular ≡ count
+  pub path : IsPath up s
+  pub done : IsDone up s.place s.circular s.order
+
+-- ---- what each step makes of a walk
+
+abbrev pub visited : Ups → State → ℕ → State
+visited up s v = record {
+  path = s.path ++ v ∷ [];
+  segments = s.segments ++ (record { path_from = length s.path; steps_from = length s.steps }) ∷ [];
+  steps = s.steps ++ up v;
+  place = slice_set s.place v (On (length s.path));
+  circular = s.circular;
+  order = s.order;
+}
+
+-- ---- how far a walk has come
+
+abbrev pub is_unseen : Place → ℕ
+is_unseen Unseen = 1
+is_unseen (On p) = 0
+is_unseen Done = 0
+
+unfoldable pub unseen : List Place → ℕ
+unseen [] = 0
+unseen (p ∷ ps) = is_unseen p + unseen ps
+
+-- what is left to do
+abbrev pub left : State → ℕ
+left s = unseen s.place * 2 ^ 66 + length s.steps + 2 * length s.segments
+
+-- the last segment, and the last step that waits
+abbrev pub last_segment : State → Segment
+last_segment s = segment_at s.segments (length s.segments - 1)
+
+abbrev pub last_step : State → ℕ
+last_step s = node_at s.steps (length s.steps - 1)
+
+-- the last segment's steps were not all taken
+abbrev pub HasStep : State → Type 0
+HasStep s = (0 < length s.segments) × ((last_segment s).steps_from < length s.steps)
+
+abbrev pub dropped : State → State
+dropped s = record s { steps = take (length s.steps - 1) s.steps }
+
+abbrev pub joined_last : State → State
+joined_last s = record s { segments = take (length s.segments - 1) s.segments }
+
+-- the nodes of the last segment
+abbrev pub last_nodes : State → List ℕ
+last_nodes s = drop (last_segment s).path_from s.path
+
+-- whether a segment that is ended is on a ring
+abbrev pub TellsRing : Ups → List ℕ → Bool → Type 0
+TellsRing up nodes ring = (length nodes ≡ 1 → Decides ring (Contains (up (node_at nodes 0)) (node_at nodes 0))) × ((length nodes ≡ 1 → ⊥) → ring ≡ true)
+
+abbrev pub ended : Bool → State → State
+ended ring s = record {
+  path = take (last_segment s).path_from s.path;
+  segments = take (length s.segments - 1) s.segments;
+  steps = s.steps;
+  place = set_all s.place (last_nodes s) Done;
+  circular = set_all s.circular (last_nodes s) ring;
+  order = s.order ++ last_nodes s;
+}
+
+-- one turn: it is still a walk, less is left to do, and nothing that was seen is forgotten
+pub record Turned (up : Ups) (count : ℕ) (old new : State) : Type 0 where
+  pub walk : IsWalk up count new
+  pub less : left new < left old
+  pub stays : (v : ℕ) → place_at new.place v ≡ Unseen → place_at old.place v ≡ Unseen

@@ -1,0 +1,180 @@
+//! A walk over the nodes that joins what lies on a ring.
+
+ghost use Rattle.std.specs.Prelude.{◌≡◌, ◌<◌, ◌≤◌, ◌-◌, ℕ, OnOk, IfOk, length, replicate, [], false};
+ghost use Rattle.std.specs.List.{All};
+ghost use Rattle.jc_graph.specs.Graph.{ups_of, AreNodes, Above};
+ghost use Rattle.jc_graph.specs.inside.Walk.{state_of, node_at, place_at, IsWalk, Turned, TellsRing, HasStep, last_segment, last_step};
+ghost use Rattle.jc_graph.specs.declared.walk.Place.TheVariants.{Unseen, On};
+
+use crate::marks::mark;
+use crate::rows::row;
+use jc_base::NoMemory;
+use std::alloc::Global;
+
+/// Where a walk has a node.
+#[derive(Clone, Copy)]
+pub(crate) enum Place {
+    Unseen,
+    /// On the path, at this place.
+    On(usize),
+    Done,
+}
+
+/// Where a part of the path begins, and where the steps begin that it still has to take.
+#[derive(Clone, Copy)]
+pub(crate) struct Segment {
+    pub(crate) path_from: usize,
+    pub(crate) steps_from: usize,
+}
+
+/// A walk: a path of segments, each of nodes that reach one another, and the nodes that are done.
+#[derive(Drop)]
+pub(crate) struct Walk {
+    pub(crate) path: Vec<usize>,
+    pub(crate) segments: Vec<Segment>,
+    pub(crate) steps: Vec<usize>,
+    pub(crate) place: Vec<Place>,
+    pub(crate) circular: Vec<bool>,
+    pub(crate) order: Vec<usize>,
+}
+
+/// Whether the nodes of a segment that has no more steps to take are on a ring.
+fn is_ring(ups: &[Vec<usize>], nodes: &[usize]) -> bool
+    requires { All (λ v. v < length ups.now) nodes.now }
+    ensures { TellsRing (ups_of ups.now) nodes.now result }
+{
+    match nodes {
+        [node] => row(ups, *node).contains(node),
+        _ => true,
+    }
+}
+
+impl Walk {
+    /// A walk that has seen none of the nodes.
+    pub(crate) fn new(alloc: Global, count: usize) -> Result<Walk, NoMemory>
+        ensures path { IfOk result (λ w. w.path.items ≡ []) }
+        ensures segments { IfOk result (λ w. w.segments.items ≡ []) }
+        ensures steps { IfOk result (λ w. w.steps.items ≡ []) }
+        ensures place { IfOk result (λ w. w.place.items ≡ replicate count Unseen) }
+        ensures circular { IfOk result (λ w. w.circular.items ≡ replicate count false) }
+        ensures order { IfOk result (λ w. w.order.items ≡ []) }
+    {
+        Ok(Walk {
+            path: Vec::new(alloc),
+            segments: Vec::new(alloc),
+            steps: Vec::new(alloc),
+            place: vec![in alloc; Place::Unseen; count]?,
+            circular: vec![in alloc; false; count]?,
+            order: Vec::new(alloc),
+        })
+    }
+
+    /// Goes on to a node that was not seen.
+    fn visit(&mut self, ups: &[Vec<usize>], node: usize) -> Result<(), NoMemory>
+        requires walk { IsWalk (ups_of ups.now) (length ups.now) (state_of self.old) }
+        requires node { node < length ups.now }
+        requires unseen { place_at self.old.place.items node ≡ Unseen }
+        requires above { (p : ℕ) → p < length self.old.path.items → Above (ups_of ups.now) (node_at self.old.path.items p) node }
+        ensures seen { OnOk result (place_at self.new.place.items node ≡ On (length self.old.path.items)) }
+        ensures turned { OnOk result (Turned (ups_of ups.now) (length ups.now) (state_of self.old) (state_of self.new)) }
+    {
+        let segment = Segment {
+            path_from: self.path.len(),
+            steps_from: self.steps.len(),
+        };
+        self.place[node] = Place::On(segment.path_from);
+        self.path.push(node)?;
+        self.segments.push(segment)?;
+        self.steps.extend_from_slice(row(ups, node))?;
+        Ok(())
+    }
+
+    /// Ends the last segment, which has no more steps to take.
+    fn end(&mut self, ups: &[Vec<usize>], last: Segment) -> Result<(), NoMemory>
+        requires walk { IsWalk (ups_of ups.now) (length ups.now) (state_of self.old) }
+        requires some { 0 < length self.old.segments.items }
+        requires last { last ≡ last_segment (state_of self.old) }
+        requires no_step { length self.old.steps.items ≤ last.steps_from }
+        ensures { OnOk result (Turned (ups_of ups.now) (length ups.now) (state_of self.old) (state_of self.new)) }
+    {
+        let (_, nodes) = self.path.as_slice().split_at(last.path_from);
+        let ring = is_ring(ups, nodes);
+        mark(self.place.as_mut_slice(), nodes, Place::Done);
+        mark(self.circular.as_mut_slice(), nodes, ring);
+        self.order.extend_from_slice(nodes)?;
+        self.path.truncate(last.path_from);
+        self.segments.pop();
+        Ok(())
+    }
+
+    /// Where the last step leads.
+    fn target(&self) -> usize
+        requires { 0 < length self.now.steps.items }
+        ensures { result ≡ last_step (state_of self.now) }
+    {
+        self.steps[self.steps.len() - 1]
+    }
+
+    /// Takes the last step, which is one from the last segment. A step to a node that was not seen waits
+    /// until that node is done.
+    fn take(&mut self, ups: &[Vec<usize>], last: Segment) -> Result<(), NoMemory>
+        requires nodes { AreNodes (ups_of ups.now) (length ups.now) }
+        requires walk { IsWalk (ups_of ups.now) (length ups.now) (state_of self.old) }
+        requires has { HasStep (state_of self.old) }
+        requires last { last ≡ last_segment (state_of self.old) }
+        ensures { OnOk result (Turned (ups_of ups.now) (length ups.now) (state_of self.old) (state_of self.new)) }
+    {
+        let target = self.target();
+        match self.place[target] {
+            Place::Unseen => self.visit(ups, target),
+            Place::On(at) => {
+                if at < last.path_from {
+                    self.segments.pop();
+                    Ok(())
+                } else {
+                    self.steps.pop();
+                    Ok(())
+                }
+            }
+            Place::Done => {
+                self.steps.pop();
+                Ok(())
+            }
+        }
+    }
+
+    /// One turn at the last segment.
+    fn turn(&mut self, ups: &[Vec<usize>], last: Segment) -> Result<(), NoMemory>
+        requires nodes { AreNodes (ups_of ups.now) (length ups.now) }
+        requires walk { IsWalk (ups_of ups.now) (length ups.now) (state_of self.old) }
+        requires some { 0 < length self.old.segments.items }
+        requires last { last ≡ last_segment (state_of self.old) }
+        ensures { OnOk result (Turned (ups_of ups.now) (length ups.now) (state_of self.old) (state_of self.new)) }
+    {
+        if last.steps_from < self.steps.len() {
+            self.take(ups, last)
+        } else {
+            self.end(ups, last)
+        }
+    }
+
+    /// Sees a node, and all that is above it.
+    pub(crate) fn see(&mut self, ups: &[Vec<usize>], node: usize) -> Result<(), NoMemory>
+        requires nodes { AreNodes (ups_of ups.now) (length ups.now) }
+        requires walk { IsWalk (ups_of ups.now) (length ups.now) (state_of self.old) }
+        requires node { node < length ups.now }
+        requires empty { length self.old.segments.items ≡ 0 }
+        ensures walk { OnOk result (IsWalk (ups_of ups.now) (length ups.now) (state_of self.new)) }
+        ensures empty { OnOk result (length self.new.segments.items ≡ 0) }
+        ensures seen { OnOk result ((v : ℕ) → place_at self.new.place.items v ≡ Unseen → (place_at self.old.place.items v ≡ Unseen) × (v ≡ node → ⊥)) }
+    {
+        if let Place::Unseen = self.place[node] {
+            self.visit(ups, node)?;
+        }
+        while let Some(last) = self.segments.last() {
+            let last = *last;
+            self.turn(ups, last)?;
+        }
+        Ok(())
+    }
+}
