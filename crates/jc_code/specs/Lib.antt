@@ -7,6 +7,7 @@ pub mod CodeRules
 pub mod CodeFaults
 pub mod CodeFaultOrder
 pub mod CodeViolations
+pub mod MethodFaults
 pub mod Examples
 pub mod inside
 pub use Rattle.jc_base.specs.Cursor

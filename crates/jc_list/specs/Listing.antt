@@ -9,7 +9,8 @@ use Rattle.jc_list.specs.ClassLines.{class_lines}
 use Rattle.jc_list.specs.ConstantLines.{constant_lines}
 use Rattle.jc_list.specs.AttributeLines.{attribute_lines}
 use Rattle.jc_list.specs.MemberLines.{field_lines, method_lines}
-use Rattle.jc_list.specs.FaultLines.{format_line, code_fault_line, code_faults}
+use Rattle.jc_list.specs.FaultLines.{format_line, code_fault_line}
+use Rattle.jc_code.specs.MethodFaults.{code_faults}
 
 unfoldable pub listing : ClassFile → List ℕ
 listing c =

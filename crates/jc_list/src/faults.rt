@@ -5,7 +5,8 @@ ghost use Rattle.std.specs.List.{flat_map};
 ghost use Rattle.jc_text.specs.Sends.{Sends};
 ghost use Rattle.jc_view.specs.declared.attribute_kind.Holder.TheVariants as holders;
 ghost use Rattle.jc_file.specs.Faults.{faults};
-ghost use Rattle.jc_list.specs.FaultLines.{code_fault_line, code_faults, format_line, method_faults};
+ghost use Rattle.jc_list.specs.FaultLines.{code_fault_line, format_line};
+ghost use Rattle.jc_code.specs.MethodFaults.{code_faults, method_faults};
 ghost use Rattle.jc_list.specs.inside.Fronts.{Lists};
 
 use jc_base::{NoMemory, Output};
@@ -31,7 +32,8 @@ pub(crate) fn write_format_faults<W: Output>(
     Ok(!faults.is_empty())
 }
 
-fn write_format_line<W: Output>(out: &mut TextWriter<'_, W>, fault: Fault)
+/// The line of a fault of the format.
+pub fn write_format_line<W: Output>(out: &mut TextWriter<'_, W>, fault: Fault)
     ensures { Sends W.written W.failures out.old out.new (format_line fault) }
 {
     out.text(b"format F");
@@ -80,7 +82,8 @@ fn write_method_faults<W: Output>(
     Ok(!faults.is_empty())
 }
 
-fn write_code_fault_line<W: Output>(out: &mut TextWriter<'_, W>, number: usize, fault: CodeFault)
+/// The line of a fault of the code of the method of a number.
+pub fn write_code_fault_line<W: Output>(out: &mut TextWriter<'_, W>, number: usize, fault: CodeFault)
     ensures { Sends W.written W.failures out.old out.new (code_fault_line (number, fault)) }
 {
     out.text(b"code S");

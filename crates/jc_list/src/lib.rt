@@ -14,5 +14,6 @@ mod members;
 mod switches;
 mod texts;
 
+pub use faults::{write_code_fault_line, write_format_line};
 pub use list_error::ListError;
 pub use listing::{list_class, write_listing};

@@ -12,7 +12,8 @@ use Rattle.jc_view.specs.Lent.{LentCode}
 use Rattle.jc_file.proofs.kinds.PlacedMembers.{members_of}
 use Rattle.jc_code.specs.declared.code_fault.CodeFault.{CodeFault}
 use Rattle.jc_code.specs.CodeFaults.{code_of_member, faults_of}
-use Rattle.jc_list.specs.FaultLines.{code_fault_line, code_faults_from, method_faults}
+use Rattle.jc_list.specs.FaultLines.{code_fault_line}
+use Rattle.jc_code.specs.MethodFaults.{code_faults_from, method_faults}
 
 abbrev code_in : Option LentCode → Option Code
 code_in r = option_map (λ lent. lent.code) r

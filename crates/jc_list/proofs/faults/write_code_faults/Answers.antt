@@ -5,7 +5,8 @@ use Rattle.jc_view.specs.declared.attribute_kind.Holder.TheVariants as holders
 use Rattle.jc_view.specs.Places.{methods_in, methods_place}
 use Rattle.jc_file.proofs.kinds.PlacedMembers.{AreOf, are_of_all, members_of, members_of_all}
 use Rattle.jc_text.proofs.Sending.{all_sent, part_sent}
-use Rattle.jc_list.specs.FaultLines.{code_fault_line, code_faults, code_faults_from}
+use Rattle.jc_list.specs.FaultLines.{code_fault_line}
+use Rattle.jc_code.specs.MethodFaults.{code_faults, code_faults_from}
 use Rattle.jc_list.proofs.fronts.OneBehindAnother.{lists_front, none_listed, part_begins}
 use Rattle.jc_list.proofs.methods.FaultsByMethod.{last_some, next_lines, next_some, some_in}
 use Rattle.jc_list.proofs.faults.write_code_faults.Goals as goal

@@ -4,7 +4,8 @@ use Rattle.std.specs.Iterator.Adapters.{enumerate_source, enumerate_count}
 use Rattle.jc_view.specs.declared.attribute_kind.Holder.TheVariants as holders
 use Rattle.jc_file.proofs.kinds.PlacedMembers.{members_of, AreOf}
 use Rattle.jc_text.proofs.Sending.{HasSent}
-use Rattle.jc_list.specs.FaultLines.{code_fault_line, code_faults, code_faults_from}
+use Rattle.jc_list.specs.FaultLines.{code_fault_line}
+use Rattle.jc_code.specs.MethodFaults.{code_faults, code_faults_from}
 use Rattle.jc_list.proofs.methods.FaultsByMethod.{some_in}
 use Rattle.jc_list.proofs.faults.write_code_faults.Given as goal
 

@@ -3,7 +3,8 @@ use Rattle.std.specs.List.{flat_map}
 use Rattle.std.proofs.lemmas.List.{drop_all, drop_more}
 use Rattle.jc_text.proofs.Sending.{none_sent, sends_equal, sends_nothing}
 use Rattle.jc_code.specs.CodeFaults.{code_of_member}
-use Rattle.jc_list.specs.FaultLines.{code_fault_line, method_faults}
+use Rattle.jc_list.specs.FaultLines.{code_fault_line}
+use Rattle.jc_code.specs.MethodFaults.{method_faults}
 use Rattle.jc_list.proofs.fronts.OneBehindAnother.{all_listed, begins_nothing, item_listed, lists_front}
 use Rattle.jc_list.proofs.methods.FaultsByMethod.{all_of_method, lines_of_method, none_of_method, some_in}
 use Rattle.jc_list.proofs.faults.write_method_faults.Goals as goal

@@ -4,7 +4,8 @@ use Rattle.jc_view.specs.Places.{attributes_in}
 use Rattle.jc_file.specs.Faults.{faults}
 use Rattle.jc_text.proofs.Sending.{◌⟫◌, sends_equal}
 use Rattle.jc_list.specs.AttributeLines.{attribute_lines}
-use Rattle.jc_list.specs.FaultLines.{code_fault_line, code_faults, format_line}
+use Rattle.jc_list.specs.FaultLines.{code_fault_line, format_line}
+use Rattle.jc_code.specs.MethodFaults.{code_faults}
 use Rattle.jc_list.specs.Listing.{listing}
 use Rattle.jc_list.specs.MemberLines.{method_lines}
 use Rattle.jc_list.proofs.fronts.OneBehindAnother.{begins_equal, begins_first, begins_second, lists_front}

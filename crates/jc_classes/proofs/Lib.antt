@@ -1,0 +1,3 @@
+pub mod worlds
+pub mod numbering
+pub mod texts

@@ -1,0 +1,11 @@
+use Rattle.std.proofs.Common.{◌≡◌, ◌++◌, map}
+use Rattle.std.specs.List.{flat_map}
+use Rattle.std.specs.Option.{option_to_list}
+use Rattle.jc_view.specs.ClassFile.{class_text_at}
+use Rattle.jc_classes.specs.FactsOf.{interfaces_in}
+use Rattle.jc_classes.specs.inside.ConstantTexts.{texts_of}
+use Rattle.jc_classes.specs.inside.FactsShown.{text_at}
+use Rattle.jc_classes.proofs.read_facts.interface_entries.Given as goal
+
+abbrev pub invariant-loop-index : goal.invariant-loop-index
+invariant-loop-index l = map (text_at (texts_of l.class)) l.entries.items ++ flat_map (λ index. option_to_list (class_text_at l.class index)) l.index-iterator ≡ interfaces_in l.class

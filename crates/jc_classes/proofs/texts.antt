@@ -1,0 +1,4 @@
+pub mod ConstantTexts
+pub mod Entries
+pub mod FaultsOfMethods
+pub mod TextLists

@@ -1,0 +1,57 @@
+-- The text of a Utf8 constant by its index.
+use Rattle.std.proofs.Common.{◌≡◌, ℕ, zero, suc, ◌+◌, ◌-◌, ◌<◌, ◌≤◌, List, [], ◌∷◌, ◌++◌, map, Option, Some, None, refl, sym, ap, ◌∙◌, arith}
+use Rattle.std.specs.Option.{option_map_or}
+use Rattle.std.specs.Prelude.{option_and_then, slice_index_or}
+use Rattle.std.specs.List.{flat_map, range_with_len}
+use Rattle.std.proofs.lemmas.List.FromFn.{get_or-map-range_with_len, map-range_with_len_more}
+use Rattle.std.proofs.lemmas.Grind.{flat_map-append}
+use Rattle.std.proofs.lemmas.List.{append-nil}
+use Rattle.jc_view.specs.declared.constant_pool.ConstantIndex.{ConstantIndex}
+use Rattle.jc_view.specs.ConstantPool.{Constant, utf8_text}
+use Rattle.jc_view.specs.ClassFile.{ClassFile, all_slots, constant_at}
+use Rattle.jc_view.specs.Lookups.{utf8_at}
+use Rattle.jc_file.proofs.violations.Constants.{usable_within}
+use Rattle.jc_classes.specs.inside.ConstantTexts.{text_or_empty, texts_of}
+use Rattle.jc_classes.specs.inside.FactsShown.{text_at}
+
+within : (c : ClassFile) (index : ConstantIndex) (text : List ℕ) (entry : Option Constant) → constant_at c index ≡ entry → option_and_then utf8_text entry ≡ Some text → index.0 < 1 + all_slots c.constants
+within c index text None e h = absurd cc
+within c index text (Some entry) e h = (usable_within c index.0 entry e).1
+
+pub text_there : (c : ClassFile) (index : ConstantIndex) (text : List ℕ) → utf8_at c index ≡ Some text → text_at (texts_of c) index.0 ≡ text
+unfolding texts_of
+text_there c index text h =
+    get_or-map-range_with_len (text_or_empty c) 0 (1 + all_slots c.constants) index.0 index.0 [] (within c index text (constant_at c index) refl h) (omega arith)
+    ∙ ap (λ o. option_map_or (λ t. t) o []) h
+
+-- index 0 is of no constant
+pub no_text : (c : ClassFile) → text_at (texts_of c) 0 ≡ []
+unfolding texts_of
+no_text c = get_or-map-range_with_len (text_or_empty c) 0 (1 + all_slots c.constants) 0 0 [] (omega arith) (omega arith)
+
+pub texts_more : (c : ClassFile) (index : ℕ) (texts : List (List ℕ)) (text : List ℕ) → texts ≡ map (text_or_empty c) (range_with_len 0 index) → text ≡ text_or_empty c index
+    → texts ++ text ∷ [] ≡ map (text_or_empty c) (range_with_len 0 (index + 1))
+texts_more c index texts text e t =
+    ap (λ xs. xs ++ text ∷ []) e ∙ ap (λ x. map (text_or_empty c) (range_with_len 0 index) ++ x ∷ []) t
+    ∙ sym (map-range_with_len_more (text_or_empty c) 0 index index (omega arith))
+
+pub texts_all : (c : ClassFile) (index : ℕ) (texts : List (List ℕ)) → texts ≡ map (text_or_empty c) (range_with_len 0 index) → index ≡ 1 + all_slots c.constants → texts ≡ texts_of c
+unfolding texts_of
+texts_all c index texts e n = e ∙ ap (λ k. map (text_or_empty c) (range_with_len 0 k)) n
+
+-- ---- numbers in a row
+
+pub range_more : (from n : ℕ) → range_with_len from (suc n) ≡ range_with_len from n ++ (from + n) ∷ []
+range_more from zero = let e : from ≡ from + 0 = omega arith in ap (λ x. x ∷ []) e
+range_more from (suc n) =
+    let e : from + 1 + n ≡ from + suc n = omega arith in
+    ap (λ xs. from ∷ xs) (range_more (from + 1) n ∙ ap (λ x. range_with_len (from + 1) n ++ x ∷ []) e)
+
+pub found_more : {X : Type 0} (f : ℕ → List X) (index : ℕ) → 1 ≤ index → flat_map f (range_with_len 1 (index + 1 - 1)) ≡ flat_map f (range_with_len 1 (index - 1)) ++ f index
+found_more f index h =
+    let n : index + 1 - 1 ≡ suc (index - 1) = omega arith in
+    let e : 1 + (index - 1) ≡ index = omega (arith, h) in
+    ap (λ k. flat_map f (range_with_len 1 k)) n
+    ∙ ap (flat_map f) (range_more 1 (index - 1) ∙ ap (λ x. range_with_len 1 (index - 1) ++ x ∷ []) e)
+    ∙ flat_map-append f (range_with_len 1 (index - 1)) (index ∷ [])
+    ∙ ap (λ xs. flat_map f (range_with_len 1 (index - 1)) ++ xs) (append-nil (f index))

@@ -1,0 +1,4 @@
+pub mod One
+pub mod Local
+pub mod Parts
+pub mod NameTests

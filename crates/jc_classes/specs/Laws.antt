@@ -1,0 +1,41 @@
+-- The laws of `laws.rt`.
+use Rattle.std.specs.Prelude.{◌≡◌, Bool, true, false}
+use Rattle.std.specs.List.{Contains}
+use Rattle.jc_classes.specs.Facts.{Named}
+use Rattle.jc_classes.specs.Names.{Name}
+use Rattle.jc_classes.specs.Worlds.{World, supers_of}
+use Rattle.jc_classes.specs.Parts.{Reach, Part, IsPart}
+use Rattle.jc_classes.specs.Facts.Named.{Class, Array}
+use Rattle.std.specs.Prelude.{Some}
+
+-- two maps agree at a set of names that is closed under supertypes
+pub record Agree (R : Name → Type 0) (m n : World) : Type 0 where
+  pub same : (x : Name) → R x → m x ≡ n x
+  pub closed : (x s : Name) → R x → Contains (supers_of (m x)) s → R s
+
+-- the set holds the class that is named, or the innermost one of the array
+abbrev pub Holds : (Name → Type 0) → Named → Type 0
+Holds R (Class c) = R c
+Holds R (Array t e) = (c : Name) → e ≡ Some c → R c
+
+-- two maps agree outside the touched names: edits of files and of outside prefixes are both such
+abbrev pub Differ : (Name → Bool) → World → World → Type 0
+Differ touched m k = (n : Name) → touched n ≡ false → m n ≡ k n
+
+-- the reach of the class holds no touched name
+abbrev pub Avoids : (Name → Bool) → World → Name → Type 0
+Avoids touched m d = (n : Name) → Reach m d n → touched n ≡ false
+
+-- the reach of the class holds a touched name
+abbrev pub Hits : (Name → Bool) → World → Name → Type 0
+Hits touched m d = (n : Name) × (touched n ≡ true) × Reach m d n
+
+abbrev pub PartIsOne : Type 0
+PartIsOne = (m : World) (d : Name) (p q : Part) → IsPart m d p → IsPart m d q → p ≡ q
+
+abbrev pub Locality : Type 0
+Locality = (touched : Name → Bool) (m k : World) (d : Name) → Differ touched m k → Avoids touched m d
+    → ((n : Name) → (Reach m d n → Reach k d n) × (Reach k d n → Reach m d n)) × ((p : Part) → (IsPart m d p → IsPart k d p) × (IsPart k d p → IsPart m d p))
+
+abbrev pub AffectedByEither : Type 0
+AffectedByEither = (touched : Name → Bool) (m k : World) (d : Name) → Differ touched m k → Hits touched m d → Hits touched k d

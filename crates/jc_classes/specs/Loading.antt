@@ -1,0 +1,55 @@
+-- How a name loads (JVMS 5.3.5).
+use Rattle.std.specs.Prelude.{◌≡◌, Bool, true, false, ◌||◌, not, cond, List, [], ◌∷◌, ◌++◌, map, Option, Some, None}
+use Rattle.std.specs.Option.{option_map_or}
+use Rattle.jc_classes.specs.Names.{Name, same_name, package_of}
+use Rattle.jc_file.specs.AccessFlags.{has, public}
+use Rattle.jc_classes.specs.Worlds.{World, Stands, is_interface, flags_of, Above}
+use Rattle.jc_classes.specs.Worlds.{Stands as stands}
+use Rattle.jc_classes.specs.Facts.{Facts, is_faulty}
+use Rattle.jc_classes.specs.declared.linkage_error.LinkageError.{LinkageError}
+use Rattle.jc_classes.specs.declared.linkage_error.LinkageError.TheVariants as errors
+
+-- a class is PUBLIC, or in the package of the one that asks (JVMS 5.4.4)
+abbrev pub can_see : Name → Name → Stands → Bool
+can_see d c r = has (flags_of r) public || same_name (package_of d) (package_of c)
+
+-- how loading ends
+pub data Loading : Type 0 where
+  Loaded : Loading
+  Outside : Loading
+  Fails : LinkageError → Name → Loading
+
+-- a supertype, and whether it is named as the superclass
+pub record Parent : Type 0 where
+  pub is_class : Bool
+  pub name : Name
+
+abbrev pub parents : Facts → List Parent
+parents r = option_map_or (λ s. record { is_class = true; name = s } ∷ []) r.superclass [] ++ map (λ s. record { is_class = false; name = s }) r.interfaces
+
+abbrev pub same_bool : Bool → Bool → Bool
+same_bool true b = b
+same_bool false b = not b
+
+-- the error that a supertype makes, from how it loads, whether it is accessible and whether it is of the wrong kind
+abbrev pub judged : Loading → Bool → Bool → Name → Option Loading
+judged Loaded sees wrong s = cond sees (cond wrong (Some (Fails errors.Incompatible s)) None) (Some (Fails errors.IllegalAccess s))
+judged Outside sees wrong s = None
+judged (Fails e x) sees wrong s = Some (Fails e x)
+
+abbrev pub judged_parent : World → Name → Parent → Loading → Option Loading
+judged_parent m n p a = judged a (can_see n p.name (m p.name)) (same_bool (is_interface (m p.name)) p.is_class) p.name
+
+mutual
+  pub data Load (m : World) : Name → Loading → Type 0 where
+    missing : {n : Name} → m n ≡ stands.Nothing → Load m n (Fails errors.NoClass n)
+    outside : {n : Name} → m n ≡ stands.Outside → Load m n Outside
+    faulty : {n : Name} {r : Facts} → m n ≡ stands.Record r → is_faulty r ≡ true → Load m n (Fails errors.Format n)
+    round : {n : Name} {r : Facts} → m n ≡ stands.Record r → is_faulty r ≡ false → Above m n n → Load m n (Fails errors.Circular n)
+    through : {n : Name} {r : Facts} {a : Loading} → m n ≡ stands.Record r → is_faulty r ≡ false → (Above m n n → ⊥) → LoadEach m n (parents r) a → Load m n a
+
+  -- the supertypes in order, of which the first that makes an error decides
+  pub data LoadEach (m : World) : Name → List Parent → Loading → Type 0 where
+    none : {n : Name} → LoadEach m n [] Loaded
+    stops : {n : Name} {p : Parent} {ps : List Parent} {a b : Loading} → Load m p.name a → judged_parent m n p a ≡ Some b → LoadEach m n (p ∷ ps) b
+    passes : {n : Name} {p : Parent} {ps : List Parent} {a b : Loading} → Load m p.name a → judged_parent m n p a ≡ None → LoadEach m n ps b → LoadEach m n (p ∷ ps) b

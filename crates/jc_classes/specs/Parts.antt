@@ -1,0 +1,73 @@
+-- What a class reaches, and its part.
+use Rattle.std.specs.Prelude.{◌≡◌, ℕ, Bool, true, false, List, [], ◌∷◌, ◌++◌, Option, Some}
+use Rattle.std.specs.List.{Contains}
+use Rattle.std.specs.Option.{option_to_list}
+use Rattle.jc_file.specs.declared.fault.Fault.{Fault}
+use Rattle.jc_code.specs.declared.code_fault.CodeFault.{CodeFault}
+use Rattle.jc_classes.specs.Facts.{Named, Reference}
+use Rattle.jc_classes.specs.Names.{Name, object}
+use Rattle.jc_classes.specs.declared.reference_kind.ReferenceKind.{ReferenceKind}
+use Rattle.jc_classes.specs.declared.reference_kind.ReferenceKind.TheVariants as kind
+use Rattle.jc_classes.specs.Worlds.{World, supers_of, references_of, format_faults_of, code_faults_of, Above}
+use Rattle.jc_classes.specs.Facts.Named.{Class, Array}
+use Rattle.jc_classes.specs.Loading.{Load, Loading}
+use Rattle.jc_classes.specs.Loading.{Loading as loading}
+use Rattle.jc_classes.specs.Resolution.{Answer, ResolvesClass, ResolvesField, ResolvesMethod, ResolvesInterfaceMethod}
+use Rattle.jc_classes.specs.Resolution.Answer.{NotLoaded}
+
+-- the name of a class that is named, or of the innermost one of an array
+abbrev pub class_of : Named → Option Name
+class_of (Class c) = Some c
+class_of (Array t e) = e
+
+abbrev pub class_in : Named → List Name
+class_in t = option_to_list (class_of t)
+
+abbrev pub names_in : List Reference → List Name
+names_in [] = []
+names_in (r ∷ rs) = class_in r.named ++ names_in rs
+
+-- the smallest set that holds the class, java/lang/Object and what the class names, and is closed under supertypes
+pub data Reach (m : World) (d : Name) : Name → Type 0 where
+  itself : Reach m d d
+  always : Reach m d object
+  reference : {n : Name} → Contains (names_in (references_of (m d))) n → Reach m d n
+  upward : {mid n : Name} → Reach m d mid → Contains (supers_of (m mid)) n → Reach m d n
+
+abbrev pub ResolvesOf : World → Name → ReferenceKind → Reference → Answer → Type 0
+ResolvesOf m d kind.Class r a = ResolvesClass m d r.named a
+ResolvesOf m d kind.Field r a = ResolvesField m d r.named r.key a
+ResolvesOf m d kind.Method r a = ResolvesMethod m d r.named r.key a
+ResolvesOf m d kind.InterfaceMethod r a = ResolvesInterfaceMethod m d r.named r.key a
+
+-- the answer to a reference of a class that loads so
+abbrev pub IsAnswer : World → Name → Loading → Reference → Answer → Type 0
+IsAnswer m d loading.Loaded r a = ResolvesOf m d r.kind r a
+IsAnswer m d loading.Outside r a = a ≡ NotLoaded
+IsAnswer m d (loading.Fails e x) r a = a ≡ NotLoaded
+
+-- the answer to each reference, in order
+abbrev pub AreAnswers : World → Name → Loading → List Reference → List Answer → Type 0
+AreAnswers m d l [] [] = Unit {0}
+AreAnswers m d l (r ∷ rs) (a ∷ more) = IsAnswer m d l r a × AreAnswers m d l rs more
+AreAnswers m d l [] (a ∷ more) = ⊥
+AreAnswers m d l (r ∷ rs) [] = ⊥
+
+-- what is found of a class
+pub record Part : Type 0 where
+  pub circular : Bool
+  pub load : Loading
+  pub format_faults : List Fault
+  -- each with the number of its method
+  pub code_faults : List (ℕ × CodeFault)
+  -- one for each reference, in their order
+  pub answers : List Answer
+
+-- the part of a name, over the whole world
+pub record IsPart (m : World) (d : Name) (p : Part) : Type 0 where
+  pub circular : p.circular ≡ true → Above m d d
+  pub not_circular : p.circular ≡ false → Above m d d → ⊥
+  pub load : Load m d p.load
+  pub format_faults : p.format_faults ≡ format_faults_of (m d)
+  pub code_faults : p.code_faults ≡ code_faults_of (m d)
+  pub answers : AreAnswers m d p.load (references_of (m d)) p.answers

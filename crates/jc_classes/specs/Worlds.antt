@@ -1,0 +1,101 @@
+-- Worlds: what stands at each name, and what stands above a name.
+use Rattle.std.specs.Prelude.{◌≡◌, ℕ, Bool, true, false, ◌&&◌, cond, List, [], ◌∷◌, ◌++◌, Option, Some, None}
+use Rattle.std.specs.Option.{option_to_list}
+use Rattle.std.specs.List.{Contains}
+use Rattle.jc_classes.specs.Names.{Name, same_name}
+use Rattle.jc_file.specs.declared.fault.Fault.{Fault}
+use Rattle.jc_code.specs.declared.code_fault.CodeFault.{CodeFault}
+use Rattle.jc_file.specs.AccessFlags.{has, interface}
+use Rattle.jc_classes.specs.Facts.{Facts, Member, Key, Named, Reference}
+use Rattle.jc_classes.specs.Facts.Named.{Class, Array}
+
+-- what stands at a name: a class, a name that is outside, of which nothing more is known, or nothing
+pub data Stands : Type 0 where
+  Record : Facts → Stands
+  Outside : Stands
+  Nothing : Stands
+
+-- what stands at each name
+abbrev pub World : Type 0
+World = Name → Stands
+
+abbrev pub super_of : Stands → Option Name
+super_of (Record r) = r.superclass
+super_of Outside = None
+super_of Nothing = None
+
+abbrev pub interfaces_of : Stands → List Name
+interfaces_of (Record r) = r.interfaces
+interfaces_of Outside = []
+interfaces_of Nothing = []
+
+-- the superclass and the direct superinterfaces, in the order of loading (JVMS 5.3.5)
+abbrev pub supers_of : Stands → List Name
+supers_of r = option_to_list (super_of r) ++ interfaces_of r
+
+abbrev pub fields_of : Stands → List Member
+fields_of (Record r) = r.fields
+fields_of Outside = []
+fields_of Nothing = []
+
+abbrev pub methods_of : Stands → List Member
+methods_of (Record r) = r.methods
+methods_of Outside = []
+methods_of Nothing = []
+
+abbrev pub references_of : Stands → List Reference
+references_of (Record r) = r.references
+references_of Outside = []
+references_of Nothing = []
+
+abbrev pub format_faults_of : Stands → List Fault
+format_faults_of (Record r) = r.format_faults
+format_faults_of Outside = []
+format_faults_of Nothing = []
+
+abbrev pub code_faults_of : Stands → List (ℕ × CodeFault)
+code_faults_of (Record r) = r.code_faults
+code_faults_of Outside = []
+code_faults_of Nothing = []
+
+abbrev pub flags_of : Stands → ℕ
+flags_of (Record r) = r.flags
+flags_of Outside = 0
+flags_of Nothing = 0
+
+abbrev pub is_interface : Stands → Bool
+is_interface r = has (flags_of r) interface
+
+-- what one or more steps to a supertype lead to
+pub data Above (m : World) (bottom : Name) : Name → Type 0 where
+  direct : {n : Name} → Contains (supers_of (m bottom)) n → Above m bottom n
+  further : {mid n : Name} → Above m bottom mid → Contains (supers_of (m mid)) n → Above m bottom n
+
+-- the class itself, or one on its chain of superclasses, which ends at a name without a record
+pub data Extends (m : World) : Name → Name → Type 0 where
+  itself : {n : Name} → Extends m n n
+  through : {n s c : Name} → super_of (m n) ≡ Some s → Extends m s c → Extends m n c
+
+abbrev pub key_of : Member → Key
+key_of x = record { name = x.name; descriptor = x.descriptor }
+
+abbrev pub is_at : Key → Member → Bool
+is_at k x = same_name x.name k.name && same_name x.descriptor k.descriptor
+
+-- the member with this name and descriptor
+abbrev pub member : List Member → Key → Option Member
+member [] k = None
+member (x ∷ xs) k = cond (is_at k x) (Some x) (member xs k)
+
+-- a member and the class that declares it
+pub record Found : Type 0 where
+  pub home : Name
+  pub member : Member
+
+abbrev pub text_of : Named → Name
+text_of (Class c) = c
+text_of (Array t e) = t
+
+abbrev pub is_array : Named → Bool
+is_array (Class c) = false
+is_array (Array t e) = true

@@ -1,0 +1,3 @@
+pub mod ConstantTexts
+pub mod FactsShown
+pub mod TextList

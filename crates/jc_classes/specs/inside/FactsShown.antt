@@ -1,0 +1,30 @@
+-- Facts by the indexes of their texts.
+use Rattle.std.specs.Prelude.{ℕ, List, [], map, option_map, slice_index_or}
+use Rattle.jc_classes.specs.Facts.{Facts, Member, Reference}
+use Rattle.jc_classes.specs.NamedTexts.{named_by}
+use Rattle.jc_classes.specs.declared.facts.Facts.TheInside.{Inside}
+use Rattle.jc_classes.specs.declared.facts.MemberEntry.{MemberEntry}
+use Rattle.jc_classes.specs.declared.facts.ReferenceEntry.{ReferenceEntry}
+
+abbrev pub text_at : List (List ℕ) → ℕ → List ℕ
+text_at texts index = slice_index_or texts index []
+
+abbrev pub member_shown : List (List ℕ) → MemberEntry → Member
+member_shown texts entry = record { name = text_at texts entry.name; descriptor = text_at texts entry.descriptor; flags = entry.flags }
+
+abbrev pub reference_shown : List (List ℕ) → ReferenceEntry → Reference
+reference_shown texts entry = record { index = entry.index; kind = entry.kind; named = named_by (text_at texts entry.class); key = record { name = text_at texts entry.name; descriptor = text_at texts entry.descriptor } }
+
+abbrev pub facts_shown : Inside → Facts
+facts_shown a = record {
+  path = a.path.items;
+  name = text_at a.texts a.name;
+  flags = a.flags;
+  superclass = option_map (text_at a.texts) a.superclass;
+  interfaces = map (text_at a.texts) a.interfaces.items;
+  fields = map (member_shown a.texts) a.fields.items;
+  methods = map (member_shown a.texts) a.methods.items;
+  references = map (reference_shown a.texts) a.references.items;
+  format_faults = a.format_faults.items;
+  code_faults = a.code_faults.items;
+}

@@ -1,0 +1,132 @@
+//! The built-in `java/lang/Object`.
+
+ghost use Rattle.std.specs.Prelude.{◌≡◌, map, IfOk};
+ghost use Rattle.jc_classes.specs.BuiltIn.{object_facts};
+
+use crate::facts::{Facts, MemberEntry};
+use crate::text_list::TextList;
+use jc_base::NoMemory;
+use std::alloc::Global;
+
+/// The texts of its name and of its methods' names and descriptors.
+const TEXTS: [&[u8]; 19] = [
+    b"java/lang/Object",
+    b"<init>",
+    b"getClass",
+    b"hashCode",
+    b"equals",
+    b"toString",
+    b"notify",
+    b"notifyAll",
+    b"wait",
+    b"clone",
+    b"finalize",
+    b"()V",
+    b"()Ljava/lang/Class;",
+    b"()I",
+    b"(Ljava/lang/Object;)Z",
+    b"()Ljava/lang/String;",
+    b"(J)V",
+    b"(JI)V",
+    b"()Ljava/lang/Object;",
+];
+
+/// Its methods: PUBLIC ones, and two that are PROTECTED.
+const METHODS: [MemberEntry; 12] = [
+    MemberEntry {
+        name: 1,
+        descriptor: 11,
+        flags: 0x0001,
+    },
+    MemberEntry {
+        name: 2,
+        descriptor: 12,
+        flags: 0x0001,
+    },
+    MemberEntry {
+        name: 3,
+        descriptor: 13,
+        flags: 0x0001,
+    },
+    MemberEntry {
+        name: 4,
+        descriptor: 14,
+        flags: 0x0001,
+    },
+    MemberEntry {
+        name: 5,
+        descriptor: 15,
+        flags: 0x0001,
+    },
+    MemberEntry {
+        name: 6,
+        descriptor: 11,
+        flags: 0x0001,
+    },
+    MemberEntry {
+        name: 7,
+        descriptor: 11,
+        flags: 0x0001,
+    },
+    MemberEntry {
+        name: 8,
+        descriptor: 11,
+        flags: 0x0001,
+    },
+    MemberEntry {
+        name: 8,
+        descriptor: 16,
+        flags: 0x0001,
+    },
+    MemberEntry {
+        name: 8,
+        descriptor: 17,
+        flags: 0x0001,
+    },
+    MemberEntry {
+        name: 9,
+        descriptor: 18,
+        flags: 0x0004,
+    },
+    MemberEntry {
+        name: 10,
+        descriptor: 11,
+        flags: 0x0004,
+    },
+];
+
+impl Facts {
+    /// The built-in `java/lang/Object`.
+    ///
+    /// Answers `NoMemory` only where memory was refused.
+    pub fn built_in_object(alloc: Global) -> Result<Facts, NoMemory>
+        ensures { IfOk result (λ facts. facts ≡ object_facts) }
+    {
+        let texts = list_of(alloc, &TEXTS)?;
+        let methods = Vec::from_slice(alloc, &METHODS)?;
+        Ok(Facts {
+            path: Vec::new(alloc),
+            texts,
+            name: 0,
+            flags: 0x0001,
+            superclass: None,
+            interfaces: Vec::new(alloc),
+            fields: Vec::new(alloc),
+            methods,
+            references: Vec::new(alloc),
+            format_faults: Vec::new(alloc),
+            code_faults: Vec::new(alloc),
+        })
+    }
+}
+
+/// A list of these texts.
+fn list_of(alloc: Global, texts: &[&[u8]]) -> Result<TextList, NoMemory>
+    ensures { IfOk result (λ list. list ≡ map (λ text. text.now) texts.now) }
+{
+    let mut list = TextList::new(alloc);
+    for text in texts {
+        list = list.with(text)?;
+    }
+    Ok(list)
+}

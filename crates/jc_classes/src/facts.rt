@@ -1,0 +1,166 @@
+//! What linking keeps of a class file.
+
+ghost use Rattle.std.specs.Prelude.{◌≡◌, length, option_map, slice_get};
+ghost use Rattle.std.specs.Option.{option_copied};
+ghost use Rattle.jc_classes.specs.Facts.{is_faulty};
+ghost use Rattle.jc_classes.specs.Lent.{reference_lent};
+ghost use Rattle.jc_classes.specs.inside.FactsShown.{reference_shown};
+
+use crate::member::Key;
+use crate::reference::Reference;
+use crate::reference_kind::ReferenceKind;
+use crate::text_list::TextList;
+use jc_code::CodeFault;
+use jc_file::Fault;
+use std::marker::Model;
+
+/// What linking keeps of a class file: its names and flags, what it declares and refers to, and its
+/// faults. A file with a format fault keeps no supertypes, members, references and code faults.
+#[derive(Drop)]
+pub struct Facts {
+    pub(crate) path: Vec<u8>,
+    /// The texts of the constants, by their indexes.
+    pub(crate) texts: TextList,
+    pub(crate) name: u16,
+    pub(crate) flags: u16,
+    pub(crate) superclass: Option<u16>,
+    pub(crate) interfaces: Vec<u16>,
+    pub(crate) fields: Vec<MemberEntry>,
+    pub(crate) methods: Vec<MemberEntry>,
+    pub(crate) references: Vec<ReferenceEntry>,
+    pub(crate) format_faults: Vec<Fault>,
+    pub(crate) code_faults: Vec<(usize, CodeFault)>,
+}
+
+/// A field or a method, by the indexes of its texts.
+#[derive(Clone, Copy)]
+pub(crate) struct MemberEntry {
+    pub(crate) name: u16,
+    pub(crate) descriptor: u16,
+    pub(crate) flags: u16,
+}
+
+/// A reference, by the indexes of its texts.
+#[derive(Clone, Copy)]
+pub(crate) struct ReferenceEntry {
+    pub(crate) index: u16,
+    pub(crate) kind: ReferenceKind,
+    pub(crate) class: u16,
+    pub(crate) name: u16,
+    pub(crate) descriptor: u16,
+}
+
+impl Model for Facts {
+    ghost use Rattle.jc_classes.specs.Facts as specs;
+
+    ghost Value = { specs.Facts };
+
+    ghost use Rattle.jc_classes.specs.inside.FactsShown.{facts_shown};
+
+    ghost view = { facts_shown };
+}
+
+impl Facts {
+    /// The path of the file; empty for the built-in `java/lang/Object`.
+    pub fn path(&self) -> &[u8]
+        ensures { result.now ≡ self.now.path }
+    {
+        self.path.as_slice()
+    }
+
+    /// The name of the class.
+    pub fn name(&self) -> &[u8]
+        ensures { result.now ≡ self.now.name }
+    {
+        self.texts.text(self.name as usize)
+    }
+
+    /// Its access flags (JVMS 4.1, table 4.1-B).
+    pub fn flags(&self) -> u16
+        ensures { result ≡ self.now.flags }
+    {
+        self.flags
+    }
+
+    /// Whether it has a format fault.
+    pub fn is_faulty(&self) -> bool
+        ensures { result ≡ is_faulty self.now }
+    {
+        !self.format_faults.is_empty()
+    }
+
+    /// Its format faults, by rule and then by place.
+    pub fn format_faults(&self) -> &[Fault]
+        ensures { result.now ≡ self.now.format_faults }
+    {
+        self.format_faults.as_slice()
+    }
+
+    /// The faults of its methods' code, each with the number of the method.
+    pub fn code_faults(&self) -> &[(usize, CodeFault)]
+        ensures { result.now ≡ self.now.code_faults }
+    {
+        self.code_faults.as_slice()
+    }
+
+    /// The name of its superclass.
+    pub fn superclass(&self) -> Option<&[u8]>
+        ensures { option_copied result ≡ self.now.superclass }
+    {
+        match self.superclass {
+            Some(name) => Some(self.texts.text(name as usize)),
+            None => None,
+        }
+    }
+
+    /// The name of the direct superinterface of a number.
+    pub fn interface(&self, number: usize) -> Option<&[u8]>
+        ensures { option_copied result ≡ slice_get self.now.interfaces number }
+    {
+        match self.interfaces.get(number) {
+            Some(name) => Some(self.texts.text(*name as usize)),
+            None => None,
+        }
+    }
+
+    /// How many direct superinterfaces it has.
+    pub fn interface_count(&self) -> usize
+        ensures { result ≡ length self.now.interfaces }
+    {
+        self.interfaces.len()
+    }
+
+    /// The reference of a number, by rising index of its constant.
+    pub fn reference(&self, number: usize) -> Option<Reference<'_>>
+        ensures { option_map reference_lent result ≡ slice_get self.now.references number }
+    {
+        match self.references.get(number) {
+            Some(entry) => Some(entry.lend(&self.texts)),
+            None => None,
+        }
+    }
+
+    /// How many references it has.
+    pub fn reference_count(&self) -> usize
+        ensures { result ≡ length self.now.references }
+    {
+        self.references.len()
+    }
+}
+
+impl ReferenceEntry {
+    /// The reference, with its texts.
+    fn lend(self, texts: &TextList) -> Reference<'_>
+        ensures { reference_lent result ≡ reference_shown texts.now self }
+    {
+        Reference {
+            index: self.index,
+            kind: self.kind,
+            class: texts.text(self.class as usize),
+            key: Key {
+                name: texts.text(self.name as usize),
+                descriptor: texts.text(self.descriptor as usize),
+            },
+        }
+    }
+}

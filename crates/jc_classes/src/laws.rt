@@ -1,0 +1,17 @@
+//! Laws over the definitions alone.
+ghost use Rattle.jc_classes.specs.Laws.{PartIsOne, Locality, AffectedByEither};
+
+/// A class has at most one part.
+pub fn part_is_one()
+    ensures { PartIsOne }
+{}
+
+/// Where the reach of a class holds no touched name, its reach and its part stay as they are.
+pub fn locality()
+    ensures { Locality }
+{}
+
+/// A class whose reach holds a touched name before an edit has one in its reach after it.
+pub fn affected_by_either()
+    ensures { AffectedByEither }
+{}

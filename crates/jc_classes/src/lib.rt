@@ -1,0 +1,27 @@
+//! Classes by name: what linking keeps of a class file, tables of classes, and the reach of a class; and the
+//! definitions of loading, resolution and access (JVMS 5.3.5, 5.4.3, 5.4.4), with the laws over them.
+#![tactic(auto)]
+
+mod built_in;
+mod facts;
+mod laws;
+mod linkage_error;
+mod member;
+mod member_lookup;
+mod names;
+mod numbers;
+mod read_facts;
+mod reference;
+mod reference_kind;
+mod standing;
+mod text_list;
+
+pub use facts::Facts;
+pub use laws::{affected_by_either, locality, part_is_one};
+pub use linkage_error::LinkageError;
+pub use member::{Key, Member};
+pub use names::{less, same};
+pub use numbers::Numbers;
+pub use reference::Reference;
+pub use reference_kind::ReferenceKind;
+pub use standing::Standing;

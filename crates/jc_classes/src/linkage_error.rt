@@ -1,0 +1,56 @@
+//! The errors of loading and of resolution (JVMS 5.3.5, 5.4.3).
+
+ghost use Rattle.std.specs.Prelude.{◌≡◌};
+ghost use Rattle.jc_classes.specs.LinkageErrors.{error_code, error_name};
+
+/// Why a class does not load, or a reference has no class, field or method.
+#[derive(Clone, Copy, Debug, PartialEq, Eq)]
+pub enum LinkageError {
+    /// No class has the name (`NoClassDefFoundError`, JVMS 5.3.5).
+    NoClass,
+    /// The class breaks a rule of the format (`ClassFormatError`, JVMS 5.3.5).
+    Format,
+    /// The class is its own superclass or superinterface (`ClassCircularityError`, JVMS 5.3.5).
+    Circular,
+    /// A class where an interface is wanted, or the other way round (`IncompatibleClassChangeError`,
+    /// JVMS 5.3.5, 5.4.3.3, 5.4.3.4).
+    Incompatible,
+    /// The class or the member is not accessible (`IllegalAccessError`, JVMS 5.4.4).
+    IllegalAccess,
+    /// Look-up finds no field (`NoSuchFieldError`, JVMS 5.4.3.2).
+    NoField,
+    /// Look-up finds no method (`NoSuchMethodError`, JVMS 5.4.3.3, 5.4.3.4).
+    NoMethod,
+}
+
+impl LinkageError {
+    /// Its number in the report.
+    pub fn code(self) -> u8
+        ensures { result ≡ error_code self }
+    {
+        match self {
+            LinkageError::NoClass => 1,
+            LinkageError::Format => 2,
+            LinkageError::Circular => 3,
+            LinkageError::Incompatible => 4,
+            LinkageError::IllegalAccess => 5,
+            LinkageError::NoField => 6,
+            LinkageError::NoMethod => 7,
+        }
+    }
+
+    /// Its name in the report.
+    pub fn name(self) -> &'static str
+        ensures { result.now ≡ error_name self }
+    {
+        match self {
+            LinkageError::NoClass => "NoClass",
+            LinkageError::Format => "Format",
+            LinkageError::Circular => "Circular",
+            LinkageError::Incompatible => "Incompatible",
+            LinkageError::IllegalAccess => "IllegalAccess",
+            LinkageError::NoField => "NoField",
+            LinkageError::NoMethod => "NoMethod",
+        }
+    }
+}

@@ -1,0 +1,133 @@
+//! Numbers for names.
+ghost use Rattle.std.specs.Prelude.{◌≡◌, ◌<◌, ◌∷◌, [], ℕ, length, IfOk, OnOk, None};
+ghost use Rattle.std.specs.Option.{IfSome};
+ghost use Rattle.std.specs.List.{All};
+ghost use Rattle.jc_classes.specs.NameLists.{IsRisingOf};
+ghost use Rattle.jc_classes.specs.Names.{names_of};
+ghost use Rattle.jc_classes.specs.Numbers.{name_at, IsOnce, IsNumbered, Grows, Rows};
+
+use jc_base::{ByteMap, NoMemory};
+use std::alloc::Global;
+use std::marker::Model;
+
+/// Names, each once, with their numbers in the order in which they came.
+#[derive(Drop)]
+pub struct Numbers {
+    places: ByteMap<usize>,
+    names: Vec<Vec<u8>>,
+}
+
+impl Model for Numbers {
+    ghost use Rattle.std.specs.Prelude.{List};
+    ghost use Rattle.jc_classes.specs.Names.{Name};
+    ghost use Rattle.jc_classes.specs.Names.{names_of};
+    ghost use Rattle.jc_classes.specs.Numbers.{IsNumbered};
+
+    ghost Value = { List Name };
+
+    ghost view = { λ a. names_of a.names.items };
+
+    ghost invariant = { λ a. IsNumbered a.places (names_of a.names.items) };
+}
+
+impl Numbers {
+    pub fn new(alloc: Global) -> Numbers
+        ensures { result ≡ [] }
+    {
+        Numbers {
+            places: ByteMap::new(alloc),
+            names: Vec::new(alloc),
+        }
+    }
+
+    /// How many names there are.
+    pub fn len(&self) -> usize
+        ensures { result ≡ length self.now }
+    {
+        self.names.len()
+    }
+
+    /// The name of a number.
+    pub fn name(&self, node: usize) -> &[u8]
+        requires { node < length self.now }
+        ensures { result.now ≡ name_at self.now node }
+    {
+        self.names[node].as_slice()
+    }
+
+    /// The number of a name, if it has one.
+    pub fn find(&self, name: &[u8]) -> Option<usize>
+        ensures some { IfSome result (λ i. (i < length self.now) × (name_at self.now i ≡ name.now)) }
+        ensures none { result ≡ None → (i : ℕ) → i < length self.now → name_at self.now i ≡ name.now → ⊥ }
+    {
+        match self.places.get(name) {
+            Some(node) => {
+                let node = *node;
+                Some(node)
+            }
+            None => None,
+        }
+    }
+
+    /// The number of a name, which it is given if it has none.
+    pub fn number(&mut self, alloc: Global, name: &[u8]) -> Result<usize, NoMemory>
+        ensures node { IfOk result (λ i. (i < length self.new) × (name_at self.new i ≡ name.now)) }
+        ensures grows { OnOk result (Grows self.old self.new (name.now ∷ [])) }
+    {
+        if let Some(node) = self.find(name) {
+            return Ok(node);
+        }
+        let copy = Vec::from_slice(alloc, name)?;
+        let key = Vec::from_slice(alloc, name)?;
+        let node = self.names.len();
+        self.names.push(copy)?;
+        if let Ok(_) = self.places.insert(key, node) {
+            return Ok(node);
+        }
+        self.names.pop();
+        Err(NoMemory)
+    }
+
+    /// Adds the number of a name to a row.
+    pub fn number_into(
+        &mut self,
+        alloc: Global,
+        row: &mut Vec<usize>,
+        name: &[u8],
+    ) -> Result<(), NoMemory>
+        requires { All (λ v. v < length self.old) row.old.items }
+        ensures { OnOk result (Rows self.old row.old.items self.new row.new.items (name.now ∷ [])) }
+    {
+        let node = self.number(alloc, name)?;
+        row.push(node)?;
+        Ok(())
+    }
+
+    /// Adds the numbers of names to a row.
+    pub fn number_all(
+        &mut self,
+        alloc: Global,
+        row: &mut Vec<usize>,
+        names: &[Vec<u8>],
+    ) -> Result<(), NoMemory>
+        requires once { IsOnce self.old }
+        requires row { All (λ v. v < length self.old) row.old.items }
+        ensures { OnOk result (Rows self.old row.old.items self.new row.new.items (names_of names.now)) }
+    {
+        for name in names {
+            self.number_into(alloc, row, name.as_slice())?;
+        }
+        Ok(())
+    }
+
+    /// The names in the order of their numbers, and the same names rising. Memory is taken for the second
+    /// list alone.
+    pub fn into_lists(self, alloc: Global) -> Result<(Vec<Vec<u8>>, Vec<Vec<u8>>), NoMemory>
+        ensures numbered { IfOk result (λ lists. names_of lists.0.items ≡ self) }
+        ensures rising { IfOk result (λ lists. IsRisingOf (names_of lists.1.items) self) }
+    {
+        let Numbers { places, names } = self;
+        let rising = places.into_keys(alloc)?;
+        Ok((names, rising))
+    }
+}

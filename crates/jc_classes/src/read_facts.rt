@@ -1,0 +1,295 @@
+//! What is kept of a class file, read from its view.
+
+ghost use Rattle.std.specs.Prelude.{◌≡◌, ◌++◌, map, option_map, IfOk, OnOk};
+ghost use Rattle.std.specs.List.{flat_map};
+ghost use Rattle.std.specs.Option.{option_to_list};
+ghost use Rattle.jc_view.specs.declared.attribute_kind.Holder.TheVariants as holders;
+ghost use Rattle.jc_view.specs.ClassFile.{class_text_at};
+ghost use Rattle.jc_view.specs.Lookups.{utf8_at};
+ghost use Rattle.jc_file.specs.Faults.{faults};
+ghost use Rattle.jc_code.specs.MethodFaults.{code_faults, method_faults};
+ghost use Rattle.jc_classes.specs.FactsOf.{class_name, class_reference, facts_of, faulty_facts, interfaces_in, member_of, member_reference, reference_at, references_in, sound_facts};
+ghost use Rattle.jc_classes.specs.inside.FactsShown.{member_shown, reference_shown, text_at};
+ghost use Rattle.jc_classes.specs.inside.ConstantTexts.{key_at, key_shown, text_or_empty, texts_of};
+
+use crate::facts::{Facts, MemberEntry, ReferenceEntry};
+use crate::reference_kind::ReferenceKind;
+use crate::text_list::TextList;
+use jc_base::NoMemory;
+use jc_code::{CodeFault, faults_in, method_code};
+use jc_file::{Fault, format_faults};
+use jc_view::{ClassView, Constant, ConstantIndex, Member, Members};
+use std::alloc::Global;
+
+impl Facts {
+    /// What is kept of a class file, and of the path where it stands.
+    ///
+    /// Answers `NoMemory` only where memory was refused.
+    pub fn of(alloc: Global, class: &ClassView, path: &[u8]) -> Result<Facts, NoMemory>
+        ensures { IfOk result (λ facts. facts ≡ facts_of path.now class.now) }
+    {
+        let faults = format_faults(alloc, class)?;
+        if faults.is_empty() {
+            sound_facts(alloc, class, path)
+        } else {
+            faulty_facts(alloc, class, path, faults)
+        }
+    }
+}
+
+/// The facts of a class file without a format fault.
+fn sound_facts(alloc: Global, class: &ClassView, path: &[u8]) -> Result<Facts, NoMemory>
+    ensures { IfOk result (λ facts. facts ≡ sound_facts path.now class.now) }
+{
+    let path = Vec::from_slice(alloc, path)?;
+    let texts = constant_texts(alloc, class)?;
+    let interfaces = interface_entries(alloc, class)?;
+    let fields = member_entries(alloc, class, class.fields())?;
+    let methods = member_entries(alloc, class, class.methods())?;
+    let references = reference_entries(alloc, class)?;
+    let code_faults = all_code_faults(alloc, class)?;
+    Ok(Facts {
+        path,
+        texts,
+        name: own_name_index(class),
+        flags: class.flags(),
+        superclass: name_index(class, class.super_class()),
+        interfaces,
+        fields,
+        methods,
+        references,
+        format_faults: Vec::new(alloc),
+        code_faults,
+    })
+}
+
+/// The facts of a class file with format faults.
+fn faulty_facts(
+    alloc: Global,
+    class: &ClassView,
+    path: &[u8],
+    format_faults: Vec<Fault>,
+) -> Result<Facts, NoMemory>
+    requires { format_faults.items ≡ faults class.now }
+    ensures { IfOk result (λ facts. facts ≡ faulty_facts path.now class.now) }
+{
+    let path = Vec::from_slice(alloc, path)?;
+    let texts = TextList::new(alloc).with(class.name())?;
+    Ok(Facts {
+        path,
+        texts,
+        name: 0,
+        flags: class.flags(),
+        superclass: None,
+        interfaces: Vec::new(alloc),
+        fields: Vec::new(alloc),
+        methods: Vec::new(alloc),
+        references: Vec::new(alloc),
+        format_faults,
+        code_faults: Vec::new(alloc),
+    })
+}
+
+/// The text of each Utf8 constant, by its index; an empty one at any other.
+fn constant_texts(alloc: Global, class: &ClassView) -> Result<TextList, NoMemory>
+    ensures { IfOk result (λ texts. texts ≡ texts_of class.now) }
+{
+    let mut texts = TextList::new(alloc);
+    for index in 0..class.constant_count() {
+        texts = texts.with(text_or_empty(class, index))?;
+    }
+    Ok(texts)
+}
+
+fn text_or_empty<'a>(class: &ClassView<'a>, index: u16) -> &'a [u8]
+    ensures { result.now ≡ text_or_empty class.now index }
+{
+    class.utf8(ConstantIndex(index)).unwrap_or(&[])
+}
+
+/// Adds an entry, where there is one.
+fn push_some<T: Drop>(entries: &mut Vec<T>, entry: Option<T>) -> Result<(), NoMemory>
+    ensures { OnOk result (entries.new.items ≡ entries.old.items ++ option_to_list entry) }
+{
+    if let Some(entry) = entry {
+        entries.push(entry)?;
+    }
+    Ok(())
+}
+
+/// The index of the class's own name.
+fn own_name_index(class: &ClassView) -> u16
+    ensures { text_at (texts_of class.now) result ≡ class_name class.now }
+{
+    match name_index(class, class.this_class()) {
+        Some(name) => name,
+        None => 0,
+    }
+}
+
+/// The index of the text of a Class constant.
+fn name_index(class: &ClassView, index: ConstantIndex) -> Option<u16>
+    ensures { option_map (text_at (texts_of class.now)) result ≡ class_text_at class.now index }
+{
+    let Constant::Class(name) = class.constant(index.0)? else {
+        return None;
+    };
+    text_index(class, name)
+}
+
+/// The index, where a Utf8 constant has it.
+fn text_index(class: &ClassView, index: ConstantIndex) -> Option<u16>
+    ensures { option_map (text_at (texts_of class.now)) result ≡ utf8_at class.now index }
+{
+    let _text = class.utf8(index)?;
+    Some(index.0)
+}
+
+/// The indexes of the texts of a NameAndType.
+fn name_and_type(class: &ClassView, index: ConstantIndex) -> Option<(u16, u16)>
+    ensures { option_map (key_shown (texts_of class.now)) result ≡ key_at class.now index }
+{
+    let Constant::NameAndType(name, descriptor) = class.constant(index.0)? else {
+        return None;
+    };
+    let name = text_index(class, name)?;
+    let descriptor = text_index(class, descriptor)?;
+    Some((name, descriptor))
+}
+
+/// The direct superinterfaces.
+fn interface_entries(alloc: Global, class: &ClassView) -> Result<Vec<u16>, NoMemory>
+    ensures { IfOk result (λ entries. map (text_at (texts_of class.now)) entries.items ≡ interfaces_in class.now) }
+{
+    let mut entries = Vec::new(alloc);
+    for index in class.interface_indexes() {
+        push_some(&mut entries, name_index(class, index))?;
+    }
+    Ok(entries)
+}
+
+/// Fields or methods.
+fn member_entries(
+    alloc: Global,
+    class: &ClassView,
+    members: Members,
+) -> Result<Vec<MemberEntry>, NoMemory>
+    requires { members.class ≡ class.now }
+    ensures { IfOk result (λ entries. map (member_shown (texts_of class.now)) entries.items ≡ flat_map (λ m. option_to_list (member_of class.now m.member)) members.entry.left) }
+{
+    let mut entries = Vec::new(alloc);
+    for member in members {
+        push_some(&mut entries, member_entry(class, &member))?;
+    }
+    Ok(entries)
+}
+
+/// A field or a method, where its name and its descriptor are there.
+fn member_entry(class: &ClassView, member: &Member) -> Option<MemberEntry>
+    ensures { option_map (member_shown (texts_of class.now)) result ≡ member_of class.now member.now.member.member }
+{
+    let name = text_index(class, member.name_index())?;
+    let descriptor = text_index(class, member.descriptor_index())?;
+    Some(MemberEntry {
+        name,
+        descriptor,
+        flags: member.flags(),
+    })
+}
+
+/// The references, by rising index.
+fn reference_entries(alloc: Global, class: &ClassView) -> Result<Vec<ReferenceEntry>, NoMemory>
+    ensures { IfOk result (λ entries. map (reference_shown (texts_of class.now)) entries.items ≡ references_in class.now) }
+{
+    let mut entries = Vec::new(alloc);
+    for index in 1..class.constant_count() {
+        push_some(&mut entries, reference_entry(class, index))?;
+    }
+    Ok(entries)
+}
+
+/// The reference that the constant of an index is.
+fn reference_entry(class: &ClassView, index: u16) -> Option<ReferenceEntry>
+    ensures { option_map (reference_shown (texts_of class.now)) result ≡ reference_at class.now index }
+{
+    match class.constant(index)? {
+        Constant::Class(name) => class_entry(class, index, name),
+        Constant::Fieldref(owner, entry) => {
+            member_reference(class, index, ReferenceKind::Field, owner, entry)
+        }
+        Constant::Methodref(owner, entry) => {
+            member_reference(class, index, ReferenceKind::Method, owner, entry)
+        }
+        Constant::InterfaceMethodref(owner, entry) => {
+            member_reference(class, index, ReferenceKind::InterfaceMethod, owner, entry)
+        }
+        _ => None,
+    }
+}
+
+/// A reference to a class.
+fn class_entry(class: &ClassView, index: u16, name: ConstantIndex) -> Option<ReferenceEntry>
+    ensures { option_map (reference_shown (texts_of class.now)) result ≡ class_reference class.now index name }
+{
+    let text = text_index(class, name)?;
+    Some(ReferenceEntry {
+        index,
+        kind: ReferenceKind::Class,
+        class: text,
+        name: 0,
+        descriptor: 0,
+    })
+}
+
+/// A reference to a member.
+fn member_reference(
+    class: &ClassView,
+    index: u16,
+    kind: ReferenceKind,
+    owner: ConstantIndex,
+    entry: ConstantIndex,
+) -> Option<ReferenceEntry>
+    ensures { option_map (reference_shown (texts_of class.now)) result ≡ member_reference class.now index kind owner entry }
+{
+    let text = name_index(class, owner)?;
+    let (name, descriptor) = name_and_type(class, entry)?;
+    Some(ReferenceEntry {
+        index,
+        kind,
+        class: text,
+        name,
+        descriptor,
+    })
+}
+
+/// The faults of the code of all methods, each with the number of its method.
+fn all_code_faults(alloc: Global, class: &ClassView) -> Result<Vec<(usize, CodeFault)>, NoMemory>
+    ensures { IfOk result (λ found. found.items ≡ code_faults class.now) }
+{
+    let mut found = Vec::new(alloc);
+    for (number, method) in class.methods().enumerate() {
+        add_code_faults(alloc, &mut found, class, &method, number)?;
+    }
+    Ok(found)
+}
+
+/// Adds the faults of a method's code.
+fn add_code_faults(
+    alloc: Global,
+    found: &mut Vec<(usize, CodeFault)>,
+    class: &ClassView,
+    method: &Member,
+    number: usize,
+) -> Result<(), NoMemory>
+    requires class { method.now.class ≡ class.now }
+    requires holder { method.now.member.holder ≡ holders.Method }
+    ensures { OnOk result (found.new.items ≡ found.old.items ++ map (λ fault. (number, fault)) (method_faults class.now method.now.member.member)) }
+{
+    let Some(code) = method_code(method) else {
+        return Ok(());
+    };
+    for fault in &faults_in(alloc, class, &code)? {
+        found.push((number, *fault))?;
+    }
+    Ok(())
+}

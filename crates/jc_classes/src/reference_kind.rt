@@ -1,0 +1,10 @@
+//! The kinds of symbolic references (JVMS 5.1).
+
+/// What a reference is to.
+#[derive(Clone, Copy, Debug, PartialEq, Eq)]
+pub enum ReferenceKind {
+    Class,
+    Field,
+    Method,
+    InterfaceMethod,
+}

@@ -1,0 +1,83 @@
+//! Many texts in one buffer.
+
+ghost use Rattle.std.specs.Prelude.{◌≡◌, ◌<◌, ◌≤◌, ◌-◌, ◌++◌, [], ◌∷◌, drop, length, slice_index_or, take, IfOk};
+ghost use Rattle.jc_classes.specs.inside.TextList.{start_at};
+
+use jc_base::NoMemory;
+use std::alloc::Global;
+use std::marker::Model;
+
+/// Texts, one behind the other. Seen as the list of them.
+#[derive(Drop)]
+pub(crate) struct TextList {
+    bytes: Vec<u8>,
+    ends: Vec<usize>,
+}
+
+impl Model for TextList {
+    ghost use Rattle.std.specs.Prelude.{ℕ, List, length};
+
+    ghost Value = { List (List ℕ) };
+
+    ghost use Rattle.jc_classes.specs.inside.TextList.{texts_from, AreEnds};
+
+    ghost view = { λ a. texts_from a.bytes.items 0 a.ends.items };
+
+    ghost invariant = { λ a. AreEnds (length a.bytes.items) 0 a.ends.items };
+}
+
+impl TextList {
+    /// A list without a text, which takes no memory.
+    pub(crate) fn new(alloc: Global) -> TextList
+        ensures { result ≡ [] }
+    {
+        TextList {
+            bytes: Vec::new(alloc),
+            ends: Vec::new(alloc),
+        }
+    }
+
+    /// The list and a text behind it.
+    pub(crate) fn with(self, text: &[u8]) -> Result<TextList, NoMemory>
+        ensures { IfOk result (λ texts. texts ≡ self ++ text.now ∷ []) }
+    {
+        let TextList {
+            mut bytes,
+            mut ends,
+        } = self;
+        bytes.extend_from_slice(text)?;
+        ends.push(bytes.len())?;
+        Ok(TextList { bytes, ends })
+    }
+
+    /// The text of a number; an empty one past the last.
+    pub(crate) fn text(&self, number: usize) -> &[u8]
+        ensures { result.now ≡ slice_index_or self.now number [] }
+    {
+        let ends = self.ends.as_slice();
+        if number >= ends.len() {
+            return &[];
+        }
+        part(self.bytes.as_slice(), start(ends, number), ends[number])
+    }
+}
+
+/// Where the text of a number begins.
+fn start(ends: &[usize], number: usize) -> usize
+    requires { number < length ends.now }
+    ensures { result ≡ start_at 0 ends.now number }
+{
+    if number == 0 {
+        return 0;
+    }
+    ends[number - 1]
+}
+
+/// The bytes from one place up to another.
+fn part(bytes: &[u8], start: usize, end: usize) -> &[u8]
+    requires rises { start ≤ end }
+    requires within { end ≤ length bytes.now }
+    ensures { result.now ≡ take (end - start) (drop start bytes.now) }
+{
+    &bytes[start..end]
+}
