@@ -1,0 +1,3 @@
+pub mod lookups
+pub mod answering
+pub mod loading

@@ -1,0 +1,5 @@
+pub mod Loadings
+pub mod Goods
+pub mod Nets
+pub mod PackageLemmas
+pub mod Held

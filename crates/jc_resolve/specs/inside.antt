@@ -1,0 +1,11 @@
+pub mod Access
+pub mod Chain
+pub mod Indexed
+pub mod Loaded
+pub mod Loading
+pub mod Looking
+pub mod Net
+pub mod Picks
+pub mod Resolved
+pub mod Settled
+pub mod Shown

@@ -1,0 +1,37 @@
+-- Look-up of a field by a stack.
+use Rattle.std.specs.Prelude.{◌≡◌, ℕ, ◌<◌, Bool, true, List, ◌++◌, map, length, Option, None}
+use Rattle.std.specs.List.{All}
+use Rattle.jc_classes.specs.Names.{Name}
+use Rattle.jc_classes.specs.Worlds.{World, Found}
+use Rattle.jc_classes.specs.Facts.{Key}
+use Rattle.jc_classes.specs.FieldLookup.{FindsField, FindsFirst}
+use Rattle.jc_classes.specs.Lent.{member_lent}
+use Rattle.jc_graph.specs.Seen.{flag_at}
+use Rattle.jc_resolve.specs.inside.Indexed.{Indexed, name_at, rank_at, good_at, IsIndexed}
+use Rattle.jc_resolve.specs.declared.classes.Hit.{Hit}
+
+abbrev pub names_at : Indexed → List ℕ → List Name
+names_at x vs = map (name_at x) vs
+
+abbrev pub found_at : Indexed → Hit → Found
+found_at x h = record { home = name_at x h.node; member = member_lent h.member }
+
+-- a node that was seen finds nothing, once what stands before `rest` finds nothing; all of that is above it
+pub record Told (m : World) (k : Key) (x : Indexed) (stack : List ℕ) (v : ℕ) : Type 0 where
+  pub front : List ℕ
+  pub rest : List ℕ
+  pub is : stack ≡ front ++ rest
+  pub below : All (λ w. rank_at x w < rank_at x v) front
+  pub nothing : FindsFirst m k (names_at x front) None → FindsField m k (name_at x v) None
+
+-- what the stack finds, the first first, is what the start finds
+pub record Looking (m : World) (k : Key) (x : Indexed) (start : ℕ) (stack : List ℕ) (flags : List Bool) : Type 0 where
+  pub whole : (a : Option Found) → FindsFirst m k (names_at x stack) a → FindsField m k (name_at x start) a
+  pub told : (v : ℕ) → flag_at flags v ≡ true → Told m k x stack v
+
+-- a walk that looks for a field, with what is still to do, the first first
+pub record Going (count : ℕ) (x : Indexed) (k : Key) (start : ℕ) (todo : List ℕ) (flags : List Bool) : Type 0 where
+  pub nodes : All (λ v. v < count) todo
+  pub good : All (λ v. good_at x v ≡ true) todo
+  pub size : length flags ≡ count
+  pub looking : (m : World) → IsIndexed m x → Looking m k x start todo flags

@@ -1,0 +1,78 @@
+-- The answer of a reference, by numbers.
+use Rattle.std.specs.Prelude.{◌≡◌, ℕ, ◌<◌, true, List, Option, Some, None, slice_index_or, option_map}
+use Rattle.jc_classes.specs.Names.{Name}
+use Rattle.jc_classes.specs.Worlds.{World, text_of}
+use Rattle.jc_classes.specs.Facts.{Named}
+use Rattle.jc_classes.specs.Facts.Named.{Class, Array}
+use Rattle.jc_classes.specs.Loading.{Loading, Load}
+use Rattle.jc_classes.specs.declared.linkage_error.LinkageError.TheVariants as error
+use Rattle.jc_classes.specs.Loading.{Loading as loading}
+use Rattle.jc_classes.specs.Resolution.{Answer, Start}
+use Rattle.jc_classes.specs.Resolution.{Answer as answer, Start as start}
+use Rattle.jc_resolve.specs.inside.Indexed.{Indexed, name_at, good_at}
+use Rattle.jc_resolve.specs.declared.access.Target.{Target}
+use Rattle.jc_resolve.specs.declared.access.Target.TheVariants as target
+use Rattle.jc_resolve.specs.inside.Settled.{answer_of}
+use Rattle.jc_classes.specs.declared.linkage_error.LinkageError.{LinkageError}
+use Rattle.jc_resolve.specs.declared.loads.Load.{Load as LoadState}
+use Rattle.jc_resolve.specs.declared.loads.Load.TheVariants as state
+use Rattle.jc_resolve.specs.declared.resolve.NamedNode.{NamedNode}
+use Rattle.jc_resolve.specs.declared.resolve.NamedNode.TheVariants as reference
+use Rattle.jc_resolve.specs.declared.resolve.Begun.{Begun}
+use Rattle.jc_resolve.specs.declared.resolve.Begun.TheVariants as begun
+use Rattle.jc_resolve.specs.declared.resolve.Outcome.{Outcome}
+use Rattle.jc_resolve.specs.declared.resolve.Outcome.TheVariants as outcome
+
+-- how a class loads, by name
+abbrev pub loading_of : Indexed → LoadState → Loading
+loading_of x state.Loaded = loading.Loaded
+loading_of x state.Outside = loading.Outside
+loading_of x (state.Fails f v) = loading.Fails f (name_at x v)
+
+-- where look-up begins, by name
+abbrev pub begun_of : Indexed → Begun → Start
+begun_of x (begun.At v) = start.At (name_at x v)
+begun_of x (begun.Beyond v) = start.Ends (answer.Beyond (name_at x v))
+begun_of x (begun.Fails f v) = start.Ends (answer.Wrong f (name_at x v))
+
+abbrev pub element_of : Indexed → NamedNode → Option Name
+element_of x (reference.Class v) = None
+element_of x (reference.Array e) = option_map (name_at x) e
+
+-- what a reference names, whose text stands beside it
+abbrev pub named_of : Indexed → NamedNode → Name → Named
+named_of x (reference.Class v) text = Class (name_at x v)
+named_of x (reference.Array e) text = Array text (option_map (name_at x) e)
+
+abbrev pub IsWithinSome : ℕ → Option ℕ → Type 0
+IsWithinSome count None = Unit {0}
+IsWithinSome count (Some v) = v < count
+
+abbrev pub IsWithinAll : ℕ → NamedNode → Type 0
+IsWithinAll count (reference.Class v) = v < count
+IsWithinAll count (reference.Array e) = IsWithinSome count e
+
+abbrev pub load_at : List LoadState → ℕ → LoadState
+load_at loads v = slice_index_or loads v (state.Fails error.NoClass 0)
+
+-- how each name loads
+abbrev pub TellsLoads : World → Indexed → ℕ → List LoadState → Type 0
+TellsLoads m x count loads = (i : ℕ) → i < count → Load m (name_at x i) (loading_of x (load_at loads i))
+
+-- what loads is good
+abbrev pub TellsGood : Indexed → List LoadState → Type 0
+TellsGood x loads = (v : ℕ) → load_at loads v ≡ state.Loaded → good_at x v ≡ true
+
+abbrev pub ended_of : Indexed → Start → Answer
+ended_of x (start.At c) = answer.NotLoaded
+ended_of x (start.Ends a) = a
+
+-- the answer, where `missing` is the error if nothing is there
+abbrev pub outcome_of : Indexed → Named → LinkageError → Outcome → Answer
+outcome_of x t missing (outcome.Ends b) = ended_of x (begun_of x b)
+outcome_of x t missing (outcome.Settled s) = answer_of x t missing s
+outcome_of x t missing outcome.NoInterface = answer.Wrong error.Incompatible (text_of t)
+
+abbrev pub target_at : NamedNode → Target
+target_at (reference.Class v) = target.Class v
+target_at (reference.Array e) = target.Array

@@ -1,0 +1,227 @@
+//! The classes of a reach, by numbers.
+
+ghost use Rattle.std.specs.Prelude.{◌≡◌, ◌<◌, ◌++◌, length, OnOk, option_map, reverse};
+ghost use Rattle.std.specs.List.{All};
+ghost use Rattle.jc_classes.specs.Lent.{key_lent, member_lent, stands_of};
+ghost use Rattle.jc_classes.specs.MethodLookup.{declared, of_object};
+ghost use Rattle.jc_classes.specs.Names.{object as java_lang_object};
+ghost use Rattle.jc_classes.specs.Worlds.{member, fields_of, methods_of, flags_of};
+ghost use Rattle.jc_graph.specs.Graph.{ups_of};
+ghost use Rattle.jc_graph.specs.Seen.{IsSeen, TellsAbove};
+ghost use Rattle.jc_resolve.specs.inside.Indexed.{filled, name_at, record_at, super_at, supers_before, onward_row, IsGraph};
+ghost use Rattle.jc_resolve.specs.inside.Access.{TellsPackages};
+ghost use Rattle.jc_resolve.specs.inside.Picks.{gives};
+ghost use Rattle.jc_resolve.specs.inside.Settled.{lies_outside};
+
+use jc_base::NoMemory;
+use jc_classes::{Key, Member, Standing};
+use jc_file::AccessFlag;
+use jc_graph::{Seen, mark_above};
+
+/// Classes by their numbers, each with the numbers of its supertypes: the superclass, if it has one,
+/// then its interfaces.
+#[derive(Drop)]
+pub(crate) struct Classes<'c, 't> {
+    pub(crate) names: &'c [Vec<u8>],
+    pub(crate) standing: &'c [Standing<'t>],
+    pub(crate) ups: &'c [Vec<usize>],
+    /// The number of the package of each.
+    pub(crate) packages: Vec<usize>,
+    /// The number of `java/lang/Object`.
+    pub(crate) object: usize,
+    /// Its place in an order of loading.
+    pub(crate) rank: Vec<usize>,
+    /// Whether it loads or is outside.
+    pub(crate) good: Vec<bool>,
+    ghost names_size: { length names.now ≡ length standing.now },
+    ghost rows_size: { length ups.now ≡ length standing.now },
+    ghost packages_size: { length packages.items ≡ length standing.now },
+    ghost numbered: { TellsPackages (filled names.now standing.now ups.now rank.items good.items) (length standing.now) packages.items },
+    ghost object_within: { object < length standing.now },
+    ghost object_name: { name_at (filled names.now standing.now ups.now rank.items good.items) object ≡ java_lang_object },
+    ghost graph: { IsGraph (length standing.now) (filled names.now standing.now ups.now rank.items good.items) },
+}
+
+/// A member that was found, and the class that declares it.
+#[derive(Clone, Copy)]
+pub(crate) struct Hit<'a> {
+    pub(crate) node: usize,
+    pub(crate) member: Member<'a>,
+}
+
+/// Adds nodes, the last first.
+fn push_back(stack: &mut Vec<usize>, nodes: &[usize]) -> Result<(), NoMemory>
+    ensures { OnOk result (stack.new.items ≡ stack.old.items ++ reverse nodes.now) }
+{
+    for node in nodes.iter().rev() {
+        stack.push(*node)?;
+    }
+    Ok(())
+}
+
+impl<'c, 't> Classes<'c, 't> {
+    ghost use Rattle.jc_resolve.specs.inside.Shown.{indexed_of};
+
+    /// How many nodes there are.
+    pub(crate) fn len(&self) -> usize
+        ensures { result ≡ length self.now.standing.now }
+    {
+        self.standing.len()
+    }
+
+    /// The name of a node.
+    pub(crate) fn name(&self, node: usize) -> &[u8]
+        ensures { result.now ≡ name_at (indexed_of self.now) node }
+    {
+        match self.names.get(node) {
+            Some(name) => name.as_slice(),
+            None => &[],
+        }
+    }
+
+    /// What stands at a node.
+    pub(crate) fn at(&self, node: usize) -> Standing<'t>
+        requires { node < length self.now.standing.now }
+        ensures { stands_of result ≡ record_at (indexed_of self.now) node }
+    {
+        self.standing[node]
+    }
+
+    /// Whether a node is outside.
+    pub(crate) fn is_outside(&self, node: usize) -> bool
+        requires { node < length self.now.standing.now }
+        ensures { result ≡ lies_outside (indexed_of self.now) node }
+    {
+        match self.at(node) {
+            Standing::Outside => true,
+            _ => false,
+        }
+    }
+
+    /// A node's access flags.
+    pub(crate) fn flags(&self, node: usize) -> u16
+        requires { node < length self.now.standing.now }
+        ensures { result ≡ flags_of (record_at (indexed_of self.now) node) }
+    {
+        match self.at(node) {
+            Standing::Class(facts) => facts.flags(),
+            _ => 0,
+        }
+    }
+
+    /// A node's own field.
+    pub(crate) fn field(&self, node: usize, key: Key) -> Option<Member<'_>>
+        requires { node < length self.now.standing.now }
+        ensures { option_map member_lent result ≡ member (fields_of (record_at (indexed_of self.now) node)) (key_lent key.entry) }
+    {
+        match self.at(node) {
+            Standing::Class(facts) => facts.field(key),
+            _ => None,
+        }
+    }
+
+    /// The method that a node itself answers.
+    pub(crate) fn declared(&self, node: usize, key: Key) -> Option<Member<'_>>
+        requires { node < length self.now.standing.now }
+        ensures { option_map member_lent result ≡ declared (name_at (indexed_of self.now) node) (record_at (indexed_of self.now) node) (key_lent key.entry) }
+    {
+        match self.at(node) {
+            Standing::Class(facts) => facts.declared(self.names[node].as_slice(), key),
+            _ => None,
+        }
+    }
+
+    /// A node's own method.
+    pub(crate) fn method(&self, node: usize, key: Key) -> Option<Member<'_>>
+        requires { node < length self.now.standing.now }
+        ensures { option_map member_lent result ≡ member (methods_of (record_at (indexed_of self.now) node)) (key_lent key.entry) }
+    {
+        match self.at(node) {
+            Standing::Class(facts) => facts.method(key),
+            _ => None,
+        }
+    }
+
+    /// A node's own public instance method.
+    pub(crate) fn open_method(&self, node: usize, key: Key) -> Option<Member<'_>>
+        requires { node < length self.now.standing.now }
+        ensures { option_map member_lent result ≡ of_object (record_at (indexed_of self.now) node) (key_lent key.entry) }
+    {
+        match self.method(node, key) {
+            Some(member) => {
+                if member.has(AccessFlag::Public) && !member.has(AccessFlag::Static) {
+                    Some(member)
+                } else {
+                    None
+                }
+            }
+            None => None,
+        }
+    }
+
+    /// A node's superclass.
+    pub(crate) fn superclass(&self, node: usize) -> Option<usize>
+        requires { node < length self.now.standing.now }
+        ensures { result ≡ super_at (indexed_of self.now) node }
+    {
+        if self.supers_before(node) == 1 {
+            Some(self.ups[node][0])
+        } else {
+            None
+        }
+    }
+
+    /// The method that a node gives to what is below it, if it is an interface.
+    pub(crate) fn given(&self, node: usize, key: Key) -> Option<Member<'_>>
+        requires { node < length self.now.standing.now }
+        ensures { option_map member_lent result ≡ gives (indexed_of self.now) (key_lent key.entry) node }
+    {
+        match self.at(node) {
+            Standing::Class(facts) => facts.given(key),
+            _ => None,
+        }
+    }
+
+    /// Sees what is above some nodes, each node once.
+    pub(crate) fn see_above(&self, seen: &mut Seen, starts: &[usize]) -> Result<(), NoMemory>
+        requires starts { All (λ v. v < length self.now.standing.now) starts.now }
+        requires seen { IsSeen seen.old.flags.items seen.old.list.items }
+        requires flags { length seen.old.flags.items ≡ length self.now.standing.now }
+        ensures { OnOk result (TellsAbove (length self.now.standing.now) (ups_of self.now.ups.now) starts.now seen.new.flags.items seen.new.list.items) }
+    {
+        mark_above(self.ups, seen, starts)
+    }
+
+    /// The supertypes of a node.
+    pub(crate) fn row(&self, node: usize) -> &[usize]
+        requires { node < length self.now.ups.now }
+        ensures { result.now ≡ ups_of self.now.ups.now node }
+    {
+        self.ups[node].as_slice()
+    }
+
+    /// How many supertypes stand before the interfaces.
+    fn supers_before(&self, node: usize) -> usize
+        requires { node < length self.now.standing.now }
+        ensures { result ≡ supers_before (record_at (indexed_of self.now) node) }
+    {
+        match self.at(node) {
+            Standing::Class(facts) => match facts.superclass() {
+                Some(_) => 1,
+                None => 0,
+            },
+            _ => 0,
+        }
+    }
+
+    /// Adds the nodes where look-up of a field goes on, the first last.
+    pub(crate) fn push_onward(&self, node: usize, stack: &mut Vec<usize>) -> Result<(), NoMemory>
+        requires { node < length self.now.standing.now }
+        ensures { OnOk result (reverse stack.new.items ≡ onward_row (indexed_of self.now) node ++ reverse stack.old.items) }
+    {
+        let (supers, interfaces) = self.ups[node].as_slice().split_at(self.supers_before(node));
+        push_back(stack, supers)?;
+        push_back(stack, interfaces)?;
+        Ok(())
+    }
+}

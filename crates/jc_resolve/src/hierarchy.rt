@@ -1,0 +1,130 @@
+//! Classes by numbers, of which it is known how each loads (JVMS 5.3.5), and the answers to their references
+//! (JVMS 5.4.3).
+
+ghost use Rattle.std.specs.Prelude.{◌≡◌, ◌<◌, ℕ, length, map, Some, option_map, IfOk};
+ghost use Rattle.std.specs.Bool.{Decides};
+ghost use Rattle.std.specs.List.{Contains};
+ghost use Rattle.jc_classes.specs.Facts.{Reference};
+ghost use Rattle.jc_classes.specs.Loading.{Load as Loads, Loading as How};
+ghost use Rattle.jc_classes.specs.Names.{names_of, object as java_lang_object};
+ghost use Rattle.jc_classes.specs.Numbers.{name_at};
+ghost use Rattle.jc_classes.specs.Parts.{AreAnswers, class_of};
+ghost use Rattle.jc_classes.specs.Worlds.{World, Above, references_of};
+ghost use Rattle.jc_resolve.specs.Answers.{answer_of, loading_of};
+ghost use Rattle.jc_resolve.specs.inside.Shown.{indexed_of};
+ghost use Rattle.jc_resolve.specs.Numbered.{Agrees, IsClosed, numbered, record_of};
+ghost use Rattle.jc_resolve.specs.inside.Resolved.{loading_of as loading_at};
+
+use crate::all_answers::answers;
+use crate::answers::Answer;
+use crate::classes::Classes;
+use crate::loaded::{Loaded, load_classes};
+use crate::loads::Load;
+use jc_base::NoMemory;
+use jc_classes::{LinkageError, Standing};
+use std::alloc::Global;
+use std::marker::Model;
+
+/// How a class loads.
+#[derive(Drop)]
+pub enum Loading {
+    Loaded,
+    Outside,
+    /// It fails, for what is known of the class of this name.
+    Fails(LinkageError, Vec<u8>),
+}
+
+/// The classes of a reach by numbers, with how each of them loads.
+#[derive(Drop)]
+pub struct Hierarchy<'c, 't> {
+    classes: Classes<'c, 't>,
+    loads: Vec<Load>,
+    circular: Vec<bool>,
+}
+
+impl<'c, 't> Model for Hierarchy<'c, 't> {
+    ghost use Rattle.std.specs.Prelude.{length};
+    ghost use Rattle.jc_resolve.specs.inside.Shown.{indexed_of};
+    ghost use Rattle.jc_resolve.specs.Numbered.{Numbered, numbered};
+    ghost use Rattle.jc_resolve.specs.inside.Loaded.{IsLoaded};
+
+    ghost Value = { Numbered };
+
+    ghost view = { λ a. numbered a.classes.names.now a.classes.standing.now a.classes.ups.now };
+
+    ghost invariant = { λ a. IsLoaded (length a.classes.standing.now) (indexed_of a.classes) a.loads.items a.circular.items };
+}
+
+/// How a class loads, by name.
+fn name_loading(alloc: Global, classes: &Classes, load: Load) -> Result<Loading, NoMemory>
+    ensures { IfOk result (λ s. loading_of s ≡ loading_at (indexed_of classes.now) load) }
+{
+    match load {
+        Load::Loaded => Ok(Loading::Loaded),
+        Load::Outside => Ok(Loading::Outside),
+        Load::Fails(error, node) => {
+            let name = Vec::from_slice(alloc, classes.name(node))?;
+            Ok(Loading::Fails(error, name))
+        }
+    }
+}
+
+impl<'c, 't> Hierarchy<'c, 't> {
+    /// Finds how each class loads. `object` is the number of `java/lang/Object`.
+    pub fn new(
+        alloc: Global,
+        names: &'c [Vec<u8>],
+        standing: &'c [Standing<'t>],
+        ups: &'c [Vec<usize>],
+        object: usize,
+    ) -> Result<Hierarchy<'c, 't>, NoMemory>
+        requires closed { IsClosed (numbered names.now standing.now ups.now) }
+        requires object { object < length names.now }
+        requires object_name { name_at (names_of names.now) object ≡ java_lang_object }
+        ensures { IfOk result (λ h. h ≡ numbered names.now standing.now ups.now) }
+    {
+        let Loaded {
+            classes,
+            loads,
+            circular,
+        } = load_classes(alloc, names, standing, ups, object)?;
+        Ok(Hierarchy {
+            classes,
+            loads,
+            circular,
+        })
+    }
+
+    /// Whether a class is its own superclass or superinterface.
+    pub fn is_circular(&self, class: usize) -> bool
+        requires { class < length self.now.names }
+        ensures { (m : World) → Agrees m self.now → Decides result (Above m (name_at self.now.names class) (name_at self.now.names class)) }
+    {
+        self.circular[class]
+    }
+
+    /// How a class loads.
+    pub fn loading(&self, alloc: Global, class: usize) -> Result<Loading, NoMemory>
+        requires { class < length self.now.names }
+        ensures { IfOk result (λ l. (m : World) → Agrees m self.now → Loads m (name_at self.now.names class) (loading_of l)) }
+    {
+        name_loading(alloc, &self.classes, self.loads[class])
+    }
+
+    /// The answers to the references of a class, in their order. `nodes` are the numbers of the classes that
+    /// they name.
+    pub fn answers(
+        &self,
+        alloc: Global,
+        class: usize,
+        nodes: &[Option<usize>],
+    ) -> Result<Vec<Answer>, NoMemory>
+        requires class { class < length self.now.names }
+        requires nodes { map (option_map (name_at self.now.names)) nodes.now ≡ map (λ (r : Reference). class_of r.named) (references_of (record_of self.now class)) }
+        requires within { (v : ℕ) → Contains nodes.now (Some v) → v < length self.now.names }
+        ensures { IfOk result (λ list. (m : World) (how : How) → Agrees m self.now → Loads m (name_at self.now.names class) how
+            → AreAnswers m (name_at self.now.names class) how (references_of (record_of self.now class)) (map answer_of list.items)) }
+    {
+        answers(alloc, &self.classes, self.loads.as_slice(), class, nodes)
+    }
+}

@@ -1,0 +1,21 @@
+//! Loading and resolution (JVMS 5.3.5, 5.4.3, 5.4.4) over the classes of a reach, by their numbers: how each
+//! class loads, and the answer to each reference of a class.
+#![tactic(auto)]
+
+mod access;
+mod all_answers;
+mod answers;
+mod classes;
+mod fields;
+mod hierarchy;
+mod loaded;
+mod loads;
+mod methods;
+mod packages;
+mod picks;
+mod references;
+mod resolve;
+mod settle;
+
+pub use answers::Answer;
+pub use hierarchy::{Hierarchy, Loading};

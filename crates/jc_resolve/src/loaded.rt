@@ -1,0 +1,80 @@
+//! From classes that are gathered to classes of which it is known how they load.
+
+ghost use Rattle.std.specs.Prelude.{◌≡◌, ◌<◌, ℕ, length, false, IfOk};
+ghost use Rattle.jc_graph.specs.Seen.{flag_at};
+ghost use Rattle.jc_resolve.specs.inside.Shown.{indexed_of};
+ghost use Rattle.jc_classes.specs.Names.{object as java_lang_object};
+ghost use Rattle.jc_resolve.specs.inside.Indexed.{name_at};
+ghost use Rattle.jc_resolve.specs.inside.Net.{IsNet, bare};
+ghost use Rattle.jc_resolve.specs.inside.Loaded.{IsLoaded};
+
+use crate::classes::Classes;
+use crate::loads::{Load, good_all, load_all, rank_all};
+use crate::packages::package_all;
+use jc_base::NoMemory;
+use jc_classes::Standing;
+use jc_graph::sort_nodes;
+use std::alloc::Global;
+
+/// Classes with how each loads, and whether it is circular.
+#[derive(Drop)]
+pub(crate) struct Loaded<'c, 't> {
+    pub(crate) classes: Classes<'c, 't>,
+    pub(crate) loads: Vec<Load>,
+    pub(crate) circular: Vec<bool>,
+}
+
+/// Flags of which none is set.
+fn unset(alloc: Global, count: usize) -> Result<Vec<bool>, NoMemory>
+    ensures size { IfOk result (λ r. length r.items ≡ count) }
+    ensures none { IfOk result (λ r. (v : ℕ) → flag_at r.items v ≡ false) }
+{
+    Ok(vec![in alloc; false; count]?)
+}
+
+/// Finds how each class loads.
+pub(crate) fn load_classes<'c, 't>(
+    alloc: Global,
+    names: &'c [Vec<u8>],
+    standing: &'c [Standing<'t>],
+    ups: &'c [Vec<usize>],
+    object: usize,
+) -> Result<Loaded<'c, 't>, NoMemory>
+    requires net { IsNet (length standing.now) (bare names.now standing.now ups.now) }
+    requires size { length ups.now ≡ length standing.now }
+    requires object { object < length standing.now }
+    requires object_name { name_at (bare names.now standing.now ups.now) object ≡ java_lang_object }
+    ensures names { IfOk result (λ c. c.classes.names.now ≡ names.now) }
+    ensures standing { IfOk result (λ c. c.classes.standing.now ≡ standing.now) }
+    ensures ups { IfOk result (λ c. c.classes.ups.now ≡ ups.now) }
+    ensures loaded { IfOk result (λ c. IsLoaded (length standing.now) (indexed_of c.classes) c.loads.items c.circular.items) }
+{
+    let unloaded = Classes {
+        names,
+        standing,
+        ups,
+        packages: package_all(alloc, names)?,
+        object,
+        rank: Vec::new(alloc),
+        good: unset(alloc, standing.len())?,
+    };
+    let sorted = sort_nodes(alloc, ups)?;
+    let loads = load_all(alloc, &unloaded, &sorted)?;
+    let rank = rank_all(alloc, sorted.order.as_slice(), standing.len())?;
+    let good = good_all(alloc, loads.as_slice())?;
+    let Classes { packages, .. } = unloaded;
+    let classes = Classes {
+        names,
+        standing,
+        ups,
+        packages,
+        object,
+        rank,
+        good,
+    };
+    Ok(Loaded {
+        classes,
+        loads,
+        circular: sorted.circular,
+    })
+}

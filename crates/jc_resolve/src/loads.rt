@@ -1,0 +1,181 @@
+//! How each node loads.
+
+ghost use Rattle.std.specs.Prelude.{◌≡◌, ◌<◌, length, map, IfOk};
+ghost use Rattle.std.specs.List.{All};
+ghost use Rattle.jc_classes.specs.Worlds.{World, is_interface};
+ghost use Rattle.jc_classes.specs.Loading.{can_see, same_bool};
+ghost use Rattle.jc_graph.specs.Graph.{TellsCircular, IsOrder};
+ghost use Rattle.jc_resolve.specs.inside.Indexed.{name_at, record_at, IsIndexed};
+ghost use Rattle.jc_resolve.specs.inside.Shown.{indexed_of};
+ghost use Rattle.jc_graph.specs.Graph.{ups_of};
+ghost use Rattle.jc_resolve.specs.inside.Resolved.{load_at, TellsLoads};
+ghost use Rattle.jc_resolve.specs.inside.Loading.{sees, judged, judged_each, load_of, is_good, has_super, TellsRank};
+
+use crate::classes::Classes;
+use jc_base::NoMemory;
+use jc_classes::{LinkageError, Standing};
+use jc_file::AccessFlag;
+use jc_graph::Sorted;
+use std::alloc::Global;
+
+/// How a class loads.
+#[derive(Clone, Copy)]
+pub(crate) enum Load {
+    Loaded,
+    Outside,
+    Fails(LinkageError, usize),
+}
+
+/// Whether a node may use another.
+pub(crate) fn can_see(classes: &Classes, node: usize, other: usize) -> bool
+    requires node { node < length classes.now.standing.now }
+    requires other { other < length classes.now.standing.now }
+    ensures sees { result ≡ sees (indexed_of classes.now) classes.now.packages.items node other }
+    ensures named { result ≡ can_see (name_at (indexed_of classes.now) node) (name_at (indexed_of classes.now) other) (record_at (indexed_of classes.now) other) }
+{
+    AccessFlag::Public.is_in(classes.flags(other))
+        || classes.packages[node] == classes.packages[other]
+}
+
+/// Whether a supertype is an interface just where a class is wanted, or a class where an interface is.
+fn is_wrong(classes: &Classes, other: usize, is_class: bool) -> bool
+    requires { other < length classes.now.standing.now }
+    ensures { result ≡ same_bool (is_interface (record_at (indexed_of classes.now) other)) is_class }
+{
+    AccessFlag::Interface.is_in(classes.flags(other)) == is_class
+}
+
+/// The error that a supertype makes, if it makes one.
+fn judge(
+    classes: &Classes,
+    loads: &[Load],
+    node: usize,
+    is_class: bool,
+    other: usize,
+) -> Option<Load>
+    requires node { node < length classes.now.standing.now }
+    requires other { other < length classes.now.standing.now }
+    requires loads { length loads.now ≡ length classes.now.standing.now }
+    ensures { result ≡ judged (load_at loads.now other) (sees (indexed_of classes.now) classes.now.packages.items node other) (same_bool (is_interface (record_at (indexed_of classes.now) other)) is_class) other }
+{
+    match loads[other] {
+        Load::Outside => None,
+        Load::Loaded => {
+            if !can_see(classes, node, other) {
+                Some(Load::Fails(LinkageError::IllegalAccess, other))
+            } else if is_wrong(classes, other, is_class) {
+                Some(Load::Fails(LinkageError::Incompatible, other))
+            } else {
+                None
+            }
+        }
+        Load::Fails(fault, about) => Some(Load::Fails(fault, about)),
+    }
+}
+
+/// The first error that a supertype makes, in order.
+fn judge_each(
+    classes: &Classes,
+    loads: &[Load],
+    node: usize,
+    has_super: bool,
+    supers: &[usize],
+) -> Load
+    requires node { node < length classes.now.standing.now }
+    requires supers { All (λ s. s < length classes.now.standing.now) supers.now }
+    requires loads { length loads.now ≡ length classes.now.standing.now }
+    ensures { result ≡ judged_each (indexed_of classes.now) classes.now.packages.items loads.now node has_super supers.now }
+{
+    let mut is_class = has_super;
+    for other in supers {
+        if let Some(error) = judge(classes, loads, node, is_class, *other) {
+            return error;
+        }
+        is_class = false;
+    }
+    Load::Loaded
+}
+
+/// How a node loads, where it is known how its supertypes do.
+fn load_one(classes: &Classes, circular: &[bool], loads: &[Load], node: usize) -> Load
+    requires node { node < length classes.now.standing.now }
+    requires circular { length circular.now ≡ length classes.now.standing.now }
+    requires loads { length loads.now ≡ length classes.now.standing.now }
+    ensures { result ≡ load_of (indexed_of classes.now) classes.now.packages.items circular.now loads.now node }
+{
+    match classes.at(node) {
+        Standing::Nothing => Load::Fails(LinkageError::NoClass, node),
+        Standing::Outside => Load::Outside,
+        Standing::Class(facts) => {
+            if facts.is_faulty() {
+                Load::Fails(LinkageError::Format, node)
+            } else if circular[node] {
+                Load::Fails(LinkageError::Circular, node)
+            } else {
+                judge_each(
+                    classes,
+                    loads,
+                    node,
+                    facts.superclass().is_some(),
+                    classes.row(node),
+                )
+            }
+        }
+    }
+}
+
+/// How each node loads.
+pub(crate) fn load_all(
+    alloc: Global,
+    classes: &Classes,
+    sorted: &Sorted,
+) -> Result<Vec<Load>, NoMemory>
+    requires circular { TellsCircular (ups_of classes.now.ups.now) (length classes.now.standing.now) sorted.now.circular.items }
+    requires order { IsOrder (ups_of classes.now.ups.now) (length classes.now.standing.now) sorted.now.circular.items sorted.now.order.items }
+    ensures size { IfOk result (λ v. length v.items ≡ length classes.now.standing.now) }
+    ensures loads { IfOk result (λ v. (m : World) → IsIndexed m (indexed_of classes.now)
+        → TellsLoads m (indexed_of classes.now) (length classes.now.standing.now) v.items) }
+{
+    let mut loads = vec![in alloc; Load::Loaded; classes.len()]?;
+    for at in 0..sorted.order.len() {
+        let node = sorted.order[at];
+        let load = load_one(classes, sorted.circular.as_slice(), loads.as_slice(), node);
+        loads[node] = load;
+    }
+    Ok(loads)
+}
+
+/// The first place of each node in an order.
+pub(crate) fn rank_all(alloc: Global, order: &[usize], count: usize) -> Result<Vec<usize>, NoMemory>
+    requires { All (λ v. v < count) order.now }
+    ensures { IfOk result (λ r. TellsRank count order.now r.items) }
+{
+    let mut ranks = vec![in alloc; 0usize; count]?;
+    let mut at = order.len();
+    while at > 0 {
+        at -= 1;
+        ranks[order[at]] = at;
+    }
+    Ok(ranks)
+}
+
+/// Whether it is no error.
+fn is_good(load: Load) -> bool
+    ensures { result ≡ is_good load }
+{
+    match load {
+        Load::Fails(_, _) => false,
+        _ => true,
+    }
+}
+
+/// Which nodes load or are outside.
+pub(crate) fn good_all(alloc: Global, loads: &[Load]) -> Result<Vec<bool>, NoMemory>
+    ensures { IfOk result (λ r. r.items ≡ map is_good loads.now) }
+{
+    let mut good = Vec::new(alloc);
+    for load in loads {
+        good.push(is_good(*load))?;
+    }
+    Ok(good)
+}

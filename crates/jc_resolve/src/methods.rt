@@ -1,0 +1,119 @@
+//! Look-up of methods.
+
+ghost use Rattle.std.specs.Prelude.{◌≡◌, ◌<◌, length, true, IfOk, OnOk, option_map};
+ghost use Rattle.std.specs.Option.{IfSome};
+ghost use Rattle.std.specs.Bool.{Decides};
+ghost use Rattle.jc_classes.specs.Worlds.{World};
+ghost use Rattle.jc_classes.specs.MethodLookup.{FindsInClasses, FindsMethod, FindsInterfaceMethod};
+ghost use Rattle.jc_graph.specs.Seen.{IsSeen};
+ghost use Rattle.jc_classes.specs.Lent.{key_lent};
+ghost use Rattle.jc_resolve.specs.inside.Indexed.{name_at, good_at, IsIndexed};
+ghost use Rattle.jc_resolve.specs.inside.Shown.{indexed_of};
+ghost use Rattle.jc_resolve.specs.inside.Looking.{found_at};
+ghost use Rattle.jc_resolve.specs.inside.Chain.{ExtendsNode};
+
+use crate::classes::{Classes, Hit};
+use crate::picks::find_above;
+use jc_base::NoMemory;
+use jc_classes::Key;
+use jc_graph::Seen;
+use std::alloc::Global;
+
+/// The method that a class or one of its superclasses answers.
+pub(crate) fn find_in_classes<'a>(classes: &'a Classes, start: usize, key: Key) -> Option<Hit<'a>>
+    requires start { start < length classes.now.standing.now }
+    requires good { good_at (indexed_of classes.now) start ≡ true }
+    ensures within { IfSome result (λ h. h.node < length classes.now.standing.now) }
+    ensures found { (m : World) → IsIndexed m (indexed_of classes.now) → FindsInClasses m (key_lent key.entry) (name_at (indexed_of classes.now) start) (option_map (found_at (indexed_of classes.now)) result) }
+{
+    let mut node = start;
+    loop {
+        if let Some(member) = classes.declared(node, key) {
+            return Some(Hit { node, member });
+        }
+        match classes.superclass(node) {
+            Some(above) => node = above,
+            None => return None,
+        }
+    }
+}
+
+/// Whether a class is another, or has it on its chain of superclasses.
+pub(crate) fn extends(classes: &Classes, start: usize, other: usize) -> bool
+    requires start { start < length classes.now.standing.now }
+    requires good { good_at (indexed_of classes.now) start ≡ true }
+    ensures { Decides result (ExtendsNode (indexed_of classes.now) start other) }
+{
+    let mut node = start;
+    while node != other {
+        match classes.superclass(node) {
+            Some(above) => node = above,
+            None => return false,
+        }
+    }
+    true
+}
+
+/// The method that a reference to a method finds.
+pub(crate) fn find_method<'a>(
+    alloc: Global,
+    classes: &'a Classes,
+    above: &mut Seen,
+    covered: &mut Seen,
+    start: usize,
+    key: Key,
+) -> Result<Option<Hit<'a>>, NoMemory>
+    requires start { start < length classes.now.standing.now }
+    requires good { good_at (indexed_of classes.now) start ≡ true }
+    requires above { IsSeen above.old.flags.items above.old.list.items }
+    requires above_size { length above.old.flags.items ≡ length classes.now.standing.now }
+    requires covered { IsSeen covered.old.flags.items covered.old.list.items }
+    requires covered_size { length covered.old.flags.items ≡ length classes.now.standing.now }
+    ensures above { OnOk result (IsSeen above.new.flags.items above.new.list.items) }
+    ensures above_size { OnOk result (length above.new.flags.items ≡ length classes.now.standing.now) }
+    ensures covered { OnOk result (IsSeen covered.new.flags.items covered.new.list.items) }
+    ensures covered_size { OnOk result (length covered.new.flags.items ≡ length classes.now.standing.now) }
+    ensures within { IfOk result (λ r. IfSome r (λ h. h.node < length classes.now.standing.now)) }
+    ensures found { IfOk result (λ r. (m : World) → IsIndexed m (indexed_of classes.now) → FindsMethod m (key_lent key.entry) (name_at (indexed_of classes.now) start) (option_map (found_at (indexed_of classes.now)) r)) }
+{
+    match find_in_classes(classes, start, key) {
+        Some(hit) => Ok(Some(hit)),
+        None => find_above(alloc, classes, above, covered, start, key),
+    }
+}
+
+/// The method that a reference to an interface method finds.
+pub(crate) fn find_interface_method<'a>(
+    alloc: Global,
+    classes: &'a Classes,
+    above: &mut Seen,
+    covered: &mut Seen,
+    start: usize,
+    key: Key,
+) -> Result<Option<Hit<'a>>, NoMemory>
+    requires start { start < length classes.now.standing.now }
+    requires above { IsSeen above.old.flags.items above.old.list.items }
+    requires above_size { length above.old.flags.items ≡ length classes.now.standing.now }
+    requires covered { IsSeen covered.old.flags.items covered.old.list.items }
+    requires covered_size { length covered.old.flags.items ≡ length classes.now.standing.now }
+    ensures above { OnOk result (IsSeen above.new.flags.items above.new.list.items) }
+    ensures above_size { OnOk result (length above.new.flags.items ≡ length classes.now.standing.now) }
+    ensures covered { OnOk result (IsSeen covered.new.flags.items covered.new.list.items) }
+    ensures covered_size { OnOk result (length covered.new.flags.items ≡ length classes.now.standing.now) }
+    ensures within { IfOk result (λ r. IfSome r (λ h. h.node < length classes.now.standing.now)) }
+    ensures found { IfOk result (λ r. (m : World) → IsIndexed m (indexed_of classes.now) → FindsInterfaceMethod m (key_lent key.entry) (name_at (indexed_of classes.now) start) (option_map (found_at (indexed_of classes.now)) r)) }
+{
+    if let Some(member) = classes.method(start, key) {
+        return Ok(Some(Hit {
+            node: start,
+            member,
+        }));
+    }
+    if let Some(member) = classes.open_method(classes.object, key) {
+        return Ok(Some(Hit {
+            node: classes.object,
+            member,
+        }));
+    }
+    find_above(alloc, classes, above, covered, start, key)
+}

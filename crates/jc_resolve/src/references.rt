@@ -1,0 +1,88 @@
+//! The answer of a reference of any kind.
+
+ghost use Rattle.std.specs.Prelude.{◌≡◌, ◌<◌, ℕ, length, true, IfOk, OnOk, option_map};
+ghost use Rattle.jc_classes.specs.Worlds.{World};
+ghost use Rattle.jc_classes.specs.Parts.{ResolvesOf, class_of};
+ghost use Rattle.jc_graph.specs.Seen.{IsSeen};
+ghost use Rattle.jc_resolve.specs.inside.Indexed.{Indexed, name_at, good_at, IsIndexed};
+ghost use Rattle.jc_resolve.specs.inside.Shown.{indexed_of};
+ghost use Rattle.jc_resolve.specs.inside.Resolved.{named_of, IsWithinAll, IsWithinSome, TellsLoads, TellsGood};
+ghost use Rattle.jc_classes.specs.NamedTexts.{named_by};
+ghost use Rattle.jc_classes.specs.Lent.{reference_lent};
+ghost use Rattle.jc_resolve.specs.Answers.{answer_of};
+
+use crate::answers::{Answer, outcome_answer, resolve_class};
+use crate::classes::Classes;
+use crate::loads::Load;
+use crate::resolve::{NamedNode, resolve_field, resolve_interface_method, resolve_method};
+use jc_base::NoMemory;
+use jc_classes::{LinkageError, Reference, ReferenceKind};
+use jc_graph::Seen;
+use std::alloc::Global;
+
+/// What a reference names, by the node of its class.
+fn named(reference: Reference, node: Option<usize>) -> NamedNode
+    ensures named { (x : Indexed) → class_of (named_by reference.entry.class.now) ≡ option_map (name_at x) node → named_of x result reference.entry.class.now ≡ named_by reference.entry.class.now }
+    ensures within { (x : Indexed) (count : ℕ) → class_of (named_by reference.entry.class.now) ≡ option_map (name_at x) node → IsWithinSome count node → IsWithinAll count result }
+{
+    if reference.is_array() {
+        return NamedNode::Array(node);
+    }
+    match node {
+        Some(node) => NamedNode::Class(node),
+        None => NamedNode::Array(None),
+    }
+}
+
+/// The answer of a reference. `node` is the node of the class that it names.
+pub(crate) fn resolve(
+    alloc: Global,
+    classes: &Classes,
+    loads: &[Load],
+    above: &mut Seen,
+    covered: &mut Seen,
+    class: usize,
+    reference: Reference,
+    node: Option<usize>,
+) -> Result<Answer, NoMemory>
+    requires node { class_of (named_by reference.class.now) ≡ option_map (name_at (indexed_of classes.now)) node }
+    requires within { IsWithinSome (length classes.now.standing.now) node }
+    requires class { class < length classes.now.standing.now }
+    requires class_good { good_at (indexed_of classes.now) class ≡ true }
+    requires loads { length loads.now ≡ length classes.now.standing.now }
+    requires good { TellsGood (indexed_of classes.now) loads.now }
+    requires above { IsSeen above.old.flags.items above.old.list.items }
+    requires above_size { length above.old.flags.items ≡ length classes.now.standing.now }
+    requires covered { IsSeen covered.old.flags.items covered.old.list.items }
+    requires covered_size { length covered.old.flags.items ≡ length classes.now.standing.now }
+    ensures above { OnOk result (IsSeen above.new.flags.items above.new.list.items) }
+    ensures above_size { OnOk result (length above.new.flags.items ≡ length classes.now.standing.now) }
+    ensures covered { OnOk result (IsSeen covered.new.flags.items covered.new.list.items) }
+    ensures covered_size { OnOk result (length covered.new.flags.items ≡ length classes.now.standing.now) }
+    ensures found { IfOk result (λ a. (m : World) → TellsLoads m (indexed_of classes.now) (length classes.now.standing.now) loads.now
+        → IsIndexed m (indexed_of classes.now)
+        → ResolvesOf m (name_at (indexed_of classes.now) class) reference.entry.kind (reference_lent reference.entry) (answer_of a)) }
+{
+    let text = reference.class;
+    let named = named(reference, node);
+    match reference.kind {
+        ReferenceKind::Class => resolve_class(alloc, classes, loads, class, named, text),
+        ReferenceKind::Field => {
+            let key = reference.key;
+            let outcome = resolve_field(alloc, classes, loads, above, class, named, key)?;
+            outcome_answer(alloc, classes, text, LinkageError::NoField, outcome)
+        }
+        ReferenceKind::Method => {
+            let key = reference.key;
+            let outcome = resolve_method(alloc, classes, loads, above, covered, class, named, key)?;
+            outcome_answer(alloc, classes, text, LinkageError::NoMethod, outcome)
+        }
+        ReferenceKind::InterfaceMethod => {
+            let key = reference.key;
+            let outcome = resolve_interface_method(
+                alloc, classes, loads, above, covered, class, named, key,
+            )?;
+            outcome_answer(alloc, classes, text, LinkageError::NoMethod, outcome)
+        }
+    }
+}
