@@ -1,0 +1,5 @@
+pub mod closures
+pub mod parted
+pub mod prefixes
+pub mod reaches
+pub mod tables

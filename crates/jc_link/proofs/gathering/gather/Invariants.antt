@@ -1,0 +1,19 @@
+use Rattle.std.proofs.Common.{◌≡◌, ◌<◌, length}
+use Rattle.jc_classes.specs.Names.{object}
+use Rattle.jc_classes.specs.Numbers.{name_at}
+use Rattle.jc_link.specs.Meters.{counted}
+use Rattle.jc_link.specs.Tables.{world}
+use Rattle.jc_link.specs.inside.Gathering.{Gathering, stands_in, rows_in}
+use Rattle.jc_link.proofs.reaches.Weights.{left}
+use Rattle.jc_link.proofs.gathering.gather.Given as goal
+
+abbrev pub invariant-loop-numbers : goal.invariant-loop-numbers
+invariant-loop-numbers l = record {
+  gathering : Gathering (world l.table l.outside) l.name l.numbers (stands_in l.standing.items) (rows_in l.supertypes.items) l.references.items;
+  object : (l.object < length l.numbers) × (name_at l.numbers l.object ≡ object);
+  asks : l.meter.asks ≡ counted l.fn.meter.asks (length l.standing.items);
+  made : l.meter.made ≡ l.fn.meter.made;
+}
+
+abbrev pub decreases-loop-numbers : goal.decreases-loop-numbers
+decreases-loop-numbers l = left l.table l.numbers (length l.standing.items)

@@ -1,0 +1,214 @@
+-- The loop that gathers a reach.
+use Rattle.std.proofs.Common.{◌≡◌, ℕ, ◌+◌, ◌<◌, ◌≤◌, List, [], ◌∷◌, ◌++◌, map, length, option_map, Option, Some, None, refl, sym, ap, subst, ◌∙◌, arith, ◌⊎◌, inl, inr, ⊎_elim, zero, append_assoc, length-append}
+use Rattle.std.proofs.lemmas.List.{map-append, get_or_push, get_or_append_left, get_or_past, get_or_default}
+use Rattle.std.proofs.lemmas.List.Elements.{Contains-append_right, Contains-append_cases, Contains-get_or}
+use Rattle.std.specs.List.{Contains, All}
+use Rattle.std.specs.Option.{option_to_list}
+use Rattle.jc_classes.specs.Facts.{Reference}
+use Rattle.jc_classes.specs.Names.{Name, object}
+use Rattle.jc_classes.specs.Worlds.{Stands, World, supers_of, references_of}
+use Rattle.jc_classes.specs.Worlds.Stands.{Nothing}
+use Rattle.jc_classes.specs.Parts.{Reach, class_of, class_in, names_in}
+use Rattle.jc_classes.specs.Parts.Reach.{itself, always, reference, upward}
+use Rattle.jc_classes.specs.Numbers.{name_at, IsOnce, Grows, Rows}
+use Rattle.jc_link.specs.inside.Gathering.{stand_at, row_at, Nodes, Gathering}
+use Rattle.jc_link.specs.Meters.{counted}
+use Rattle.jc_classes.proofs.numbering.NumberLemmas.{grows_same, grows_more, row_same}
+
+-- ---- references
+
+names_in-append : (xs ys : List Reference) → names_in (xs ++ ys) ≡ names_in xs ++ names_in ys
+names_in-append [] ys = refl
+names_in-append (x ∷ xs) ys = ap (λ z. class_in x.named ++ z) (names_in-append xs ys) ∙ sym (append_assoc (class_in x.named) (names_in xs) (names_in ys))
+
+pub nodes_same : (a b : List Name) (nodes : List (Option ℕ)) → ((i : ℕ) → i < length a → name_at b i ≡ name_at a i) → ((v : ℕ) → Contains nodes (Some v) → v < length a) → map (option_map (name_at b)) nodes ≡ map (option_map (name_at a)) nodes
+nodes_same a b [] h within = refl
+nodes_same a b (None ∷ nodes) h within = ap (λ z. None ∷ z) (nodes_same a b nodes h (λ v c. within v (Contains-append_right (None ∷ []) nodes (Some v) c)))
+nodes_same a b (Some w ∷ nodes) h within =
+    let e = h w (within w (zero, omega arith, refl)) in
+    let f = nodes_same a b nodes h (λ v c. within v (Contains-append_right (Some w ∷ []) nodes (Some v) c)) in
+    cc
+
+no_nodes : {v : ℕ} → Contains {X = Option ℕ} [] (Some v) → {A : Type 0} → A
+no_nodes c = absurd (omega (arith, c.1))
+
+pub refs_start : (a : List Name) → IsOnce a → Nodes a [] a [] []
+refs_start a once = record { grows = grows_same a [] once; within = λ v c. no_nodes c; named = refl }
+
+pub refs_more : (a b c : List Name) (r s : List (Option ℕ)) (node : Option ℕ) (xs : List Reference) (y : Reference) → Nodes a r b s xs → Nodes b [] c (node ∷ []) (y ∷ []) → Nodes a r c (s ++ node ∷ []) (xs ++ y ∷ [])
+refs_more a b c r s node xs y g h =
+    let l = h.grows.longer in
+    record {
+      grows = subst (Grows a c) (sym (names_in-append xs (y ∷ []))) (grows_more a b c (names_in xs) (names_in (y ∷ [])) g.grows h.grows);
+      within = λ v i. ⊎_elim (λ k. let p = g.within v k in omega arith) (λ k. h.within v k) (Contains-append_cases s (node ∷ []) (Some v) i);
+      named = map-append (option_map (name_at c)) s (node ∷ [])
+          ∙ ap (λ z. z ++ map (option_map (name_at c)) (node ∷ [])) (nodes_same b c s h.grows.same g.within ∙ g.named)
+          ∙ ap (λ z. (map (option_map (name_at a)) r ++ map (λ (q : Reference). class_of q.named) xs) ++ z) h.named
+          ∙ append_assoc (map (option_map (name_at a)) r) (map (λ (q : Reference). class_of q.named) xs) (class_of y.named ∷ [])
+          ∙ ap (λ z. map (option_map (name_at a)) r ++ z) (sym (map-append (λ (q : Reference). class_of q.named) xs (y ∷ [])));
+    }
+
+-- ---- places
+
+pub stand_left : (xs : List Stands) (x : Stands) (i : ℕ) → i < length xs → stand_at (xs ++ x ∷ []) i ≡ stand_at xs i
+stand_left xs x i l = get_or_append_left xs (x ∷ []) Nothing i l
+
+pub row_left : (xs : List (List ℕ)) (x : List ℕ) (i : ℕ) → i < length xs → row_at (xs ++ x ∷ []) i ≡ row_at xs i
+row_left xs x i l = get_or_append_left xs (x ∷ []) [] i l
+
+place_cases : (n i : ℕ) → i < n + 1 → (i < n) ⊎ (n ≡ i)
+place_cases n i l = ⊎_elim inl (λ (e : n ≤ i). inr (omega arith)) (under i n)
+  where
+    under : (a b : ℕ) → (a < b) ⊎ (b ≤ a)
+    under a b = grind arith
+
+no_row : {v : ℕ} {A : Type 0} → Contains {X = ℕ} [] v → A
+no_row c = absurd (omega (arith, c.1))
+
+-- a step of a row that stands in one more
+row_in : (xs : List (List ℕ)) (x : List ℕ) (a b : ℕ) → Contains (row_at (xs ++ x ∷ []) a) b → Contains (row_at xs a) b ⊎ Contains x b
+row_in xs x a b c = ⊎_elim
+    (λ (l : a < length xs). inl (subst (λ r. Contains r b) (row_left xs x a l) c))
+    (λ (m : length xs ≤ a). ⊎_elim
+    (λ (e : length xs ≡ a). inr (subst (λ r. Contains r b) (get_or_push xs x [] a e) c))
+    (λ (n : length xs + 1 ≤ a). no_row (subst (λ r. Contains r b) (get_or_past (xs ++ x ∷ []) a [] (omega (arith, length-append xs (x ∷ [])))) c))
+    (next (length xs) a m))
+    (under a (length xs))
+  where
+    under : (i n : ℕ) → (i < n) ⊎ (n ≤ i)
+    under i n = grind arith
+
+    next : (n i : ℕ) → n ≤ i → (n ≡ i) ⊎ (n + 1 ≤ i)
+    next n i l = grind arith
+
+all_of : (row : List ℕ) (n : ℕ) → All (λ v. v < n) row → (b : ℕ) → Contains row b → b < n
+all_of row n all b c = let q = all c.0 b c.1 in subst (λ v. v < n) c.2 q
+
+-- ---- the loop
+
+-- the name that is next is asked for
+pub gathering_add : (m : World) (d : Name) (ns ns2 : List Name) (st : List Stands) (rs : List (List ℕ)) (nodes : List (Option ℕ)) (o : Stands) (row : List ℕ)
+    → Gathering m d ns st rs nodes → length st < length ns → o ≡ m (name_at ns (length st)) → Rows ns [] ns2 row (supers_of o) → Gathering m d ns2 (st ++ o ∷ []) (rs ++ row ∷ []) nodes
+gathering_add m d ns ns2 st rs nodes o row g l is more =
+    let grows = more.grows in
+    let longer = grows.longer in
+    let at = length st in
+    let sizes = length-append st (o ∷ []) in
+    let size2 = length-append rs (row ∷ []) in
+    let size = g.size in
+    let first = g.first.0 in
+    record {
+      once = grows.once;
+      first = (omega arith, grows.same 0 g.first.0 ∙ g.first.1);
+      object = (g.object.0, omega (arith, g.object.1), get_or_default ns2 g.object.0 object [] (omega (arith, g.object.1)) ∙ grows.same g.object.0 g.object.1 ∙ get_or_default ns g.object.0 [] object g.object.1 ∙ g.object.2);
+      reached = λ i k. ⊎_elim
+          (λ (p : i < length ns). subst (Reach m d) (sym (grows.same i p)) (g.reached i p))
+          (λ (p : length ns ≤ i). upward (g.reached at l) (subst (λ s. Contains (supers_of s) (name_at ns2 i)) is (grows.only i p k)))
+          (under i (length ns));
+      size = omega arith;
+      records = λ i k. ⊎_elim
+          (λ (p : i < at). let q = g.records i p in (omega (arith, q.0), stand_left st o i p ∙ q.1 ∙ ap m (sym (grows.same i q.0))))
+          (λ (p : at ≡ i). (omega arith, get_or_push st o Nothing i p ∙ is ∙ ap m (ap (name_at ns) p ∙ sym (grows.same i (omega arith)))))
+          (place_cases at i (omega arith));
+      within = λ a b c. ⊎_elim (λ q. let r = g.within a b q in omega arith) (λ q. all_of row (length ns2) more.nodes b q) (row_in rs row a b c);
+      above = λ i k. ⊎_elim
+          (λ (p : i < at).
+          let q = g.records i p in
+          let r : row_at (rs ++ row ∷ []) i ≡ row_at rs i = row_left rs row i (omega arith) in
+          ap (map (name_at ns2)) r
+          ∙ row_same ns ns2 (row_at rs i) grows.longer grows.same (λ j e k2. g.within i _ (Contains-get_or (row_at rs i) j e k2))
+          ∙ g.above i p ∙ ap (λ n. supers_of (m n)) (sym (grows.same i q.0)))
+          (λ (p : at ≡ i). ap (map (name_at ns2)) (get_or_push rs row [] i (omega arith)) ∙ more.named ∙ ap supers_of (is ∙ ap m (ap (name_at ns) p ∙ sym (grows.same i (omega arith)))))
+          (place_cases at i (omega arith));
+      references = nodes_same ns ns2 nodes grows.same g.references_in ∙ g.references;
+      references_in = λ v c. let q = g.references_in v c in omega arith;
+    }
+  where
+    under : (i n : ℕ) → (i < n) ⊎ (n ≤ i)
+    under i n = grind arith
+
+one_is : (x y : Name) → Contains (x ∷ []) y → x ≡ y
+one_is x y c = let e : c.0 ≡ 0 = omega (arith, c.1) in sym (get_or_push [] x y c.0 (sym e)) ∙ c.2
+
+-- the class itself, java/lang/Object and the references are numbered
+pub gathering_first : (m : World) (d : Name) (n1 n2 n3 : List Name) (i j : ℕ) (nodes : List (Option ℕ))
+    → Grows [] n1 (d ∷ []) → i < length n1 → name_at n1 i ≡ d → Grows n1 n2 (object ∷ []) → j < length n2 → name_at n2 j ≡ object → Nodes n2 [] n3 nodes (references_of (m d)) → Gathering m d n3 [] [] nodes
+gathering_first m d n1 n2 n3 i j nodes g1 i1 e1 g2 j2 e2 more =
+    let g3 = more.grows in
+    let l1 = g1.few in let l2 = g2.longer in let l3 = g3.longer in
+    let zero1 : i ≡ 0 = omega arith in
+    record {
+      once = g3.once;
+      first = (omega arith, g3.same 0 (omega arith) ∙ g2.same 0 (omega arith) ∙ ap (name_at n1) (sym zero1) ∙ e1);
+      object = (j, omega arith, get_or_default n3 j object [] (omega arith) ∙ g3.same j j2 ∙ e2);
+      reached = λ k l. by k l;
+      size = refl;
+      records = λ k l. absurd (omega arith);
+      within = λ a b c. no_row c;
+      above = λ k l. absurd (omega arith);
+      references = more.named;
+      references_in = more.within;
+    }
+  where
+    under : (a b : ℕ) → (a < b) ⊎ (b ≤ a)
+    under a b = grind arith
+
+    in1 : (k : ℕ) → k < length n1 → Reach m d (name_at n1 k)
+    in1 k l = subst (Reach m d) (one_is d (name_at n1 k) (g1.only k (omega arith) l)) itself
+
+    in2 : (k : ℕ) → k < length n2 → Reach m d (name_at n2 k)
+    in2 k l = ⊎_elim
+        (λ (p : k < length n1). subst (Reach m d) (sym (g2.same k p)) (in1 k p))
+        (λ (p : length n1 ≤ k). subst (Reach m d) (one_is object (name_at n2 k) (g2.only k p l)) always)
+        (under k (length n1))
+
+    by : (k : ℕ) → k < length n3 → Reach m d (name_at n3 k)
+    by k l = ⊎_elim
+        (λ (p : k < length n2). subst (Reach m d) (sym (more.grows.same k p)) (in2 k p))
+        (λ (p : length n2 ≤ k). reference (more.grows.only k p l))
+        (under k (length n2))
+
+-- ---- all was asked for
+
+named_in : (names : List Name) (nodes : List (Option ℕ)) (rs : List Reference) (n : Name) → map (option_map (name_at names)) nodes ≡ map (λ (r : Reference). class_of r.named) rs → Contains (names_in rs) n → (v : ℕ) × Contains nodes (Some v) × (name_at names v ≡ n)
+named_in names [] [] n e c = absurd (omega (arith, c.1))
+named_in names (x ∷ nodes) [] n e c = absurd cc
+named_in names [] (r ∷ rs) n e c = absurd cc
+named_in names (x ∷ nodes) (r ∷ rs) n e c =
+    let head : option_map (name_at names) x ≡ class_of r.named = cc in
+    let rest : map (option_map (name_at names)) nodes ≡ map (λ (q : Reference). class_of q.named) rs = cc in
+    ⊎_elim
+    (λ h. let q = here x n (subst (λ o. Contains (option_to_list o) n) (sym head) h) in (q.0, subst (λ y. Contains (y ∷ nodes) (Some q.0)) (sym q.1) (zero, omega arith, refl), q.2))
+    (λ h. let q = named_in names nodes rs n rest h in (q.0, Contains-append_right (x ∷ []) nodes (Some q.0) q.1, q.2))
+    (Contains-append_cases (class_in r.named) (names_in rs) n c)
+  where
+    here : (x : Option ℕ) (n : Name) → Contains (option_to_list (option_map (name_at names) x)) n → (v : ℕ) × (x ≡ Some v) × (name_at names v ≡ n)
+    here None n c = absurd (omega (arith, c.1))
+    here (Some v) n c = (v, refl, one_is (name_at names v) n c)
+
+pub map_out : (f : ℕ → Name) (row : List ℕ) (n : Name) → Contains (map f row) n → (v : ℕ) × Contains row v × (f v ≡ n)
+map_out f [] n c = absurd (omega (arith, c.1))
+map_out f (v ∷ row) n c =
+    ⊎_elim
+    (λ (h : Contains (f v ∷ []) n). (v, (zero, omega arith, refl), one_is (f v) n h))
+    (λ h. let q = map_out f row n h in (q.0, Contains-append_right (v ∷ []) row q.0 q.1, q.2))
+    (Contains-append_cases (f v ∷ []) (map f row) n c)
+
+-- each name of the reach has a number
+pub all_numbered : (m : World) (d : Name) (ns : List Name) (st : List Stands) (rs : List (List ℕ)) (nodes : List (Option ℕ)) → Gathering m d ns st rs nodes → length st ≡ length ns → {n : Name} → Reach m d n → (i : ℕ) × (i < length ns) × (name_at ns i ≡ n)
+all_numbered m d ns st rs nodes g e itself = (0, g.first.0, g.first.1)
+all_numbered m d ns st rs nodes g e always = (g.object.0, g.object.1, get_or_default ns g.object.0 [] object g.object.1 ∙ g.object.2)
+all_numbered m d ns st rs nodes g e {n} (reference h) = let q = named_in ns nodes (references_of (m d)) n g.references h in (q.0, g.references_in q.0 q.1, q.2)
+all_numbered m d ns st rs nodes g e {n} (upward {mid} r h) =
+    let p = all_numbered m d ns st rs nodes g e r in
+    let k : p.0 < length st = omega (arith, p.1) in
+    let q = map_out (name_at ns) (row_at rs p.0) n (subst (λ z. Contains z n) (sym (g.above p.0 k)) (subst (λ z. Contains (supers_of (m z)) n) (sym p.2) h)) in
+    (q.0, g.within p.0 q.0 q.1, q.2)
+
+-- ---- as the code has it
+
+pub gathering_as : (m : World) (d : Name) (ns : List Name) (st st2 : List Stands) (rs rs2 : List (List ℕ)) (nodes : List (Option ℕ)) → st2 ≡ st → rs2 ≡ rs → Gathering m d ns st rs nodes → Gathering m d ns st2 rs2 nodes
+gathering_as m d ns st st2 rs rs2 nodes e f g = subst (λ z. Gathering m d ns z rs2 nodes) (sym e) (subst (λ z. Gathering m d ns st z nodes) (sym f) g)
+
+pub counted_more : (a k : ℕ) → counted (counted a k) 1 ≡ counted a (k + 1)
+counted_more a k = omega arith

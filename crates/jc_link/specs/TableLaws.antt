@@ -1,0 +1,24 @@
+-- The laws of `laws.rt`.
+use Rattle.std.specs.Prelude.{◌≡◌, Bool, false, cond, List, Option, None}
+use Rattle.std.specs.FinMap as map
+use Rattle.jc_classes.specs.Facts.{Facts}
+use Rattle.jc_classes.specs.Laws.{Differ}
+use Rattle.jc_classes.specs.Names.{Name, same_name}
+use Rattle.jc_link.specs.Prefixes.{is_outside}
+use Rattle.jc_link.specs.Tables.{Places, class_at, record_at, world}
+
+-- what is put into a place stands there, and all else as before
+abbrev pub PlacesChange : Type 0
+PlacesChange = (places : Places) (name : Name) (place : Option Facts) (n : Name)
+    → (class_at (map.insert places name place) n ≡ cond (same_name n name) place (class_at places n))
+    × (class_at (map.remove places name) n ≡ cond (same_name n name) None (class_at places n))
+
+-- where two tables have the same classes outside the touched names, so do their worlds
+abbrev pub WorldsDiffer : Type 0
+WorldsDiffer = (touched : Name → Bool) (old new : Places) (prefixes : List Name)
+    → ((n : Name) → touched n ≡ false → class_at old n ≡ class_at new n) → Differ touched (world old prefixes) (world new prefixes)
+
+-- where two lists of prefixes cover the same names without a record outside the touched ones, their worlds are the same there
+abbrev pub PrefixesDiffer : Type 0
+PrefixesDiffer = (touched : Name → Bool) (places : Places) (old new : List Name)
+    → ((n : Name) → touched n ≡ false → record_at places n ≡ None → is_outside old n ≡ is_outside new n) → Differ touched (world places old) (world places new)

@@ -1,0 +1,41 @@
+-- Tables of classes, and the world that one makes with outside prefixes.
+use Rattle.std.specs.Prelude.{Bool, cond, List, Option, Some, None}
+use Rattle.std.specs.FinMap as map
+use Rattle.jc_classes.specs.Facts.{Facts}
+use Rattle.jc_classes.specs.Names.{Name, name_cmp, same_name, object}
+use Rattle.jc_classes.specs.Worlds.{Stands, World}
+use Rattle.jc_classes.specs.Worlds.Stands.{Record, Outside, Nothing}
+use Rattle.jc_classes.specs.BuiltIn.{object_facts}
+use Rattle.jc_link.specs.Prefixes.{is_outside}
+
+-- the places of a table by name, each with a file's record or vacant
+abbrev pub Places : Type 0
+Places = map.FinMap name_cmp (Option Facts)
+
+abbrev pub placed : Option (Option Facts) → Option Facts
+placed None = None
+placed (Some facts) = facts
+
+-- the record that a file gives
+abbrev pub class_at : Places → Name → Option Facts
+class_at places name = placed (map.get places name)
+
+-- the built-in record
+abbrev pub built_in : Name → Option Facts
+built_in name = cond (same_name name object) (Some object_facts) None
+
+abbrev pub or_built_in : Option Facts → Name → Option Facts
+or_built_in (Some facts) name = Some facts
+or_built_in None name = built_in name
+
+-- the record of a name: a file's, else the built-in one
+abbrev pub record_at : Places → Name → Option Facts
+record_at places name = or_built_in (class_at places name) name
+
+abbrev pub stands_by : Option Facts → Bool → Stands
+stands_by (Some facts) outside = Record facts
+stands_by None outside = cond outside Outside Nothing
+
+-- what stands at each name: a record, else it is outside where it begins with a prefix
+abbrev pub world : Places → List Name → World
+world places prefixes name = stands_by (record_at places name) (is_outside prefixes name)

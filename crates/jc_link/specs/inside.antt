@@ -1,0 +1,5 @@
+pub mod ClosureShown
+pub mod Gathering
+pub mod HeldPrefixes
+pub mod Narrowed
+pub mod PartShown

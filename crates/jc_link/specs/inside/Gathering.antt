@@ -1,0 +1,60 @@
+-- A reach while it is gathered, by numbers.
+use Rattle.std.specs.Prelude.{◌≡◌, ◌++◌, ◌<◌, ℕ, List, [], map, length, Option, option_map, Some, slice_index_or}
+use Rattle.std.specs.List.{Contains}
+use Rattle.std.specs.declared.vec.Vec.{Vec}
+use Rattle.std.specs.declared.alloc.Global.{Global}
+use Rattle.jc_classes.specs.Facts.{Reference}
+use Rattle.jc_classes.specs.Lent.{stands_of}
+use Rattle.jc_classes.specs.Names.{Name, object}
+use Rattle.jc_classes.specs.Numbers.{name_at, IsOnce, Grows}
+use Rattle.jc_classes.specs.Parts.{Reach, class_of, names_in}
+use Rattle.jc_classes.specs.Worlds.{Stands, World, supers_of, references_of}
+use Rattle.jc_classes.specs.Worlds.Stands.{Nothing}
+use Rattle.jc_classes.specs.declared.standing.Standing.{Standing}
+
+abbrev pub stand_at : List Stands → ℕ → Stands
+stand_at stands i = slice_index_or stands i Nothing
+
+abbrev pub row_at : List (List ℕ) → ℕ → List ℕ
+row_at rows i = slice_index_or rows i []
+
+abbrev pub stands_in : List Standing → List Stands
+stands_in standing = map stands_of standing
+
+abbrev pub rows_in : List (Vec ℕ Global) → List (List ℕ)
+rows_in rows = map (λ (v : Vec ℕ Global). v.items) rows
+
+-- the number of the class that each reference names
+abbrev pub NumberReferences : List Name → List (Option ℕ) → List Reference → Type 0
+NumberReferences names nodes references = map (option_map (name_at names)) nodes ≡ map (λ (r : Reference). class_of r.named) references
+
+-- the numbers of the classes that these references name were added
+pub record Nodes (old : List Name) (nodes : List (Option ℕ)) (new : List Name) (nodes2 : List (Option ℕ)) (added : List Reference) : Type 0 where
+  pub grows : Grows old new (names_in added)
+  pub within : (v : ℕ) → Contains nodes2 (Some v) → v < length new
+  pub named : map (option_map (name_at new)) nodes2 ≡ map (option_map (name_at old)) nodes ++ map (λ (r : Reference). class_of r.named) added
+
+-- what stands at the first names, the rows of their supertypes, and names of the reach that wait
+pub record Gathering (m : World) (d : Name) (names : List Name) (stands : List Stands) (rows : List (List ℕ)) (nodes : List (Option ℕ)) : Type 0 where
+  pub once : IsOnce names
+  pub first : (0 < length names) × (name_at names 0 ≡ d)
+  pub object : Contains names object
+  pub reached : (i : ℕ) → i < length names → Reach m d (name_at names i)
+  pub size : length rows ≡ length stands
+  pub records : (i : ℕ) → i < length stands → (i < length names) × (stand_at stands i ≡ m (name_at names i))
+  pub within : (a b : ℕ) → Contains (row_at rows a) b → b < length names
+  pub above : (i : ℕ) → i < length stands → map (name_at names) (row_at rows i) ≡ supers_of (m (name_at names i))
+  pub references : NumberReferences names nodes (references_of (m d))
+  pub references_in : (v : ℕ) → Contains nodes (Some v) → v < length names
+
+-- what numbers, rows and nodes are to each other, whatever the world
+pub record IsNet (names : List Name) (stands : List Stands) (rows : List (List ℕ)) (nodes : List (Option ℕ)) (at_object : ℕ) : Type 0 where
+  pub once : IsOnce names
+  pub some : 0 < length names
+  pub all_stand : length stands ≡ length names
+  pub all_rows : length rows ≡ length names
+  pub within : (a b : ℕ) → Contains (row_at rows a) b → b < length names
+  pub above : (i : ℕ) → i < length names → map (name_at names) (row_at rows i) ≡ supers_of (stand_at stands i)
+  pub references : NumberReferences names nodes (references_of (stand_at stands 0))
+  pub references_in : (v : ℕ) → Contains nodes (Some v) → v < length names
+  pub object : (at_object < length names) × (name_at names at_object ≡ object)

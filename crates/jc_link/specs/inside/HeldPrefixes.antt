@@ -1,0 +1,21 @@
+-- The prefixes that are held.
+use Rattle.std.specs.Prelude.{ℕ, List, ◌++◌, ◌∷◌, [], ◌↔◌, if◌then◌else◌}
+use Rattle.std.specs.List.{Contains, list_any}
+use Rattle.jc_classes.specs.Names.{Name, names_of, same_name}
+use Rattle.jc_classes.specs.Numbers.{IsOnce}
+use Rattle.jc_link.specs.Prefixes.{standard_prefixes}
+use Rattle.jc_link.specs.declared.outside.Prefixes.{Prefixes}
+use Rattle.jc_link.specs.declared.outside.Prefixes.TheVariants.{Standard, Given}
+
+abbrev pub prefixes_held : Prefixes → List (List ℕ)
+prefixes_held Standard = standard_prefixes
+prefixes_held (Given prefixes) = names_of prefixes.items
+
+-- a prefix behind others, unless it is one of them
+abbrev pub with_prefix : List Name → Name → List Name
+with_prefix held prefix = if list_any (same_name prefix) held then held else held ++ prefix ∷ []
+
+-- these are held, each once
+pub record IsHeldOf (held given : List Name) : Type 0 where
+  pub same : (p : Name) → Contains held p ↔ Contains given p
+  pub once : IsOnce held

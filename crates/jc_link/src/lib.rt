@@ -1,0 +1,24 @@
+//! Linking: the table of classes and the outside prefixes, the reach of a class, and what is found of it:
+//! how it loads (JVMS 5.3.5) and the answers to its references (JVMS 5.4.3).
+#![tactic(auto)]
+
+mod closure;
+mod gathering;
+mod laws;
+mod meter;
+mod numbering;
+mod outside;
+mod part;
+mod table;
+
+pub use closure::Closure;
+pub use gathering::gather;
+pub use jc_classes::{
+    Facts, Key, LinkageError, Reference, ReferenceKind, affected_by_either, locality, part_is_one,
+};
+pub use jc_resolve::{Answer, Loading};
+pub use laws::{places_change, prefixes_differ, worlds_differ};
+pub use meter::Meter;
+pub use outside::{Outside, OutsideError};
+pub use part::{Part, make_part};
+pub use table::Table;

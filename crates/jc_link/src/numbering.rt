@@ -1,0 +1,145 @@
+//! Numbers for the classes that a class names.
+
+ghost use Rattle.std.specs.Prelude.{◌≡◌, ◌<◌, ◌∷◌, [], IfOk, OnOk, Some, length, slice_get};
+ghost use Rattle.std.specs.List.{All};
+ghost use Rattle.std.specs.Option.{option_copied, option_to_list};
+ghost use Rattle.jc_classes.specs.Facts.{Reference};
+ghost use Rattle.jc_classes.specs.Lent.{stands_of};
+ghost use Rattle.jc_classes.specs.Numbers.{IsOnce, Rows, name_at};
+ghost use Rattle.jc_classes.specs.Worlds.{references_of, supers_of};
+ghost use Rattle.jc_classes.specs.Worlds.Stands.{Record};
+ghost use Rattle.jc_link.specs.inside.Gathering.{Nodes};
+
+use jc_base::NoMemory;
+use jc_classes::{Facts, Numbers, Standing};
+use std::alloc::Global;
+
+/// The numbers of the supertypes of what stands at a name.
+pub(crate) fn number_supertypes(
+    alloc: Global,
+    numbers: &mut Numbers,
+    standing: Standing<'_>,
+) -> Result<Vec<usize>, NoMemory>
+    requires { IsOnce numbers.old }
+    ensures { IfOk result (λ row. Rows numbers.old [] numbers.new row.items (supers_of (stands_of standing.entry))) }
+{
+    match standing {
+        Standing::Class(facts) => number_supertypes_of(alloc, numbers, facts),
+        _ => Ok(Vec::new(alloc)),
+    }
+}
+
+fn number_supertypes_of(
+    alloc: Global,
+    numbers: &mut Numbers,
+    facts: &Facts,
+) -> Result<Vec<usize>, NoMemory>
+    requires { IsOnce numbers.old }
+    ensures { IfOk result (λ row. Rows numbers.old [] numbers.new row.items (supers_of (Record facts.now))) }
+{
+    let mut row = Vec::new(alloc);
+    number_superclass(alloc, numbers, &mut row, facts.superclass())?;
+    number_interfaces(alloc, numbers, &mut row, facts)?;
+    Ok(row)
+}
+
+/// Adds the number of the superclass to a row, if there is one.
+fn number_superclass(
+    alloc: Global,
+    numbers: &mut Numbers,
+    row: &mut Vec<usize>,
+    name: Option<&[u8]>,
+) -> Result<(), NoMemory>
+    requires once { IsOnce numbers.old }
+    requires row { All (λ v. v < length numbers.old) row.old.items }
+    ensures { OnOk result (Rows numbers.old row.old.items numbers.new row.new.items (option_to_list (option_copied name.entry))) }
+{
+    match name {
+        Some(name) => {
+            numbers.number_into(alloc, row, name)?;
+            Ok(())
+        }
+        None => Ok(()),
+    }
+}
+
+/// Adds the numbers of the direct superinterfaces to a row.
+fn number_interfaces(
+    alloc: Global,
+    numbers: &mut Numbers,
+    row: &mut Vec<usize>,
+    facts: &Facts,
+) -> Result<(), NoMemory>
+    requires once { IsOnce numbers.old }
+    requires row { All (λ v. v < length numbers.old) row.old.items }
+    ensures { OnOk result (Rows numbers.old row.old.items numbers.new row.new.items facts.now.interfaces) }
+{
+    for number in 0..facts.interface_count() {
+        let name = interface_name(facts, number);
+        numbers.number_into(alloc, row, name)?;
+    }
+    Ok(())
+}
+
+/// The name of the direct superinterface of a number; empty past the last.
+fn interface_name(facts: &Facts, number: usize) -> &[u8]
+    ensures { result.now ≡ name_at facts.now.interfaces number }
+{
+    match facts.interface(number) {
+        Some(name) => name,
+        None => &[],
+    }
+}
+
+/// For each reference of what stands at a name, the number of the class that it names.
+pub(crate) fn number_references(
+    alloc: Global,
+    numbers: &mut Numbers,
+    standing: Standing<'_>,
+) -> Result<Vec<Option<usize>>, NoMemory>
+    requires { IsOnce numbers.old }
+    ensures { IfOk result (λ nodes. Nodes numbers.old [] numbers.new nodes.items (references_of (stands_of standing.entry))) }
+{
+    match standing {
+        Standing::Class(facts) => number_references_of(alloc, numbers, facts),
+        _ => Ok(Vec::new(alloc)),
+    }
+}
+
+fn number_references_of(
+    alloc: Global,
+    numbers: &mut Numbers,
+    facts: &Facts,
+) -> Result<Vec<Option<usize>>, NoMemory>
+    requires { IsOnce numbers.old }
+    ensures { IfOk result (λ nodes. Nodes numbers.old [] numbers.new nodes.items facts.now.references) }
+{
+    let mut nodes = Vec::new(alloc);
+    for number in 0..facts.reference_count() {
+        let node = number_reference(alloc, numbers, facts, number)?;
+        nodes.push(node)?;
+    }
+    Ok(nodes)
+}
+
+/// The number of the class that a reference names, or of an array the innermost one, if there is one.
+fn number_reference(
+    alloc: Global,
+    numbers: &mut Numbers,
+    facts: &Facts,
+    number: usize,
+) -> Result<Option<usize>, NoMemory>
+    requires { IsOnce numbers.old }
+    ensures { IfOk result (λ node. (r : Reference) → slice_get facts.now.references number ≡ Some r → Nodes numbers.old [] numbers.new (node ∷ []) (r ∷ [])) }
+{
+    let Some(reference) = facts.reference(number) else {
+        return Ok(None);
+    };
+    match reference.class_name() {
+        Some(name) => {
+            let node = numbers.number(alloc, name)?;
+            Ok(Some(node))
+        }
+        None => Ok(None),
+    }
+}

@@ -1,0 +1,129 @@
+//! What is found of a class: how it loads, whether it is circular, its faults, and the answers to its
+//! references.
+
+ghost use Rattle.std.specs.Prelude.{◌≡◌, IfOk, OnErr, OnOk, map};
+ghost use Rattle.jc_classes.specs.Lent.{stands_of};
+ghost use Rattle.jc_classes.specs.Names.{Name};
+ghost use Rattle.jc_classes.specs.Parts.{IsPart};
+ghost use Rattle.jc_classes.specs.Worlds.{World, code_faults_of, format_faults_of};
+ghost use Rattle.jc_resolve.specs.Answers.{answer_of, loading_of};
+ghost use Rattle.jc_link.specs.Closures.{IsClosure};
+ghost use Rattle.jc_link.specs.Meters.{counted};
+
+use crate::closure::Closure;
+use crate::meter::Meter;
+use jc_base::NoMemory;
+use jc_classes::Standing;
+use jc_code::CodeFault;
+use jc_file::Fault;
+use jc_resolve::{Answer, Hierarchy, Loading};
+use std::alloc::Global;
+use std::marker::Model;
+
+/// What is found of a class. A name without a record has how it loads, and nothing else.
+#[derive(Drop)]
+pub struct Part {
+    circular: bool,
+    load: Loading,
+    format_faults: Vec<Fault>,
+    code_faults: Vec<(usize, CodeFault)>,
+    answers: Vec<Answer>,
+}
+
+impl Model for Part {
+    ghost use Rattle.jc_classes.specs.Parts as specs;
+
+    ghost Value = { specs.Part };
+
+    ghost use Rattle.jc_link.specs.inside.PartShown.{part_shown};
+
+    ghost view = { part_shown };
+}
+
+impl Part {
+    /// Whether the class is its own superclass or superinterface.
+    pub fn is_circular(&self) -> bool
+        ensures { result ≡ self.now.circular }
+    {
+        self.circular
+    }
+
+    /// How the class loads (JVMS 5.3.5).
+    pub fn load(&self) -> &Loading
+        ensures { loading_of result.now ≡ self.now.load }
+    {
+        &self.load
+    }
+
+    /// The faults of its format, by rule and then by place.
+    pub fn format_faults(&self) -> &[Fault]
+        ensures { result.now ≡ self.now.format_faults }
+    {
+        self.format_faults.as_slice()
+    }
+
+    /// The faults of its methods' code, each with the number of the method.
+    pub fn code_faults(&self) -> &[(usize, CodeFault)]
+        ensures { result.now ≡ self.now.code_faults }
+    {
+        self.code_faults.as_slice()
+    }
+
+    /// The answer to each of its references, in their order (JVMS 5.4.3).
+    pub fn answers(&self) -> &[Answer]
+        ensures { map answer_of result.now ≡ self.now.answers }
+    {
+        self.answers.as_slice()
+    }
+}
+
+/// Makes the part of the class that a closure was gathered for.
+pub fn make_part(alloc: Global, closure: &Closure, meter: &mut Meter) -> Result<Part, NoMemory>
+    ensures part { (m : World) (d : Name) → IsClosure m d closure.now → IfOk result (λ p. IsPart m d p) }
+    ensures made { OnOk result (meter.new.made ≡ counted meter.old.made 1) }
+    ensures unmade { OnErr result (meter.new.made ≡ meter.old.made) }
+    ensures asks { meter.new.asks ≡ meter.old.asks }
+{
+    let hierarchy = Hierarchy::new(
+        alloc,
+        closure.found.as_slice(),
+        closure.standing.as_slice(),
+        closure.supertypes.as_slice(),
+        closure.object,
+    )?;
+    let load = hierarchy.loading(alloc, 0)?;
+    let answers = hierarchy.answers(alloc, 0, closure.references.as_slice())?;
+    let format_faults = copy_format_faults(alloc, closure.own())?;
+    let code_faults = copy_code_faults(alloc, closure.own())?;
+    meter.count_part();
+    Ok(Part {
+        circular: hierarchy.is_circular(0),
+        load,
+        format_faults,
+        code_faults,
+        answers,
+    })
+}
+
+/// The format faults of what stands at a name.
+fn copy_format_faults(alloc: Global, standing: Standing<'_>) -> Result<Vec<Fault>, NoMemory>
+    ensures { IfOk result (λ faults. faults.items ≡ format_faults_of (stands_of standing.entry)) }
+{
+    match standing {
+        Standing::Class(facts) => Ok(Vec::from_slice(alloc, facts.format_faults())?),
+        _ => Ok(Vec::new(alloc)),
+    }
+}
+
+/// The faults of the code of what stands at a name.
+fn copy_code_faults(
+    alloc: Global,
+    standing: Standing<'_>,
+) -> Result<Vec<(usize, CodeFault)>, NoMemory>
+    ensures { IfOk result (λ faults. faults.items ≡ code_faults_of (stands_of standing.entry)) }
+{
+    match standing {
+        Standing::Class(facts) => Ok(Vec::from_slice(alloc, facts.code_faults())?),
+        _ => Ok(Vec::new(alloc)),
+    }
+}

@@ -1,0 +1,128 @@
+//! The table of classes.
+
+ghost use Rattle.std.specs.Prelude.{◌≡◌, IfErr, IfOk, None, OnErr, OnOk, OnSome, Some};
+ghost use Rattle.std.specs.Option.{option_copied};
+ghost use Rattle.std.specs.FinMap as map;
+ghost use Rattle.jc_link.specs.Meters.{counted};
+ghost use Rattle.jc_link.specs.Tables.{built_in, class_at, record_at};
+
+use crate::meter::Meter;
+use jc_base::{ByteMap, NoMemory};
+use jc_classes::{Facts, same};
+use std::alloc::{AllocFailed, Global};
+use std::marker::Model;
+use std::mem;
+
+/// The classes that files give, by name, and the built-in `java/lang/Object` beside them.
+#[derive(Drop)]
+pub struct Table {
+    alloc: Global,
+    /// A place may be vacant.
+    places: ByteMap<Option<Facts>>,
+    object: Facts,
+}
+
+impl Model for Table {
+    ghost use Rattle.std.specs.Prelude.{◌≡◌};
+    ghost use Rattle.std.specs.Coded.{coded_list, coded_option, coded_ℕ};
+    ghost use Rattle.std.specs.FinMap as map;
+    ghost use Rattle.jc_classes.specs.contracts.facts.Facts as facts;
+    ghost use Rattle.jc_classes.specs.BuiltIn.{object_facts};
+    ghost use Rattle.jc_link.specs.Tables.{Places};
+
+    ghost Value = { Places };
+
+    ghost coded = { map.code (coded_list coded_ℕ) (coded_option facts.the_row.coded) };
+
+    ghost view = { λ a. a.places };
+
+    ghost invariant = { λ a. a.object ≡ object_facts };
+}
+
+impl Table {
+    /// An empty table, and the meter that counts what is asked of it.
+    pub fn new(alloc: Global) -> Result<(Table, Meter), NoMemory>
+        ensures empty { IfOk result (λ made. made.0 ≡ map.empty) }
+        ensures asks { IfOk result (λ made. made.1.asks ≡ 0) }
+        ensures made { IfOk result (λ made. made.1.made ≡ 0) }
+    {
+        let object = Facts::built_in_object(alloc)?;
+        let table = Table {
+            alloc,
+            places: ByteMap::new(alloc),
+            object,
+        };
+        Ok((table, Meter::new()))
+    }
+
+    /// The record of a name: the one that a file gives, or the built-in one where no file names
+    /// `java/lang/Object`. Each call is one ask. No memory.
+    pub fn get(&self, name: &[u8], meter: &mut Meter) -> Option<&Facts>
+        ensures found { option_copied result ≡ record_at self.now name.now }
+        ensures asks { meter.new.asks ≡ counted meter.old.asks 1 }
+        ensures made { meter.new.made ≡ meter.old.made }
+    {
+        meter.count_ask();
+        match self.places.get(name) {
+            Some(Some(facts)) => Some(facts),
+            _ => self.built_in(name),
+        }
+    }
+
+    fn built_in(&self, name: &[u8]) -> Option<&Facts>
+        ensures { option_copied result ≡ built_in name.now }
+    {
+        if same(name, b"java/lang/Object") {
+            return Some(&self.object);
+        }
+        None
+    }
+
+    /// Puts the facts in the place of their class, and answers the file's record that stood there. Fails
+    /// only for want of memory where the name has no place, and then gives the facts back.
+    pub fn put(&mut self, facts: Facts) -> Result<Option<Facts>, Facts>
+        ensures before { IfOk result (λ before. before ≡ class_at self.old facts.name) }
+        ensures ok { OnOk result (self.new ≡ map.insert self.old facts.name (Some facts)) }
+        ensures absent { OnErr result (map.get self.old facts.name ≡ None) }
+        ensures returned { IfErr result (λ refused. refused ≡ facts) }
+        ensures err { OnErr result (self.new ≡ self.old) }
+    {
+        if let Some(place) = self.places.get_mut(facts.name()) {
+            return Ok(mem::replace(place, Some(facts)));
+        }
+        let Ok(name) = Vec::from_slice(self.alloc, facts.name()) else {
+            return Err(facts);
+        };
+        match self.places.insert(name, Some(facts)) {
+            Ok(_) => Ok(None),
+            Err(AllocFailed { value: (_, place) }) => match place {
+                Some(facts) => Err(facts),
+                None => unreachable!(),
+            },
+        }
+    }
+
+    /// Takes a file's record and its place out. No memory.
+    pub fn remove(&mut self, name: &[u8]) -> Option<Facts>
+        ensures before { result ≡ class_at self.old name.now }
+        ensures removed { self.new ≡ map.remove self.old name.now }
+    {
+        match self.places.remove(name) {
+            Some(place) => place,
+            None => None,
+        }
+    }
+
+    /// Takes a file's record out and keeps its place, so that the next `put` of its name takes no memory.
+    /// Without a record it changes nothing. No memory.
+    pub fn vacate(&mut self, name: &[u8]) -> Option<Facts>
+        ensures before { result ≡ class_at self.old name.now }
+        ensures vacated { OnSome result (self.new ≡ map.insert self.old name.now None) }
+        ensures absent { result ≡ None → self.new ≡ self.old }
+    {
+        match self.places.get_mut(name) {
+            Some(place) => place.take(),
+            None => None,
+        }
+    }
+}
