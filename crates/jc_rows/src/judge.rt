@@ -1,5 +1,6 @@
 //! Judging the rows of a file, one by one.
 
+use crate::assembler::assemble;
 use crate::class_answers::{faults_answer, fronts_answer, parse_answer};
 use crate::code_answers::{code_faults_answer, instructions_answer};
 use crate::compare::difference;
@@ -13,6 +14,7 @@ use crate::text_answers::{
     field_answer, method_answer, name_answer, signature_answer, units_answer,
 };
 use crate::tokens::Token;
+use crate::world_answers::world_text;
 use anyhow::{Context, Result, bail};
 use jc_base::{ByteMap, SigKind};
 use jc_session::Session;
@@ -135,6 +137,8 @@ impl Judge {
             }
             "then" => self.judge_run(rt.alloc(), what, row),
             "program" => self.judge_program(rt, what, row),
+            "class" => self.define_class(rt.alloc(), what, row),
+            "world" => self.judge_world(rt.alloc(), what, row),
             _ => self.judge_bytes(rt, kind, what, row),
         }
     }
@@ -142,6 +146,19 @@ impl Judge {
     fn define(&mut self, alloc: Global, name: &str, row: &Row) -> Result<Found> {
         let statement = row.statement(alloc)?;
         let bytes = bytes_of(alloc, &self.names, statement.parts())?;
+        self.name(alloc, name, bytes)
+    }
+
+    /// Names the class file that the lines of a row tell: by what stands behind `as`, else by its class.
+    fn define_class(&mut self, alloc: Global, class: &str, row: &Row) -> Result<Found> {
+        let bytes = assemble(alloc, class, &row.more)?;
+        match head_of(alloc, row.head)?.parts() {
+            [Token::Word("as"), Token::Word(name)] => self.name(alloc, name, bytes),
+            _ => self.name(alloc, class, bytes),
+        }
+    }
+
+    fn name(&mut self, alloc: Global, name: &str, bytes: Vec<u8>) -> Result<Found> {
         let name = Vec::from_slice(alloc, name.as_bytes())?;
         match self.names.insert(name, bytes) {
             Ok(None) => Ok(Found::Definition),
@@ -165,6 +182,17 @@ impl Judge {
         let dialogue = Dialogue::read(rt.alloc(), &self.names, &row.more)?;
         let told = told_of_program(rt, &dialogue)?;
         judged(rt.alloc(), what, told)
+    }
+
+    fn judge_world(&mut self, alloc: Global, what: &str, row: &Row) -> Result<Found> {
+        let dialogue = Dialogue::read(alloc, &self.names, &row.more)?;
+        let found = world_text(alloc, &dialogue.held)?;
+        let wanted = dialogue.wanted.output.as_slice();
+        if found.as_slice() == wanted {
+            return Ok(Found::Right);
+        }
+        let told = difference(alloc, "parts", wanted, &found)?;
+        judged(alloc, what, Some(told))
     }
 
     fn judge_bytes(

@@ -11,6 +11,14 @@
 //! they stand in the file) or `(PARTS)`. A part with `*N` behind it stands N times, and `@` in it is the
 //! number of the time, from 1, in decimal digits. The kinds and their answers:
 //!
+//! A row `class "NAME" as WORD` names a class file, of version 52 and flags 0021 below java/lang/Object,
+//! with what the lines below it tell. Each constant stands once, in the order in which it is first
+//! named, and behind those that it names.
+//!
+//!     version N; flags FLAGS; super "CLASS"; super none; implements "CLASS"
+//!     field FLAGS "NAME" "DESCRIPTOR"; method FLAGS "NAME" "DESCRIPTOR", with the code `return`
+//!     refers class "CLASS"; refers field "CLASS" "NAME" "DESCRIPTOR", and so method and imethod
+//!
 //! - `parse`: `class NAME`, or a refusal with its number and place, as `6 Trailing(53)`. `fronts`: the one
 //!   answer of `parse` to each proper beginning of the bytes, how many they may be.
 //! - `faults`: `none`, or each fault's rule and place, as `F1 5, F2 6`.
@@ -25,14 +33,14 @@
 //! - `class-signature`, `method-signature` and `field-signature`: `true` or `false`.
 //!
 //! A row of the kind `run`, `then` or `program` has no bytes of its own. The lines below it tell what goes
-//! in and what has to come out. `run` is over a new session, `then` over the one of the row above.
+//! in and what has to come out. `world` tells the parts of the classes that its files give. `run` is over a new session, `then` over the one of the row above.
 //!
 //!     < TEXT           a line of the input; << PARTS the bytes of PARTS
 //!     > TEXT           a line of the output that is wanted; >> PARTS bytes of it
 //!     ! TEXT           a line of standard error that is wanted; !! PARTS bytes of it
 //!     source PARTS     the source's next answer: bytes; source unread, source no-memory
 //!     sources N PARTS  the same bytes N times
-//!     holds PATH PARTS after a run the session holds these bytes at the path
+//!     holds PATH PARTS of a world a file; after a run the session holds these bytes at the path
 //!     file NAME PARTS  a file that lies in the working folder while the program runs
 //!     files no-memory  no file can be opened for want of memory
 //!     input fails      the input fails behind its bytes
@@ -44,6 +52,7 @@
 //!                      program its status
 #![tactic(auto)]
 
+mod assembler;
 mod class_answers;
 mod code_answers;
 mod compare;
@@ -57,6 +66,7 @@ mod parts;
 mod row;
 mod text_answers;
 mod tokens;
+mod world_answers;
 
 use anyhow::{Context, Result};
 use judge::judge_file;

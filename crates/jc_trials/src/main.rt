@@ -9,6 +9,9 @@
 //! - `code-faults`: a line for each: its code faults, each with its method and place, or the refusal.
 //! - `listings`: the listing of each, or `refused`, and a line `end` behind it; last, in a line, how
 //!   many have a fault.
+//! - `links`: each frame is a world, frames of a path and of a file's bytes by turns in the order of the
+//!   paths: the parts of its classes, the circular ones, and a line `end`.
+//! - `count-links`: the input is one such world: how many parts are made, names asked for and answers given.
 //! - `count-bytes N`, `count-parse N`, `count-faults N`, `count-insns N`, `count-code-faults N`: one number,
 //!   summed over N rounds: the bytes, how many are readable, how many faults they have, how many
 //!   instructions, or how many code faults.
@@ -17,6 +20,7 @@
 mod counts;
 mod frames;
 mod instructions;
+mod links;
 mod listings;
 mod texts;
 mod views;
@@ -24,8 +28,10 @@ mod views;
 use counts::{Counted, sum_of_rounds};
 use frames::Frames;
 use instructions::{write_code_faults, write_instructions};
-use jc_base::StdOutput;
+use jc_base::{NoMemory, StdOutput};
 use jc_file::{ClassView, ParseError, parse};
+use jc_text::TextWriter;
+use links::{count_links, write_links};
 use listings::write_listings;
 use std::alloc::Global;
 use std::io::{BufWriter, Read, Write};
@@ -101,6 +107,27 @@ fn print_listings(rt: &(impl Print + AllocGlobal), input: &[u8]) -> io::Result<(
     }
 }
 
+fn out_of_memory(_: NoMemory) -> io::Error {
+    io::Error::from(io::ErrorKind::OutOfMemory)
+}
+
+/// Prints the parts of the worlds of all frames.
+fn print_links(rt: &(impl Print + AllocGlobal), input: &[u8]) -> io::Result<()> {
+    let mut output = StdOutput::new(io::writer(rt));
+    let mut out = TextWriter::new(&mut output);
+    write_links(rt.alloc(), &mut out, input).map_err(out_of_memory)?;
+    match out.finish() {
+        Ok(()) => Ok(()),
+        Err(_) => Err(io::Error::from(io::ErrorKind::Other)),
+    }
+}
+
+/// Prints what is counted of the world that the whole input is.
+fn print_link_counts(rt: &(impl Print + AllocGlobal), input: &[u8]) -> io::Result<()> {
+    let (made, asks, answers) = count_links(rt.alloc(), input).map_err(out_of_memory)?;
+    println!(rt; "{made} parts, {asks} asks, {answers} answers")
+}
+
 fn print_sum(
     rt: &(impl Print + AllocGlobal),
     counted: Counted,
@@ -128,6 +155,8 @@ fn main(rt: HostRuntime) -> io::Result<()> {
         "instructions" => print_answers(&rt, Asked::Instructions, &input),
         "code-faults" => print_answers(&rt, Asked::CodeFaults, &input),
         "listings" => print_listings(&rt, &input),
+        "links" => print_links(&rt, &input),
+        "count-links" => print_link_counts(&rt, &input),
         "count-bytes" => print_sum(&rt, Counted::Bytes, rounds, &input),
         "count-parse" => print_sum(&rt, Counted::Readable, rounds, &input),
         "count-faults" => print_sum(&rt, Counted::Faults, rounds, &input),

@@ -1,0 +1,82 @@
+-- The lines of a class's part.
+use Rattle.std.specs.Prelude.{ℕ, List, [], ◌∷◌, ◌++◌, codes, decimal}
+use Rattle.std.specs.List.{flat_map}
+use Rattle.jc_text.specs.Escapes.{shown}
+use Rattle.jc_file.specs.declared.fault.Fault.{Fault}
+use Rattle.jc_code.specs.declared.code_fault.CodeFault.{CodeFault}
+use Rattle.jc_list.specs.FaultLines.{code_fault_line, format_line}
+use Rattle.jc_classes.specs.declared.linkage_error.LinkageError.{LinkageError}
+use Rattle.jc_classes.specs.declared.reference_kind.ReferenceKind.{ReferenceKind}
+use Rattle.jc_classes.specs.declared.reference_kind.ReferenceKind.TheVariants as kinds
+use Rattle.jc_classes.specs.LinkageErrors.{error_code, error_name}
+use Rattle.jc_classes.specs.Names.{Name}
+use Rattle.jc_classes.specs.Facts.{Facts, Key, Reference}
+use Rattle.jc_classes.specs.Worlds.{text_of}
+use Rattle.jc_classes.specs.Loading.{Loading}
+use Rattle.jc_classes.specs.Loading.{Loading as loading}
+use Rattle.jc_classes.specs.Resolution.{Answer}
+use Rattle.jc_classes.specs.Resolution.{Answer as answer}
+use Rattle.jc_classes.specs.Parts.{Part}
+
+-- ---- references
+
+-- a member: its class, its name and its descriptor
+abbrev pub member_text : Name → Key → List ℕ
+member_text class key = shown class ++ codes "." ++ shown key.name ++ codes ":" ++ shown key.descriptor
+
+abbrev pub kind_text : ReferenceKind → List ℕ
+kind_text kinds.Class = codes "class"
+kind_text kinds.Field = codes "field"
+kind_text kinds.Method = codes "method"
+kind_text kinds.InterfaceMethod = codes "imethod"
+
+-- a class is named alone
+abbrev pub named_text : ReferenceKind → Name → Key → List ℕ
+named_text kinds.Class class key = shown class
+named_text kinds.Field class key = member_text class key
+named_text kinds.Method class key = member_text class key
+named_text kinds.InterfaceMethod class key = member_text class key
+
+abbrev pub reference_text : Reference → List ℕ
+reference_text r = kind_text r.kind ++ codes " " ++ named_text r.kind (text_of r.named) r.key
+
+-- ---- answers
+
+abbrev pub error_text : LinkageError → Name → List ℕ
+error_text error name = codes "error " ++ decimal (error_code error) ++ codes " " ++ error_name error ++ codes " " ++ shown name
+
+abbrev pub answer_text : Answer → List ℕ
+answer_text (answer.ToClass class) = codes "To " ++ shown class
+answer_text (answer.ToMember class key) = codes "To " ++ member_text class key
+answer_text (answer.Beyond name) = codes "Outside " ++ shown name
+answer_text answer.NotLoaded = codes "NotLoaded"
+answer_text (answer.Wrong error name) = error_text error name
+
+abbrev pub load_text : Loading → List ℕ
+load_text loading.Loaded = codes "loaded"
+load_text loading.Outside = codes "outside"
+load_text (loading.Fails error name) = error_text error name
+
+-- ---- lines
+
+abbrev pub load_line : Name → Loading → List ℕ
+load_line name load = codes "part " ++ shown name ++ codes ": " ++ load_text load ++ codes "\n"
+
+abbrev pub format_fault_line : Fault → List ℕ
+format_fault_line fault = codes "  " ++ format_line fault
+
+abbrev pub method_fault_line : ℕ × CodeFault → List ℕ
+method_fault_line fault = codes "  " ++ code_fault_line fault
+
+abbrev pub answer_line : Reference → Answer → List ℕ
+answer_line r a = codes "  #" ++ decimal r.index ++ codes " " ++ reference_text r ++ codes " -> " ++ answer_text a ++ codes "\n"
+
+-- the answer to each reference
+abbrev pub answer_lines : List Reference → List Answer → List ℕ
+answer_lines [] answers = []
+answer_lines (r ∷ rs) [] = []
+answer_lines (r ∷ rs) (a ∷ answers) = answer_line r a ++ answer_lines rs answers
+
+-- the part of the class that the facts are of
+unfoldable pub part_text : Facts → Part → List ℕ
+part_text f p = load_line f.name p.load ++ flat_map format_fault_line p.format_faults ++ flat_map method_fault_line p.code_faults ++ answer_lines f.references p.answers

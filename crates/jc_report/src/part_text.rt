@@ -1,0 +1,200 @@
+//! The lines of a class's part.
+
+ghost use Rattle.std.specs.Prelude.{◌≡◌, ◌++◌, codes, map};
+ghost use Rattle.std.specs.List.{flat_map};
+ghost use Rattle.jc_text.specs.Escapes.{shown};
+ghost use Rattle.jc_text.specs.Sends.{Sends};
+ghost use Rattle.jc_classes.specs.Facts.{Key as KeyValue};
+ghost use Rattle.jc_classes.specs.Lent.{key_lent, reference_lent};
+ghost use Rattle.jc_resolve.specs.Answers.{answer_of, loading_of};
+ghost use Rattle.jc_report.specs.PartText.{answer_line, answer_lines, answer_text, error_text, format_fault_line, kind_text, load_line, load_text, member_text, method_fault_line, named_text, part_text, reference_text};
+
+use jc_base::Output;
+use jc_classes::{Facts, Key, LinkageError, Reference, ReferenceKind};
+use jc_code::CodeFault;
+use jc_file::Fault;
+use jc_link::Part;
+use jc_list::{write_code_fault_line, write_format_line};
+use jc_resolve::{Answer, Loading};
+use jc_text::TextWriter;
+
+/// The part of the class that the facts are of: how it loads, its faults, and the answer to each of its
+/// references.
+pub fn write_part<W: Output>(out: &mut TextWriter<'_, W>, facts: &Facts, part: &Part)
+    ensures { Sends W.written W.failures out.old out.new (part_text facts.now part.now) }
+{
+    write_load_line(out, facts.name(), part.load());
+    write_format_faults(out, part.format_faults());
+    write_code_faults(out, part.code_faults());
+    write_answers(out, facts, part.answers());
+}
+
+fn write_load_line<W: Output>(out: &mut TextWriter<'_, W>, name: &[u8], load: &Loading)
+    ensures { Sends W.written W.failures out.old out.new (load_line name.now (loading_of load.now)) }
+{
+    out.text(b"part ");
+    out.shown(name);
+    out.text(b": ");
+    write_load(out, load);
+    out.text(b"\n");
+}
+
+fn write_load<W: Output>(out: &mut TextWriter<'_, W>, load: &Loading)
+    ensures { Sends W.written W.failures out.old out.new (load_text (loading_of load.now)) }
+{
+    match load {
+        Loading::Loaded => out.text(b"loaded"),
+        Loading::Outside => out.text(b"outside"),
+        Loading::Fails(error, name) => write_error(out, *error, name.as_slice()),
+    }
+}
+
+/// An error, and the name of the class at fault.
+fn write_error<W: Output>(out: &mut TextWriter<'_, W>, error: LinkageError, name: &[u8])
+    ensures { Sends W.written W.failures out.old out.new (error_text error name.now) }
+{
+    out.text(b"error ");
+    out.decimal(error.code());
+    out.text(b" ");
+    out.text(error.name().as_bytes());
+    out.text(b" ");
+    out.shown(name);
+}
+
+fn write_format_faults<W: Output>(out: &mut TextWriter<'_, W>, faults: &[Fault])
+    ensures { Sends W.written W.failures out.old out.new (flat_map format_fault_line faults.now) }
+{
+    for fault in faults {
+        write_format_fault(out, *fault);
+    }
+}
+
+fn write_format_fault<W: Output>(out: &mut TextWriter<'_, W>, fault: Fault)
+    ensures { Sends W.written W.failures out.old out.new (format_fault_line fault) }
+{
+    out.text(b"  ");
+    write_format_line(out, fault);
+}
+
+fn write_code_faults<W: Output>(out: &mut TextWriter<'_, W>, faults: &[(usize, CodeFault)])
+    ensures { Sends W.written W.failures out.old out.new (flat_map method_fault_line faults.now) }
+{
+    for fault in faults {
+        write_method_fault(out, fault.0, fault.1);
+    }
+}
+
+fn write_method_fault<W: Output>(out: &mut TextWriter<'_, W>, method: usize, fault: CodeFault)
+    ensures { Sends W.written W.failures out.old out.new (method_fault_line (method, fault)) }
+{
+    out.text(b"  ");
+    write_code_fault_line(out, method, fault);
+}
+
+/// The answer to each reference.
+fn write_answers<W: Output>(out: &mut TextWriter<'_, W>, facts: &Facts, answers: &[Answer])
+    ensures { Sends W.written W.failures out.old out.new (answer_lines facts.now.references (map answer_of answers.now)) }
+{
+    for number in 0..answers.len() {
+        match facts.reference(number) {
+            Some(reference) => write_answer_line(out, reference, &answers[number]),
+            None => return,
+        }
+    }
+}
+
+fn write_answer_line<W: Output>(
+    out: &mut TextWriter<'_, W>,
+    reference: Reference<'_>,
+    answer: &Answer,
+)
+    ensures { Sends W.written W.failures out.old out.new (answer_line (reference_lent reference.entry) (answer_of answer.now)) }
+{
+    out.text(b"  #");
+    out.decimal(reference.index);
+    out.text(b" ");
+    write_reference(out, reference);
+    out.text(b" -> ");
+    write_answer(out, answer);
+    out.text(b"\n");
+}
+
+fn write_reference<W: Output>(out: &mut TextWriter<'_, W>, reference: Reference<'_>)
+    ensures { Sends W.written W.failures out.old out.new (reference_text (reference_lent reference.entry)) }
+{
+    out.text(kind_word(reference.kind));
+    out.text(b" ");
+    write_named(out, reference.kind, reference.class, reference.key);
+}
+
+fn kind_word(kind: ReferenceKind) -> &'static [u8]
+    ensures { result.now ≡ kind_text kind }
+{
+    match kind {
+        ReferenceKind::Class => b"class",
+        ReferenceKind::Field => b"field",
+        ReferenceKind::Method => b"method",
+        ReferenceKind::InterfaceMethod => b"imethod",
+    }
+}
+
+/// What a reference of a kind names.
+fn write_named<W: Output>(
+    out: &mut TextWriter<'_, W>,
+    kind: ReferenceKind,
+    class: &[u8],
+    key: Key<'_>,
+)
+    ensures { Sends W.written W.failures out.old out.new (named_text kind class.now (key_lent key.entry)) }
+{
+    match kind {
+        ReferenceKind::Class => out.shown(class),
+        ReferenceKind::Field => write_member(out, class, key.name, key.descriptor),
+        ReferenceKind::Method => write_member(out, class, key.name, key.descriptor),
+        ReferenceKind::InterfaceMethod => write_member(out, class, key.name, key.descriptor),
+    }
+}
+
+fn write_member<W: Output>(
+    out: &mut TextWriter<'_, W>,
+    class: &[u8],
+    name: &[u8],
+    descriptor: &[u8],
+)
+    ensures { (key : KeyValue) → key.name ≡ name.now → key.descriptor ≡ descriptor.now → Sends W.written W.failures out.old out.new (member_text class.now key) }
+{
+    out.shown(class);
+    out.text(b".");
+    out.shown(name);
+    out.text(b":");
+    out.shown(descriptor);
+}
+
+fn write_answer<W: Output>(out: &mut TextWriter<'_, W>, answer: &Answer)
+    ensures { Sends W.written W.failures out.old out.new (answer_text (answer_of answer.now)) }
+{
+    match answer {
+        Answer::ToClass(class) => write_found(out, class.as_slice()),
+        Answer::ToMember {
+            class,
+            name,
+            descriptor,
+        } => {
+            out.text(b"To ");
+            write_member(out, class.as_slice(), name.as_slice(), descriptor.as_slice());
+        }
+        Answer::Outside(name) => {
+            out.text(b"Outside ");
+            out.shown(name.as_slice());
+        }
+        Answer::NotLoaded => out.text(b"NotLoaded"),
+        Answer::Error(error, name) => write_error(out, *error, name.as_slice()),
+    }
+}
+
+fn write_found<W: Output>(out: &mut TextWriter<'_, W>, class: &[u8])
+    ensures { Sends W.written W.failures out.old out.new (codes "To " ++ shown class.now) }
+{
+    out.text(b"To ");
+    out.shown(class);
+}

@@ -1,0 +1,284 @@
+"""A plain judge of linking, written from `docs/RULES.md`: how each class of a world loads, which names are
+circular, and what each symbolic reference resolves to. It asks the whole world at every question.
+
+World(files, prefixes) takes pairs of a path and a file's bytes; parts() gives the lines of the parts.
+"""
+import importlib.util
+import pathlib
+
+PATH = pathlib.Path(__file__).resolve().parent.parent / "code" / "judge.py"
+spec = importlib.util.spec_from_file_location("code_judge", PATH)
+code_rules = importlib.util.module_from_spec(spec)
+spec.loader.exec_module(code_rules)
+rules = code_rules.format_judge
+
+OBJECT, HANDLE = b"java/lang/Object", b"java/lang/invoke/MethodHandle"
+POLYMORPHIC = b"([Ljava/lang/Object;)Ljava/lang/Object;"
+PUBLIC, PRIVATE, PROTECTED, STATIC, VARARGS, NATIVE, INTERFACE, ABSTRACT = 1, 2, 4, 8, 0x80, 0x100, 0x200, 0x400
+ERRORS = {"NoClass": 1, "Format": 2, "Circular": 3, "Incompatible": 4, "IllegalAccess": 5, "NoField": 6, "NoMethod": 7}
+KINDS = {7: "class", 9: "field", 10: "method", 11: "imethod"}
+OK, OUTSIDE = ("ok",), ("outside",)
+
+
+def package(name):
+    return name.rpartition(b"/")[0]
+
+
+class Record:
+    """What a class file declares and refers to; nothing of it where it has a format fault."""
+
+    def __init__(self, data):
+        file = rules.ClassFile(data)
+        self.name, self.flags = file.class_text(file.this), file.flags
+        self.faults = [(f"F{rule}", place) for rule, place in rules.faults(data)]
+        self.code_faults, self.parent, self.interfaces, self.fields, self.methods, self.references = [], None, [], [], [], []
+        if self.faults:
+            return
+        self.code_faults = code_rules.faults(data)
+        self.parent = file.class_text(file.parent)
+        self.interfaces = [file.class_text(index) for index in file.interfaces]
+        self.fields = [self.member(file, field) for field in file.fields]
+        self.methods = [self.member(file, method) for method in file.methods]
+        for index in sorted(file.entries):
+            if file.tag(index) == 7:
+                self.references.append((index, 7, file.class_text(index), None))
+            elif file.tag(index) in (9, 10, 11):
+                self.references.append((index, file.tag(index), file.class_text(file.pair(index)[0]), file.named(index)))
+
+    @staticmethod
+    def member(file, member):
+        return file.text(member.name), file.text(member.descriptor), member.flags
+
+    def supers(self):
+        return ([self.parent] if self.parent is not None else []) + self.interfaces
+
+    def interface(self):
+        return bool(self.flags & INTERFACE)
+
+
+class BuiltIn(Record):
+    def __init__(self):
+        self.name, self.flags, self.faults, self.code_faults, self.parent = OBJECT, PUBLIC, [], [], None
+        self.interfaces, self.fields, self.references = [], [], []
+        public = [(b"<init>", b"()V"), (b"getClass", b"()Ljava/lang/Class;"), (b"hashCode", b"()I"),
+                  (b"equals", b"(Ljava/lang/Object;)Z"), (b"toString", b"()Ljava/lang/String;"), (b"notify", b"()V"),
+                  (b"notifyAll", b"()V"), (b"wait", b"()V"), (b"wait", b"(J)V"), (b"wait", b"(JI)V")]
+        self.methods = [(*key, PUBLIC) for key in public]
+        self.methods += [(b"clone", b"()Ljava/lang/Object;", PROTECTED), (b"finalize", b"()V", PROTECTED)]
+
+
+def innermost(text):
+    """The class that the text of a Class constant names, of an array the innermost one, or None."""
+    if not text.startswith(b"["):
+        return text
+    element = text.lstrip(b"[")
+    return element[1:-1] if element.startswith(b"L") else None
+
+
+class World:
+    def __init__(self, files, prefixes):
+        self.prefixes, self.given = prefixes, {}
+        for _, data in sorted(files, reverse=True):
+            record = Record(data)
+            self.given[record.name] = record
+        self.records = {OBJECT: BuiltIn(), **self.given}
+        self.aboves, self.loads = {}, {}
+
+    def outside(self, name):
+        return name not in self.records and name.startswith(self.prefixes)
+
+    def above(self, name):
+        """What one or more steps to a supertype reach."""
+        if name not in self.aboves:
+            found, waiting = [], [name]
+            while waiting:
+                record = self.records.get(waiting.pop())
+                for parent in record.supers() if record else []:
+                    if parent not in found:
+                        found.append(parent)
+                        waiting.append(parent)
+            self.aboves[name] = found
+        return self.aboves[name]
+
+    def circular(self, name):
+        return name in self.above(name)
+
+    def sees(self, user, name):
+        return bool(self.records[name].flags & PUBLIC) or package(user) == package(name)
+
+    def load(self, name):
+        if name not in self.loads:
+            self.loads[name] = self.load_anew(name)
+        return self.loads[name]
+
+    def load_anew(self, name):
+        record = self.records.get(name)
+        if record is None:
+            return OUTSIDE if self.outside(name) else ("error", "NoClass", name)
+        if record.faults:
+            return "error", "Format", name
+        if self.circular(name):
+            return "error", "Circular", name
+        parents = ([(record.parent, False)] if record.parent is not None else []) + [(one, True) for one in record.interfaces]
+        for parent, wants_interface in parents:
+            state = self.load(parent)
+            if state[0] == "error":
+                return state
+            if state == OUTSIDE:
+                continue
+            if not self.sees(name, parent):
+                return "error", "IllegalAccess", parent
+            if self.records[parent].interface() != wants_interface:
+                return "error", "Incompatible", parent
+        return OK
+
+    # ---- references
+
+    def resolve_class(self, user, text):
+        element = innermost(text)
+        if element is None:
+            return "To", text, None
+        state = self.load(element)
+        if state[0] == "error":
+            return state
+        if state == OUTSIDE:
+            return "Outside", element
+        return ("To", text, None) if self.sees(user, element) else ("error", "IllegalAccess", element)
+
+    def start(self, user, text):
+        """The class where look-up begins, or an answer."""
+        answer = self.resolve_class(user, text)
+        if not text.startswith(b"["):
+            return (text, None) if answer[0] == "To" else (None, answer)
+        if answer[0] == "error":
+            return None, answer
+        state = self.load(OBJECT)
+        if state[0] == "error":
+            return None, state
+        return (OBJECT, None) if state == OK else (None, ("Outside", OBJECT))
+
+    def field(self, name, key):
+        record = self.records.get(name)
+        if record is None:
+            return None
+        for field in record.fields:
+            if field[:2] == key:
+                return name, field
+        for parent in record.interfaces + ([record.parent] if record.parent is not None else []):
+            found = self.field(parent, key)
+            if found:
+                return found
+        return None
+
+    def declared(self, name, key):
+        methods = self.records[name].methods
+        named = [method for method in methods if method[0] == key[0]]
+        if name == HANDLE and len(named) == 1 and named[0][1] == POLYMORPHIC and named[0][2] & VARARGS and named[0][2] & NATIVE:
+            return named[0]
+        return next((method for method in methods if method[:2] == key), None)
+
+    def in_classes(self, name, key):
+        while name is not None and name in self.records:
+            found = self.declared(name, key)
+            if found:
+                return name, found
+            name = self.records[name].parent
+        return None
+
+    def in_superinterfaces(self, name, key):
+        supers = [one for one in self.above(name) if one in self.records and self.records[one].interface()]
+        found = {one: method for one in supers for method in self.records[one].methods
+                 if method[:2] == key and not method[2] & (PRIVATE | STATIC)}
+        maximal = [one for one in found if not any(one in self.above(other) for other in found if other != one)]
+        concrete = [one for one in maximal if not found[one][2] & ABSTRACT]
+        if len(concrete) == 1:
+            return concrete[0], found[concrete[0]]
+        return (min(found), found[min(found)]) if found else None
+
+    def method(self, name, key):
+        return self.in_classes(name, key) or self.in_superinterfaces(name, key)
+
+    def interface_method(self, name, key):
+        own = next((method for method in self.records[name].methods if method[:2] == key), None)
+        if own:
+            return name, own
+        for method in self.records[OBJECT].methods:
+            if method[:2] == key and method[2] & PUBLIC and not method[2] & STATIC:
+                return OBJECT, method
+        return self.in_superinterfaces(name, key)
+
+    def resolve(self, user, tag, text, key):
+        if tag == 7:
+            return self.resolve_class(user, text)
+        start, answer = self.start(user, text)
+        if answer:
+            return answer
+        if tag == 10 and self.records[start].interface():
+            return "error", "Incompatible", start
+        if tag == 11 and not self.records[start].interface():
+            return "error", "Incompatible", text
+        search = {9: self.field, 10: self.method, 11: self.interface_method}[tag]
+        found = search(start, key)
+        if found is None:
+            beyond = [name for name in self.above(start) if self.outside(name)]
+            return ("Outside", min(beyond)) if beyond else ("error", "NoField" if tag == 9 else "NoMethod", text)
+        home, member = found
+        return ("To", home, member) if self.usable(user, text, home, member) else ("error", "IllegalAccess", home)
+
+    # ---- access
+
+    def below(self, name, other):
+        """Whether a class is another or a subclass of it, along superclasses."""
+        if other == OBJECT:
+            return True
+        while name is not None and name != other:
+            name = self.records[name].parent if name in self.records else None
+        return name is not None
+
+    def usable(self, user, text, home, member):
+        flags, array = member[2], text.startswith(b"[")
+        if flags & PUBLIC or array and home == OBJECT and member[:2] == (b"clone", b"()Ljava/lang/Object;"):
+            return True
+        if flags & PROTECTED and self.below(user, home):
+            related = user == OBJECT if array else self.below(text, user) or self.below(user, text)
+            if flags & STATIC or related:
+                return True
+        if not flags & (PUBLIC | PRIVATE) and package(user) == package(home):
+            return True
+        return bool(flags & PRIVATE) and home == user
+
+    # ---- lines
+
+    def part(self, name):
+        record, state = self.records[name], self.load(name)
+        yield f"part {shown(name)}: " + ("loaded" if state == OK else answered(state))
+        for rule, place in record.faults:
+            yield f"  format {rule} {place}"
+        for method, rule, place in record.code_faults:
+            yield f"  code S{rule} {method} {place}"
+        for index, tag, text, key in record.references:
+            answer = self.resolve(name, tag, text, key) if state == OK else ("NotLoaded",)
+            yield f"  #{index} {KINDS[tag]} {shown(text)}{member(key)} -> {answered(answer)}"
+
+    def parts(self):
+        lines = [line for name in sorted(self.given) for line in self.part(name)]
+        return lines + ["[circular]"] + [shown(name) for name in sorted(self.given) if self.circular(name)]
+
+
+def shown(text):
+    """A name as it is printed."""
+    units = text.replace(b"\xc0\x80", b"\0").decode("utf-8", "surrogatepass").encode("utf-16-be", "surrogatepass")
+    codes = [int.from_bytes(units[at:at + 2], "big") for at in range(0, len(units), 2)]
+    return "".join("\\\\" if code == 0x5c else chr(code) if 0x20 <= code <= 0x7e else f"\\u{code:04x}" for code in codes)
+
+
+def member(key):
+    return "" if key is None else f".{shown(key[0])}:{shown(key[1])}"
+
+
+def answered(answer):
+    if answer[0] == "error":
+        return f"error {ERRORS[answer[1]]} {answer[1]} {shown(answer[2])}"
+    if answer[0] == "To":
+        return f"To {shown(answer[1])}{member(answer[2])}"
+    return answer[0] if len(answer) == 1 else f"{answer[0]} {shown(answer[1])}"
