@@ -42,7 +42,7 @@ def imports(text):
 def definitions(text):
     """The definitions of a file by name, each with its text. The constructors of a data type stand for it."""
     found, owner, name = {}, {}, None
-    for line in text.split("\n"):
+    for line in unindented(text.split("\n")):
         start = DEFINITION.match(line)
         if start:
             name = start.group(1)
@@ -55,6 +55,14 @@ def definitions(text):
         if name:
             found[name] += line.split(" -- ")[0] + "\n"
     return found, owner
+
+
+def unindented(lines):
+    """The lines, with what stands in blocks of mutual definitions as if it stood by itself."""
+    inside = False
+    for line in lines:
+        inside = line == "mutual" or inside and (not line or line.startswith("  "))
+        yield line[2:] if inside and line != "mutual" else line
 
 
 class Specs:

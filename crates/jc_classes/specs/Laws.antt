@@ -1,22 +1,8 @@
--- The laws of `laws.rt`.
+-- The laws of parts: a class has one, and it rests on its reach alone.
 use Rattle.std.specs.Prelude.{◌≡◌, Bool, true, false}
-use Rattle.std.specs.List.{Contains}
-use Rattle.jc_classes.specs.Facts.{Named}
 use Rattle.jc_classes.specs.Names.{Name}
-use Rattle.jc_classes.specs.Worlds.{World, supers_of}
+use Rattle.jc_classes.specs.Worlds.{World}
 use Rattle.jc_classes.specs.Parts.{Reach, Part, IsPart}
-use Rattle.jc_classes.specs.Facts.Named.{Class, Array}
-use Rattle.std.specs.Prelude.{Some}
-
--- two maps agree at a set of names that is closed under supertypes
-pub record Agree (R : Name → Type 0) (m n : World) : Type 0 where
-  pub same : (x : Name) → R x → m x ≡ n x
-  pub closed : (x s : Name) → R x → Contains (supers_of (m x)) s → R s
-
--- the set holds the class that is named, or the innermost one of the array
-abbrev pub Holds : (Name → Type 0) → Named → Type 0
-Holds R (Class c) = R c
-Holds R (Array t e) = (c : Name) → e ≡ Some c → R c
 
 -- two maps agree outside the touched names: edits of files and of outside prefixes are both such
 abbrev pub Differ : (Name → Bool) → World → World → Type 0

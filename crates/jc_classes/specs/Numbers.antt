@@ -1,24 +1,14 @@
 -- Names and their numbers.
-use Rattle.std.specs.Prelude.{◌≡◌, ℕ, ◌+◌, ◌<◌, ◌≤◌, List, [], ◌++◌, map, length, Some, slice_index_or}
+use Rattle.std.specs.Prelude.{◌≡◌, ℕ, ◌+◌, ◌<◌, ◌≤◌, List, [], ◌++◌, map, length, slice_index_or}
 use Rattle.std.specs.List.{Contains, All}
-use Rattle.std.specs.FinMap as fin
-use Rattle.jc_classes.specs.Names.{Name, name_cmp}
+use Rattle.jc_classes.specs.Names.{Name}
 
 abbrev pub name_at : List Name → ℕ → Name
 name_at names i = slice_index_or names i []
 
-abbrev pub NumberOf : Type 0
-NumberOf = fin.FinMap name_cmp ℕ
-
 -- no name stands twice
 abbrev pub IsOnce : List Name → Type 0
 IsOnce names = (i j : ℕ) → i < length names → j < length names → name_at names i ≡ name_at names j → i ≡ j
-
--- the map has the place of each name, and nothing else
-pub record IsNumbered (places : NumberOf) (names : List Name) : Type 0 where
-  pub there : (n : Name) (i : ℕ) → fin.get places n ≡ Some i → (i < length names) × (name_at names i ≡ n)
-  pub back : (i : ℕ) → i < length names → fin.get places (name_at names i) ≡ Some i
-  pub count : fin.len places ≡ length names
 
 -- names were added at the end, each of them one of these
 pub record Grows (old new added : List Name) : Type 0 where

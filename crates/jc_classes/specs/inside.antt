@@ -1,3 +1,4 @@
 pub mod ConstantTexts
 pub mod FactsShown
+pub mod Numbering
 pub mod TextList

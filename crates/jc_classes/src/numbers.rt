@@ -4,7 +4,8 @@ ghost use Rattle.std.specs.Option.{IfSome};
 ghost use Rattle.std.specs.List.{All};
 ghost use Rattle.jc_classes.specs.NameLists.{IsRisingOf};
 ghost use Rattle.jc_classes.specs.Names.{names_of};
-ghost use Rattle.jc_classes.specs.Numbers.{name_at, IsOnce, IsNumbered, Grows, Rows};
+ghost use Rattle.jc_classes.specs.Numbers.{name_at, IsOnce, Grows, Rows};
+ghost use Rattle.jc_classes.specs.inside.Numbering.{IsNumbered};
 
 use jc_base::{ByteMap, NoMemory};
 use std::alloc::Global;
@@ -21,7 +22,7 @@ impl Model for Numbers {
     ghost use Rattle.std.specs.Prelude.{List};
     ghost use Rattle.jc_classes.specs.Names.{Name};
     ghost use Rattle.jc_classes.specs.Names.{names_of};
-    ghost use Rattle.jc_classes.specs.Numbers.{IsNumbered};
+    ghost use Rattle.jc_classes.specs.inside.Numbering.{IsNumbered};
 
     ghost Value = { List Name };
 

@@ -100,6 +100,26 @@ fn write_world<W: Output>(
     Ok(())
 }
 
+/// Writes the part of a class of the world that a frame is, and tells how many names were asked for to
+/// gather its reach.
+pub(crate) fn write_link<W: Output>(
+    alloc: Global,
+    out: &mut TextWriter<'_, W>,
+    frame: &[u8],
+    name: &[u8],
+) -> Result<u64, NoMemory> {
+    let World {
+        table, mut meter, ..
+    } = World::of(alloc, frame)?;
+    let closure = gather(alloc, &table, &Outside::standard(), name, &mut meter)?;
+    let asks = meter.asks();
+    let part = make_part(alloc, &closure, &mut meter)?;
+    if let Some(facts) = table.get(name, &mut meter) {
+        write_part(out, facts, &part);
+    }
+    Ok(asks)
+}
+
 /// Makes the parts of all classes of a world, and tells how many there are, how many names were asked
 /// for, and how many answers the parts have.
 pub(crate) fn count_links(alloc: Global, frame: &[u8]) -> Result<(u64, u64, u64), NoMemory> {

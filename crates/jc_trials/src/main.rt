@@ -11,6 +11,7 @@
 //!   many have a fault.
 //! - `links`: each frame is a world, frames of a path and of a file's bytes by turns in the order of the
 //!   paths: the parts of its classes, the circular ones, and a line `end`.
+//! - `link NAME`: the input is one such world: the part of the class, and how many names its reach has.
 //! - `count-links`: the input is one such world: how many parts are made, names asked for and answers given.
 //! - `count-bytes N`, `count-parse N`, `count-faults N`, `count-insns N`, `count-code-faults N`: one number,
 //!   summed over N rounds: the bytes, how many are readable, how many faults they have, how many
@@ -31,7 +32,7 @@ use instructions::{write_code_faults, write_instructions};
 use jc_base::{NoMemory, StdOutput};
 use jc_file::{ClassView, ParseError, parse};
 use jc_text::TextWriter;
-use links::{count_links, write_links};
+use links::{count_links, write_link, write_links};
 use listings::write_listings;
 use std::alloc::Global;
 use std::io::{BufWriter, Read, Write};
@@ -122,6 +123,20 @@ fn print_links(rt: &(impl Print + AllocGlobal), input: &[u8]) -> io::Result<()> 
     }
 }
 
+/// Prints the part of a class of the world that the whole input is, and how many names its reach has.
+fn print_link(rt: &(impl Print + AllocGlobal), name: &str, input: &[u8]) -> io::Result<()> {
+    let mut output = StdOutput::new(io::writer(rt));
+    let mut out = TextWriter::new(&mut output);
+    let asks =
+        write_link(rt.alloc(), &mut out, input, name.as_bytes()).map_err(out_of_memory)?;
+    out.decimal(asks);
+    out.text(b" asks\n");
+    match out.finish() {
+        Ok(()) => Ok(()),
+        Err(_) => Err(io::Error::from(io::ErrorKind::Other)),
+    }
+}
+
 /// Prints what is counted of the world that the whole input is.
 fn print_link_counts(rt: &(impl Print + AllocGlobal), input: &[u8]) -> io::Result<()> {
     let (made, asks, answers) = count_links(rt.alloc(), input).map_err(out_of_memory)?;
@@ -156,6 +171,7 @@ fn main(rt: HostRuntime) -> io::Result<()> {
         "code-faults" => print_answers(&rt, Asked::CodeFaults, &input),
         "listings" => print_listings(&rt, &input),
         "links" => print_links(&rt, &input),
+        "link" => print_link(&rt, rounds.as_ref().map_or("", String::as_str), &input),
         "count-links" => print_link_counts(&rt, &input),
         "count-bytes" => print_sum(&rt, Counted::Bytes, rounds, &input),
         "count-parse" => print_sum(&rt, Counted::Readable, rounds, &input),

@@ -10,7 +10,8 @@ use Rattle.std.specs.declared.alloc.Global.{Global}
 use Rattle.jc_classes.specs.Names.{Name, name_cmp, same_name}
 use Rattle.jc_classes.specs.Names.{names_of}
 use Rattle.jc_classes.proofs.worlds.NameTests.{same_is, same_self}
-use Rattle.jc_classes.specs.Numbers.{name_at, NumberOf, IsOnce, IsNumbered, Grows, Rows}
+use Rattle.jc_classes.specs.Numbers.{name_at, IsOnce, Grows, Rows}
+use Rattle.jc_classes.specs.inside.Numbering.{NumberOf, IsNumbered}
 
 some_one : {X : Type 0} {x y : X} → Some x ≡ Some y → x ≡ y
 some_one e = cc

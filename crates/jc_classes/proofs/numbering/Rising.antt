@@ -10,7 +10,8 @@ use Rattle.std.specs.FinMap as fin
 use Rattle.jc_base.proofs.maps.FiniteMaps.{bytes_cmp_total, keys_rise}
 use Rattle.jc_classes.specs.Names.{Name}
 use Rattle.jc_classes.specs.NameLists.{has, IsRisingOf}
-use Rattle.jc_classes.specs.Numbers.{name_at, NumberOf, IsNumbered}
+use Rattle.jc_classes.specs.Numbers.{name_at}
+use Rattle.jc_classes.specs.inside.Numbering.{NumberOf, IsNumbered}
 use Rattle.jc_classes.proofs.worlds.NameTests.{same_is}
 
 pub has_of : (names : List Name) (n : Name) → Contains names n → has names n ≡ true

@@ -21,7 +21,16 @@ use Rattle.jc_classes.specs.Resolution.{start_of, object_start}
 use Rattle.jc_classes.specs.Resolution.Answer.{ToClass, ToMember, Beyond, NotLoaded, Wrong}
 use Rattle.jc_classes.specs.Loading.Loading.{Loaded, Outside, Fails}
 use Rattle.jc_classes.specs.Facts.Named.{Class, Array}
-use Rattle.jc_classes.specs.Laws.{Agree, Holds}
+
+-- two maps agree at a set of names that is closed under supertypes
+pub record Agree (R : Name → Type 0) (m n : World) : Type 0 where
+  pub same : (x : Name) → R x → m x ≡ n x
+  pub closed : (x s : Name) → R x → Contains (supers_of (m x)) s → R s
+
+-- the set holds the class that is named, or the innermost one of the array
+abbrev pub Holds : (Name → Type 0) → Named → Type 0
+Holds R (Class c) = R c
+Holds R (Array t e) = (c : Name) → e ≡ Some c → R c
 
 pub agree_back : (R : Name → Type 0) (m n : World) → Agree R m n → Agree R n m
 agree_back R m n g = record {

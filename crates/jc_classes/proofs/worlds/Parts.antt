@@ -13,7 +13,8 @@ use Rattle.jc_classes.specs.Loading.Loading.{Loaded, Outside, Fails}
 use Rattle.jc_classes.specs.Resolution.{Answer}
 use Rattle.jc_classes.specs.Parts.{class_in, names_in, Reach, ResolvesOf, IsAnswer, AreAnswers, Part, IsPart}
 use Rattle.jc_classes.specs.Parts.Reach.{itself, always, reference, upward}
-use Rattle.jc_classes.specs.Laws.{Agree, Holds, Differ, Avoids, Hits}
+use Rattle.jc_classes.specs.Laws.{Differ, Avoids, Hits}
+use Rattle.jc_classes.proofs.worlds.Local.{Agree, Holds}
 use Rattle.jc_classes.proofs.worlds.One.{load_one, rclass_one, rfield_one, rmethod_one, rimethod_one}
 use Rattle.jc_classes.proofs.worlds.Local.{contains_head, above_there, load_there, rclass_there, rfield_there, rmethod_there, rimethod_there}
 

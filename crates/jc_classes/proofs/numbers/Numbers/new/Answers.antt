@@ -1,7 +1,7 @@
 use Rattle.std.proofs.Common.{sym, subst}
 use Rattle.std.specs.FinMap as fin
 use Rattle.jc_classes.specs.Names.{names_of}
-use Rattle.jc_classes.specs.Numbers.{IsNumbered}
+use Rattle.jc_classes.specs.inside.Numbering.{IsNumbered}
 use Rattle.jc_classes.proofs.numbering.NumberLemmas.{numbered_empty}
 use Rattle.jc_classes.proofs.numbers.Numbers.new.Goals as goal
 

@@ -4,7 +4,8 @@ use Rattle.std.specs.FinMap as fin
 use Rattle.std.specs.declared.vec.Vec.{Vec}
 use Rattle.std.specs.declared.alloc.Global.{Global}
 use Rattle.jc_classes.specs.Names.{names_of}
-use Rattle.jc_classes.specs.Numbers.{IsNumbered, Grows}
+use Rattle.jc_classes.specs.Numbers.{Grows}
+use Rattle.jc_classes.specs.inside.Numbering.{IsNumbered}
 use Rattle.jc_classes.proofs.numbering.NumberLemmas.{none_found, numbered_push, names_push, grows_push}
 use Rattle.jc_classes.proofs.numbers.Numbers.number.Goals as goal
 
