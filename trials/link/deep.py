@@ -1,12 +1,14 @@
 #!/usr/bin/env python3
-"""The part of a class under as many classes as a table may have: in a chain, and in a ring.
+"""The part of the last of many classes that reach one another: in a chain, in a ring, and in other shapes.
 
-Usage: deep.py [COUNT]. It builds the program jc_trials by `rt run`, and tells asks and seconds.
+Usage: deep.py [COUNT]. COUNT is the greatest number of classes, 65,535 where none is given; each shape is made
+with that many, and with a half, a quarter and an eighth of them. It builds the program jc_trials by `rt run`, and
+tells asks and seconds of a processor, less those of as many classes that reach only themselves.
 """
 import pathlib
+import resource
 import subprocess
 import sys
-import time
 
 sys.dont_write_bytecode = True
 sys.path.insert(0, str(pathlib.Path(__file__).resolve().parent.parent))
@@ -14,31 +16,57 @@ import common
 import worlds
 
 
-def world(count, first):
-    """Classes N1, N2 and so on, each the superclass of the next; what the first extends is given."""
+def name(number):
+    return b"N%d" % number
+
+
+# The superclass of class K of N, and its interfaces.
+SHAPES = {
+    "alone": lambda k, n: (0, []),
+    "chain": lambda k, n: (k - 1, []),
+    "ring": lambda k, n: (k - 1 or n, []),
+    "rings of two": lambda k, n: (k + 1 if k % 2 and k < n else k - 1, [k - 2] if k % 2 and k > 2 else []),
+    "chain, each also back by one": lambda k, n: (k - 1, [k + 1] if k < n else []),
+    "chain, each also to the first": lambda k, n: (k - 1, [1]),
+    "each to the 16 before it": lambda k, n: (k - 1, list(range(max(1, k - 16), k - 1))),
+}
+
+
+def world(shape, count):
     pieces = []
     for number in range(1, count + 1):
-        parent = b"N%d" % (number - 1) if number > 1 else first
-        file = worlds.class_file(b"N%d" % number, 0x21, parent, [], [], [], [])
+        parent, interfaces = SHAPES[shape](number, count)
+        file = worlds.class_file(name(number), 0x21, name(parent) if parent else worlds.OBJECT, list(map(name, interfaces)), [], [], [])
         pieces += [b"%05d" % number, file]
     return common.framed(pieces)
 
 
-def told(name, frames):
-    start = time.monotonic()
-    done = subprocess.run([common.PROGRAM, "link", name], input=frames, stdout=subprocess.PIPE, check=True)
-    return done.stdout.decode().splitlines(), time.monotonic() - start
+def told(last, frames):
+    """The lines, and the seconds of a processor, the least of three runs."""
+    least = None
+    for _ in range(3):
+        before = resource.getrusage(resource.RUSAGE_CHILDREN)
+        done = subprocess.run([common.PROGRAM, "link", last], input=frames, stdout=subprocess.PIPE, check=True)
+        after = resource.getrusage(resource.RUSAGE_CHILDREN)
+        took = after.ru_utime + after.ru_stime - before.ru_utime - before.ru_stime
+        least = took if least is None else min(least, took)
+    return done.stdout.decode().splitlines(), least
 
 
 def main():
     count = int(sys.argv[1]) if len(sys.argv) > 1 else 65535
     common.build()
-    last, wrong = f"N{count}", 0
-    for what, first, load, asks in [("chain", worlds.OBJECT, "loaded", count + 1), ("ring", last.encode(), f"error 3 Circular {last}", count + 1)]:
-        lines, seconds = told(last, world(count, first))
-        right = lines[0] == f"part {last}: {load}" and lines[-1] == f"{asks} asks"
-        wrong += not right
-        print(f"{what} of {count}: {lines[0]}, {lines[-1]}, {seconds:.2f} s" + ("" if right else ", which is wrong"))
+    wrong, alone = 0, {}
+    for shape in SHAPES:
+        for number in [count // 8, count // 4, count // 2, count]:
+            lines, seconds = told(f"N{number}", world(shape, number))
+            asks = 2 if shape == "alone" else number + 1
+            load = lines[0].split(": ")[1]
+            right = lines[-1] == f"{asks} asks" and (shape not in ("chain", "alone") or load == "loaded") and (shape != "ring" or load == f"error 3 Circular N{number}")
+            wrong += not right
+            if shape == "alone":
+                alone[number] = seconds
+            print(f"{shape}, {number}: {load}, {lines[-1]}, {seconds - (alone[number] if shape != 'alone' else 0):.3f} s" + ("" if right else ", which is wrong"))
     sys.exit(1 if wrong else 0)
 
 

@@ -83,7 +83,11 @@ fn write_method_faults<W: Output>(
 }
 
 /// The line of a fault of the code of the method of a number.
-pub fn write_code_fault_line<W: Output>(out: &mut TextWriter<'_, W>, number: usize, fault: CodeFault)
+pub fn write_code_fault_line<W: Output>(
+    out: &mut TextWriter<'_, W>,
+    number: usize,
+    fault: CodeFault,
+)
     ensures { Sends W.written W.failures out.old out.new (code_fault_line (number, fault)) }
 {
     out.text(b"code S");

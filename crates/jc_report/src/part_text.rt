@@ -181,7 +181,12 @@ fn write_answer<W: Output>(out: &mut TextWriter<'_, W>, answer: &Answer)
             descriptor,
         } => {
             out.text(b"To ");
-            write_member(out, class.as_slice(), name.as_slice(), descriptor.as_slice());
+            write_member(
+                out,
+                class.as_slice(),
+                name.as_slice(),
+                descriptor.as_slice(),
+            );
         }
         Answer::Outside(name) => {
             out.text(b"Outside ");

@@ -14,7 +14,7 @@ use crate::text_answers::{
     field_answer, method_answer, name_answer, signature_answer, units_answer,
 };
 use crate::tokens::Token;
-use crate::world_answers::world_text;
+use crate::world_answers::{outside_answer, world_text};
 use anyhow::{Context, Result, bail};
 use jc_base::{ByteMap, SigKind};
 use jc_session::Session;
@@ -301,6 +301,7 @@ fn bytes_answer(alloc: Global, kind: &str, bytes: &[u8]) -> Result<String, Alloc
         "instructions" => instructions_answer(alloc, bytes),
         "code-faults" => code_faults_answer(alloc, bytes),
         "listing" => listing_answer(alloc, bytes),
+        "outside" => outside_answer(alloc, bytes),
         "units" => units_answer(alloc, bytes),
         "name" => name_answer(alloc, bytes),
         "field" => field_answer(alloc, bytes),

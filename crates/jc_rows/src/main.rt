@@ -26,6 +26,7 @@
 //!   end, as `0 iload 1, rest 2`. `code-faults`: `none`, or each code fault's rule and place of the first
 //!   method.
 //! - `listing`: the listing in one line, ` /` in place of LF and `@` in place of `#`.
+//! - `outside`: whether the prefixes of all lines but the first cover the name in the first.
 //! - `units`: the code units, four digits each, or `none`; or `bad at PLACE`.
 //! - `name`: what the text is of `unqualified`, `method` and `class`, or `none`.
 //! - `field` and `method`: the parts of a descriptor, or `none`.

@@ -4,10 +4,10 @@ use crate::dialogue::NamedFile;
 use anyhow::{Result, bail};
 use jc_base::{ByteMap, MemOutput, NoMemory};
 use jc_file::parse;
-use jc_link::{Facts, Meter, Outside, Table, gather, make_part};
+use jc_link::{Facts, Meter, Outside, OutsideError, Table, gather, make_part};
 use jc_report::write_part;
 use jc_text::TextWriter;
-use std::alloc::Global;
+use std::alloc::{AllocError, Global};
 
 /// So much room a text has.
 const ROOM: usize = 1 << 20;
@@ -116,4 +116,35 @@ fn names_of(alloc: Global, world: &World) -> Result<Vec<Vec<u8>>> {
         names.push(Vec::from_slice(alloc, name)?)?;
     }
     Ok(names)
+}
+
+/// Whether the prefixes of all lines but the first cover the name in the first, or why they are refused.
+pub(crate) fn outside_answer(alloc: Global, bytes: &[u8]) -> Result<String, AllocError> {
+    let Ok(text) = str::from_utf8(bytes) else {
+        return String::from_str(alloc, "no text");
+    };
+    let (name, mut rest) = text.split_once('\n').unwrap_or((text, ""));
+    let mut prefixes: Vec<&[u8]> = Vec::new(alloc);
+    for _ in 0..text.len() {
+        let Some((prefix, behind)) = rest.split_once('\n') else {
+            break;
+        };
+        prefixes.push(prefix.as_bytes())?;
+        rest = behind;
+    }
+    let answer = match Outside::new(alloc, &prefixes) {
+        Ok(outside) => covered(&outside, name),
+        Err(OutsideError::BadPrefix) => "1 BadPrefix",
+        Err(OutsideError::TooManyPrefixes) => "2 TooManyPrefixes",
+        Err(OutsideError::NoMemory) => "3 NoMemory",
+    };
+    String::from_str(alloc, answer)
+}
+
+fn covered(outside: &Outside, name: &str) -> &'static str {
+    if outside.covers(name.as_bytes()) {
+        "outside"
+    } else {
+        "not outside"
+    }
 }

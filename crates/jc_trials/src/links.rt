@@ -109,7 +109,9 @@ pub(crate) fn write_link<W: Output>(
     name: &[u8],
 ) -> Result<u64, NoMemory> {
     let World {
-        table, mut meter, ..
+        table,
+        mut meter,
+        ..
     } = World::of(alloc, frame)?;
     let closure = gather(alloc, &table, &Outside::standard(), name, &mut meter)?;
     let asks = meter.asks();

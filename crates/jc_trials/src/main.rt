@@ -127,8 +127,7 @@ fn print_links(rt: &(impl Print + AllocGlobal), input: &[u8]) -> io::Result<()> 
 fn print_link(rt: &(impl Print + AllocGlobal), name: &str, input: &[u8]) -> io::Result<()> {
     let mut output = StdOutput::new(io::writer(rt));
     let mut out = TextWriter::new(&mut output);
-    let asks =
-        write_link(rt.alloc(), &mut out, input, name.as_bytes()).map_err(out_of_memory)?;
+    let asks = write_link(rt.alloc(), &mut out, input, name.as_bytes()).map_err(out_of_memory)?;
     out.decimal(asks);
     out.text(b" asks\n");
     match out.finish() {
