@@ -3,10 +3,10 @@
 ghost use Rattle.std.specs.Prelude.{◌≡◌, length, option_map, slice_get};
 ghost use Rattle.std.specs.Option.{option_copied};
 ghost use Rattle.jc_classes.specs.Facts.{is_faulty};
-ghost use Rattle.jc_classes.specs.Lent.{reference_lent};
+ghost use Rattle.jc_classes.specs.Lent.{member_lent, reference_lent};
 ghost use Rattle.jc_classes.specs.inside.FactsShown.{reference_shown};
 
-use crate::member::Key;
+use crate::member::{Key, Member};
 use crate::reference::Reference;
 use crate::reference_kind::ReferenceKind;
 use crate::text_list::TextList;
@@ -128,6 +128,40 @@ impl Facts {
         ensures { result ≡ length self.now.interfaces }
     {
         self.interfaces.len()
+    }
+
+    /// The field of a number, in file order.
+    pub fn own_field(&self, number: usize) -> Option<Member<'_>>
+        ensures { option_map member_lent result ≡ slice_get self.now.fields number }
+    {
+        match self.fields.get(number) {
+            Some(entry) => Some(entry.lend(&self.texts)),
+            None => None,
+        }
+    }
+
+    /// How many fields it declares.
+    pub fn field_count(&self) -> usize
+        ensures { result ≡ length self.now.fields }
+    {
+        self.fields.len()
+    }
+
+    /// The method of a number, in file order.
+    pub fn own_method(&self, number: usize) -> Option<Member<'_>>
+        ensures { option_map member_lent result ≡ slice_get self.now.methods number }
+    {
+        match self.methods.get(number) {
+            Some(entry) => Some(entry.lend(&self.texts)),
+            None => None,
+        }
+    }
+
+    /// How many methods it declares.
+    pub fn method_count(&self) -> usize
+        ensures { result ≡ length self.now.methods }
+    {
+        self.methods.len()
     }
 
     /// The reference of a number, by rising index of its constant.

@@ -62,7 +62,7 @@ impl Facts {
 
 impl MemberEntry {
     /// The member, with its texts.
-    fn lend(self, texts: &TextList) -> Member<'_>
+    pub(crate) fn lend(self, texts: &TextList) -> Member<'_>
         ensures { member_lent result ≡ member_shown texts.now self }
     {
         Member {

@@ -1,6 +1,8 @@
 -- Tables of classes, and the world that one makes with outside prefixes.
 use Rattle.std.specs.Prelude.{Bool, cond, List, Option, Some, None}
 use Rattle.std.specs.FinMap as map
+use Rattle.std.specs.List.{flat_map}
+use Rattle.std.specs.Option.{option_to_list}
 use Rattle.jc_classes.specs.Facts.{Facts}
 use Rattle.jc_classes.specs.Names.{Name, name_cmp, same_name, object}
 use Rattle.jc_classes.specs.Worlds.{Stands, World}
@@ -19,6 +21,13 @@ placed (Some facts) = facts
 -- the record that a file gives
 abbrev pub class_at : Places → Name → Option Facts
 class_at places name = placed (map.get places name)
+
+-- the records that files give, by name
+abbrev pub classes_in : List (Name × Option Facts) → List Facts
+classes_in places = flat_map (λ place. option_to_list place.1) places
+
+abbrev pub classes_of : Places → List Facts
+classes_of places = classes_in (map.entries places)
 
 -- the built-in record
 abbrev pub built_in : Name → Option Facts

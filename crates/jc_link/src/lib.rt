@@ -21,4 +21,4 @@ pub use laws::{places_change, prefixes_differ, worlds_differ};
 pub use meter::Meter;
 pub use outside::{Outside, OutsideError};
 pub use part::{Part, make_part};
-pub use table::Table;
+pub use table::{Classes, Table};

@@ -3,11 +3,12 @@
 ghost use Rattle.std.specs.Prelude.{◌≡◌, IfErr, IfOk, None, OnErr, OnOk, OnSome, Some};
 ghost use Rattle.std.specs.Option.{option_copied};
 ghost use Rattle.std.specs.FinMap as map;
+ghost use Rattle.std.specs.Iterator.{YieldsFirstRef, item_count};
 ghost use Rattle.jc_link.specs.Meters.{counted};
-ghost use Rattle.jc_link.specs.Tables.{built_in, class_at, record_at};
+ghost use Rattle.jc_link.specs.Tables.{built_in, class_at, classes_of, record_at};
 
 use crate::meter::Meter;
-use jc_base::{ByteMap, NoMemory};
+use jc_base::{ByteMap, NoMemory, byte_map};
 use jc_classes::{Facts, same};
 use std::alloc::{AllocFailed, Global};
 use std::marker::Model;
@@ -78,6 +79,15 @@ impl Table {
         None
     }
 
+    /// The classes that files give, in the order of their names. No ask is counted.
+    pub fn classes(&self) -> Classes<'_>
+        ensures { result ≡ classes_of self.now }
+    {
+        Classes {
+            places: self.places.iter(),
+        }
+    }
+
     /// Puts the facts in the place of their class, and answers the file's record that stood there. Fails
     /// only for want of memory where the name has no place, and then gives the facts back.
     pub fn put(&mut self, facts: Facts) -> Result<Option<Facts>, Facts>
@@ -124,5 +134,38 @@ impl Table {
             Some(place) => place.take(),
             None => None,
         }
+    }
+}
+
+/// The classes of a [`Table`] in the order of their names, seen as the list of those that are left.
+#[derive(Drop)]
+pub struct Classes<'t> {
+    places: byte_map::Iter<'t, Option<Facts>>,
+}
+
+impl<'t> Model for Classes<'t> {
+    ghost use Rattle.std.specs.Prelude.{List};
+    ghost use Rattle.jc_classes.specs.Facts as specs;
+    ghost use Rattle.jc_link.specs.Tables.{classes_in};
+
+    ghost Value = { List specs.Facts };
+
+    ghost view = { λ a. classes_in a.places };
+}
+
+impl<'t> Iterator for Classes<'t> {
+    type Item = &'t Facts;
+
+    ghost next_gives = { YieldsFirstRef (λ left. left) };
+
+    ghost remaining = { item_count (λ left. left) };
+
+    fn next(&mut self) -> Option<&'t Facts> {
+        while let Some((_, place)) = self.places.next() {
+            if let Some(facts) = place {
+                return Some(facts);
+            }
+        }
+        None
     }
 }
