@@ -1,1 +1,5 @@
 pub mod lines
+pub mod rows
+pub mod trees
+pub mod reports
+pub mod winners

@@ -1,1 +1,14 @@
+pub mod ClassRows
+pub mod FileRowText
+pub mod FileRowView
+pub mod FileRows
+pub mod Files
 pub mod PartText
+pub mod ReportLaws
+pub mod ReportText
+pub mod Reports
+pub mod RowView
+pub mod Rows
+pub mod Trees
+pub mod Winners
+pub mod inside

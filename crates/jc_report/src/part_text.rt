@@ -127,7 +127,7 @@ fn write_reference<W: Output>(out: &mut TextWriter<'_, W>, reference: Reference<
     write_named(out, reference.kind, reference.class, reference.key);
 }
 
-fn kind_word(kind: ReferenceKind) -> &'static [u8]
+pub(crate) fn kind_word(kind: ReferenceKind) -> &'static [u8]
     ensures { result.now ≡ kind_text kind }
 {
     match kind {
@@ -139,7 +139,7 @@ fn kind_word(kind: ReferenceKind) -> &'static [u8]
 }
 
 /// What a reference of a kind names.
-fn write_named<W: Output>(
+pub(crate) fn write_named<W: Output>(
     out: &mut TextWriter<'_, W>,
     kind: ReferenceKind,
     class: &[u8],

@@ -1,3 +1,4 @@
+pub mod checks
 pub mod holding
 pub mod listings
 pub mod runs

@@ -1,5 +1,5 @@
 pub mod ClaimsOfPaths
 pub mod EmptyFile
-pub mod LeastPathWins
+pub mod ClaimsWin
 pub mod ClaimsStay
 pub mod RowsByClaims

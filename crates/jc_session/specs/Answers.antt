@@ -3,8 +3,9 @@ use Rattle.std.specs.Prelude.{ℕ, List, [], ◌∷◌, ◌++◌, drop, Option, 
 use Rattle.jc_session.specs.declared.edit.EditError.{EditError}
 use Rattle.jc_session.specs.declared.source.SourceError.{SourceError}
 use Rattle.jc_session.specs.declared.source.SourceError.TheVariants as sources
-use Rattle.jc_session.specs.Files.{Files, Change, Adds, Replaces, Removes, judge, after}
-use Rattle.jc_session.specs.RowText.{report_text}
+use Rattle.jc_report.specs.Files.{Files}
+use Rattle.jc_session.specs.Edits.{Change, Adds, Replaces, Removes, judge, after}
+use Rattle.jc_session.specs.ReportText.{report_text}
 use Rattle.jc_session.specs.AnswerText.{refused_text, unread_text}
 use Rattle.jc_session.specs.ListedText.{listed_text}
 use Rattle.jc_session.specs.Lines.{Command, Add, Replace, Remove, Report, Listing, End, Bad, command_of}

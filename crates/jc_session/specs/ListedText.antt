@@ -7,9 +7,9 @@ use Rattle.jc_view.specs.ClassFile.{ClassFile}
 use Rattle.jc_view.specs.Outcome.{class_read}
 use Rattle.jc_list.specs.Listing.{listing}
 use Rattle.jc_list.specs.FaultLines.{is_faulty}
-use Rattle.jc_session.specs.Files.{Files}
-use Rattle.jc_session.specs.Rows.{winner}
-use Rattle.jc_session.specs.RowText.{refusal_text}
+use Rattle.jc_report.specs.Files.{Files}
+use Rattle.jc_report.specs.FileRows.{winner}
+use Rattle.jc_report.specs.FileRowText.{refusal_text}
 
 abbrev pub text_by : Result ClassFile ParseError → List ℕ
 text_by (Ok c) = listing c

@@ -9,8 +9,9 @@ use Rattle.jc_session.specs.declared.run_error.Ended.{Ended}
 use Rattle.jc_session.specs.declared.run_error.Ended.TheVariants as ended
 use Rattle.jc_session.specs.declared.source.SourceError.{SourceError}
 use Rattle.jc_session.specs.declared.source.SourceError.TheVariants as sources
-use Rattle.jc_session.specs.Files.{Files, Change, Adds, Replaces, judge}
-use Rattle.jc_session.specs.Rows.{winner}
+use Rattle.jc_report.specs.Files.{Files}
+use Rattle.jc_session.specs.Edits.{Change, Adds, Replaces, judge}
+use Rattle.jc_report.specs.FileRows.{winner}
 use Rattle.jc_session.specs.Lines.{Command, Add, Replace, Remove, Report, Listing, End, Bad, command_of, lines_of, whole_lines}
 use Rattle.jc_session.specs.Sources.{SourceAnswers, next_answer}
 use Rattle.jc_session.specs.Answers.{Reply, Says, Lists, Ends, Lacks, reply, Run, Ending, AtEnd, AtEof, run_of}

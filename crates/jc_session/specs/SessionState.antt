@@ -1,5 +1,5 @@
 -- What contracts see of a session.
-use Rattle.jc_session.specs.Files.{Files}
+use Rattle.jc_report.specs.Files.{Files}
 
 pub record SessionState : Type 0 where
   pub files : Files

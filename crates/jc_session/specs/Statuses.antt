@@ -1,5 +1,5 @@
 -- How the program ends, and what it tells on standard error.
-use Rattle.std.specs.Prelude.{◌≡◌, ℕ, ◌≤◌, ◌⊎◌, Bool, true, false, List, [], ◌++◌, Option, Some, Result, Ok, Err, MatchOption, codes}
+use Rattle.std.specs.Prelude.{◌≡◌, ℕ, ◌≤◌, ◌⊎◌, Bool, true, false, List, [], ◌++◌, Option, Some, Result, Ok, Err, MatchOption, codes, decimal}
 use Rattle.std.specs.FinMap as map
 use Rattle.std.specs.List.{list_any}
 use Rattle.std.specs.Io.KnownBytes.{Appends, Keeps}
@@ -9,13 +9,19 @@ use Rattle.jc_session.specs.declared.run_error.RunError.{RunError}
 use Rattle.jc_session.specs.declared.run_error.RunError.TheVariants as run_errors
 use Rattle.jc_session.specs.declared.source.SourceError.{SourceError}
 use Rattle.jc_session.specs.declared.source.SourceError.TheVariants as sources
+use Rattle.jc_session.specs.declared.edit.EditError.{EditError}
+use Rattle.jc_session.specs.declared.edit.EditError.TheVariants as errors
 use Rattle.jc_text.specs.Escapes.{path_text}
+use Rattle.jc_session.specs.AnswerText.{edit_code, edit_error_name}
+use Rattle.jc_session.specs.Checks.{Answer, CheckFault, ChecksAs, FileRefused, FileUnread, WriteFailed, added}
+use Rattle.jc_session.specs.Checks as checks
 use Rattle.jc_list.specs.Listing.{WritesBeginning}
 use Rattle.jc_session.specs.ListedText.{file_text, is_faulty_file}
-use Rattle.jc_session.specs.Files.{Files, size_fault}
+use Rattle.jc_report.specs.Files.{Files}
+use Rattle.jc_session.specs.Edits.{size_fault}
 use Rattle.jc_session.specs.Sources.{SourceAnswers}
 use Rattle.jc_session.specs.Runs.{RunsAs}
-use Rattle.jc_session.specs.Rows.{rows, is_unreadable}
+use Rattle.jc_report.specs.FileRows.{rows, is_unreadable}
 
 -- why the program ends with a line on standard error
 pub data Fault : Type 0 where
@@ -23,9 +29,10 @@ pub data Fault : Type 0 where
   Input : Fault
   Output : Fault
   NoMemory : Fault
-  -- the file at a path can't be read, or is over the limit
+  -- the file or the folder at a path can't be read
   Unread : (path : List ℕ) → Fault
-  TooLarge : (path : List ℕ) → Fault
+  -- the file at a path is refused
+  Refused : EditError → (path : List ℕ) → Fault
 
 -- whether what was told is wrong, or why nothing was
 abbrev pub Outcome : Type 0
@@ -55,16 +62,35 @@ ListsFile bytes outcome before now =
 
 -- the file at a path was listed, by what the source answered
 abbrev pub ListsAs : (path : List ℕ) → Result (List ℕ) SourceError → Outcome → (before now : Option (List ℕ)) → Type 0
-ListsAs path (Ok bytes) outcome before now = MatchOption (size_fault bytes) (ListsFile bytes outcome before now) (λ _. (outcome ≡ Err (TooLarge path)) × Keeps before now)
+ListsAs path (Ok bytes) outcome before now = MatchOption (size_fault bytes) (ListsFile bytes outcome before now) (λ _. (outcome ≡ Err (Refused errors.TooLarge path)) × Keeps before now)
 ListsAs path (Err sources.Unread) outcome before now = (outcome ≡ Err (Unread path)) × Keeps before now
 ListsAs path (Err sources.NoMemory) outcome before now = (outcome ≡ Err NoMemory) × Keeps before now
 
--- the words were refused and nothing was written, or there was a run, or a file was listed
+abbrev pub fault_of_check : CheckFault → Fault
+fault_of_check (FileUnread path) = Unread path
+fault_of_check (FileRefused e path) = Refused e path
+fault_of_check WriteFailed = Output
+fault_of_check checks.NoMemory = NoMemory
+
+abbrev pub outcome_of_check : Result Bool CheckFault → Outcome
+outcome_of_check (Ok wrong) = Ok wrong
+outcome_of_check (Err fault) = Err (fault_of_check fault)
+
+-- a folder could not be walked, or the files at the paths that the walk gave were checked, by what was read at each
+abbrev pub Checks : Outcome → (before now : Option (List ℕ)) → Type 0
+Checks outcome before now =
+    ((outcome ≡ Err NoMemory) × Keeps before now)
+    ⊎ ((folder : List ℕ) × (outcome ≡ Err (Unread folder)) × Keeps before now)
+    ⊎ ((prefixes : List (List ℕ)) × (paths : List (List ℕ)) × (answers : List Answer) × (checked : Result Bool CheckFault) × (outcome ≡ outcome_of_check checked)
+    × ChecksAs prefixes (added map.empty paths answers) checked before now)
+
+-- the words were refused and nothing was written, or there was a run, or a file was listed, or a tree was checked
 abbrev pub Performs : Outcome → (input coming before now : Option (List ℕ)) → Type 0
 Performs outcome input coming before now =
     ((outcome ≡ Err Usage) × Keeps before now)
     ⊎ ((ending : Result Ended RunError) × (f : Files) × (outcome ≡ outcome_of ending f) × RunsByAnswers ending f input coming before now)
     ⊎ ((path : List ℕ) × (answer : Result (List ℕ) SourceError) × ListsAs path answer outcome before now × (coming ≡ input))
+    ⊎ (Checks outcome before now × (coming ≡ input))
 
 abbrev pub fault_status : Fault → ℕ
 fault_status Usage = 2
@@ -72,7 +98,7 @@ fault_status Input = 3
 fault_status Output = 3
 fault_status NoMemory = 4
 fault_status (Unread path) = 3
-fault_status (TooLarge path) = 3
+fault_status (Refused e path) = 3
 
 abbrev pub status_of : Outcome → ℕ
 status_of (Ok false) = 0
@@ -86,7 +112,7 @@ fault_text Input = codes "jclink: cannot read input\n"
 fault_text Output = codes "jclink: cannot write\n"
 fault_text NoMemory = codes "jclink: no memory\n"
 fault_text (Unread path) = codes "jclink: cannot read " ++ path_text path ++ codes "\n"
-fault_text (TooLarge path) = codes "jclink: refused 3 TooLarge " ++ path_text path ++ codes "\n"
+fault_text (Refused e path) = codes "jclink: refused " ++ decimal (edit_code e) ++ codes " " ++ edit_error_name e ++ codes " " ++ path_text path ++ codes "\n"
 
 -- the text was written, or a proper beginning of it and then the device failed
 abbrev pub WritesUnlessFailed : List ℕ → (before after : Option (List ℕ)) (old new : ℕ) → Type 0
@@ -106,7 +132,7 @@ CountsInput (Err Input) old new = MoreFaults old new × (old ≤ new)
 CountsInput (Err Output) old new = new ≡ old
 CountsInput (Err NoMemory) old new = new ≡ old
 CountsInput (Err (Unread path)) old new = new ≡ old
-CountsInput (Err (TooLarge path)) old new = new ≡ old
+CountsInput (Err (Refused e path)) old new = new ≡ old
 
 -- and the output's with this one
 abbrev pub CountsOutput : Outcome → ℕ → ℕ → Type 0
@@ -116,4 +142,4 @@ CountsOutput (Err Input) old new = new ≡ old
 CountsOutput (Err Output) old new = MoreFaults old new × (old ≤ new)
 CountsOutput (Err NoMemory) old new = new ≡ old
 CountsOutput (Err (Unread path)) old new = new ≡ old
-CountsOutput (Err (TooLarge path)) old new = new ≡ old
+CountsOutput (Err (Refused e path)) old new = new ≡ old

@@ -1,3 +1,4 @@
+pub mod Adding
 pub mod Claims
 pub mod EditText
 pub mod Growth

@@ -1,11 +1,11 @@
 //! The answer to one line.
 ghost use Rattle.std.specs.Prelude.{◌≡◌, ◌≢◌, IfErr, IsSome, None, Some};
 ghost use Rattle.jc_session.specs.declared.run_error.RunError.TheVariants.{NoMemory, Read};
-ghost use Rattle.jc_session.specs.Files.{judge};
+ghost use Rattle.jc_session.specs.Edits.{judge};
 ghost use Rattle.jc_session.specs.Sources.{SourceAnswers, next_answer};
 ghost use Rattle.jc_session.specs.Answers.{Lists, edit_reply, reply, sourced_reply};
 ghost use Rattle.jc_session.specs.ListedText.{listed_text};
-ghost use Rattle.jc_session.specs.Rows.{winner};
+ghost use Rattle.jc_report.specs.FileRows.{winner};
 ghost use Rattle.jc_session.specs.Runs.{CountsWrites, LineMayLack, MayLack};
 ghost use Rattle.jc_session.specs.inside.Growth.{MayGrow, change_lent};
 ghost use Rattle.jc_session.specs.inside.Replies.{Gives, GivesByAnswers, command_lent, placed, said_by};

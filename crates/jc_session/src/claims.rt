@@ -5,13 +5,13 @@ ghost use Rattle.std.specs.Option.{option_map};
 ghost use Rattle.jc_base.specs.Bytes.{same_bytes};
 ghost use Rattle.jc_view.specs.Outcome.{class_named};
 ghost use Rattle.jc_session.specs.inside.Claims.{has_claim, first_claim, claimed_state};
-ghost use Rattle.jc_session.specs.FileRowView.{state_lent};
-ghost use Rattle.jc_session.specs.Rows as rows;
-ghost use Rattle.jc_session.specs.Rows.{names};
+ghost use Rattle.jc_report.specs.FileRowView.{state_lent};
+ghost use Rattle.jc_report.specs.FileRows as rows;
+ghost use Rattle.jc_report.specs.FileRows.{names};
 
 use crate::file::File;
-use crate::file_row::FileState;
 use jc_base::{ByteMap, NoMemory};
+use jc_report::FileState;
 use std::alloc::Global;
 use std::marker::Model;
 

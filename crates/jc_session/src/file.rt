@@ -4,7 +4,7 @@ ghost use Rattle.std.specs.Prelude.{◌≡◌, [], IfOk};
 ghost use Rattle.std.specs.Result.{is_ok};
 ghost use Rattle.jc_view.specs.Outcome.{class_named};
 ghost use Rattle.jc_session.specs.inside.HeldFile.{class_held, class_lent};
-ghost use Rattle.jc_session.specs.Rows.{names};
+ghost use Rattle.jc_report.specs.FileRows.{names};
 
 use jc_base::NoMemory;
 use jc_view::{ParseError, outcomes_are_exact, parse};

@@ -4,11 +4,11 @@ ghost use Rattle.std.specs.Prelude.{◌≡◌, ◌++◌, Err, IfErr, IfOk, Match
 ghost use Rattle.jc_list.specs.declared.list_error.ListError.TheVariants.{Write};
 ghost use Rattle.jc_list.specs.ListErrors.{CountsWrites, WritesListing};
 ghost use Rattle.jc_session.specs.ListedText.{file_text, is_faulty_file};
-ghost use Rattle.jc_session.specs.RowText.{refusal_text};
+ghost use Rattle.jc_report.specs.FileRowText.{refusal_text};
 
-use crate::report_text::write_refusal;
 use jc_base::{DeviceFault, Output};
 use jc_list::{ListError, list_class};
+use jc_report::write_refusal;
 use jc_text::TextWriter;
 use jc_view::{ParseError, outcomes_are_exact, parse};
 use std::alloc::Global;

@@ -3,7 +3,7 @@
 
 ghost use Rattle.std.specs.Prelude.{◌≡◌, [], IfOk, None, OnErr, Some, false, true};
 ghost use Rattle.std.specs.FinMap as map;
-ghost use Rattle.jc_session.specs.Files.{after, judge};
+ghost use Rattle.jc_session.specs.Edits.{after, judge};
 ghost use Rattle.jc_session.specs.inside.Claims.{AreClaims};
 ghost use Rattle.jc_session.specs.inside.Growth.{AreClaimsBesides, HasPlace, IsGrown, MayGrow, change_lent, committed, undone};
 

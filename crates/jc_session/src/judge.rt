@@ -1,7 +1,7 @@
 //! Whether an edit is refused.
 
 ghost use Rattle.std.specs.Prelude.{◌≡◌};
-ghost use Rattle.jc_session.specs.Files as files_of;
+ghost use Rattle.jc_session.specs.Edits as files_of;
 ghost use Rattle.jc_session.specs.inside.Growth.{change_lent};
 
 use crate::edit::{EditError, LentEdit};
@@ -32,7 +32,7 @@ fn judge_add(files: &ByteMap<File>, path: &[u8], bytes: &[u8]) -> Option<EditErr
     path_fault(path)
         .or(there_fault(files, path))
         .or(size_fault(bytes))
-        .or(room_fault(files))
+        .or(room_fault(files.len()))
 }
 
 fn judge_replace(files: &ByteMap<File>, path: &[u8], bytes: &[u8]) -> Option<EditError>
@@ -43,7 +43,7 @@ fn judge_replace(files: &ByteMap<File>, path: &[u8], bytes: &[u8]) -> Option<Edi
         .or(size_fault(bytes))
 }
 
-fn path_fault(path: &[u8]) -> Option<EditError>
+pub(crate) fn path_fault(path: &[u8]) -> Option<EditError>
     ensures { result ≡ files_of.path_fault path.now }
 {
     if path.is_empty() || path.len() > LONGEST_PATH {
@@ -73,7 +73,7 @@ fn missing_fault(files: &ByteMap<File>, path: &[u8]) -> Option<EditError>
     }
 }
 
-fn size_fault(bytes: &[u8]) -> Option<EditError>
+pub(crate) fn size_fault(bytes: &[u8]) -> Option<EditError>
     ensures { result ≡ files_of.size_fault bytes.now }
 {
     if bytes.len() > LARGEST_FILE {
@@ -83,10 +83,11 @@ fn size_fault(bytes: &[u8]) -> Option<EditError>
     }
 }
 
-fn room_fault(files: &ByteMap<File>) -> Option<EditError>
-    ensures { result ≡ files_of.room_fault files.now }
+/// The fault of one more file beside so many.
+pub(crate) fn room_fault(count: usize) -> Option<EditError>
+    ensures { result ≡ files_of.room_beside count }
 {
-    if files.len() < MOST_FILES {
+    if count < MOST_FILES {
         None
     } else {
         Some(EditError::TooMany)

@@ -4,16 +4,16 @@
 
 mod answer;
 mod answer_text;
+mod checking;
 mod claims;
 mod command;
 mod command_line;
 mod edit;
+mod fault;
 mod file;
 mod file_listing;
-mod file_row;
 mod held;
 mod judge;
-mod laws;
 mod lines;
 mod report;
 mod report_text;
@@ -22,11 +22,13 @@ mod run_error;
 mod running;
 mod session;
 mod source;
+mod walk;
+mod words;
 
+pub use checking::{CheckError, check};
 pub use command_line::program;
 pub use edit::{Done, Edit, EditError};
-pub use file_row::{FileRow, FileState};
-pub use laws::winners_are_least;
+pub use jc_report::{FileRow, FileState, winners_are_least};
 pub use report::Report;
 pub use report_text::{WriteError, write_report};
 pub use rows::Rows;

@@ -4,7 +4,7 @@ ghost use Rattle.std.specs.Prelude.{◌≡◌, option_and_then};
 ghost use Rattle.std.specs.Option.{option_map};
 ghost use Rattle.std.specs.List.{list_any};
 ghost use Rattle.std.specs.FinMap as map;
-ghost use Rattle.jc_session.specs.Rows as rows_of;
+ghost use Rattle.jc_report.specs.FileRows as rows_of;
 
 use crate::held::Held;
 use crate::rows::Rows;
@@ -20,7 +20,7 @@ pub struct Report {
 impl Model for Report {
     ghost use Rattle.std.specs.Coded.{coded_list, coded_ℕ};
     ghost use Rattle.std.specs.FinMap as map;
-    ghost use Rattle.jc_session.specs.Files.{Files};
+    ghost use Rattle.jc_report.specs.Files.{Files};
     ghost use Rattle.jc_session.specs.inside.Claims.{AreClaims};
 
     ghost Value = { Files };

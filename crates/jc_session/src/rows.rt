@@ -1,12 +1,12 @@
 //! The rows of a report.
 
 ghost use Rattle.std.specs.Iterator.{YieldsFirstBy, item_count};
-ghost use Rattle.jc_session.specs.FileRowView.{row_lent};
+ghost use Rattle.jc_report.specs.FileRowView.{row_lent};
 
 use crate::claims::{Claims, state};
 use crate::file::File;
-use crate::file_row::FileRow;
 use jc_base::byte_map;
+use jc_report::FileRow;
 use std::marker::Model;
 
 /// The rows of a report in the order of their paths, seen as the list of those that are left.
@@ -18,7 +18,7 @@ pub struct Rows<'a> {
 
 impl<'a> Model for Rows<'a> {
     ghost use Rattle.std.specs.Prelude.{List, map};
-    ghost use Rattle.jc_session.specs.Rows.{FileRow};
+    ghost use Rattle.jc_report.specs.FileRows.{FileRow};
     ghost use Rattle.jc_session.specs.inside.Claims.{claimed_row};
 
     ghost Value = { List FileRow };

@@ -7,8 +7,8 @@ ghost use Rattle.jc_session.specs.declared.edit.EditError.TheVariants as errors;
 ghost use Rattle.jc_list.specs.declared.list_error.ListError.TheVariants as lists;
 ghost use Rattle.jc_list.specs.ListErrors.{CountsWrites, WritesListing};
 ghost use Rattle.jc_session.specs.ListedText.{listed_text};
-ghost use Rattle.jc_session.specs.Rows.{winner};
-ghost use Rattle.jc_session.specs.Files.{after, change_of, judge};
+ghost use Rattle.jc_report.specs.FileRows.{winner};
+ghost use Rattle.jc_session.specs.Edits.{after, change_of, judge};
 ghost use Rattle.jc_session.specs.Judged.{IsJudged};
 ghost use Rattle.jc_session.specs.inside.Growth.{MayGrow, change_lent};
 

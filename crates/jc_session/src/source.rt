@@ -5,6 +5,7 @@ ghost use Rattle.std.specs.IoError.{error_kind};
 ghost use Rattle.jc_session.specs.declared.source.SourceError.TheVariants.{NoMemory};
 ghost use Rattle.jc_session.specs.Sources.{SourceAnswers, TakesAnswer, answer_of, by_any_path};
 
+use std::alloc::{AllocError, Global};
 use std::fs;
 use std::io::{self, ErrorKind, Read};
 use std::marker::Model;
@@ -101,6 +102,48 @@ impl<R: Files + AllocGlobal> Source for FileSource<'_, R> {
             Err(_) => Err(SourceError::Unread),
         }
     }
+}
+
+/// A source that reads the files below a folder. Nothing is known of what it answers.
+#[derive(Drop)]
+pub(crate) struct FolderSource<'a, R> {
+    rt: &'a R,
+    folder: &'a str,
+}
+
+impl<'a, R: Files + AllocGlobal> FolderSource<'a, R> {
+    /// A source over the files of a runtime, by their paths below a folder.
+    pub(crate) fn new(rt: &'a R, folder: &'a str) -> FolderSource<'a, R> {
+        FolderSource { rt, folder }
+    }
+}
+
+impl<R: Files + AllocGlobal> Source for FolderSource<'_, R> {
+    ghost answers = { λ _. None };
+
+    /// The bytes of the file, or the first 16,777,217 of them. A path that is not UTF-8 is `Unread`.
+    fn read(&mut self, path: &[u8]) -> Result<Vec<u8>, SourceError> {
+        let Ok(path) = str::from_utf8(path) else {
+            return Err(SourceError::Unread);
+        };
+        let Ok(path) = path_below(self.rt.alloc(), self.folder, path) else {
+            return Err(SourceError::NoMemory);
+        };
+        match read_file(self.rt, path.as_str()) {
+            Ok(bytes) => Ok(bytes),
+            Err(error) => Err(refusal(&error)),
+        }
+    }
+}
+
+/// The path of what stands at a path below a folder.
+pub(crate) fn path_below(alloc: Global, folder: &str, path: &str) -> Result<String, AllocError> {
+    let mut whole = String::from_str(alloc, folder)?;
+    if !path.is_empty() {
+        whole.push('/')?;
+        whole.push_str(path)?;
+    }
+    Ok(whole)
 }
 
 /// The bytes of a file, or the first 16,777,217 of them, with no room to spare.

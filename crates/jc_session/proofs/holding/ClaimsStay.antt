@@ -3,10 +3,11 @@ use Rattle.std.proofs.Common.{◌≡◌, ℕ, Bool, true, false, cond, not, ◌&
 use Rattle.std.specs.FinMap as fin
 use Rattle.jc_base.specs.Bytes.{bytes_cmp, same_bytes}
 use Rattle.jc_base.proofs.maps.FiniteMaps.{get-insert, get-remove, insert-insert, remove-insert_absent, same_bytes_decides, same_bytes_equiv}
-use Rattle.jc_session.specs.Files.{Files}
-use Rattle.jc_session.specs.Rows.{names_by, names}
+use Rattle.jc_report.specs.Files.{Files}
+use Rattle.jc_report.specs.FileRows.{names_by, names}
 use Rattle.jc_session.proofs.holding.EmptyFile.{class_named-empty}
-use Rattle.jc_session.specs.inside.Claims.{PathsByName, has_claim, names_there, names_at, AreClaims}
+use Rattle.jc_session.specs.inside.Claims.{PathsByName, has_claim, AreClaims}
+use Rattle.jc_report.specs.inside.Naming.{names_there, names_at}
 use Rattle.jc_session.specs.inside.Growth.{AreClaimsBesides, HasPlace, put_at}
 
 -- ---- tests

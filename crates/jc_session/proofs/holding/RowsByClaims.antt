@@ -6,10 +6,10 @@ use Rattle.std.specs.Result.{is_ok}
 use Rattle.jc_base.specs.Bytes.{same_bytes}
 use Rattle.jc_view.specs.declared.parse_error.ParseError.{ParseError}
 use Rattle.jc_view.specs.Outcome.{class_named}
-use Rattle.jc_session.specs.Files.{Files}
-use Rattle.jc_session.specs.Rows.{Class, Shadowed, winner, state_by, state_of, row_of, rows, is_unreadable, is_unreadable_state}
+use Rattle.jc_report.specs.Files.{Files}
+use Rattle.jc_report.specs.FileRows.{Class, Shadowed, winner, state_by, state_of, row_of, rows, is_unreadable, is_unreadable_state}
 use Rattle.jc_session.specs.inside.Claims.{PathsByName, AreClaims, claimed_state, claimed_row}
-use Rattle.jc_session.proofs.holding.LeastPathWins.{claims_win}
+use Rattle.jc_session.proofs.holding.ClaimsWin.{claims_win}
 
 same_state : (claims : PathsByName) (f : Files) → AreClaims claims f → (path : List ℕ) (outcome : Result (List ℕ) ParseError) → claimed_state claims path outcome ≡ state_of f path outcome
 same_state claims f are path (Ok name) = ap (state_by path name) (sym (claims_win claims f are name))

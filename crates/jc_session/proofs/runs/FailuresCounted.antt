@@ -3,7 +3,7 @@ use Rattle.std.proofs.Common.{◌≡◌, ◌⊎◌, ℕ, Result, Ok, Err, ⊎_el
 use Rattle.jc_session.specs.declared.run_error.Ended.{Ended}
 use Rattle.jc_session.specs.declared.run_error.RunError.{RunError}
 use Rattle.jc_session.specs.declared.run_error.RunError.TheVariants as run_errors
-use Rattle.jc_session.specs.Files.{Files}
+use Rattle.jc_report.specs.Files.{Files}
 use Rattle.jc_session.specs.Runs.{CountsReads, CountsWrites}
 use Rattle.jc_session.specs.Statuses.{Fault, NoMemory, Usage, outcome_of, CountsInput, CountsOutput}
 

@@ -10,7 +10,8 @@ use Rattle.jc_session.specs.declared.run_error.RunError.{RunError}
 use Rattle.jc_session.specs.declared.run_error.RunError.TheVariants as errors
 use Rattle.jc_session.specs.declared.source.SourceError.{SourceError}
 use Rattle.jc_session.specs.declared.source.SourceError.TheVariants as sources
-use Rattle.jc_session.specs.Files.{Files, Change, Adds, Replaces, judge}
+use Rattle.jc_report.specs.Files.{Files}
+use Rattle.jc_session.specs.Edits.{Change, Adds, Replaces, judge}
 use Rattle.jc_session.specs.ListedText.{listed_text}
 use Rattle.jc_session.specs.Lines.{Command, Add, Replace, Remove, Report, Listing, End, Bad, command_of, lines_of}
 use Rattle.jc_session.specs.Sources.{SourceAnswers, next_answer}

@@ -5,7 +5,8 @@ use Rattle.jc_session.specs.declared.run_error.Ended.{Ended}
 use Rattle.jc_session.specs.declared.run_error.Ended.TheVariants as ended
 use Rattle.jc_session.specs.declared.source.SourceError.{SourceError}
 use Rattle.jc_session.specs.declared.source.SourceError.TheVariants as sources
-use Rattle.jc_session.specs.Files.{Files, Change, Adds, Replaces, Removes, judge}
+use Rattle.jc_report.specs.Files.{Files}
+use Rattle.jc_session.specs.Edits.{Change, Adds, Replaces, Removes, judge}
 use Rattle.jc_session.specs.Lines.{Command, Add, Replace, Remove, Report, Listing, End, Bad, command_of}
 use Rattle.jc_session.specs.Sources.{SourceAnswers, next_answer}
 use Rattle.jc_session.specs.Answers.{Reply, Says, Lists, Ends, Lacks, reply, judged_reply, told_reply, Run, Ending, AtEnd, AtEof, WithoutMemory, after_text, run_of}

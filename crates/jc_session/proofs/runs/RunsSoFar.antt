@@ -9,7 +9,7 @@ use Rattle.jc_session.specs.declared.run_error.Ended.{Ended}
 use Rattle.jc_session.specs.declared.run_error.Ended.TheVariants as ended
 use Rattle.jc_session.specs.declared.run_error.RunError.{RunError}
 use Rattle.jc_session.specs.declared.run_error.RunError.TheVariants as errors
-use Rattle.jc_session.specs.Files.{Files}
+use Rattle.jc_report.specs.Files.{Files}
 use Rattle.jc_session.specs.Lines.{command_of, lines_of, whole_lines}
 use Rattle.jc_session.specs.Sources.{SourceAnswers}
 use Rattle.jc_session.specs.Answers.{reply, run_of}

@@ -5,8 +5,9 @@ use Rattle.std.specs.FinSet as set
 use Rattle.jc_base.specs.Bytes.{bytes_cmp}
 use Rattle.jc_view.specs.declared.parse_error.ParseError.{ParseError}
 use Rattle.jc_view.specs.Outcome.{class_named}
-use Rattle.jc_session.specs.Files.{Files}
-use Rattle.jc_session.specs.Rows.{FileState, Unreadable, FileRow, names, state_by}
+use Rattle.jc_report.specs.Files.{Files}
+use Rattle.jc_report.specs.FileRows.{FileState, Unreadable, FileRow, state_by}
+use Rattle.jc_report.specs.inside.Naming.{names_at}
 
 -- the paths of the files that name a class
 abbrev pub Paths : Type 0
@@ -39,14 +40,6 @@ first_path (Some paths) = first_of (map.keys paths)
 -- the least of the paths that name a class
 abbrev pub first_claim : PathsByName → List ℕ → Option (List ℕ)
 first_claim claims name = first_path (map.get claims name)
-
-abbrev pub names_there : Option (List ℕ) → List ℕ → Bool
-names_there None name = false
-names_there (Some bytes) name = names bytes name
-
--- whether there is a file at the path that names the class
-abbrev pub names_at : Files → List ℕ → List ℕ → Bool
-names_at f path name = names_there (map.get f path) name
 
 -- the claims are those of the files
 abbrev pub AreClaims : PathsByName → Files → Type 0

@@ -5,9 +5,11 @@ use Rattle.jc_base.specs.Bytes.{same_bytes}
 use Rattle.jc_session.specs.declared.edit.LentEdit.{LentEdit}
 use Rattle.jc_session.specs.declared.edit.LentEdit.TheVariants as lent
 use Rattle.jc_session.specs.declared.held.Grown.{Grown}
-use Rattle.jc_session.specs.Files.{Files, Change, Adds, Replaces, Removes}
-use Rattle.jc_session.specs.Rows.{names}
-use Rattle.jc_session.specs.inside.Claims.{PathsByName, has_claim, names_at, AreClaims}
+use Rattle.jc_report.specs.Files.{Files}
+use Rattle.jc_session.specs.Edits.{Change, Adds, Replaces, Removes}
+use Rattle.jc_report.specs.FileRows.{names}
+use Rattle.jc_session.specs.inside.Claims.{PathsByName, has_claim, AreClaims}
+use Rattle.jc_report.specs.inside.Naming.{names_at}
 
 -- an edit by a borrowed path, as data
 abbrev pub change_lent : LentEdit → Change

@@ -1,10 +1,10 @@
 -- How the program ends, from what the code holds.
 use Rattle.std.specs.Prelude.{Bool, Result, Ok, Err}
-use Rattle.jc_session.specs.declared.command_line.Fault.{Fault as LentFault}
-use Rattle.jc_session.specs.declared.command_line.Fault.TheVariants as lent
+use Rattle.jc_session.specs.declared.fault.Fault.{Fault as LentFault}
+use Rattle.jc_session.specs.declared.fault.Fault.TheVariants as lent
 use Rattle.jc_list.specs.declared.list_error.ListError.{ListError}
 use Rattle.jc_list.specs.declared.list_error.ListError.TheVariants as lists
-use Rattle.jc_session.specs.Statuses.{Fault, Usage, Input, Output, NoMemory, Unread, TooLarge, Outcome}
+use Rattle.jc_session.specs.Statuses.{Fault, Usage, Input, Output, NoMemory, Unread, Refused, Outcome}
 
 abbrev pub fault_lent : LentFault → Fault
 fault_lent lent.Usage = Usage
@@ -12,7 +12,7 @@ fault_lent lent.Input = Input
 fault_lent lent.Output = Output
 fault_lent lent.NoMemory = NoMemory
 fault_lent (lent.Unread path) = Unread path.now
-fault_lent (lent.TooLarge path) = TooLarge path.now
+fault_lent (lent.Refused error path) = Refused error path.now
 
 abbrev pub outcome_lent : Result Bool LentFault → Outcome
 outcome_lent (Ok wrong) = Ok wrong

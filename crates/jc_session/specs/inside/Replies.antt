@@ -13,7 +13,8 @@ use Rattle.jc_session.specs.declared.run_error.Ended.{Ended}
 use Rattle.jc_session.specs.declared.run_error.Ended.TheVariants as ended
 use Rattle.jc_session.specs.declared.command.Command.{Command as LentCommand}
 use Rattle.jc_session.specs.declared.command.Command.TheVariants as lent
-use Rattle.jc_session.specs.Files.{Files, Change, Adds, Replaces}
+use Rattle.jc_report.specs.Files.{Files}
+use Rattle.jc_session.specs.Edits.{Change, Adds, Replaces}
 use Rattle.jc_session.specs.Lines.{Command, Add, Replace, Remove, Report, Listing, End, Bad, command_of}
 use Rattle.jc_session.specs.Sources.{SourceAnswers}
 use Rattle.jc_session.specs.Runs.{LineMayLack}

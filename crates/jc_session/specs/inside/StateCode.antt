@@ -2,7 +2,7 @@
 use Rattle.std.specs.Prelude.{refl}
 use Rattle.std.specs.Coded.{Coded, code_by, coded_list, coded_ℕ}
 use Rattle.std.specs.FinMap as map
-use Rattle.jc_session.specs.Files.{Files}
+use Rattle.jc_report.specs.Files.{Files}
 use Rattle.jc_session.specs.SessionState.{SessionState}
 
 -- a state is stored as its files

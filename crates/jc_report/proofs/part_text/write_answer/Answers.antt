@@ -1,4 +1,4 @@
-use Rattle.std.proofs.Common.{◌≡◌, ◌++◌, ap, codes, sym, ◌∙◌}
+use Rattle.std.proofs.Common.{◌++◌, ap, codes, sym, ◌∙◌}
 use Rattle.jc_text.specs.Escapes.{shown}
 use Rattle.jc_text.proofs.Sending.{◌⟫◌, sends_equal}
 use Rattle.jc_resolve.specs.Answers.{answer_of}

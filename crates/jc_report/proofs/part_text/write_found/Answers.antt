@@ -1,4 +1,4 @@
-use Rattle.jc_text.proofs.Sending.{◌⟫◌, sends_equal}
+use Rattle.jc_text.proofs.Sending.{◌⟫◌}
 use Rattle.jc_report.proofs.part_text.write_found.Goals as goal
 
 pub returns : goal.returns

@@ -1,4 +1,4 @@
-use Rattle.std.proofs.Common.{◌++◌, ap, codes, sym, ◌∙◌}
+use Rattle.std.proofs.Common.{◌++◌, ap, codes, sym}
 use Rattle.jc_text.proofs.Sending.{◌⟫◌, sends_equal}
 use Rattle.jc_classes.specs.Lent.{key_lent}
 use Rattle.jc_report.specs.PartText.{kind_text, named_text}

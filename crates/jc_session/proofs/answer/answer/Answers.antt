@@ -2,7 +2,7 @@ use Rattle.std.proofs.Common.{OnOk, OnErr, refl, subst}
 use Rattle.std.specs.Io.KnownBytes.{Appends}
 use Rattle.jc_base.specs.Device.{WritesFront}
 use Rattle.jc_session.specs.Lines.{Report}
-use Rattle.jc_session.specs.RowText.{report_text}
+use Rattle.jc_session.specs.ReportText.{report_text}
 use Rattle.jc_session.specs.Answers.{reply}
 use Rattle.jc_session.specs.Runs.{LineMayLack}
 use Rattle.jc_session.proofs.runs.ByAnswers.{said_by_none}

@@ -4,8 +4,8 @@ use Rattle.std.specs.FinMap as map
 use Rattle.std.proofs.KnownBytes.{Keeps-refl}
 use Rattle.std.proofs.lemmas.Result.{err_from_is_err_and}
 use Rattle.jc_session.specs.declared.run_error.RunError.TheVariants as errors
-use Rattle.jc_session.specs.Files.{Files}
-use Rattle.jc_session.specs.Rows.{rows, is_unreadable}
+use Rattle.jc_report.specs.Files.{Files}
+use Rattle.jc_report.specs.FileRows.{rows, is_unreadable}
 use Rattle.jc_session.specs.Runs.{RunsAs}
 use Rattle.jc_session.specs.inside.LentFaults.{outcome_lent}
 use Rattle.jc_session.proofs.runs.FailuresCounted.{input_counts, output_counts}

@@ -5,7 +5,7 @@ use Rattle.jc_view.specs.declared.parse_error.ParseError.{ParseError}
 use Rattle.jc_view.specs.declared.parse_error.ParseError.TheVariants as errors
 use Rattle.jc_view.specs.Outcome.{class_read}
 use Rattle.jc_view.specs.Refusal.{IsRefusal}
-use Rattle.jc_session.specs.RowText.{refusal_text}
+use Rattle.jc_report.specs.FileRowText.{refusal_text}
 use Rattle.jc_session.proofs.listings.TextListed.{same_stop}
 use Rattle.jc_session.proofs.file_listing.list_file.Goals as goal
 

@@ -2,7 +2,7 @@ use Rattle.std.proofs.Common.{◌++◌, rules}
 use Rattle.std.specs.Prelude.{codes}
 use Rattle.std.proofs.lemmas.List.{append-nil}
 use Rattle.jc_text.proofs.Sending.{◌⟫◌, sends_equal, finished}
-use Rattle.jc_session.specs.RowText.{refusal_text}
+use Rattle.jc_report.specs.FileRowText.{refusal_text}
 use Rattle.jc_session.proofs.listings.TextListed.{text_listed}
 use Rattle.jc_session.proofs.file_listing.write_unreadable_line.Goals as goal
 

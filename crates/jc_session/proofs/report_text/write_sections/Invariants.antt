@@ -1,5 +1,6 @@
 use Rattle.std.specs.List.{flat_map}
-use Rattle.jc_session.specs.RowText.{row_text, report_text}
+use Rattle.jc_report.specs.FileRowText.{row_text}
+use Rattle.jc_session.specs.ReportText.{report_text}
 use Rattle.jc_text.proofs.Sending.{HasSent}
 use Rattle.jc_session.proofs.report_text.write_sections.Given as goal
 

@@ -1,5 +1,5 @@
 use Rattle.std.proofs.Common.{map, ap, ◌∙◌}
-use Rattle.jc_session.specs.Rows.{rows}
+use Rattle.jc_report.specs.FileRows.{rows}
 use Rattle.jc_session.specs.inside.Claims.{claimed_row}
 use Rattle.jc_session.proofs.holding.RowsByClaims.{claimed_rows}
 use Rattle.jc_session.proofs.report.Report.rows.Goals as goal

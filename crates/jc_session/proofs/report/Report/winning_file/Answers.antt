@@ -1,7 +1,7 @@
 use Rattle.std.proofs.Common.{◌≡◌, Some, None, rules, ap, sym, ◌∙◌}
 use Rattle.std.specs.Option.{option_map}
-use Rattle.jc_session.specs.Rows.{winner}
-use Rattle.jc_session.proofs.holding.LeastPathWins.{claims_win}
+use Rattle.jc_report.specs.FileRows.{winner}
+use Rattle.jc_session.proofs.holding.ClaimsWin.{claims_win}
 use Rattle.jc_session.proofs.report.Report.winning_file.Goals as goal
 
 pub returns-in_err-first : goal.returns-in_err-first

@@ -1,0 +1,52 @@
+-- A required reference adds its row, and another adds none.
+use Rattle.std.proofs.Common.{◌≡◌, ◌∙◌, ◌+◌, ◌++◌, ◌∷◌, drop, map, sym, ap, append-nil}
+use Rattle.std.proofs.lemmas.List.{drop_all, drop_more}
+use Rattle.jc_classes.specs.Lent.{reference_lent}
+use Rattle.jc_resolve.specs.Answers.{answer_of}
+use Rattle.jc_report.specs.ClassRows.{reference_row, rows_required}
+use Rattle.jc_report.specs.RowView.{row_lent}
+use Rattle.jc_report.proofs.rows.MemberRows.{added, left_required, left_resolved, no_answers, past_references}
+use Rattle.jc_report.proofs.class_rows.push_required.Goals as goal
+use Rattle.jc_report.proofs.class_rows.push_required.Goals.{then-is_required+in_ok-push-in-Some, else-is_required}
+
+pub loop-number-preserved : goal.loop-number-preserved
+loop-number-preserved c =
+    let refs = c.args.facts.now.references in
+    let answers = c.answers-answers.result.now in
+    let n = c.loop-number.number in
+    let r = reference_lent c.in-Some.reference in
+    let a = c.index-answers-number.result in
+    let rest = map answer_of (drop (n + 1) answers) in
+    let left = rows_required (drop (n + 1) refs) rest in
+    let first : drop n answers ≡ a ∷ drop (n + 1) answers = drop_more answers n a c.loop-number-test.true ∙ ap (λ x. x ∷ drop (n + 1) answers) (sym c.index-answers-number.is) in
+    let read : rows_required (drop n refs) (map answer_of (drop n answers)) ≡ rows_required (drop n refs) (answer_of a ∷ rest) = ap (λ xs. rows_required (drop n refs) (map answer_of xs)) first in
+    elim c.if-is_required.branch [
+      | then-is_required+in_ok-push-in-Some w ↦
+          ap (λ rows. map row_lent rows.items ++ left) w.rows-is
+          ∙ added _ _ _ (reference_row r) left w.in_ok-push-in-Some.ensures.items w.reference_row.ensures
+          ∙ ap (λ xs. map row_lent c.loop-number.rows.items ++ xs) (sym (read ∙ left_required refs n r (sym c.in-Some.ensures) (answer_of a) rest (sym c.is_required.ensures ∙ w.if-is_required.true)))
+          ∙ c.loop-number.invariant
+      | else-is_required w ↦
+          ap (λ rows. map row_lent rows.items ++ left) w.rows-is
+          ∙ ap (λ xs. map row_lent c.loop-number.rows.items ++ xs) (sym (read ∙ left_resolved refs n r (sym c.in-Some.ensures) (answer_of a) rest (sym c.is_required.ensures ∙ w.if-is_required.false)))
+          ∙ c.loop-number.invariant
+    ]
+
+pub returns-in-None : goal.returns-in-None
+returns-in-None c =
+    let refs = c.args.facts.now.references in
+    let left = map answer_of (drop c.loop-number.number c.answers-answers.result.now) in
+    sym (append-nil _)
+    ∙ ap (λ xs. map row_lent c.loop-number.rows.items ++ xs) (sym (past_references refs left c.loop-number.number (sym c.in-None.ensures)))
+    ∙ c.loop-number.invariant
+    ∙ ap (λ xs. map row_lent c.args.rows.now.items ++ rows_required refs xs) c.answers-answers.ensures
+
+pub returns : goal.returns
+returns c =
+    let refs = c.args.facts.now.references in
+    let n = c.loop-number.number in
+    let answers = c.answers-answers.result.now in
+    sym (append-nil _)
+    ∙ ap (λ xs. map row_lent c.loop-number.rows.items ++ xs) (sym (ap (λ xs. rows_required (drop n refs) (map answer_of xs)) (drop_all n answers c.loop-number-test.false) ∙ no_answers (drop n refs)))
+    ∙ c.loop-number.invariant
+    ∙ ap (λ xs. map row_lent c.args.rows.now.items ++ rows_required refs xs) c.answers-answers.ensures

@@ -1,0 +1,11 @@
+use Rattle.jc_report.specs.ClassRows.{provided_rows}
+use Rattle.jc_report.proofs.reports.GivenRows.{rows_more, rows_of_all}
+use Rattle.jc_report.proofs.report.provided.Goals as goal
+
+pub loop-class-preserved : goal.loop-class-preserved
+loop-class-preserved c =
+    rows_more provided_rows c.args.classes.now c.loop-class.class-index c.class-item.result _ _ _ c.loop-class-test.true c.class-item.is c.class.view_is
+    c.loop-class.invariant c.in_ok-push_provided.ensures
+
+pub returns : goal.returns
+returns c = rows_of_all provided_rows c.args.classes.now c.loop-class.class-index _ _ c.loop-class-test.false c.loop-class.invariant c.put_in_order.ensures

@@ -1,0 +1,5 @@
+pub mod AnyLeft
+pub mod CircularLines
+pub mod ClassesOfTables
+pub mod GivenRows
+pub mod OneReport

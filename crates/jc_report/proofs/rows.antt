@@ -1,0 +1,5 @@
+pub mod RowOrder
+pub mod RowsAreOne
+pub mod DerivedRowOrder
+pub mod SortedRows
+pub mod MemberRows

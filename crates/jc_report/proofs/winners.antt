@@ -1,0 +1,2 @@
+pub mod LeastPathWins
+pub mod OneMoreFile

@@ -1,0 +1,34 @@
+-- What is kept of the files of a tree.
+use Rattle.std.specs.Prelude.{◌≡◌, ℕ, Bool, true, false, List, map, Result}
+use Rattle.std.specs.FinMap as fin
+use Rattle.jc_base.specs.Bytes.{bytes_cmp}
+use Rattle.jc_view.specs.declared.parse_error.ParseError.{ParseError}
+use Rattle.jc_view.specs.Outcome.{class_named}
+use Rattle.jc_classes.specs.Names.{Name}
+use Rattle.jc_link.specs.Tables.{Places, class_at}
+use Rattle.jc_report.specs.Files.{Files}
+use Rattle.jc_report.specs.Reports.{facts_at}
+use Rattle.jc_report.specs.declared.tree.AddError.{AddError}
+use Rattle.jc_report.specs.declared.tree.AddError.TheVariants as errors
+
+-- the class that each file names, or why it names none, by path
+abbrev pub Outcomes : Type 0
+Outcomes = fin.FinMap bytes_cmp (Result Name ParseError)
+
+pub record Tree : Type 0 where
+  pub outcomes : Outcomes
+  -- the classes, from the files that win them
+  pub classes : Places
+
+abbrev pub outcome : List ℕ × List ℕ → List ℕ × Result Name ParseError
+outcome file = (file.0, class_named file.1)
+
+-- it is kept of these files
+pub record IsTree (f : Files) (t : Tree) : Type 0 where
+  pub outcomes : fin.entries t.outcomes ≡ map outcome (fin.entries f)
+  pub classes : (name : Name) → class_at t.classes name ≡ facts_at f name
+
+-- a file is refused where one stands at its path, and else only for memory
+abbrev pub is_there : AddError → Bool
+is_there errors.AlreadyThere = true
+is_there errors.NoMemory = false

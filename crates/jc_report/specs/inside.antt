@@ -1,0 +1,5 @@
+pub mod Kept
+pub mod Naming
+pub mod Outcomes
+pub mod ReportShown
+pub mod TreeCode

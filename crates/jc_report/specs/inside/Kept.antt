@@ -1,0 +1,27 @@
+-- The classes of a tree, with one more file.
+use Rattle.std.specs.Prelude.{ℕ, cond, List, Option, Some, None, Result, Ok, Err}
+use Rattle.std.specs.FinMap as map
+use Rattle.jc_view.specs.declared.parse_error.ParseError.{ParseError}
+use Rattle.jc_view.specs.ClassFile.{ClassFile}
+use Rattle.jc_classes.specs.Facts.{Facts}
+use Rattle.jc_classes.specs.FactsOf.{facts_of}
+use Rattle.jc_classes.specs.Names.{name_less}
+use Rattle.jc_link.specs.Tables.{Places, class_at}
+
+-- a class that was taken out for one from the path is put back where its own path is less
+abbrev pub put_back : Option Facts → List ℕ → Places → Places
+put_back None path places = places
+put_back (Some before) path places = cond (name_less before.path path) (map.insert places before.name (Some before)) places
+
+-- with a class from the path, unless one from a lesser path stands
+abbrev pub kept : Places → List ℕ → Facts → Places
+kept places path facts = put_back (class_at places facts.name) path (map.insert places facts.name (Some facts))
+
+abbrev pub kept_read : Places → List ℕ → Result ClassFile ParseError → Places
+kept_read places path (Ok c) = kept places path (facts_of path c)
+kept_read places path (Err refusal) = places
+
+-- of two classes of one name the one that stays
+abbrev pub stays : List ℕ → Facts → Option Facts → Facts
+stays path facts None = facts
+stays path facts (Some before) = cond (name_less before.path path) before facts

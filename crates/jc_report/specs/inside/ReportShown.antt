@@ -1,0 +1,26 @@
+-- A report as it is held, and its classes.
+use Rattle.std.specs.Prelude.{◌≡◌, List, map, Some}
+use Rattle.std.specs.List.{All, Contains, filter}
+use Rattle.std.specs.List.Sorted.{IsStrictlySortedBy}
+use Rattle.jc_classes.specs.Facts.{Facts}
+use Rattle.jc_classes.specs.Names.{Name, name_cmp}
+use Rattle.jc_report.specs.Files.{Files}
+use Rattle.jc_report.specs.FileRowView as lent
+use Rattle.jc_report.specs.Reports.{Class, IsClassOf, Report, facts_at, name_of}
+use Rattle.jc_report.specs.RowView.{row_lent}
+use Rattle.jc_report.specs.declared.report.Report.TheInside.{Inside}
+
+abbrev pub report_shown : Inside → Report
+report_shown a = record {
+  files = map lent.row_lent a.files.items;
+  classes = a.classes.items;
+  circular = map name_of (filter (λ c. c.part.circular) a.classes.items);
+  provided = map row_lent a.provided.items;
+  required = map row_lent a.required.items;
+}
+
+-- the classes that files give, by name
+pub record AreClasses (f : Files) (prefixes : List Name) (classes : List Class) : Type 0 where
+  pub rises : IsStrictlySortedBy name_cmp (map name_of classes)
+  pub sound : All (IsClassOf f prefixes) classes
+  pub complete : (name : Name) (c : Facts) → facts_at f name ≡ Some c → Contains (map name_of classes) name

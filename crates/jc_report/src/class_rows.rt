@@ -1,0 +1,160 @@
+//! The rows that a class gives.
+
+ghost use Rattle.std.specs.Prelude.{◌≡◌, ◌++◌, OnOk, map};
+ghost use Rattle.std.specs.List.{filter};
+ghost use Rattle.jc_classes.specs.Lent.{member_lent, reference_lent};
+ghost use Rattle.jc_classes.specs.declared.reference_kind.ReferenceKind.TheVariants as kinds;
+ghost use Rattle.jc_resolve.specs.Answers.{answer_of, loading_of};
+ghost use Rattle.jc_report.specs.ClassRows as class_rows;
+ghost use Rattle.jc_report.specs.ClassRows.{is_loaded, is_missing, is_open, is_open_method, member_row, provided_rows, reference_row, required_rows};
+ghost use Rattle.jc_report.specs.RowView.{row_lent};
+
+use crate::row::Row;
+use jc_base::NoMemory;
+use jc_classes::{Facts, LinkageError, Member, Reference, ReferenceKind, same};
+use jc_file::AccessFlag;
+use jc_link::Part;
+use jc_resolve::{Answer, Loading};
+
+/// Adds what a class provides, in file order.
+pub(crate) fn push_provided<'t>(
+    rows: &mut Vec<Row<'t>>,
+    facts: &'t Facts,
+    part: &Part,
+) -> Result<(), NoMemory>
+    ensures { OnOk result (map row_lent rows.new.items ≡ map row_lent rows.old.items ++ provided_rows facts.now part.now) }
+{
+    if !is_loaded(part.load()) || !AccessFlag::Public.is_in(facts.flags()) {
+        return Ok(());
+    }
+    rows.push(class_row(facts.name()))?;
+    push_fields(rows, facts)?;
+    push_methods(rows, facts)
+}
+
+fn is_loaded(load: &Loading) -> bool
+    ensures { result ≡ is_loaded (loading_of load.now) }
+{
+    match load {
+        Loading::Loaded => true,
+        Loading::Outside | Loading::Fails(_, _) => false,
+    }
+}
+
+fn class_row(class: &[u8]) -> Row<'_>
+    ensures { row_lent result ≡ class_rows.class_row class.now }
+{
+    Row {
+        class,
+        kind: ReferenceKind::Class,
+        name: &[],
+        descriptor: &[],
+    }
+}
+
+fn member_row<'t>(class: &'t [u8], kind: ReferenceKind, member: Member<'t>) -> Row<'t>
+    ensures { row_lent result ≡ member_row class.now kind (member_lent member.entry) }
+{
+    Row {
+        class,
+        kind,
+        name: member.name,
+        descriptor: member.descriptor,
+    }
+}
+
+fn push_fields<'t>(rows: &mut Vec<Row<'t>>, facts: &'t Facts) -> Result<(), NoMemory>
+    ensures { OnOk result (map row_lent rows.new.items ≡ map row_lent rows.old.items ++ map (member_row facts.now.name kinds.Field) (filter is_open facts.now.fields)) }
+{
+    for number in 0..facts.field_count() {
+        if let Some(field) = facts.own_field(number)
+            && is_open(field)
+        {
+            rows.push(member_row(facts.name(), ReferenceKind::Field, field))?;
+        }
+    }
+    Ok(())
+}
+
+fn push_methods<'t>(rows: &mut Vec<Row<'t>>, facts: &'t Facts) -> Result<(), NoMemory>
+    ensures { OnOk result (map row_lent rows.new.items ≡ map row_lent rows.old.items ++ map (member_row facts.now.name kinds.Method) (filter is_open_method facts.now.methods)) }
+{
+    for number in 0..facts.method_count() {
+        if let Some(method) = facts.own_method(number)
+            && is_open_method(method)
+        {
+            rows.push(member_row(facts.name(), ReferenceKind::Method, method))?;
+        }
+    }
+    Ok(())
+}
+
+/// Whether a member is seen outside its package.
+fn is_open(member: Member<'_>) -> bool
+    ensures { result ≡ is_open (member_lent member.entry) }
+{
+    member.has(AccessFlag::Public) || member.has(AccessFlag::Protected)
+}
+
+/// The same of a method that is not `<clinit>`.
+fn is_open_method(method: Member<'_>) -> bool
+    ensures { result ≡ is_open_method (member_lent method.entry) }
+{
+    is_open(method) && !same(method.name, b"<clinit>")
+}
+
+/// Adds what a class requires, by its references.
+pub(crate) fn push_required<'t>(
+    rows: &mut Vec<Row<'t>>,
+    facts: &'t Facts,
+    part: &Part,
+) -> Result<(), NoMemory>
+    ensures { OnOk result (map row_lent rows.new.items ≡ map row_lent rows.old.items ++ required_rows facts.now part.now) }
+{
+    let answers = part.answers();
+    for number in 0..answers.len() {
+        match facts.reference(number) {
+            Some(reference) => {
+                if is_required(&answers[number]) {
+                    rows.push(reference_row(reference))?;
+                }
+            }
+            None => return Ok(()),
+        }
+    }
+    Ok(())
+}
+
+/// Whether an answer says that what is referred to is outside, or that nothing gives it.
+fn is_required(answer: &Answer) -> bool
+    ensures { result ≡ class_rows.is_required (answer_of answer.now) }
+{
+    match answer {
+        Answer::Outside(_) => true,
+        Answer::Error(error, _) => is_missing(*error),
+        Answer::ToClass(_) | Answer::ToMember { .. } | Answer::NotLoaded => false,
+    }
+}
+
+fn is_missing(error: LinkageError) -> bool
+    ensures { result ≡ is_missing error }
+{
+    match error {
+        LinkageError::NoClass | LinkageError::NoField | LinkageError::NoMethod => true,
+        LinkageError::Format
+        | LinkageError::Circular
+        | LinkageError::Incompatible
+        | LinkageError::IllegalAccess => false,
+    }
+}
+
+fn reference_row(reference: Reference<'_>) -> Row<'_>
+    ensures { row_lent result ≡ reference_row (reference_lent reference.entry) }
+{
+    Row {
+        class: reference.class,
+        kind: reference.kind,
+        name: reference.key.name,
+        descriptor: reference.key.descriptor,
+    }
+}

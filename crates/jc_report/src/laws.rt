@@ -1,0 +1,19 @@
+//! Laws of the definitions: functions without a body, whose contracts are the laws.
+
+ghost use Rattle.std.specs.Prelude.{◌≡◌, ◌↔◌, ℕ, List, Some, None};
+ghost use Rattle.jc_report.specs.Files.{Files};
+ghost use Rattle.jc_report.specs.FileRows.{winner};
+ghost use Rattle.jc_report.specs.ReportLaws.{ReportIsOne};
+ghost use Rattle.jc_report.specs.Winners.{NamesAt, IsWinner};
+
+/// The file that gives a class is the one with the least path of those that name it, and there is none
+/// only where no file names it.
+pub fn winners_are_least()
+    ensures least { (f : Files) (name path : List ℕ) → (winner f name ≡ Some path) ↔ IsWinner f name path }
+    ensures none { (f : Files) (name : List ℕ) → (winner f name ≡ None) ↔ ((path : List ℕ) → ¬ NamesAt f path name) }
+{}
+
+/// Files and outside prefixes have one report.
+pub fn report_is_one()
+    ensures { ReportIsOne }
+{}

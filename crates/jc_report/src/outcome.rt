@@ -1,0 +1,54 @@
+//! Which class a file names.
+
+ghost use Rattle.std.specs.Prelude.{◌≡◌, IfOk};
+ghost use Rattle.jc_view.specs.Outcome.{class_named};
+ghost use Rattle.jc_report.specs.inside.Outcomes.{outcome_lent};
+
+use jc_base::NoMemory;
+use jc_file::{ClassView, ParseError};
+use std::alloc::Global;
+use std::marker::Model;
+
+/// The name of the class that a file names, or why it names none.
+#[derive(Drop)]
+pub(crate) struct Outcome {
+    class: Result<Vec<u8>, ParseError>,
+}
+
+impl Model for Outcome {
+    ghost use Rattle.std.specs.Prelude.{List, Result, ℕ};
+    ghost use Rattle.jc_view.specs.declared.parse_error.ParseError.{ParseError};
+    ghost use Rattle.jc_report.specs.inside.Outcomes.{outcome_held};
+
+    ghost Value = { Result (List ℕ) ParseError };
+
+    ghost view = { λ outcome. outcome_held outcome.class };
+}
+
+impl Outcome {
+    /// A class's name.
+    pub(crate) fn named(alloc: Global, name: &[u8]) -> Result<Outcome, NoMemory>
+        ensures { IfOk result (λ outcome. outcome ≡ Ok name.now) }
+    {
+        let class = Ok(Vec::from_slice(alloc, name)?);
+        Ok(Outcome { class })
+    }
+
+    /// The refusal of a file that names no class.
+    pub(crate) fn refused(refusal: ParseError) -> Outcome
+        ensures { result ≡ Err refusal }
+    {
+        Outcome {
+            class: Err(refusal),
+        }
+    }
+
+    pub(crate) fn class(&self) -> Result<&[u8], ParseError>
+        ensures { outcome_lent result ≡ self.now }
+    {
+        match &self.class {
+            Ok(name) => Ok(name),
+            Err(refusal) => Err(*refusal),
+        }
+    }
+}

@@ -1,0 +1,248 @@
+//! The report of a tree of class files.
+
+ghost use Rattle.std.specs.Prelude.{◌≡◌, IfOk, map};
+ghost use Rattle.std.specs.List.{filter, list_any};
+ghost use Rattle.jc_resolve.specs.Answers.{answer_of, loading_of};
+ghost use Rattle.jc_report.specs.ClassRows.{provided_rows, required_rows};
+ghost use Rattle.jc_report.specs.Files.{Files};
+ghost use Rattle.jc_report.specs.FileRows.{is_unreadable, rows};
+ghost use Rattle.jc_report.specs.FileRowView as lent;
+ghost use Rattle.jc_report.specs.Reports.{GivesRow, IsReport, is_error, is_load_error, is_wrong, is_wrong_part, name_of};
+ghost use Rattle.jc_report.specs.Rows.{AreRows};
+ghost use Rattle.jc_report.specs.RowView.{row_lent};
+ghost use Rattle.jc_report.specs.Trees.{IsTree};
+ghost use Rattle.jc_report.specs.inside.ReportShown.{AreClasses};
+
+use crate::class_rows::{push_provided, push_required};
+use crate::file_row::{FileRow, FileState};
+use crate::row::Row;
+use crate::row_set::put_in_order;
+use crate::tree::Tree;
+use jc_base::NoMemory;
+use jc_classes::Facts;
+use jc_link::{Meter, Outside, Part, gather, make_part};
+use jc_resolve::{Answer, Loading};
+use std::alloc::Global;
+use std::marker::Model;
+
+/// A class that a file of a tree gives.
+#[derive(Drop)]
+pub struct Class<'t> {
+    facts: &'t Facts,
+    part: Part,
+}
+
+/// The report of a tree: what each file is, the part of each class, which of these are circular, and what
+/// they provide and require.
+#[derive(Drop)]
+pub struct Report<'t> {
+    files: Vec<FileRow<'t>>,
+    classes: Vec<Class<'t>>,
+    provided: Vec<Row<'t>>,
+    required: Vec<Row<'t>>,
+}
+
+impl<'t> Model for Class<'t> {
+    ghost use Rattle.jc_report.specs.Reports as specs;
+
+    ghost Value = { specs.Class };
+
+    ghost view = { λ a. record { facts = a.facts.now; part = a.part } };
+}
+
+impl<'t> Model for Report<'t> {
+    ghost use Rattle.jc_report.specs.Reports as specs;
+
+    ghost Value = { specs.Report };
+
+    ghost use Rattle.jc_report.specs.inside.ReportShown.{report_shown};
+
+    ghost view = { report_shown };
+}
+
+impl<'t> Class<'t> {
+    /// What is kept of its file.
+    pub fn facts(&self) -> &'t Facts
+        ensures { result.now ≡ self.now.facts }
+    {
+        self.facts
+    }
+
+    /// What is found of it.
+    pub fn part(&self) -> &Part
+        ensures { result.now ≡ self.now.part }
+    {
+        &self.part
+    }
+}
+
+impl<'t> Report<'t> {
+    /// Makes the part of each class of a tree, once, by name, and the report of all.
+    pub fn make(
+        alloc: Global,
+        tree: &'t Tree,
+        outside: &Outside,
+        meter: &mut Meter,
+    ) -> Result<Report<'t>, NoMemory>
+        ensures { (f : Files) → IsTree f tree.now → IfOk result (λ r. IsReport f outside.now r) }
+    {
+        let files = file_rows(alloc, tree, meter)?;
+        let classes = classes(alloc, tree, outside, meter)?;
+        let provided = provided(alloc, classes.as_slice())?;
+        let required = required(alloc, classes.as_slice())?;
+        Ok(Report {
+            files,
+            classes,
+            provided,
+            required,
+        })
+    }
+
+    /// Whether a file is unreadable, a class has a fault or does not load, or a reference is answered by
+    /// an error.
+    pub fn wrong(&self) -> bool
+        ensures { result ≡ is_wrong self.now }
+    {
+        has_unreadable(self.files()) || has_wrong_part(self.classes())
+    }
+
+    /// What each file is, by path.
+    pub fn files(&self) -> &[FileRow<'t>]
+        ensures { map lent.row_lent result.now ≡ self.now.files }
+    {
+        self.files.as_slice()
+    }
+
+    /// The classes that the files give, by name.
+    pub fn classes(&self) -> &[Class<'t>]
+        ensures by_name { result.now ≡ self.now.classes }
+        ensures circular { self.now.circular ≡ map name_of (filter (λ c. c.part.circular) result.now) }
+    {
+        self.classes.as_slice()
+    }
+
+    /// The public classes that load, with their public and protected members.
+    pub fn provided(&self) -> &[Row<'t>]
+        ensures { map row_lent result.now ≡ self.now.provided }
+    {
+        self.provided.as_slice()
+    }
+
+    /// What is referred to and is outside, or given by nothing.
+    pub fn required(&self) -> &[Row<'t>]
+        ensures { map row_lent result.now ≡ self.now.required }
+    {
+        self.required.as_slice()
+    }
+}
+
+/// What each file of a tree is, by path.
+fn file_rows<'t>(
+    alloc: Global,
+    tree: &'t Tree,
+    meter: &mut Meter,
+) -> Result<Vec<FileRow<'t>>, NoMemory>
+    ensures rows { (f : Files) → IsTree f tree.now → IfOk result (λ files. map lent.row_lent files.items ≡ rows f) }
+    ensures made { meter.new.made ≡ meter.old.made }
+{
+    let mut rows = Vec::new(alloc);
+    for (path, outcome) in &tree.outcomes {
+        let state = tree.state(path, outcome, meter);
+        rows.push(FileRow { path, state })?;
+    }
+    Ok(rows)
+}
+
+/// The classes that the files of a tree give, by name, each with its part.
+fn classes<'t>(
+    alloc: Global,
+    tree: &'t Tree,
+    outside: &Outside,
+    meter: &mut Meter,
+) -> Result<Vec<Class<'t>>, NoMemory>
+    ensures { (f : Files) → IsTree f tree.now → IfOk result (λ classes. AreClasses f outside.now classes.items) }
+{
+    let mut classes = Vec::new(alloc);
+    for facts in tree.table.classes() {
+        let closure = gather(alloc, &tree.table, outside, facts.name(), meter)?;
+        let part = make_part(alloc, &closure, meter)?;
+        classes.push(Class { facts, part })?;
+    }
+    Ok(classes)
+}
+
+/// What the classes provide.
+fn provided<'t>(alloc: Global, classes: &[Class<'t>]) -> Result<Vec<Row<'t>>, NoMemory>
+    ensures { IfOk result (λ provided. AreRows (map row_lent provided.items) (GivesRow provided_rows classes.now)) }
+{
+    let mut rows = Vec::new(alloc);
+    for class in classes {
+        push_provided(&mut rows, class.facts, &class.part)?;
+    }
+    put_in_order(&mut rows);
+    Ok(rows)
+}
+
+/// What the classes require.
+fn required<'t>(alloc: Global, classes: &[Class<'t>]) -> Result<Vec<Row<'t>>, NoMemory>
+    ensures { IfOk result (λ required. AreRows (map row_lent required.items) (GivesRow required_rows classes.now)) }
+{
+    let mut rows = Vec::new(alloc);
+    for class in classes {
+        push_required(&mut rows, class.facts, &class.part)?;
+    }
+    put_in_order(&mut rows);
+    Ok(rows)
+}
+
+fn has_unreadable(files: &[FileRow<'_>]) -> bool
+    ensures { result ≡ list_any is_unreadable (map lent.row_lent files.now) }
+{
+    for row in files {
+        if let FileState::Unreadable(_) = row.state {
+            return true;
+        }
+    }
+    false
+}
+
+fn has_wrong_part(classes: &[Class<'_>]) -> bool
+    ensures { result ≡ list_any (λ c. is_wrong_part c.part) classes.now }
+{
+    for class in classes {
+        if is_wrong_part(&class.part) {
+            return true;
+        }
+    }
+    false
+}
+
+/// Whether a class has a fault or does not load, or a reference is answered by an error.
+fn is_wrong_part(part: &Part) -> bool
+    ensures { result ≡ is_wrong_part part.now }
+{
+    !part.format_faults().is_empty()
+        || !part.code_faults().is_empty()
+        || is_load_error(part.load())
+        || has_error(part.answers())
+}
+
+fn is_load_error(load: &Loading) -> bool
+    ensures { result ≡ is_load_error (loading_of load.now) }
+{
+    match load {
+        Loading::Loaded | Loading::Outside => false,
+        Loading::Fails(_, _) => true,
+    }
+}
+
+fn has_error(answers: &[Answer]) -> bool
+    ensures { result ≡ list_any is_error (map answer_of answers.now) }
+{
+    for answer in answers {
+        if let Answer::Error(_, _) = answer {
+            return true;
+        }
+    }
+    false
+}

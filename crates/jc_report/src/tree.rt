@@ -1,0 +1,198 @@
+//! What is kept of the files of a tree.
+
+ghost use Rattle.std.specs.Prelude.{◌≡◌, IfErr, IfOk, List, OnOk, Some, false, option_map, ℕ};
+ghost use Rattle.std.specs.FinMap as map;
+ghost use Rattle.jc_view.specs.Outcome.{class_named, class_read};
+ghost use Rattle.jc_view.specs.Refusal.{IsNamed};
+ghost use Rattle.jc_classes.specs.FactsOf.{facts_of};
+ghost use Rattle.jc_link.specs.Tables.{record_at};
+ghost use Rattle.jc_report.specs.declared.tree.AddError.TheVariants as errors;
+ghost use Rattle.jc_report.specs.Files.{Files};
+ghost use Rattle.jc_report.specs.FileRows.{state_by, state_of};
+ghost use Rattle.jc_report.specs.FileRowView.{state_lent};
+ghost use Rattle.jc_report.specs.Trees.{IsTree, is_there};
+ghost use Rattle.jc_report.specs.inside.Kept.{kept, kept_read, put_back};
+
+use crate::file_row::FileState;
+use crate::outcome::Outcome;
+use jc_base::{ByteMap, NoMemory};
+use jc_classes::{Facts, less};
+use jc_file::{ClassView, ParseError, parse};
+use jc_link::{Meter, Table};
+use jc_view::outcomes_are_exact;
+use std::alloc::{AllocError, AllocFailed, Global};
+use std::marker::Model;
+
+/// What is kept of the files of a tree: which class each names, and of the file that gives a class what
+/// linking asks of it. Their bytes are not kept.
+#[derive(Drop)]
+pub struct Tree {
+    alloc: Global,
+    pub(crate) outcomes: ByteMap<Outcome>,
+    pub(crate) table: Table,
+}
+
+/// Why a file is not added to a tree.
+#[derive(Clone, Copy, Debug, PartialEq, Eq)]
+pub enum AddError {
+    /// A file stands at the path.
+    AlreadyThere,
+    /// Memory was refused.
+    NoMemory,
+}
+
+impl Model for Tree {
+    ghost use Rattle.jc_report.specs.Trees as specs;
+    ghost use Rattle.std.specs.Coded.{coded_list, coded_result, coded_ℕ};
+    ghost use Rattle.std.specs.FinMap as map;
+    ghost use Rattle.jc_link.specs.contracts.table.Table as tables;
+    ghost use Rattle.jc_view.specs.contracts.parse_error.ParseError as refusals;
+    ghost use Rattle.jc_report.specs.inside.TreeCode.{tree_code};
+
+    ghost Value = { specs.Tree };
+
+    ghost coded = { tree_code (map.code (coded_list coded_ℕ) (coded_result (coded_list coded_ℕ) refusals.the_row.coded)) tables.the_row.coded };
+
+    ghost view = { λ a. record { outcomes = a.outcomes; classes = a.table } };
+}
+
+impl Tree {
+    /// A tree without files, and the meter that counts what is asked of its classes.
+    pub fn new(alloc: Global) -> Result<(Tree, Meter), NoMemory>
+        ensures empty { IfOk result (λ made. IsTree map.empty made.0) }
+        ensures asks { IfOk result (λ made. made.1.asks ≡ 0) }
+        ensures made { IfOk result (λ made. made.1.made ≡ 0) }
+    {
+        let (table, meter) = Table::new(alloc)?;
+        let tree = Tree {
+            alloc,
+            outcomes: ByteMap::new(alloc),
+            table,
+        };
+        Ok((tree, meter))
+    }
+
+    /// How many files there are.
+    pub fn len(&self) -> usize
+        ensures { (f : Files) → IsTree f self.now → result ≡ map.len f }
+    {
+        self.outcomes.len()
+    }
+
+    /// Whether a file stands at the path.
+    pub fn contains(&self, path: &[u8]) -> bool
+        ensures { (f : Files) → IsTree f self.now → result ≡ map.contains_key f path.now }
+    {
+        self.outcomes.contains_key(path)
+    }
+
+    /// The tree with one more file. Of several files that name one class the one whose path is least gives
+    /// it, in whatever order they are added.
+    pub fn add(self, path: &[u8], bytes: &[u8]) -> Result<Tree, AddError>
+        ensures ok { (f : Files) → IsTree f self → IfOk result (λ tree. (map.contains_key f path.now ≡ false) × IsTree (map.insert f path.now bytes.now) tree) }
+        ensures err { (f : Files) → IsTree f self → IfErr result (λ e. map.contains_key f path.now ≡ is_there e) }
+    {
+        let mut tree = self;
+        if tree.contains(path) {
+            return Err(AddError::AlreadyThere);
+        }
+        let outcome = tree.read(path, bytes)?;
+        let path = Vec::from_slice(tree.alloc, path)?;
+        tree.outcomes.insert(path, outcome)?;
+        Ok(tree)
+    }
+
+    /// Reads a file, and keeps its class where no lesser path gives it.
+    fn read(&mut self, path: &[u8], bytes: &[u8]) -> Result<Outcome, NoMemory>
+        ensures outcomes { self.new.outcomes ≡ self.old.outcomes }
+        ensures classes { OnOk result (self.new.classes ≡ kept_read self.old.classes path.now (class_read bytes.now)) }
+        ensures outcome { IfOk result (λ outcome. outcome ≡ class_named bytes.now) }
+    {
+        outcomes_are_exact();
+        match parse(self.alloc, bytes) {
+            Ok(view) => self.read_class(path, &view),
+            Err(ParseError::NoMemory) => Err(NoMemory),
+            Err(refusal) => Ok(Outcome::refused(refusal)),
+        }
+    }
+
+    /// Keeps the class of a file, unless one with a lesser path gives it.
+    fn read_class(&mut self, path: &[u8], view: &ClassView<'_>) -> Result<Outcome, NoMemory>
+        ensures outcomes { self.new.outcomes ≡ self.old.outcomes }
+        ensures classes { OnOk result (self.new.classes ≡ kept self.old.classes path.now (facts_of path.now view.now)) }
+        ensures named { IfOk result (λ outcome. (name : List ℕ) × IsNamed view.now name × (outcome ≡ Ok name)) }
+    {
+        let facts = Facts::of(self.alloc, view, path)?;
+        match self.table.put(facts) {
+            Ok(Some(before)) => self.put_lesser(before, path)?,
+            Ok(None) => {}
+            Err(_) => return Err(NoMemory),
+        }
+        Outcome::named(self.alloc, view.name())
+    }
+
+    /// Puts a class back that was taken out for one from this path, where its own path is less.
+    fn put_lesser(&mut self, before: Facts, path: &[u8]) -> Result<(), NoMemory>
+        ensures outcomes { self.new.outcomes ≡ self.old.outcomes }
+        ensures classes { OnOk result (self.new.classes ≡ put_back (Some before) path.now self.old.classes) }
+    {
+        if !less(before.path(), path) {
+            return Ok(());
+        }
+        match self.table.put(before) {
+            Ok(_) => Ok(()),
+            Err(_) => Err(NoMemory),
+        }
+    }
+
+    /// What a file of the tree is, by the class that it names.
+    pub(crate) fn state<'t>(
+        &'t self,
+        path: &'t [u8],
+        outcome: &'t Outcome,
+        meter: &mut Meter,
+    ) -> FileState<'t>
+        ensures state { (f : Files) (bytes : List ℕ) → IsTree f self.now → map.get f path.now ≡ Some bytes → outcome.now ≡ class_named bytes → state_lent result ≡ state_of f path.now outcome.now }
+        ensures made { meter.new.made ≡ meter.old.made }
+    {
+        match outcome.class() {
+            Ok(name) => self.class_state(path, name, meter),
+            Err(refusal) => FileState::Unreadable(refusal),
+        }
+    }
+
+    /// What a file is that names a class.
+    fn class_state<'t>(&'t self, path: &'t [u8], name: &'t [u8], meter: &mut Meter) -> FileState<'t>
+        ensures state { state_lent result ≡ state_by path.now name.now (option_map (λ facts. facts.path) (record_at self.now.classes name.now)) }
+        ensures made { meter.new.made ≡ meter.old.made }
+    {
+        match self.table.get(name, meter) {
+            Some(facts) if facts.path() != path => FileState::Shadowed(name, facts.path()),
+            _ => FileState::Class(name),
+        }
+    }
+}
+
+impl From<NoMemory> for AddError {
+    ghost from_gives = { λ _ e. e ≡ errors.NoMemory };
+
+    fn from(_: NoMemory) -> AddError {
+        AddError::NoMemory
+    }
+}
+
+impl From<AllocError> for AddError {
+    ghost from_gives = { λ _ e. e ≡ errors.NoMemory };
+
+    fn from(_: AllocError) -> AddError {
+        AddError::NoMemory
+    }
+}
+
+impl<T: Drop> From<AllocFailed<T>> for AddError {
+    ghost from_gives = { λ _ e. e ≡ errors.NoMemory };
+
+    fn from(_: AllocFailed<T>) -> AddError {
+        AddError::NoMemory
+    }
+}

@@ -1,5 +1,0 @@
-use Rattle.jc_text.proofs.Sending.{◌⟫◌}
-use Rattle.jc_session.proofs.report_text.write_shadowed.Goals as goal
-
-pub returns : goal.returns
-returns g c = c.text.ensures ⟫ c.shown.ensures ⟫ c.text-2.ensures ⟫ c.path.ensures

@@ -1,0 +1,136 @@
+//! Why the program ends with a line on standard error.
+
+ghost use Rattle.std.specs.Prelude.{◌≡◌, ◌++◌, codes};
+ghost use Rattle.jc_text.specs.Escapes.{path_text};
+ghost use Rattle.jc_text.specs.Sends.{Sends};
+ghost use Rattle.jc_session.specs.Statuses.{NoMemory, Refused, WritesUnlessFailed, fault_of, fault_of_check, fault_status, fault_text};
+ghost use Rattle.jc_session.specs.LentChecks.{check_fault_lent};
+ghost use Rattle.jc_session.specs.inside.LentFaults.{fault_lent, fault_of_listing};
+
+use crate::checking::CheckError;
+use crate::edit::EditError;
+use crate::run_error::RunError;
+use jc_base::{NoMemory as NoMemoryLeft, Output};
+use jc_list::ListError;
+use jc_text::TextWriter;
+use std::alloc::AllocError;
+
+/// Why the program ends with a line on standard error.
+#[derive(Clone, Copy, Debug)]
+pub(crate) enum Fault<'w> {
+    Usage,
+    Input,
+    Output,
+    NoMemory,
+    /// The file at the path can't be read.
+    Unread(&'w [u8]),
+    /// The file at the path is refused.
+    Refused(EditError, &'w [u8]),
+}
+
+impl Fault<'_> {
+    /// The exit status.
+    pub(crate) fn status(self) -> u8
+        ensures { result ≡ fault_status (fault_lent self.entry) }
+    {
+        match self {
+            Fault::Usage => 2,
+            Fault::Input | Fault::Output | Fault::Unread(_) | Fault::Refused(_, _) => 3,
+            Fault::NoMemory => 4,
+        }
+    }
+}
+
+/// Writes the line that tells a fault. That it can't be told changes nothing.
+pub(crate) fn tell<E: Output>(err: &mut E, fault: Fault<'_>)
+    ensures { WritesUnlessFailed (fault_text (fault_lent fault.entry)) (E.written err.old) (E.written err.new) (E.failures err.old) (E.failures err.new) }
+{
+    let mut text = TextWriter::new(err);
+    write_fault(&mut text, fault);
+    let _ = text.finish();
+}
+
+fn write_fault<E: Output>(text: &mut TextWriter<'_, E>, fault: Fault<'_>)
+    ensures { Sends E.written E.failures text.old text.new (fault_text (fault_lent fault.entry)) }
+{
+    match fault {
+        Fault::Usage => text.text(b"jclink: usage\n"),
+        Fault::Input => text.text(b"jclink: cannot read input\n"),
+        Fault::Output => text.text(b"jclink: cannot write\n"),
+        Fault::NoMemory => text.text(b"jclink: no memory\n"),
+        Fault::Unread(path) => write_with_path(text, b"jclink: cannot read ", path),
+        Fault::Refused(error, path) => write_refused(text, error, path),
+    }
+}
+
+fn write_with_path<E: Output>(text: &mut TextWriter<'_, E>, words: &[u8], path: &[u8])
+    ensures { Sends E.written E.failures text.old text.new (words.now ++ path_text path.now ++ codes "\n") }
+{
+    text.text(words);
+    text.path(path);
+    text.text(b"\n");
+}
+
+fn write_refused<E: Output>(text: &mut TextWriter<'_, E>, error: EditError, path: &[u8])
+    ensures { Sends E.written E.failures text.old text.new (fault_text (Refused error path.now)) }
+{
+    text.text(b"jclink: refused ");
+    text.decimal(error.code());
+    text.text(b" ");
+    text.text(error.name());
+    text.text(b" ");
+    text.path(path);
+    text.text(b"\n");
+}
+
+impl From<RunError> for Fault<'_> {
+    ghost from_gives = { λ error fault. fault_lent fault ≡ fault_of error };
+
+    fn from(error: RunError) -> Self {
+        match error {
+            RunError::Read => Fault::Input,
+            RunError::Write => Fault::Output,
+            RunError::NoMemory => Fault::NoMemory,
+        }
+    }
+}
+
+impl From<ListError> for Fault<'_> {
+    ghost from_gives = { λ error fault. fault_lent fault ≡ fault_of_listing error };
+
+    fn from(error: ListError) -> Self {
+        match error {
+            ListError::Write => Fault::Output,
+            ListError::NoMemory => Fault::NoMemory,
+        }
+    }
+}
+
+impl From<NoMemoryLeft> for Fault<'_> {
+    ghost from_gives = { λ _ fault. fault_lent fault ≡ NoMemory };
+
+    fn from(_: NoMemoryLeft) -> Self {
+        Fault::NoMemory
+    }
+}
+
+impl From<AllocError> for Fault<'_> {
+    ghost from_gives = { λ _ fault. fault_lent fault ≡ NoMemory };
+
+    fn from(_: AllocError) -> Self {
+        Fault::NoMemory
+    }
+}
+
+impl<'p> From<CheckError<'p>> for Fault<'p> {
+    ghost from_gives = { λ error fault. fault_lent fault ≡ fault_of_check (check_fault_lent error) };
+
+    fn from(error: CheckError<'p>) -> Self {
+        match error {
+            CheckError::Unread(path) => Fault::Unread(path),
+            CheckError::Refused(error, path) => Fault::Refused(error, path),
+            CheckError::Write => Fault::Output,
+            CheckError::NoMemory => Fault::NoMemory,
+        }
+    }
+}

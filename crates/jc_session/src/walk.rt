@@ -1,0 +1,171 @@
+//! The class files below a folder.
+
+use crate::source::path_below;
+use jc_base::{ByteMap, NoMemory};
+use std::alloc::{AllocError, AllocFailed, Global};
+use std::fs;
+use std::io::{self, ErrorKind, Read};
+use std::rt::Files;
+
+/// So many bytes of names are read at once.
+const ROOM: usize = 8192;
+
+/// Why the class files below a folder are not told.
+#[derive(Drop)]
+pub(crate) enum WalkFault {
+    /// What stands at this path below the folder can't be read; the folder itself by the path as given.
+    Unread(Vec<u8>),
+    NoMemory,
+}
+
+/// The paths of the regular files below a folder whose names end in `.class`, relative to it and in the
+/// order of their bytes. The walk goes depth first, a folder's entries by name, follows no link, and ends
+/// at its first fault. A name that is not UTF-8 is a fault of the folder that holds it.
+pub(crate) fn class_files<'a, F: Files + AllocGlobal>(
+    rt: &'a F,
+    folder: &'a str,
+) -> Result<Vec<Vec<u8>>, WalkFault> {
+    let mut walk = Walk {
+        rt,
+        folder,
+        pending: Vec::new(rt.alloc()),
+        files: ByteMap::new(rt.alloc()),
+    };
+    walk.enter("")?;
+    for _ in 0..u64::MAX {
+        match walk.pending.pop() {
+            Some(Entry::At(path)) => walk.visit(path)?,
+            Some(Entry::Unnamed(folder)) => return Err(walk.unread_at(folder.as_str())),
+            None => break,
+        }
+    }
+    Ok(walk.files.into_keys(rt.alloc())?)
+}
+
+/// What stands in a folder.
+#[derive(Drop)]
+enum Entry {
+    /// What stands at this path below the folder of the walk.
+    At(String),
+    /// What has a name that is not UTF-8, in the folder at this path.
+    Unnamed(String),
+}
+
+/// A walk through what stands below a folder.
+#[derive(Drop)]
+struct Walk<'a, F> {
+    rt: &'a F,
+    folder: &'a str,
+    /// What is still to be visited, the next one last.
+    pending: Vec<Entry>,
+    files: ByteMap<()>,
+}
+
+impl<F: Files + AllocGlobal> Walk<'_, F> {
+    /// Takes what stands at a path: the entries of a folder, or a class file itself.
+    fn visit(&mut self, path: String) -> Result<(), WalkFault> {
+        let kind = match self.kind(path.as_str()) {
+            Ok(kind) => kind,
+            Err(error) => return Err(self.unread(&error, path.as_str())),
+        };
+        if kind.is_dir() {
+            self.enter(path.as_str())
+        } else if kind.is_file() && path.ends_with(".class") {
+            self.files.insert(path.into_bytes(), ())?;
+            Ok(())
+        } else {
+            Ok(())
+        }
+    }
+
+    /// What stands at a path. A link is not followed.
+    fn kind(&self, path: &str) -> io::Result<fs::FileType> {
+        let path = path_below(self.rt.alloc(), self.folder, path)?;
+        Ok(fs::symlink_metadata(self.rt, path.as_str())?.file_type())
+    }
+
+    /// Puts the entries of a folder before what is still to be visited.
+    fn enter(&mut self, path: &str) -> Result<(), WalkFault> {
+        let names = match self.names(path) {
+            Ok(names) => names,
+            Err(error) => return Err(self.unread(&error, path)),
+        };
+        let names = sorted(self.rt.alloc(), &names)?;
+        for name in names.iter().rev() {
+            let entry = entry_of(self.rt.alloc(), path, name)?;
+            self.pending.push(entry)?;
+        }
+        Ok(())
+    }
+
+    /// The names in a folder, each ended by a NUL. No read ends inside a name, so there is room for the longest.
+    fn names(&self, path: &str) -> io::Result<Vec<u8>> {
+        let mut path = path_below(self.rt.alloc(), self.folder, path)?;
+        path.push('/')?;
+        let mut folder = self.rt.open_dir(path.as_str())?;
+        let mut names = Vec::new(self.rt.alloc());
+        let mut room = [0u8; ROOM];
+        for _ in 0..u64::MAX {
+            let count = folder.read(&mut room)?;
+            if count == 0 {
+                break;
+            }
+            names.extend_from_slice(&room[..count])?;
+        }
+        Ok(names)
+    }
+
+    fn unread(&self, error: &io::Error, path: &str) -> WalkFault {
+        match error.kind() {
+            ErrorKind::OutOfMemory => WalkFault::NoMemory,
+            _ => self.unread_at(path),
+        }
+    }
+
+    /// The fault at a path below the folder, or of the folder itself.
+    fn unread_at(&self, path: &str) -> WalkFault {
+        let path = if path.is_empty() { self.folder } else { path };
+        match Vec::from_slice(self.rt.alloc(), path.as_bytes()) {
+            Ok(path) => WalkFault::Unread(path),
+            Err(_) => WalkFault::NoMemory,
+        }
+    }
+}
+
+/// Names that are each ended by a NUL, in the order of their bytes.
+fn sorted(alloc: Global, names: &[u8]) -> Result<Vec<Vec<u8>>, NoMemory> {
+    let mut each = ByteMap::new(alloc);
+    for name in names.split(|byte| *byte == 0) {
+        if !name.is_empty() && name != b".".as_slice() && name != b"..".as_slice() {
+            each.insert(Vec::from_slice(alloc, name)?, ())?;
+        }
+    }
+    each.into_keys(alloc)
+}
+
+/// The entry of a name in a folder.
+fn entry_of(alloc: Global, folder: &str, name: &[u8]) -> Result<Entry, AllocError> {
+    match str::from_utf8(name) {
+        Ok(name) if folder.is_empty() => Ok(Entry::At(String::from_str(alloc, name)?)),
+        Ok(name) => Ok(Entry::At(path_below(alloc, folder, name)?)),
+        Err(_) => Ok(Entry::Unnamed(String::from_str(alloc, folder)?)),
+    }
+}
+
+impl From<NoMemory> for WalkFault {
+    fn from(_: NoMemory) -> WalkFault {
+        WalkFault::NoMemory
+    }
+}
+
+impl From<AllocError> for WalkFault {
+    fn from(_: AllocError) -> WalkFault {
+        WalkFault::NoMemory
+    }
+}
+
+impl<T: Drop> From<AllocFailed<T>> for WalkFault {
+    fn from(_: AllocFailed<T>) -> WalkFault {
+        WalkFault::NoMemory
+    }
+}

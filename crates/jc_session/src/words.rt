@@ -1,0 +1,101 @@
+//! What the words after the program's name ask for.
+
+ghost use Rattle.std.specs.Prelude.{◌≡◌, ◌⊎◌, ◌↔◌, IfErr};
+ghost use Rattle.clap.specs.Values.{kind_of};
+ghost use Rattle.jc_session.specs.Statuses.{NoMemory, Usage};
+ghost use Rattle.jc_session.specs.inside.LentFaults.{fault_lent};
+
+use crate::fault::Fault;
+use clap::error::ErrorKind;
+use clap::{Arg, ArgAction, ArgMatches, Command};
+use jc_link::{Outside, OutsideError};
+use std::alloc::{AllocError, Global};
+
+/// What the words ask for.
+#[derive(Drop)]
+pub(crate) enum Request<'w> {
+    Session,
+    /// The listing of the file at a path.
+    List(&'w str),
+    /// The report of the files below a folder.
+    Check(Outside, &'w str),
+}
+
+/// What the words ask for: `session`, `list` and a path, or `check`, prefixes and a folder.
+pub(crate) fn asked<'w>(alloc: Global, words: &'w [&'w str]) -> Result<Request<'w>, Fault<'w>>
+    ensures { IfErr result (λ fault. (fault_lent fault ≡ Usage) ⊎ (fault_lent fault ≡ NoMemory)) }
+{
+    let matches = match jclink_command(alloc)?.try_get_matches_from(words) {
+        Ok(matches) => matches,
+        Err(error) => return Err(words_fault(&error)),
+    };
+    match matches.subcommand() {
+        Some(("list", matches)) => match matches.get_str("FILE") {
+            Some(path) => Ok(Request::List(path)),
+            None => Err(Fault::Usage),
+        },
+        Some(("check", matches)) => check_request(alloc, matches),
+        _ => Ok(Request::Session),
+    }
+}
+
+/// The folder to check, and the outside prefixes: those that are given, else the standard ones.
+fn check_request<'w>(alloc: Global, matches: &ArgMatches<'w>) -> Result<Request<'w>, Fault<'w>>
+    ensures { IfErr result (λ fault. (fault_lent fault ≡ Usage) ⊎ (fault_lent fault ≡ NoMemory)) }
+{
+    let outside = match matches.get_strs("outside") {
+        Some(prefixes) => given_prefixes(alloc, prefixes)?,
+        None => Outside::standard(),
+    };
+    match matches.get_str("DIR") {
+        Some(folder) => Ok(Request::Check(outside, folder)),
+        None => Err(Fault::Usage),
+    }
+}
+
+/// The outside prefixes that are given. One that is refused is usage.
+fn given_prefixes<'w>(alloc: Global, prefixes: &[&'w str]) -> Result<Outside, Fault<'w>>
+    ensures { IfErr result (λ fault. (fault_lent fault ≡ Usage) ⊎ (fault_lent fault ≡ NoMemory)) }
+{
+    let mut texts = Vec::new(alloc);
+    for prefix in prefixes {
+        if texts.push(prefix.as_bytes()).is_err() {
+            return Err(Fault::NoMemory);
+        }
+    }
+    match Outside::new(alloc, texts.as_slice()) {
+        Ok(outside) => Ok(outside),
+        Err(OutsideError::NoMemory) => Err(Fault::NoMemory),
+        Err(OutsideError::BadPrefix | OutsideError::TooManyPrefixes) => Err(Fault::Usage),
+    }
+}
+
+/// Why words are refused.
+fn words_fault(error: &clap::Error) -> Fault<'static>
+    ensures memory { (fault_lent result ≡ NoMemory) ↔ (kind_of error.now ≡ ErrorKind.OutOfMemory) }
+    ensures usage { (fault_lent result ≡ Usage) ⊎ (fault_lent result ≡ NoMemory) }
+{
+    match error.kind() {
+        ErrorKind::OutOfMemory => Fault::NoMemory,
+        _ => Fault::Usage,
+    }
+}
+
+fn jclink_command<'a>(alloc: Global) -> Result<Command<'a>, AllocError> {
+    let session = Command::new(alloc, "session");
+    let file = Arg::new(alloc, "FILE").required(true);
+    let list = Command::new(alloc, "list").arg(file)?;
+    let prefix = Arg::new(alloc, "outside")
+        .long("outside")
+        .action(ArgAction::Append);
+    let folder = Arg::new(alloc, "DIR").required(true);
+    let check = Command::new(alloc, "check").arg(prefix)?.arg(folder)?;
+    Ok(
+        Command::new(alloc, "jclink")
+            .no_binary_name(true)
+            .subcommand_required(true)
+            .subcommand(session)?
+            .subcommand(list)?
+            .subcommand(check)?,
+    )
+}
