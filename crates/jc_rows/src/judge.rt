@@ -19,6 +19,7 @@ use anyhow::{Context, Result, bail};
 use jc_base::{ByteMap, SigKind};
 use jc_session::Session;
 use std::alloc::{AllocError, Global};
+use std::io::ErrorKind;
 use std::rt::Files;
 use std::{fs, io};
 
@@ -264,18 +265,33 @@ fn told_of_program(rt: &(impl Files + AllocGlobal), dialogue: &Dialogue) -> Resu
     Ok(dialogue.wanted.difference(rt.alloc(), &found)?)
 }
 
+/// Writes the files, with the folders that they lie in.
 fn write_files(rt: &impl Files, files: &[NamedFile]) -> io::Result<()> {
     for file in files {
+        if let Some((folder, _)) = file.name.rsplit_once('/') {
+            fs::create_dir_all(rt, folder)?;
+        }
         fs::write(rt, file.name, file.bytes.as_slice())?;
     }
     Ok(())
 }
 
-fn remove_files(rt: &impl Files, files: &[NamedFile]) -> io::Result<()> {
+fn remove_files(rt: &(impl Files + AllocGlobal), files: &[NamedFile]) -> io::Result<()> {
     for file in files {
-        fs::remove_file(rt, file.name)?;
+        match file.name.split_once('/') {
+            None => fs::remove_file(rt, file.name)?,
+            Some((folder, _)) => remove_folder(rt, folder)?,
+        }
     }
     Ok(())
+}
+
+/// Removes a folder with all that lies in it, if it is there.
+fn remove_folder(rt: &(impl Files + AllocGlobal), folder: &str) -> io::Result<()> {
+    match fs::remove_dir_all(rt, folder) {
+        Err(error) if error.kind() != ErrorKind::NotFound => Err(error),
+        _ => Ok(()),
+    }
 }
 
 fn judged(alloc: Global, what: &str, difference: Option<String>) -> Result<Found> {
