@@ -4,6 +4,7 @@ A trial is run from anywhere by its path, as trials/parse/run.py. The program jc
 its input; its first word says what is asked of them.
 """
 import argparse
+import importlib.util
 import os
 import pathlib
 import random
@@ -17,7 +18,8 @@ TOP = pathlib.Path(__file__).resolve().parent.parent
 TRIALS = TOP / "trials"
 CRATE = TOP / "crates" / "jc_trials"
 PROGRAM = CRATE / "out" / "jc_trials"
-JCLINK = TOP / "crates" / "jclink" / "out" / "jclink"
+# The environment may name another program.
+JCLINK = pathlib.Path(os.environ.get("JCLINK", TOP / "crates" / "jclink" / "out" / "jclink"))
 
 # The options of a compilation, and the folders of sources that it reads. `made` is made by the trial.
 SEVEN, EIGHT = ("seven", "made"), ("seven", "eight", "made")
@@ -37,6 +39,14 @@ WITHOUT_MADE = [
     (["--release", "7", "-g"], ("seven",)),
     (["--release", "8", "-g"], ("seven", "eight")),
 ]
+
+
+def load(path):
+    """The module in a file of the trials: several folders have files of the same names."""
+    spec = importlib.util.spec_from_file_location(path.removesuffix(".py").replace("/", "_"), TRIALS / path)
+    module = importlib.util.module_from_spec(spec)
+    spec.loader.exec_module(module)
+    return module
 
 
 def build():

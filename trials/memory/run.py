@@ -2,8 +2,8 @@
 """Refuses each request for memory of the built program in turn, and compares what it says.
 
 Usage: run.py, once ./jclink is built. It needs a C compiler.
-Each run with one refusal ends with status 4, `jclink: no memory`, and a beginning of the output that it owes,
-or gives the whole output, where what was asked for could be done without.
+Each run with one refusal ends with status 4, `jclink: no memory`, and a beginning of the output that it owes (of
+`check` nothing), or gives the whole output, where what was asked for could be done without.
 """
 import pathlib
 import sys
@@ -11,6 +11,8 @@ import sys
 sys.dont_write_bytecode = True
 sys.path.insert(0, str(pathlib.Path(__file__).resolve().parent.parent))
 import common
+
+worlds = common.load("link/worlds.py")
 
 CLASS_A = common.class_file()
 LINES = b"""add a/A.class
@@ -27,31 +29,46 @@ end
 """
 
 
-def run(folder, shim, number):
-    return common.run_refused([common.JCLINK, "session"], LINES, folder, shim, number)
+TREE = {
+    "tree/I.class": worlds.class_file(b"I", 0x601, worlds.OBJECT, [], [], [(1, b"m", b"()V")], []),
+    "tree/p/C.class": worlds.class_file(b"p/C", 0x21, worlds.OBJECT, [b"I"], [(1, b"x", b"I")], [], [(9, b"p/D", b"x", b"I")]),
+    "tree/p/D.class": worlds.class_file(b"p/D", 0x21, b"p/C", [], [], [], [(10, b"p/D", b"m", b"()V"), (7, b"[[Lq/E;")]),
+    "tree/q.class": worlds.class_file(b"p/C", 0x21, worlds.OBJECT, [], [], [], []),
+    "tree/cut.class": CLASS_A[:52],
+}
+
+
+def refuse_each(words, lines, folder, shim, begun):
+    """Refuses each request in turn; begun says what may be written before the end for want of memory."""
+    def run(number):
+        return common.run_refused([common.JCLINK, *words], lines, folder, shim, number)
+
+    status, owed, said, count = run(0)
+    if status != 1 or said:
+        sys.exit(f"with ample memory: status {status}, {said!r}")
+    ended = unfelt = 0
+    for number in range(1, count + 1):
+        status, out, said, _ = run(number)
+        if (status, out, said) == (1, owed, b""):
+            unfelt += 1
+        elif status == 4 and said == b"jclink: no memory\n" and begun(owed, out):
+            ended += 1
+        else:
+            sys.exit(f"request {number}: status {status}, {said!r}, {out!r}")
+    print(f"{words[0]}: requests for memory: {count}, each refused in turn")
+    print(f"ended with status 4 and a beginning of what is owed: {ended}")
+    print(f"answered in full without that memory: {unfelt}")
 
 
 def main():
     with common.Workplace() as folder:
         shim = common.make_shim(folder)
-        for path, data in [("a/A.class", CLASS_A), ("x/A.class", CLASS_A), ("cut", CLASS_A[:52])]:
-            (folder / path).parent.mkdir(exist_ok=True)
+        files = {"a/A.class": CLASS_A, "x/A.class": CLASS_A, "cut": CLASS_A[:52], **TREE}
+        for path, data in files.items():
+            (folder / path).parent.mkdir(parents=True, exist_ok=True)
             (folder / path).write_bytes(data)
-        status, owed, said, count = run(folder, shim, 0)
-        if status != 1 or said:
-            sys.exit(f"with ample memory: status {status}, {said!r}")
-        ended = unfelt = 0
-        for number in range(1, count + 1):
-            status, out, said, _ = run(folder, shim, number)
-            if (status, out, said) == (1, owed, b""):
-                unfelt += 1
-            elif status == 4 and said == b"jclink: no memory\n" and owed.startswith(out):
-                ended += 1
-            else:
-                sys.exit(f"request {number}: status {status}, {said!r}, {out!r}")
-        print(f"requests for memory: {count}, each refused in turn")
-        print(f"ended with status 4 and a beginning of what is owed: {ended}")
-        print(f"answered in full without that memory: {unfelt}")
+        refuse_each(["session"], LINES, folder, shim, lambda owed, out: owed.startswith(out))
+        refuse_each(["check", "tree"], b"", folder, shim, lambda owed, out: out == b"")
 
 
 if __name__ == "__main__":

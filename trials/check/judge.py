@@ -1,0 +1,159 @@
+#!/usr/bin/env python3
+"""A plain judge of whole reports, written from `docs/RULES.md` and `docs/REPORT.md`: the text that `jclink check` owes for a folder.
+
+report(files, prefixes) takes bytes by path, and gives the text and whether it is wrong. It stands on the judges of
+parsing (trials/parse), of faults (trials/views, trials/code) and of linking (trials/link), none of which shares code
+with the library.
+
+Usage: judge.py [--outside PREFIX]... DIR. It prints and ends as `jclink check` owes.
+"""
+import argparse
+import os
+import pathlib
+import sys
+
+sys.dont_write_bytecode = True
+sys.path.insert(0, str(pathlib.Path(__file__).resolve().parent.parent))
+import common
+
+links, reader = common.load("link/judge.py"), common.load("parse/reader.py")
+
+STANDARD = (b"java/", b"javax/")
+CLASS, FIELD, METHOD = 7, 9, 10
+MISSING = ("NoClass", "NoField", "NoMethod")
+
+
+def path_text(path):
+    return "".join("\\\\" if byte == 0x5c else chr(byte) if 0x20 <= byte <= 0x7e else f"\\x{byte:02x}" for byte in path)
+
+
+def row(name, tag, key):
+    return f"{links.KINDS[tag]} {links.shown(name)}{links.member(key or None)}"
+
+
+def rows(found):
+    """Rows of class name, kind and member, each once; the numbers of kinds rise as the kinds do."""
+    return [row(*one) for one in sorted(set(found))]
+
+
+class Report:
+    def __init__(self, files, prefixes):
+        self.answers = {path: reader.answer(files[path]) for path in sorted(files)}
+        self.names = {path: bytes.fromhex(answer[3:]) for path, answer in self.answers.items() if answer.startswith("ok ")}
+        self.world = links.World([(path, files[path]) for path in self.names], tuple(prefixes))
+        self.loaded = {name: record for name, record in self.world.given.items() if self.world.load(name) == links.OK}
+
+    def file_rows(self):
+        winners = {}
+        for path, answer in self.answers.items():
+            if path not in self.names:
+                yield f"{path_text(path)}: unreadable {answer}"
+                continue
+            name = self.names[path]
+            winner = winners.setdefault(name, path)
+            what = f"class {links.shown(name)}" if winner == path else f"shadowed {links.shown(name)} by {path_text(winner)}"
+            yield f"{path_text(path)}: {what}"
+
+    def provided(self):
+        for name, record in self.loaded.items():
+            if not record.flags & links.PUBLIC:
+                continue
+            yield name, CLASS, ()
+            for tag, members in ((FIELD, record.fields), (METHOD, record.methods)):
+                for *key, flags in members:
+                    if flags & (links.PUBLIC | links.PROTECTED) and (tag == FIELD or key[0] != b"<clinit>"):
+                        yield name, tag, tuple(key)
+
+    def resolved(self, name):
+        """The references of a class, each with its answer where the class loads."""
+        for _, tag, text, key in self.loaded[name].references if name in self.loaded else ():
+            yield (text, tag, key or ()), self.world.resolve(name, tag, text, key)
+
+    def required(self):
+        for name in self.loaded:
+            for reference, answer in self.resolved(name):
+                if answer[0] == "Outside" or answer[0] == "error" and answer[1] in MISSING:
+                    yield reference
+
+    def text(self):
+        lines = ["[files]", *self.file_rows(), "[parts]", *self.world.parts(),
+                 "[provided]", *rows(self.provided()), "[required]", *rows(self.required())]
+        return "".join(line + "\n" for line in lines)
+
+    def is_wrong(self, name):
+        record = self.world.given[name]
+        return bool(name not in self.loaded or record.faults or record.code_faults
+                    or any(answer[0] == "error" for _, answer in self.resolved(name)))
+
+    def wrong(self):
+        return len(self.names) < len(self.answers) or any(map(self.is_wrong, self.world.given))
+
+
+def report(files, prefixes=STANDARD):
+    """The text, and whether it is wrong."""
+    made = Report(files, prefixes)
+    return made.text(), made.wrong()
+
+
+def is_word(name):
+    try:
+        name.decode()
+    except UnicodeDecodeError:
+        return False
+    return True
+
+
+def unread_folder(files):
+    """The folder at which the walk ends, by its path, since it has an entry whose name is no UTF-8.
+
+    A folder's entries are gone through by their names, each folder whole before the next entry.
+    """
+    for parts in sorted(path.split(b"/") for path in files):
+        for depth, name in enumerate(parts):
+            if not is_word(name):
+                return b"/".join(parts[:depth])
+    return None
+
+
+def owed(files, prefixes, folder):
+    """What `jclink check` owes for the files of a folder: output, status and standard error."""
+    unread = unread_folder(files)
+    if unread is not None:
+        return "", 3, f"jclink: cannot read {path_text(unread) or folder}\n"
+    read = {path: data for path, data in files.items() if data is not None and path.endswith(b".class")}
+    text, wrong = report(read, prefixes or STANDARD)
+    return text, int(wrong), ""
+
+
+def files_below(folder):
+    """The bytes of the class files below a folder by their paths, and None for each folder."""
+    top, found = os.fsencode(folder), {}
+    for place, folders, names in os.walk(top):
+        for name in folders + names:
+            path = os.path.join(place, name)
+            key = os.path.relpath(path, top)
+            if not is_word(name):
+                found[key] = None
+            elif os.path.islink(path):
+                continue
+            elif os.path.isdir(path):
+                found[key + b"/"] = None
+            elif name.endswith(b".class") and os.path.isfile(path):
+                with open(path, "rb") as file:
+                    found[key] = file.read()
+    return found
+
+
+def main():
+    parser = argparse.ArgumentParser()
+    parser.add_argument("--outside", action="append", metavar="PREFIX", default=[])
+    parser.add_argument("folder", metavar="DIR")
+    options = parser.parse_args()
+    text, status, errors = owed(files_below(options.folder), list(map(os.fsencode, options.outside)), options.folder)
+    print(text, end="")
+    print(errors, end="", file=sys.stderr)
+    sys.exit(status)
+
+
+if __name__ == "__main__":
+    main()

@@ -1,0 +1,139 @@
+#!/usr/bin/env python3
+"""Compares the reports of the built program with those of a plain judge (judge.py), over random small worlds.
+
+Each world is written as a folder and `jclink check` is run on it; standard output, standard error and the status
+are compared, also where a name is no UTF-8 and there is no report. The last lines tell how often each sort of row
+was owed, and which sorts never were.
+
+Usage: run.py [--tree DIR]... [--keep FOLDER] [SEED [COUNT]], seed 1 and 2,000 worlds where none is given, once ./jclink
+is built; the environment's JCLINK may name another program. --tree compares a folder of class files too, and --keep
+leaves the worlds that differ in a folder, by their numbers.
+"""
+import argparse
+import collections
+import os
+import pathlib
+import random
+import re
+import shlex
+import shutil
+import subprocess
+import sys
+
+sys.dont_write_bytecode = True
+sys.path.insert(0, str(pathlib.Path(__file__).resolve().parent.parent))
+import common
+import judge
+import worlds
+
+# What a line tells without its names, by section.
+SORTS = {
+    "files": re.compile(r".*?: (class|shadowed|unreadable \d \w+)"),
+    "parts": re.compile(r"(?:part .*?: (loaded|error \d \w+)|  (format F\d+|code S\d+)|  #\d+ (\w+) .* -> (To|Outside|NotLoaded|error \d \w+))"),
+    "circular": re.compile(r"()"),
+    "provided": re.compile(r"(\w+) "),
+    "required": re.compile(r"(\w+) "),
+}
+ERRORS = [f"error {code} {name}" for name, code in judge.links.ERRORS.items()]
+REFUSALS = ["1 Magic", "2 Version", "3 Count", "4 Tag", "5 Wide", "6 Trailing", "7 Short", "8 NoName"]
+OF_CLASSES = ["To", "Outside", "NotLoaded", *ERRORS[:5]]
+ANSWERS = {"class": OF_CLASSES, "field": [*OF_CLASSES, ERRORS[5]], "method": [*OF_CLASSES, ERRORS[6]], "imethod": [*OF_CLASSES, ERRORS[6]]}
+ENDS = {0: "not wrong", 1: "wrong", 3: "not read"}
+EXPECTED = [
+    *(f"files {what}" for what in ["class", "shadowed", *(f"unreadable {refusal}" for refusal in REFUSALS)]),
+    *(f"parts {what}" for what in ["loaded", *ERRORS[:5]]),
+    *(f"parts {kind} {answer}" for kind, answers in ANSWERS.items() for answer in answers),
+    *(f"parts format F{rule}" for rule in range(1, 31)), *(f"parts code S{rule}" for rule in range(1, 25)),
+    "circular", *(f"provided {kind}" for kind in ("class", "field", "method")),
+    *(f"required {kind}" for kind in ("class", "field", "method", "imethod")), *ENDS.values(),
+]
+
+
+def sorts_of(text):
+    section = None
+    for line in text.splitlines():
+        if line.startswith("["):
+            section = line.strip("[]")
+        else:
+            yield " ".join([section, *filter(None, SORTS[section].match(line).groups())])
+
+
+def write(folder, files):
+    """The files of a world; links lead to a class, or to a folder that holds one, outside of it."""
+    outside = folder.with_name("outside")
+    outside.mkdir(exist_ok=True)
+    (outside / "Far.class").write_bytes(common.class_file(b"Far"))
+    folder.mkdir()
+    for path, data in files.items():
+        place = os.path.join(os.fsencode(folder), path)
+        os.makedirs(os.path.dirname(place), exist_ok=True)
+        if data is None:
+            os.symlink(outside / "Far.class" if b"link" in path else outside, place)
+        else:
+            with open(place, "wb") as file:
+                file.write(data)
+
+
+def words_of(rng, prefixes):
+    words = []
+    for prefix in prefixes or ():
+        words += [b"--outside=" + prefix] if prefix.startswith(b"-") or rng.random() < 0.5 else [b"--outside", prefix]
+    return words
+
+
+def printed(words, folder):
+    done = subprocess.run([common.JCLINK, "check", *words, folder], capture_output=True, timeout=60)
+    output, errors = (text.decode("ascii", "backslashreplace") for text in (done.stdout, done.stderr))
+    return output, done.returncode, errors
+
+
+def tell(what, ours, wanted):
+    lines, others = ours[0].splitlines(), wanted[0].splitlines()
+    at = next((at for at, pair in enumerate(zip(lines, others)) if pair[0] != pair[1]), min(len(lines), len(others)))
+    print(f"{what}: status {ours[1]} for {wanted[1]}, standard error {ours[2]!r} for {wanted[2]!r}, {len(lines)} lines for {len(others)}, of which line {at + 1}:")
+    print(f"  jclink: {''.join(lines[at:at + 1])}\n  judge:  {''.join(others[at:at + 1])}")
+
+
+def compare(what, words, folder, wanted, told):
+    """Whether the program answers as the judge does."""
+    told.update([*sorts_of(wanted[0]), ENDS[wanted[1]]])
+    ours = printed(words, folder)
+    if ours != wanted:
+        tell(what, ours, wanted)
+    return ours == wanted
+
+
+def try_world(seed, number, work, keep, told):
+    rng, folder = random.Random(f"{seed}.{number}"), work / "world"
+    files, prefixes = worlds.make_world(rng)
+    write(folder, files)
+    words = words_of(rng, prefixes)
+    right = compare(f"world {number}", words, folder, judge.owed(files, prefixes, folder), told)
+    if keep and not right:
+        shutil.copytree(folder, pathlib.Path(keep) / str(number), symlinks=True)
+        print("  kept; its words:", " ".join(map(shlex.quote, map(os.fsdecode, words))))
+    shutil.rmtree(folder)
+    return right
+
+
+def main():
+    parser = argparse.ArgumentParser()
+    parser.add_argument("--keep", metavar="FOLDER")
+    parser.add_argument("--tree", metavar="DIR", action="append", default=[])
+    parser.add_argument("seed", type=int, nargs="?", default=1)
+    parser.add_argument("count", type=int, nargs="?", default=2000)
+    options = parser.parse_args()
+    if not common.JCLINK.exists():
+        sys.exit(f"no program at {common.JCLINK}")
+    told = collections.Counter()
+    right = [compare(tree, [], tree, judge.owed(judge.files_below(tree), None, tree), told) for tree in options.tree]
+    with common.Workplace() as work:
+        right += [try_world(options.seed, number, work, options.keep, told) for number in range(options.count)]
+    missed = [sort for sort in EXPECTED if not told[sort]]
+    print(f"{options.count} worlds and {len(options.tree)} trees, {right.count(False)} differ; never owed: {', '.join(missed) or 'nothing'}")
+    print(", ".join(f"{told[sort]} {sort}" for sort in [*EXPECTED, *sorted(set(told) - set(EXPECTED))]))
+    sys.exit(0 if all(right) else 1)
+
+
+if __name__ == "__main__":
+    main()

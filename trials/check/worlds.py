@@ -1,0 +1,125 @@
+"""Random worlds as folders: the classes of trials/link/worlds.py, or others of which most load (classes.py), in half of
+the worlds under odd names, and in half of them with files that are changed, cut or faulty; some classes in several files.
+
+make_world(rng) gives bytes by path and the outside prefixes. In the place of bytes None stands for a symbolic link.
+"""
+import re
+
+import classes
+import common
+import judge
+
+links = common.load("link/worlds.py")
+
+FOLDERS = [b"", b"", b"", b"p/", b"a/", b"a-/", b"a.b/", b"a/a/", b"x.class/", b" /", b"\\/", "\u00e9/".encode(), b"p/q/r/s/"]
+STEMS = [b"A", b"B", b"C", b"D", b"E", b"a", b"b", b"", b"-", b" ", b"\\", b"\\x5c", b"\n", b"\x01", b"\x7f", b"~", b"x: y",
+         "\u00e9".encode(), "\U0001f600".encode(), b"A.class", b"#1"]
+PASSED_OVER = [b"A.CLASS", b"A.class.txt", b"Aclass", b"class", b"A", b"\xff.txt", b".class~"]
+LINKS = [b"link.class", b"a/link.class", b"folder", b"p/folder.class", b"link\xff.class"]
+NO_WORDS = [b"\xff.class", b"a/\x80A.class", b"a-/\xc0\x80.class", b"p/\xed\xa0\xbd/A.class", b"B\xff/none", b"x.class/\xff/\xff.class"]
+
+# Parts of names that print otherwise, or that sort elsewhere than their text does.
+ODD = [b"\xc3\xa9", b"\xed\xa0\xbd\xed\xb8\x80", b"\xed\xa0\xbd", b"\xc0\x80", b"\\", b"\\u00e9", b" ", b"a b", b"\x01", b"\x7f",
+       b"\n", b"\xef\xbf\xbf", b"\xdf\xbf", b"~", b"-", b"-x", b")", b"a:b", b"#1", b"\xe2\x82\xac", b"A\xc0\x80", b"AA"]
+NAMED = [b"A", b"B", b"C", b"D", b"X", b"T", b"Y", b"Z", b"p", b"q", b"r", b"org", b"m", b"n", b"x", b"y"]
+# Prefixes are words of a command line, so they are UTF-8 without a zero; 64 may be given.
+WORDS = [odd for odd in ODD if b"\xed" not in odd and b"\xc0" not in odd]
+EVERYTHING = [*WORDS, *(b"%c" % letter for letter in b"ABCDETXYZjnopqr")]
+PREFIXES = [None] * 8 + [[b"java/"], [b"org/", b"java/"], [b"j"], [b"X", b"p/", b"X"], [b"p/A"], [b"nothing/"]]
+PLAIN = links.class_file(b"A", 0x21, links.OBJECT, [], [], [], [])
+
+
+def odd_names(rng):
+    keys = rng.sample(NAMED, rng.randrange(1, 7))
+    return dict(zip(keys, rng.sample(ODD, len(keys))))
+
+
+def renamed(data, table):
+    """The class with other words in its names, and in the descriptors that hold them."""
+    words = table | {b"L" + old: b"L" + new for old, new in table.items()}
+    change = lambda text: re.sub(rb"\w+", lambda found: words.get(found[0], found[0]), text)
+    head, constants, rest = classes.by_parts(data)
+    return head + b"".join(common.utf8(change(piece[3:])) if piece[0] == 1 else piece for piece in constants.values()) + rest
+
+
+def harmed(rng, data):
+    chance = rng.random()
+    if chance < 0.12:
+        return classes.unreadable(rng, data)
+    if chance < 0.22:
+        return classes.changed(rng, data)
+    if chance < 0.34:
+        return classes.with_code(rng, data)
+    if chance < 0.44:
+        return classes.code_class(rng, rng.choice(links.NAMES))
+    return classes.wild_class(rng, rng.choice(links.NAMES)) if chance < 0.50 else data
+
+
+def new_path(rng, files):
+    while True:
+        path = rng.choice(FOLDERS) + rng.choice(STEMS) + b".class"
+        if path not in files:
+            return path
+
+
+def prefixes_of(rng, table):
+    own = [word for word in table.values() if word in WORDS]
+    return [rng.choice(own)] if own and rng.random() < 0.2 else rng.choice(PREFIXES)
+
+
+def bad_references(report, path):
+    """The indexes of the members that the class of a file refers to in vain."""
+    name, world = report.names.get(path), report.world
+    if name not in report.loaded or any(other < path for other, same in report.names.items() if same == name):
+        return []
+    return [index for index, tag, text, key in report.loaded[name].references
+            if tag != judge.CLASS and world.resolve(name, tag, text, key)[0] == "error"]
+
+
+def mended(rng, files):
+    """A world that is not wrong: bad references become numbers, wrong files go, and missing names are outside."""
+    while True:
+        report = judge.Report(files, EVERYTHING)
+        wrong = [path for path in sorted(files) if path not in report.names or report.is_wrong(report.names[path])]
+        if not wrong:
+            return files
+        path = rng.choice(wrong)
+        bad = bad_references(report, path)
+        if not bad:
+            del files[path]
+            continue
+        head, constants, rest = classes.by_parts(files[path])
+        files[path] = head + b"".join(b"\3" + piece[1:] if index in bad else piece for index, piece in constants.items()) + rest
+
+
+def with_one_more(rng, files):
+    """A world with one file more, which may be all that makes it wrong, or be shadowed."""
+    name = rng.choice([b"A", *sorted(set(judge.Report(files, EVERYTHING).names.values()))])
+    with_code = classes.code_class(rng, name)
+    files[new_path(rng, files)] = rng.choice([classes.unreadable(rng, PLAIN), with_code, with_code, classes.wild_class(rng, name)])
+    return files
+
+
+def make_classes(rng):
+    """The bytes of files, and the words that were changed in their names."""
+    found = classes.dense_classes(rng) if rng.random() < 0.5 else [data for _, data in links.make_world(rng)]
+    table = odd_names(rng) if rng.random() < 0.5 else {}
+    found = [renamed(data, table) for data in found]
+    found = [classes.put(data, 4, b"\0\7") if data[7] == 51 and rng.random() < 0.2 else data for data in found]
+    if rng.random() < 0.5:
+        found = [harmed(rng, data) for data in found]
+    found += [rng.choice(found) for _ in classes.some(rng, 2)]
+    return found if rng.random() < 0.99 else [], table
+
+
+def make_world(rng):
+    files, (found, table) = {}, make_classes(rng)
+    for data in found:
+        files[new_path(rng, files)] = data
+    if rng.random() < 0.15:
+        files = mended(rng, files)
+        return with_one_more(rng, files) if rng.random() < 0.5 else files, EVERYTHING
+    for names, value, chance in ((PASSED_OVER, PLAIN, 0.15), (LINKS, None, 0.15), (NO_WORDS, PLAIN, 0.03)):
+        if rng.random() < chance:
+            files[rng.choice(names)] = value
+    return files, prefixes_of(rng, table)
