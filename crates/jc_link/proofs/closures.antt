@@ -1,1 +1,1 @@
-pub mod Searching
+pub mod Names

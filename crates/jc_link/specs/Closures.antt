@@ -1,10 +1,12 @@
 -- The reach of a class, as it is gathered from a table.
-use Rattle.std.specs.Prelude.{◌≡◌, List, map}
+use Rattle.std.specs.Prelude.{◌≡◌, List, Option, Some, None, map}
+use Rattle.jc_classes.specs.Facts.{Facts}
 use Rattle.jc_classes.specs.NameLists.{Lists}
 use Rattle.jc_classes.specs.Names.{Name}
 use Rattle.jc_classes.specs.Numbers.{name_at}
 use Rattle.jc_classes.specs.Parts.{Reach}
 use Rattle.jc_classes.specs.Worlds.{Stands, World}
+use Rattle.jc_classes.specs.Worlds.Stands.{Record, Outside, Nothing}
 
 -- the names of a reach, and what stands at each
 pub record Closure : Type 0 where
@@ -20,3 +22,9 @@ pub record IsClosure (m : World) (d : Name) (c : Closure) : Type 0 where
   pub names : Lists c.names (Reach m d)
   pub first : name_at c.found 0 ≡ d
   pub stands : c.stands ≡ map m c.found
+
+-- the record of a class that stands
+abbrev pub record_of : Stands → Option Facts
+record_of (Record r) = Some r
+record_of Outside = None
+record_of Nothing = None

@@ -1,17 +1,17 @@
 //! The reach of a class with what stands at each of its names.
 
 ghost use Rattle.std.specs.Prelude.{◌≡◌, ◌↔◌, IsTrue};
-ghost use Rattle.std.specs.List.Sorted.{IsStrictlySortedBy};
+ghost use Rattle.std.specs.Option.{option_copied};
 ghost use Rattle.jc_classes.specs.Lent.{stands_of};
 ghost use Rattle.jc_classes.specs.NameLists.{has, Lists};
-ghost use Rattle.jc_classes.specs.Names.{Name, name_cmp, names_of};
+ghost use Rattle.jc_classes.specs.Names.{Name, names_of};
 ghost use Rattle.jc_classes.specs.Parts.{Reach};
 ghost use Rattle.jc_classes.specs.Worlds.{World};
-ghost use Rattle.jc_link.specs.Closures.{IsClosure};
+ghost use Rattle.jc_link.specs.Closures.{IsClosure, record_of};
 ghost use Rattle.jc_link.specs.inside.Gathering.{stand_at};
 
-use jc_classes::Standing;
-use std::cmp::Ordering;
+use jc_classes::{Facts, Standing};
+use jc_index::NameList;
 use std::marker::Model;
 
 /// The reach of a class, as it was gathered from a table: its names, what stands at each, and the numbers
@@ -19,7 +19,7 @@ use std::marker::Model;
 #[derive(Drop)]
 pub struct Closure<'t> {
     /// The names, rising.
-    pub(crate) names: Vec<Vec<u8>>,
+    pub(crate) names: NameList,
     /// The names by their numbers: the class itself, then in the order in which they were found.
     pub(crate) found: Vec<Vec<u8>>,
     /// What stands at each number.
@@ -50,7 +50,7 @@ impl<'t> Closure<'t> {
         ensures names { names_of result.now ≡ self.now.names }
         ensures reach { (m : World) (d : Name) → IsClosure m d self.now → Lists (names_of result.now) (Reach m d) }
     {
-        self.names.as_slice()
+        self.names.names()
     }
 
     /// Whether a name is in the reach. No memory.
@@ -58,31 +58,31 @@ impl<'t> Closure<'t> {
         ensures held { result ≡ has self.now.names name.now }
         ensures reach { (m : World) (d : Name) → IsClosure m d self.now → (IsTrue result ↔ Reach m d name.now) }
     {
-        is_among(self.names.as_slice(), name)
+        self.names.has(name)
+    }
+
+    /// The record of the class itself. No memory.
+    pub fn record(&self) -> Option<&'t Facts>
+        ensures { (m : World) (d : Name) → IsClosure m d self.now → option_copied result ≡ record_of (m d) }
+    {
+        match self.own() {
+            Standing::Class(facts) => Some(facts),
+            _ => None,
+        }
+    }
+
+    /// The names of the reach, moved out. No memory.
+    pub fn into_names(self) -> NameList
+        ensures { result ≡ self.entry.names }
+    {
+        self.names
     }
 
     /// What stands at the class itself.
     pub(crate) fn own(&self) -> Standing<'t>
-        ensures { stands_of result ≡ stand_at self.now.stands 0 }
+        ensures first { stands_of result ≡ stand_at self.now.stands 0 }
+        ensures world { (m : World) (d : Name) → IsClosure m d self.now → stands_of result ≡ m d }
     {
         self.standing[0]
     }
-}
-
-/// Whether a name is one of names that rise, by halving.
-fn is_among(names: &[Vec<u8>], name: &[u8]) -> bool
-    requires { IsStrictlySortedBy name_cmp (names_of names.now) }
-    ensures { result ≡ has (names_of names.now) name.now }
-{
-    let mut low = 0;
-    let mut high = names.len();
-    while low < high {
-        let middle = low + (high - low) / 2;
-        match names[middle].as_slice().cmp(name) {
-            Ordering::Less => low = middle + 1,
-            Ordering::Equal => return true,
-            Ordering::Greater => high = middle,
-        }
-    }
-    false
 }

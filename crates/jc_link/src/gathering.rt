@@ -13,6 +13,7 @@ use crate::outside::Outside;
 use crate::table::Table;
 use jc_base::NoMemory;
 use jc_classes::{Numbers, Standing};
+use jc_index::NameList;
 use std::alloc::Global;
 
 /// Gathers the reach of a name: the name itself, `java/lang/Object`, the classes that its references name,
@@ -46,7 +47,7 @@ pub fn gather<'t>(
     }
     let (found, names) = numbers.into_lists(alloc)?;
     Ok(Closure {
-        names,
+        names: NameList::of(names),
         found,
         standing,
         supertypes,

@@ -6,8 +6,8 @@ use Rattle.jc_link.specs.inside.Gathering.{IsNet, stands_in, rows_in}
 use Rattle.jc_link.specs.declared.closure.Closure.TheInside.{Inside}
 
 abbrev pub closure_shown : Inside → Closure
-closure_shown a = record { names = names_of a.names.items; found = names_of a.found.items; stands = stands_in a.standing.items }
+closure_shown a = record { names = a.names; found = names_of a.found.items; stands = stands_in a.standing.items }
 
 pub record IsWhole (a : Inside) : Type 0 where
   pub net : IsNet (names_of a.found.items) (stands_in a.standing.items) (rows_in a.supertypes.items) a.references.items a.object
-  pub rising : IsRisingOf (names_of a.names.items) (names_of a.found.items)
+  pub rising : IsRisingOf (a.names) (names_of a.found.items)

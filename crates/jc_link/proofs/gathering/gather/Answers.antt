@@ -12,6 +12,7 @@ use Rattle.jc_link.specs.inside.Gathering.{Gathering, stands_in, rows_in, Nodes}
 use Rattle.jc_link.proofs.reaches.Gathered.{gathering_add, gathering_first, gathering_as, counted_more}
 use Rattle.jc_classes.specs.NameLists.{IsRisingOf}
 use Rattle.jc_classes.specs.Names.{object as java_lang_object}
+use Rattle.jc_link.proofs.closures.Names.{rising_list}
 use Rattle.jc_link.proofs.reaches.Closing.{all_asked, net_of, closure_of}
 use Rattle.jc_link.proofs.reaches.Weights.{left_less}
 use Rattle.jc_link.proofs.gathering.gather.Goals as goal
@@ -101,7 +102,7 @@ invariant_of-result c =
     let nodes = c.in_ok-references.references.items in
     let g : Gathering m d ns (stands_in st) rs nodes = subst (λ z. Gathering m d z (stands_in st) rs nodes) (sym e) c.loop-numbers.invariant.gathering in
     let over : length ns ≤ length (stands_in st) = omega (arith, c.loop-numbers-test.false, c.len.ensures, c.len-in-loop-numbers.ensures, c.loop-numbers.standing.ok.0, length-map st stands_of, ap length e) in
-    let rising : IsRisingOf (names_of c.in_ok-found.names.items) ns = subst (IsRisingOf (names_of c.in_ok-found.names.items)) (sym e) c.in_ok-found.ensures.rising in
+    let rising : IsRisingOf c.of.result ns = rising_list (names_of c.in_ok-found.names.items) c.of.result ns _ c.of.ensures.kept (sym e) c.in_ok-found.ensures.rising in
     let object = subst (λ z. (c.in_ok-object.object < length z) × (name_at z c.in_ok-object.object ≡ java_lang_object)) (sym e) c.loop-numbers.invariant.object in
     record { net = net_of m d ns (stands_in st) rs nodes g over c.in_ok-object.object object; rising = rising }
 
@@ -116,8 +117,8 @@ returns-clause-closure c =
     let nodes = c.in_ok-references.references.items in
     let g : Gathering m d ns (stands_in st) rs nodes = subst (λ z. Gathering m d z (stands_in st) rs nodes) (sym e) c.loop-numbers.invariant.gathering in
     let over : length ns ≤ length (stands_in st) = omega (arith, c.loop-numbers-test.false, c.len.ensures, c.len-in-loop-numbers.ensures, c.loop-numbers.standing.ok.0, length-map st stands_of, ap length e) in
-    let rising : IsRisingOf (names_of c.in_ok-found.names.items) ns = subst (IsRisingOf (names_of c.in_ok-found.names.items)) (sym e) c.in_ok-found.ensures.rising in
-    closure_of m d ns (stands_in st) rs nodes g over (names_of c.in_ok-found.names.items) rising
+    let rising : IsRisingOf c.of.result ns = rising_list (names_of c.in_ok-found.names.items) c.of.result ns _ c.of.ensures.kept (sym e) c.in_ok-found.ensures.rising in
+    closure_of m d ns (stands_in st) rs nodes g over c.of.result rising
 
 pub returns-clause-asks : goal.returns-clause-asks
 returns-clause-asks c =
@@ -130,6 +131,6 @@ returns-clause-asks c =
     let nodes = c.in_ok-references.references.items in
     let g : Gathering m d ns (stands_in st) rs nodes = subst (λ z. Gathering m d z (stands_in st) rs nodes) (sym e) c.loop-numbers.invariant.gathering in
     let over : length ns ≤ length (stands_in st) = omega (arith, c.loop-numbers-test.false, c.len.ensures, c.len-in-loop-numbers.ensures, c.loop-numbers.standing.ok.0, length-map st stands_of, ap length e) in
-    let rising : IsRisingOf (names_of c.in_ok-found.names.items) ns = subst (IsRisingOf (names_of c.in_ok-found.names.items)) (sym e) c.in_ok-found.ensures.rising in
+    let rising : IsRisingOf c.of.result ns = rising_list (names_of c.in_ok-found.names.items) c.of.result ns _ c.of.ensures.kept (sym e) c.in_ok-found.ensures.rising in
     let size = all_asked m d ns (stands_in st) rs nodes g over in
     c.loop-numbers.invariant.asks ∙ ap (counted c.args.meter.now.asks) (omega (arith, size, length-map st stands_of, rising.count))

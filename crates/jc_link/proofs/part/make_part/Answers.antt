@@ -34,5 +34,5 @@ returns-clause-part c = λ m d k.
     let stands = ap (λ (z : Closure). stand_at z.stands 0) (sym c.closure.view_is) in
     part_made m d (closure_shown a) (rows_in a.supertypes.items) c.in_ok-hierarchy.hierarchy c.is_circular.result (loading_of c.in_ok-load.load) (map answer_of c.in_ok-answers.answers.items) c.in_ok-format_faults.format_faults.items c.in_ok-code_faults.code_faults.items (stand_at (stands_in a.standing.items) 0)
     closure c.closure.invariant.net.some is c.is_circular.ensures c.in_ok-load.ensures c.in_ok-answers.ensures refl
-    (c.in_ok-format_faults.ensures ∙ ap format_faults_of (c.own.ensures ∙ stands))
-    (c.in_ok-code_faults.ensures ∙ ap code_faults_of (c.own-2.ensures ∙ stands))
+    (c.in_ok-format_faults.ensures ∙ ap format_faults_of (c.own.ensures.first ∙ stands))
+    (c.in_ok-code_faults.ensures ∙ ap code_faults_of (c.own-2.ensures.first ∙ stands))

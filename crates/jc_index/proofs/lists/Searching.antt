@@ -1,22 +1,17 @@
 -- A name is looked for in names that rise.
-use Rattle.std.proofs.Common.{◌≡◌, ℕ, zero, suc, ◌+◌, ◌<◌, ◌≤◌, true, false, List, [], ◌∷◌, length, refl, sym, ap, subst, ◌∙◌, arith, ⊎_elim, ◌⊎◌, add-one, get_or}
-use Rattle.std.proofs.lemmas.Bool.{cases_Bool}
+use Rattle.std.proofs.Common.{◌≡◌, ℕ, zero, suc, ◌+◌, ◌<◌, ◌≤◌, false, List, [], ◌∷◌, length, refl, sym, ap, subst, ◌∙◌, arith, add-one, get_or}
 use Rattle.std.specs.declared.cmp.Ordering.{Ordering}
 use Rattle.std.specs.declared.cmp.Ordering.TheVariants.{Less, Equal, Greater}
 use Rattle.std.specs.Ordering.{is_lt, ordering_index, ordering_reverse}
-use Rattle.std.specs.Cmp.{Equal-is}
 use Rattle.std.specs.List.Sorted.{IsStrictlySortedBy, IsNonDecreasingBy}
 use Rattle.std.proofs.lemmas.List.{get_or-map}
 use Rattle.std.specs.declared.vec.Vec.{Vec}
 use Rattle.std.specs.declared.alloc.Global.{Global}
 use Rattle.std.proofs.lemmas.List.Sorted.{searchable_from_sorted}
 use Rattle.jc_base.proofs.maps.FiniteMaps.{bytes_cmp_total, bytes_cmp-IsAntisymmetric}
-use Rattle.jc_classes.specs.NameLists.{has}
 use Rattle.jc_classes.specs.Names.{Name, name_cmp, names_of}
 use Rattle.jc_classes.specs.Numbers.{name_at}
-use Rattle.jc_classes.proofs.numbering.Rising.{has_at, place_of}
-use Rattle.jc_classes.proofs.worlds.NameTests.{same_self}
-use Rattle.jc_link.specs.inside.Narrowed.{Narrowed}
+use Rattle.jc_index.specs.inside.Places.{StandsAt, IsNarrowed}
 
 adjacent : (ns : List Name) → IsStrictlySortedBy name_cmp ns → (k : ℕ) (d : Name) → suc k < length ns → name_cmp (get_or ns k d) (get_or ns (suc k) d) ≡ Less
 unfolding IsStrictlySortedBy
@@ -41,47 +36,28 @@ greater_index Greater p h e = refl
 greater_index Equal p h e = let f = ap ordering_index e in absurd (omega arith)
 greater_index Less p h e = let f = ap ordering_index e in absurd (omega arith)
 
-pub narrowed_start : (ns : List Name) (name : Name) → Narrowed ns name 0 (length ns)
-narrowed_start ns name = record { fits = omega arith; below = λ k l. absurd (omega arith); above = λ k l m. absurd (omega arith) }
-
-pub narrowed_up : (ns : List Name) (name : Name) (low high middle : ℕ) → IsStrictlySortedBy name_cmp ns → Narrowed ns name low high → middle < high → name_cmp (name_at ns middle) name ≡ Less → Narrowed ns name (middle + 1) high
+pub narrowed_up : (ns : List Name) (name : Name) (low high middle : ℕ) → IsStrictlySortedBy name_cmp ns → IsNarrowed ns name low high → middle < high → name_cmp (name_at ns middle) name ≡ Less → IsNarrowed ns name (middle + 1) high
 narrowed_up ns name low high middle h n l e =
     let fits = n.fits in
     record {
+      ordered = omega arith;
       fits = n.fits;
       below = λ k q. less_index _ _ (falls_never ns name h k middle [] (omega arith) (omega arith)) e;
       above = n.above;
     }
 
-pub narrowed_down : (ns : List Name) (name : Name) (low high middle : ℕ) → IsStrictlySortedBy name_cmp ns → Narrowed ns name low high → middle < high → name_cmp (name_at ns middle) name ≡ Greater → Narrowed ns name low middle
-narrowed_down ns name low high middle h n l e =
+pub narrowed_down : (ns : List Name) (name : Name) (low high middle : ℕ) → IsStrictlySortedBy name_cmp ns → IsNarrowed ns name low high → low ≤ middle → middle < high → name_cmp (name_at ns middle) name ≡ Greater → IsNarrowed ns name low middle
+narrowed_down ns name low high middle h n m l e =
     let fits = n.fits in
     record {
+      ordered = m;
       fits = omega arith;
       below = n.below;
       above = λ k q m. greater_index _ _ (falls_never ns name h middle k [] q m) e;
     }
 
-pub narrowed_end : (ns : List Name) (name : Name) (low high : ℕ) → Narrowed ns name low high → high ≤ low → has ns name ≡ false
-narrowed_end ns name low high n l = ⊎_elim
-    (λ t.
-    let q = place_of ns name t in
-    let same : name_cmp (name_at ns q.0) name ≡ Equal = ap (λ z. name_cmp z name) q.2 ∙ ties name in
-    ⊎_elim
-    (λ (a : q.0 < low). let e = n.below q.0 a in absurd cc)
-    (λ (b : low ≤ q.0). let e = n.above q.0 (omega arith) q.1 in absurd cc)
-    (under q.0 low))
-    (λ f. f)
-    (cases_Bool (has ns name))
-  where
-    under : (i k : ℕ) → (i < k) ⊎ (k ≤ i)
-    under i k = grind arith
-
-    ties : (a : Name) → name_cmp a a ≡ Equal
-    ties a = (Equal-is (name_cmp a a)).0 (same_self a)
-
-pub found_here : (ns : List Name) (name : Name) (i : ℕ) → i < length ns → name_cmp (name_at ns i) name ≡ Equal → has ns name ≡ true
-found_here ns name i l e = has_at ns i name l (bytes_cmp-IsAntisymmetric _ _ e)
+pub found_here : (ns : List Name) (name : Name) (i : ℕ) → i < length ns → name_cmp (name_at ns i) name ≡ Equal → StandsAt ns name i
+found_here ns name i l e = (l, bytes_cmp-IsAntisymmetric _ _ e)
 
 -- how a held name compares to the one that is looked for
 pub held_at : (xs : List (Vec ℕ Global)) (i : ℕ) (x : Vec ℕ Global) (held name : Name) (o : Ordering) → i < length xs → x ≡ get_or xs i x → held ≡ x.items → o ≡ name_cmp held name → name_cmp (name_at (names_of xs) i) name ≡ o

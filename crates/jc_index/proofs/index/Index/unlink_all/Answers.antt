@@ -1,0 +1,22 @@
+use Rattle.std.proofs.Common.{◌≡◌, ◌<◌, true, ℕ, length, sym, ◌∙◌, arith}
+use Rattle.std.proofs.lemmas.List.{length-map}
+use Rattle.std.specs.declared.vec.Vec.{Vec}
+use Rattle.std.specs.declared.alloc.Global.{Global}
+use Rattle.jc_classes.specs.NameLists.{has}
+use Rattle.jc_classes.specs.Names.{names_of, same_name}
+use Rattle.jc_classes.specs.Numbers.{name_at}
+use Rattle.jc_index.specs.Indexes.{users_of}
+use Rattle.jc_index.proofs.indexes.Loops.{unlinked_more, turned_round, held_name}
+use Rattle.jc_index.proofs.index.Index.unlink_all.Goals as goal
+
+pub loop-name-preserved : goal.loop-name-preserved
+loop-name-preserved c =
+    let items = c.names-name-items.result.now in
+    let i = c.loop-name.name-index in
+    let name = c.deref.result.now in
+    let user = c.args.user.now in
+    let within : i < length items = omega arith in
+    let named : name_at (names_of items) i ≡ name = held_name items i c.name-item.result within c.name-item.is ∙ sym c.deref.ensures.value in
+    unlinked_more c.args.self.now c.loop-name.self c.unlink.new.self (names_of items) (λ n. true) i name user
+    (omega (arith, within, length-map items (λ (v : Vec ℕ Global). v.items))) named c.loop-name.invariant
+    (λ n d. c.unlink.ensures n d ∙ turned_round (has (users_of c.loop-name.self n) d) (same_name n name) (same_name d user))

@@ -1,0 +1,100 @@
+-- Links that were added and taken out at the first of some names.
+use Rattle.std.proofs.Common.{◌≡◌, ℕ, ◌+◌, ◌<◌, Bool, true, false, not, ◌&&◌, ◌||◌, List, [], length, take, get_or, refl, sym, ap, ◌∙◌}
+use Rattle.std.proofs.lemmas.Bool.{false≢true}
+use Rattle.std.proofs.lemmas.List.{get_or-map}
+use Rattle.std.proofs.lemmas.List.Folds.{list_any_more}
+use Rattle.std.specs.declared.vec.Vec.{Vec}
+use Rattle.std.specs.declared.alloc.Global.{Global}
+use Rattle.jc_classes.specs.NameLists.{has}
+use Rattle.jc_classes.specs.Names.{Name, names_of, same_name}
+use Rattle.jc_classes.specs.Numbers.{name_at}
+use Rattle.jc_index.specs.Indexes.{UserLists, users_of, Linked, Between}
+use Rattle.jc_index.proofs.lists.Edited.{has_front}
+
+-- how the users are those that they were, and this one at the first names
+abbrev pub LinkedTo : (old new : UserLists) (names : List Name) (upto : ℕ) (user : Name) → Type 0
+LinkedTo old new names upto user = (n d : Name) → has (users_of new n) d ≡ (has (users_of old n) d || (same_name d user && has (take upto names) n))
+
+-- but this one at the first names, of those that pass a test
+abbrev pub UnlinkedTo : (old new : UserLists) (names : List Name) (passes : Name → Bool) (upto : ℕ) (user : Name) → Type 0
+UnlinkedTo old new names passes upto user = (n d : Name) → has (users_of new n) d ≡ (has (users_of old n) d && not (same_name d user && (has (take upto names) n && passes n)))
+
+-- the name at a place of held names
+pub held_name : (xs : List (Vec ℕ Global)) (i : ℕ) (x : Vec ℕ Global) → i < length xs → x ≡ get_or xs i x → name_at (names_of xs) i ≡ x.items
+held_name xs i x l e = get_or-map (λ (v : Vec ℕ Global). v.items) xs i x [] l ∙ ap (λ (v : Vec ℕ Global). v.items) (sym e)
+
+has_more : (names : List Name) (i : ℕ) (name n : Name) → i < length names → name_at names i ≡ name → has (take (i + 1) names) n ≡ (has (take i names) n || same_name n name)
+has_more names i name n l e = list_any_more (same_name n) names i [] l ∙ ap (λ z. has (take i names) n || same_name n z) e
+
+-- ---- links that were added
+
+added_more : (a s h x : Bool) → ((a || (s && h)) || (x && s)) ≡ (a || (s && (h || x)))
+added_more true s h x = refl
+added_more false true true x = refl
+added_more false true false true = refl
+added_more false true false false = refl
+added_more false false h true = refl
+added_more false false h false = refl
+
+pub linked_more : (old now new : UserLists) (names : List Name) (i : ℕ) (name user : Name) → i < length names → name_at names i ≡ name → LinkedTo old now names i user → Linked now new name user → LinkedTo old new names (i + 1) user
+linked_more old now new names i name user l e so_far linked n d =
+    linked n d
+    ∙ ap (λ b. b || (same_name n name && same_name d user)) (so_far n d)
+    ∙ added_more (has (users_of old n) d) (same_name d user) (has (take i names) n) (same_name n name)
+    ∙ ap (λ b. has (users_of old n) d || (same_name d user && b)) (sym (has_more names i name n l e))
+
+more_true : (a b : Bool) → a ≡ true → (a || b) ≡ true
+more_true true b e = refl
+more_true false b e = absurd (false≢true e)
+
+few_true : (a s h all : Bool) → (h ≡ true → all ≡ true) → (a || (s && h)) ≡ true → (a || (s && all)) ≡ true
+few_true true s h all f e = refl
+few_true false true h all f e = f e
+few_true false false h all f e = e
+
+-- links at the first names are some of those at all of them
+pub linked_some : (old new : UserLists) (names : List Name) (i : ℕ) (user : Name) → LinkedTo old new names i user → (n d : Name) → Between (has (users_of old n) d) (same_name d user && has names n) (has (users_of new n) d)
+linked_some old new names i user so_far n d = (
+  λ e. so_far n d ∙ more_true (has (users_of old n) d) (same_name d user && has (take i names) n) e,
+  λ e. few_true (has (users_of old n) d) (same_name d user) (has (take i names) n) (has names n) (has_front names i n) (sym (so_far n d) ∙ e),
+)
+
+-- ---- links that were taken out
+
+taken_more : (a s h p x : Bool) → ((a && not (s && (h && p))) && not (s && (x && p))) ≡ (a && not (s && ((h || x) && p)))
+taken_more false s h p x = refl
+taken_more true false h p x = refl
+taken_more true true true true x = refl
+taken_more true true true false true = refl
+taken_more true true true false false = refl
+taken_more true true false p x = refl
+
+pub unlinked_more : (old now new : UserLists) (names : List Name) (passes : Name → Bool) (i : ℕ) (name user : Name) → i < length names → name_at names i ≡ name → UnlinkedTo old now names passes i user → ((n d : Name) → has (users_of new n) d ≡ (has (users_of now n) d && not (same_name d user && (same_name n name && passes n)))) → UnlinkedTo old new names passes (i + 1) user
+unlinked_more old now new names passes i name user l e so_far unlinked n d =
+    unlinked n d
+    ∙ ap (λ b. b && not (same_name d user && (same_name n name && passes n))) (so_far n d)
+    ∙ taken_more (has (users_of old n) d) (same_name d user) (has (take i names) n) (passes n) (same_name n name)
+    ∙ ap (λ b. has (users_of old n) d && not (same_name d user && (b && passes n))) (sym (has_more names i name n l e))
+
+pub turned_round : (a x s : Bool) → (a && not (x && s)) ≡ (a && not (s && (x && true)))
+turned_round a true true = refl
+turned_round a true false = refl
+turned_round a false true = refl
+turned_round a false false = refl
+
+-- a name that others have stays, and one that they lack goes
+pub unless_had : (a x s o : Bool) → (x ≡ true → o ≡ true) → a ≡ (a && not (s && (x && not o)))
+unless_had true true true true f = refl
+unless_had true true true false f = absurd (false≢true (f refl))
+unless_had true true false o f = refl
+unless_had true false true o f = refl
+unless_had true false false o f = refl
+unless_had false x s o f = refl
+
+pub unless_lacked : (a x s o : Bool) → (x ≡ true → o ≡ false) → (a && not (x && s)) ≡ (a && not (s && (x && not o)))
+unless_lacked false x s o f = refl
+unless_lacked true true s true f = absurd (false≢true (sym (f refl)))
+unless_lacked true true true false f = refl
+unless_lacked true true false false f = refl
+unless_lacked true false true o f = refl
+unless_lacked true false false o f = refl

@@ -1,0 +1,4 @@
+pub mod Searching
+pub mod Rising
+pub mod Edited
+pub mod Ordered

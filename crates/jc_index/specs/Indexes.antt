@@ -1,0 +1,28 @@
+-- The lists of an index.
+use Rattle.std.specs.Prelude.{◌≡◌, Bool, true, not, ◌&&◌, ◌||◌, List, [], is_some, unwrap_or}
+use Rattle.std.specs.FinMap as map
+use Rattle.jc_classes.specs.NameLists.{has}
+use Rattle.jc_classes.specs.Names.{Name, name_cmp, same_name}
+
+-- the users of each name that has some
+abbrev pub UserLists : Type 0
+UserLists = map.FinMap name_cmp (List Name)
+
+-- none where the index has no list
+abbrev pub users_of : UserLists → Name → List Name
+users_of lists name = unwrap_or (map.get lists name) []
+
+abbrev pub is_key : UserLists → Name → Bool
+is_key lists name = is_some (map.get lists name)
+
+-- the user is added at the name, and nothing else changes
+abbrev pub Linked : (old new : UserLists) (name user : Name) → Type 0
+Linked old new name user = (n d : Name) → has (users_of new n) d ≡ (has (users_of old n) d || (same_name n name && same_name d user))
+
+-- the user is taken out at the name, and nothing else changes
+abbrev pub Unlinked : (old new : UserLists) (name user : Name) → Type 0
+Unlinked old new name user = (n d : Name) → has (users_of new n) d ≡ (has (users_of old n) d && not (same_name n name && same_name d user))
+
+-- all of old, and of added perhaps some
+abbrev pub Between : (old added new : Bool) → Type 0
+Between old added new = (old ≡ true → new ≡ true) × (new ≡ true → (old || added) ≡ true)

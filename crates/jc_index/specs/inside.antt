@@ -1,0 +1,2 @@
+pub mod IsIndex
+pub mod Places

@@ -1,0 +1,171 @@
+//! An index holds for each name the classes that depend on it.
+
+ghost use Rattle.std.specs.Prelude.{◌≡◌, ◌||◌, ◌&&◌, not, true, [], OnErr, OnOk};
+ghost use Rattle.std.specs.FinMap as map;
+ghost use Rattle.std.specs.Iterator.{YieldsFirstRef, item_count};
+ghost use Rattle.std.specs.Option.{option_copied};
+ghost use Rattle.std.specs.List.Sorted.{IsStrictlySortedBy};
+ghost use Rattle.jc_classes.specs.NameLists.{has, Lists};
+ghost use Rattle.jc_classes.specs.Names.{Name, name_cmp, names_of, same_name};
+ghost use Rattle.jc_index.specs.Indexes.{Between, Linked, Unlinked, is_key, users_of};
+
+use crate::name_list::NameList;
+use jc_base::{ByteMap, NoMemory, byte_map};
+use std::alloc::Global;
+use std::marker::Model;
+
+/// For each of some names its users, in the order of their bytes, seen as a map from names to lists of names.
+#[derive(Drop)]
+pub struct Index {
+    alloc: Global,
+    lists: ByteMap<NameList>,
+}
+
+impl Model for Index {
+    ghost use Rattle.std.specs.Coded.{coded_list, coded_ℕ};
+    ghost use Rattle.std.specs.FinMap as map;
+    ghost use Rattle.jc_index.specs.Indexes.{UserLists};
+    ghost use Rattle.jc_index.specs.inside.IsIndex.{IsIndex};
+
+    ghost Value = { UserLists };
+
+    ghost coded = { map.code (coded_list coded_ℕ) (coded_list (coded_list coded_ℕ)) };
+
+    ghost view = { λ a. a.lists };
+
+    ghost invariant = { λ a. IsIndex a.lists };
+}
+
+impl Index {
+    /// An index without users. No memory.
+    pub fn new(alloc: Global) -> Index
+        ensures { (name : Name) → users_of result name ≡ [] }
+    {
+        Index {
+            alloc,
+            lists: ByteMap::new(alloc),
+        }
+    }
+
+    /// The users of a name, rising, each once. No memory.
+    pub fn users(&self, name: &[u8]) -> &[Vec<u8>]
+        ensures users { names_of result.now ≡ users_of self.now name.now }
+        ensures rises { IsStrictlySortedBy name_cmp (users_of self.now name.now) }
+    {
+        match self.lists.get(name) {
+            Some(list) => list.names(),
+            None => &[],
+        }
+    }
+
+    /// The list of users of a name that has some. No memory.
+    pub fn list(&self, name: &[u8]) -> Option<&NameList>
+        ensures { option_copied result ≡ map.get self.now name.now }
+    {
+        self.lists.get(name)
+    }
+
+    /// The names that have users, rising.
+    pub fn keys(&self) -> Keys<'_>
+        ensures keys { Lists result (λ name. is_key self.now name ≡ true) }
+        ensures used { (name : Name) → is_key self.now name ≡ true → (user : Name) × (has (users_of self.now name) user ≡ true) }
+    {
+        Keys {
+            keys: self.lists.keys(),
+        }
+    }
+
+    /// Adds a user at a name.
+    pub fn link(&mut self, name: &[u8], user: &[u8]) -> Result<(), NoMemory>
+        ensures ok { OnOk result (Linked self.old self.new name.now user.now) }
+        ensures err { OnErr result (self.new ≡ self.old) }
+    {
+        let user = Vec::from_slice(self.alloc, user)?;
+        if let Some(list) = self.lists.get_mut(name) {
+            list.add(user)?;
+            return Ok(());
+        }
+        let name = Vec::from_slice(self.alloc, name)?;
+        let mut list = NameList::new(self.alloc);
+        list.add(user)?;
+        self.lists.insert(name, list)?;
+        Ok(())
+    }
+
+    /// Takes a user out at a name. No memory.
+    pub fn unlink(&mut self, name: &[u8], user: &[u8])
+        ensures { Unlinked self.old self.new name.now user.now }
+    {
+        if let Some(list) = self.lists.get_mut(name) {
+            list.remove(user);
+            if list.is_empty() {
+                self.lists.remove(name);
+            }
+        }
+    }
+
+    /// Adds a user at each of some names. At want of memory it may be added at some of them.
+    pub fn link_all(&mut self, names: &NameList, user: &[u8]) -> Result<(), NoMemory>
+        ensures ok { OnOk result ((n d : Name) → has (users_of self.new n) d ≡ (has (users_of self.old n) d || (same_name d user.now && has names.now n))) }
+        ensures err { OnErr result ((n d : Name) → Between (has (users_of self.old n) d) (same_name d user.now && has names.now n) (has (users_of self.new n) d)) }
+    {
+        for name in names.names() {
+            self.link(name, user)?;
+        }
+        Ok(())
+    }
+
+    /// Takes a user out at each of some names. No memory.
+    pub fn unlink_all(&mut self, names: &NameList, user: &[u8])
+        ensures { (n d : Name) → has (users_of self.new n) d ≡ (has (users_of self.old n) d && not (same_name d user.now && has names.now n)) }
+    {
+        for name in names.names() {
+            self.unlink(name, user);
+        }
+    }
+
+    /// Takes a user out at each of some names that others lack. No memory.
+    pub fn unlink_all_but(&mut self, names: &NameList, others: &NameList, user: &[u8])
+        ensures { (n d : Name) → has (users_of self.new n) d ≡ (has (users_of self.old n) d && not (same_name d user.now && (has names.now n && not (has others.now n)))) }
+    {
+        for name in names.names() {
+            self.unlink_unless(name, others, user);
+        }
+    }
+
+    /// Takes a user out at a name, unless others have it. No memory.
+    fn unlink_unless(&mut self, name: &[u8], others: &NameList, user: &[u8])
+        ensures { (n d : Name) → has (users_of self.new n) d ≡ (has (users_of self.old n) d && not (same_name d user.now && (same_name n name.now && not (has others.now n)))) }
+    {
+        if !others.has(name) {
+            self.unlink(name, user);
+        }
+    }
+}
+
+/// The names of an [`Index`] that have users, in their order, seen as the list of those that are left.
+#[derive(Drop)]
+pub struct Keys<'i> {
+    keys: byte_map::Keys<'i, NameList>,
+}
+
+impl<'i> Model for Keys<'i> {
+    ghost use Rattle.std.specs.Prelude.{List};
+    ghost use Rattle.jc_classes.specs.Names.{Name};
+
+    ghost Value = { List Name };
+
+    ghost view = { λ a. a.keys };
+}
+
+impl<'i> Iterator for Keys<'i> {
+    type Item = &'i [u8];
+
+    ghost next_gives = { YieldsFirstRef (λ left. left) };
+
+    ghost remaining = { item_count (λ left. left) };
+
+    fn next(&mut self) -> Option<&'i [u8]> {
+        self.keys.next()
+    }
+}

@@ -1,0 +1,116 @@
+//! Names in their order, each once.
+
+ghost use Rattle.std.specs.Prelude.{◌≡◌, ◌↔◌, ◌||◌, ◌&&◌, not, IsTrue, OnErr, OnOk, IfErr, IfOk, []};
+ghost use Rattle.std.specs.List.Sorted.{IsStrictlySortedBy};
+ghost use Rattle.jc_classes.specs.NameLists.{has};
+ghost use Rattle.jc_classes.specs.Names.{Name, name_cmp, names_of, same_name};
+ghost use Rattle.jc_index.specs.inside.Places.{IsGapFor, StandsAt};
+
+use jc_base::NoMemory;
+use std::alloc::Global;
+use std::cmp::Ordering;
+use std::marker::Model;
+
+/// Names in the order of their bytes, each once, seen as the list of them.
+#[derive(Drop)]
+pub struct NameList {
+    names: Vec<Vec<u8>>,
+}
+
+impl Model for NameList {
+    ghost use Rattle.std.specs.Prelude.{List};
+    ghost use Rattle.std.specs.Coded.{coded_list, coded_ℕ};
+    ghost use Rattle.std.specs.List.Sorted.{IsStrictlySortedBy};
+    ghost use Rattle.jc_classes.specs.Names.{Name, name_cmp, names_of};
+
+    ghost Value = { List Name };
+
+    ghost coded = { coded_list (coded_list coded_ℕ) };
+
+    ghost view = { λ a. names_of a.names.items };
+
+    ghost invariant = { λ a. IsStrictlySortedBy name_cmp (names_of a.names.items) };
+}
+
+impl NameList {
+    /// No names. No memory.
+    pub fn new(alloc: Global) -> NameList
+        ensures { result ≡ [] }
+    {
+        NameList {
+            names: Vec::new(alloc),
+        }
+    }
+
+    /// These names, put in order, each once. No memory.
+    pub fn of(names: Vec<Vec<u8>>) -> NameList
+        ensures same { (name : Name) → has result name ≡ has (names_of names.items) name }
+        ensures kept { IsStrictlySortedBy name_cmp (names_of names.items) → result ≡ names_of names.items }
+        ensures rises { IsStrictlySortedBy name_cmp result }
+    {
+        let mut names = names;
+        names.sort_unstable();
+        names.dedup();
+        NameList { names }
+    }
+
+    /// The names. No memory.
+    pub fn names(&self) -> &[Vec<u8>]
+        ensures names { names_of result.now ≡ self.now }
+        ensures rises { IsStrictlySortedBy name_cmp self.now }
+    {
+        self.names.as_slice()
+    }
+
+    /// Whether there is no name. No memory.
+    pub fn is_empty(&self) -> bool
+        ensures { IsTrue result ↔ (self.now ≡ []) }
+    {
+        self.names.is_empty()
+    }
+
+    /// Whether a name is among them. No memory.
+    pub fn has(&self, name: &[u8]) -> bool
+        ensures { result ≡ has self.now name.now }
+    {
+        self.place(name).is_ok()
+    }
+
+    /// Adds a name at its place. Only a name that is not there takes memory.
+    pub fn add(&mut self, name: Vec<u8>) -> Result<(), NoMemory>
+        ensures ok { OnOk result ((n : Name) → has self.new n ≡ (has self.old n || same_name n name.items)) }
+        ensures err { OnErr result (self.new ≡ self.old) }
+    {
+        match self.place(&name) {
+            Ok(_) => Ok(()),
+            Err(at) => Ok(self.names.insert(at, name)?),
+        }
+    }
+
+    /// Takes a name out. No memory.
+    pub fn remove(&mut self, name: &[u8])
+        ensures { (n : Name) → has self.new n ≡ (has self.old n && not (same_name n name.now)) }
+    {
+        if let Ok(at) = self.place(name) {
+            let _ = self.names.remove(at);
+        }
+    }
+
+    /// Where a name stands, or else the place that it would have.
+    fn place(&self, name: &[u8]) -> Result<usize, usize>
+        ensures found { IfOk result (StandsAt self.now name.now) }
+        ensures absent { IfErr result (IsGapFor self.now name.now) }
+    {
+        let mut low = 0;
+        let mut high = self.names.len();
+        while low < high {
+            let middle = low + (high - low) / 2;
+            match self.names[middle].as_slice().cmp(name) {
+                Ordering::Less => low = middle + 1,
+                Ordering::Equal => return Ok(middle),
+                Ordering::Greater => high = middle,
+            }
+        }
+        Err(low)
+    }
+}
