@@ -3,3 +3,4 @@ pub mod rows
 pub mod trees
 pub mod reports
 pub mod winners
+pub mod row_keys

@@ -7,6 +7,8 @@ pub mod PartText
 pub mod ReportLaws
 pub mod ReportText
 pub mod Reports
+pub mod RowKeyLaws
+pub mod RowKeys
 pub mod RowView
 pub mod Rows
 pub mod Trees

@@ -218,7 +218,7 @@ fn has_wrong_part(classes: &[Class<'_>]) -> bool
 }
 
 /// Whether a class has a fault or does not load, or a reference is answered by an error.
-fn is_wrong_part(part: &Part) -> bool
+pub fn is_wrong_part(part: &Part) -> bool
     ensures { result ≡ is_wrong_part part.now }
 {
     !part.format_faults().is_empty()

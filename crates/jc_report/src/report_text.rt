@@ -73,7 +73,8 @@ fn write_circular<W: Output>(text: &mut TextWriter<'_, W>, classes: &[Class<'_>]
     }
 }
 
-fn write_name<W: Output>(text: &mut TextWriter<'_, W>, name: &[u8])
+/// Writes a name and LF.
+pub fn write_name<W: Output>(text: &mut TextWriter<'_, W>, name: &[u8])
     ensures { Sends W.written W.failures text.old text.new (name_line name.now) }
 {
     text.shown(name);
@@ -88,7 +89,8 @@ fn write_rows<W: Output>(text: &mut TextWriter<'_, W>, rows: &[Row<'_>])
     }
 }
 
-fn write_row<W: Output>(text: &mut TextWriter<'_, W>, row: Row<'_>)
+/// Writes a row that is provided or required.
+pub fn write_row<W: Output>(text: &mut TextWriter<'_, W>, row: Row<'_>)
     ensures { Sends W.written W.failures text.old text.new (row_line (row_lent row.entry)) }
 {
     let key = Key {

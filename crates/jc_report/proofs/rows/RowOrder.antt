@@ -1,5 +1,5 @@
 -- The order of rows is total, and rows that tie are equal.
-use Rattle.std.proofs.Common.{◌≡◌, ℕ, zero, suc, refl, ap}
+use Rattle.std.proofs.Common.{◌≡◌, refl, ap}
 use Rattle.std.specs.declared.cmp.Ordering.{Ordering}
 use Rattle.std.specs.declared.cmp.Ordering.TheVariants.{Less, Equal, Greater}
 use Rattle.std.specs.Ordering.{nat_cmp, ordering_then}
@@ -8,6 +8,7 @@ use Rattle.std.specs.FinMap.{nat_cmp-IsAntisymmetric}
 use Rattle.jc_base.proofs.maps.FiniteMaps.{bytes_cmp_total, bytes_cmp-IsAntisymmetric}
 use Rattle.jc_classes.specs.declared.reference_kind.ReferenceKind.{ReferenceKind}
 use Rattle.jc_classes.specs.declared.reference_kind.ReferenceKind.TheVariants as kinds
+use Rattle.jc_report.specs.RowKeys.{kind_of}
 use Rattle.jc_report.specs.Rows.{Row, kind_number, row_cmp}
 
 pub row_cmp_total : IsTotalOrder row_cmp
@@ -16,17 +17,12 @@ row_cmp_total =
     (then_total (on_total (λ (r : Row). kind_number r.kind) nat_cmp_total)
     (then_total (on_total (λ (r : Row). r.key.name) bytes_cmp_total) (on_total (λ (r : Row). r.key.descriptor) bytes_cmp_total)))
 
-abbrev number_kind : ℕ → ReferenceKind
-number_kind zero = kinds.Class
-number_kind (suc zero) = kinds.Field
-number_kind (suc (suc zero)) = kinds.Method
-number_kind (suc (suc (suc n))) = kinds.InterfaceMethod
-
-there_and_back : (k : ReferenceKind) → number_kind (kind_number k) ≡ k
-there_and_back kinds.Class = refl
-there_and_back kinds.Field = refl
-there_and_back kinds.Method = refl
-there_and_back kinds.InterfaceMethod = refl
+-- a kind's number gives it back
+pub kind_back : (k : ReferenceKind) → kind_of (kind_number k) ≡ k
+kind_back kinds.Class = refl
+kind_back kinds.Field = refl
+kind_back kinds.Method = refl
+kind_back kinds.InterfaceMethod = refl
 
 both_equal : (o p : Ordering) → ordering_then o p ≡ Equal → (o ≡ Equal) × (p ≡ Equal)
 both_equal Less p e = absurd cc
@@ -35,9 +31,9 @@ both_equal Greater p e = absurd cc
 
 same_kind : (x y : ReferenceKind) → nat_cmp (kind_number x) (kind_number y) ≡ Equal → x ≡ y
 same_kind x y e =
-    let same = ap number_kind (nat_cmp-IsAntisymmetric (kind_number x) (kind_number y) e) in
-    let back_x = there_and_back x in
-    let back_y = there_and_back y in
+    let same = ap kind_of (nat_cmp-IsAntisymmetric (kind_number x) (kind_number y) e) in
+    let back_x = kind_back x in
+    let back_y = kind_back y in
     cc
 
 -- only a row itself ties with it

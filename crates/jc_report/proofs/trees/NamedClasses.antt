@@ -1,5 +1,5 @@
 -- The class file that bytes are has the name that they name, and its facts have it and the path.
-use Rattle.std.proofs.Common.{◌≡◌, ℕ, Bool, true, false, List, [], Option, Some, None, Result, Ok, Err, refl, ap, ◌∙◌, length, ◌==◌}
+use Rattle.std.proofs.Common.{◌≡◌, ℕ, Bool, true, false, List, [], Option, Some, None, Result, Ok, Err, refl, sym, ap, ◌∙◌, length, ◌==◌}
 use Rattle.std.specs.Prelude.{if◌then◌else◌, option_and_then}
 use Rattle.std.specs.Option.{option_map_or}
 use Rattle.jc_base.specs.TextTests.{is_class_text}
@@ -48,6 +48,29 @@ parts_agree b (Err refusal) name e = absurd cc
 pub class_of_name : (b name : List ℕ) → class_named b ≡ Ok name → Agrees (class_read b) (class_named b) name
 unfolding class_named class_read
 class_of_name b name e = parts_agree b (parts_at (record { place = 0; rest = b })) name e
+
+-- and the name is a class name
+text_is : (b : Bool) (text name : List ℕ) → is_class_text text ≡ b → (if b then Some text else None) ≡ Some name → is_class_text name ≡ true
+text_is true text name is e = let same : text ≡ name = cc in ap is_class_text (sym same) ∙ is
+text_is false text name is e = absurd cc
+
+text_there : (text : Option (List ℕ)) (name : List ℕ) → option_and_then class_text text ≡ Some name → is_class_text name ≡ true
+text_there None name e = absurd cc
+text_there (Some text) name e = text_is (is_class_text text) text name refl e
+
+is_text : (c : ClassFile) (o : Option (List ℕ)) (name : List ℕ) → name_in c ≡ o → or_refusal o errors.NoName ≡ Ok name → is_class_text name ≡ true
+unfolding name_in
+is_text c None name is e = absurd cc
+is_text c (Some n) name is e = text_there (class_text_at c c.this_class) name (is ∙ (let same : n ≡ name = cc in ap (λ (x : List ℕ). Some x) same))
+
+text_of_parts : (b : List ℕ) (parts : Result (PartsRead × Reading) ParseError) (name : List ℕ)
+    → (parts >>= λ found. or_refusal (name_in (class_value b found.0.places found.0.tail)) errors.NoName) ≡ Ok name → is_class_text name ≡ true
+text_of_parts b (Ok found) name e = is_text (class_value b found.0.places found.0.tail) (name_in (class_value b found.0.places found.0.tail)) name refl e
+text_of_parts b (Err refusal) name e = absurd cc
+
+pub name_is_text : (b name : List ℕ) → class_named b ≡ Ok name → is_class_text name ≡ true
+unfolding class_named
+name_is_text b name e = text_of_parts b (parts_at (record { place = 0; rest = b })) name e
 
 -- and those that name none are none
 err_name : (c : ClassFile) (o : Option (List ℕ)) (refusal : ParseError) → or_refusal o errors.NoName ≡ Err refusal → (or_refusal o errors.NoName >>= λ _. Ok c) ≡ Err refusal

@@ -1,0 +1,5 @@
+pub mod KeyOrder
+pub mod RowsOfKeys
+pub mod PlainTexts
+pub mod PlainFacts
+pub mod PlainRows
