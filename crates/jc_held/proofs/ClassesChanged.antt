@@ -1,0 +1,274 @@
+-- An edit of one name or two, as an instance of any edit.
+use Rattle.std.proofs.Common.{◌≡◌, ℕ, ◌+◌, ◌≤◌, Bool, true, false, not, ◌&&◌, ◌||◌, cond, List, [], ◌∷◌, ◌++◌, length, Option, Some, None, IsSome, is_some, refl, sym, ap, ◌∙◌, subst, ⊎_elim}
+use Rattle.std.proofs.lemmas.Bool.{cases_Bool, false≢true}
+use Rattle.std.proofs.lemmas.List.{map-append}
+use Rattle.std.proofs.lemmas.List.Folds.{list_any-append}
+use Rattle.std.specs.FinMap as map
+use Rattle.jc_classes.specs.Laws.{Differ}
+use Rattle.jc_classes.specs.NameLists.{has}
+use Rattle.jc_classes.specs.Names.{Name, same_name}
+use Rattle.jc_classes.proofs.worlds.NameTests.{same_is, same_self}
+use Rattle.jc_link.specs.Prefixes.{is_outside}
+use Rattle.jc_link.specs.Tables.{Places, class_at, or_built_in, stands_by, world}
+use Rattle.jc_link.proofs.tables.Changes.{worlds_differ}
+use Rattle.jc_held.specs.Affected.{IsAffected, IsBounded, NoRepeat}
+use Rattle.jc_held.specs.Steps.{class_by, step_name}
+use Rattle.jc_held.specs.declared.kept.Fresh.{Fresh}
+use Rattle.jc_held.specs.declared.kept.Kept.{Kept}
+use Rattle.jc_held.specs.declared.links.Links.{Links}
+use Rattle.jc_held.specs.declared.step.Step.{Step}
+use Rattle.jc_held.specs.inside.Holding.{AreBack, CountsStep, IsHeld, PutsClass, at_step, comer, given_in, leaver, name_of, stepped_by}
+use Rattle.jc_held.specs.inside.Kept.{AllFresh, AreLinked, IsKept, KeptHits, KeptMap, fresh_at, fresh_names, held_in, reach_sum}
+use Rattle.jc_held.specs.inside.Kept.Relation.{Reaches}
+use Rattle.jc_held.specs.inside.Readying.{IsReady, is_name, one_of, users_at}
+use Rattle.jc_held.proofs.General.{bounded_after, fresh_some, holds_after, kept_by, listed, some_by}
+use Rattle.jc_held.proofs.SteppedClasses.{apart_by, comer_back, comer_is, given_by, leaver_is, puts_by, stepped_at, stepped_not}
+use Rattle.jc_held.proofs.Tests.{and_no, and_not, not_and, or_left, or_no, or_none, or_right, or_split}
+use Rattle.jc_held.proofs.UserNames.{once_joined}
+
+-- ---- tables of the same classes
+
+same_given : (a b : Places) → ((n : Name) → class_at b n ≡ class_at a n) → given_in a ≡ given_in b
+same_given a b h = λ i n. is_some (sym (h n) i)
+
+same_world : (a b : Places) (prefixes : List Name) → ((n : Name) → class_at b n ≡ class_at a n) → world a prefixes ≡ world b prefixes
+same_world a b prefixes h = λ i n. stands_by (or_built_in (sym (h n) i) n) (is_outside prefixes n)
+
+pub held_same : (a b : Places) (prefixes : List Name) (kept : KeptMap) (links : Links) → ((n : Name) → class_at b n ≡ class_at a n) → IsHeld a prefixes kept links → IsHeld b prefixes kept links
+held_same a b prefixes kept links h held = record {
+  parts = subst (λ g. IsKept g (world b prefixes) kept) (same_given a b h) (subst (λ w. IsKept (given_in a) w kept) (same_world a b prefixes h) held.parts);
+  linked = held.linked;
+}
+
+pub bounded_same : (a b : Places) (prefixes : List Name) (touched : Name → Bool) (made asks : ℕ) → ((n : Name) → class_at b n ≡ class_at a n)
+    → IsBounded (given_in a) (world a prefixes) touched made asks → IsBounded (given_in b) (world b prefixes) touched made asks
+bounded_same a b prefixes touched made asks h bounded =
+    subst (λ g. IsBounded g (world b prefixes) touched made asks) (same_given a b h) (subst (λ w. IsBounded (given_in a) w touched made asks) (same_world a b prefixes h) bounded)
+
+-- ---- tests
+
+same_test : (a b : Bool) → (a ≡ true → b ≡ true) → (b ≡ true → a ≡ true) → a ≡ b
+same_test true true f g = refl
+same_test true false f g = sym (f refl)
+same_test false true f g = g refl
+same_test false false f g = refl
+
+turn : (x : Bool) → (true && not x) ≡ (not x && true)
+turn true = refl
+turn false = refl
+
+and_front : (a b : Bool) → (a && not b) ≡ true → (a ≡ true) × (b ≡ false)
+and_front true true e = absurd (false≢true e)
+and_front true false e = (refl, refl)
+and_front false b e = absurd (false≢true e)
+
+stays_none : (g k : Bool) → (g && not k) ≡ false → k ≡ false → g ≡ false
+stays_none true true e f = f
+stays_none true false e f = absurd (false≢true (sym e))
+stays_none false k e f = refl
+
+not_some : {X : Type 0} (o : Option X) → is_some o ≡ false → o ≡ None
+not_some None e = refl
+not_some (Some x) e = absurd (false≢true (sym e))
+
+-- ---- what is fresh
+
+pub fresh_at_append : (xs ys : List Fresh) (d : Name) (o : Option Kept) → fresh_at (xs ++ ys) d o ≡ fresh_at xs d (fresh_at ys d o)
+fresh_at_append [] ys d o = refl
+fresh_at_append (x ∷ xs) ys d o = ap (cond (same_name d x.name.items) (Some x.kept)) (fresh_at_append xs ys d o)
+
+names_append : (xs ys : List Fresh) → fresh_names (xs ++ ys) ≡ fresh_names xs ++ fresh_names ys
+names_append xs ys = map-append (λ (x : Fresh). x.name.items) xs ys
+
+no_fresh : (xs : List Fresh) (d : Name) (o : Option Kept) → has (fresh_names xs) d ≡ false → fresh_at xs d o ≡ o
+no_fresh [] d o h = refl
+no_fresh (x ∷ xs) d o h =
+    elim (same_name d x.name.items) as (λ b. (b || has (fresh_names xs) d) ≡ false → cond b (Some x.kept) (fresh_at xs d o) ≡ o) [
+      | true ↦ λ h. absurd (false≢true (sym h))
+      | false ↦ λ h. no_fresh xs d o h
+    ] h
+
+one_has : (o : Option Name) (d : Name) → has (one_of o) d ≡ is_name o d
+one_has None d = refl
+one_has (Some n) d = or_none (same_name d n)
+
+one_once : (o : Option Name) → NoRepeat (one_of o)
+one_once None = tt
+one_once (Some n) = (refl, tt)
+
+-- ---- one name or two
+
+-- the reach that is kept of a class holds the name of either step
+abbrev pub either_used : (first second : Option Step) → Links → Name → Bool
+either_used first second links d = has (users_at links.reach (name_of first)) d || has (users_at links.reach (name_of second)) d
+
+-- two steps were made, and parts of the classes that they affect
+pub record AreMade (prefixes : List Name) (old new : Places) (first second : Option Step) (kept mid : KeptMap) (links : Links) (fresh last : List Fresh) : Type 0 where
+  pub held : IsHeld old prefixes kept links
+  pub counts : CountsStep (class_at old) first second
+  pub puts : PutsClass second
+  pub stands : (n : Name) → class_at new n ≡ stepped_by second (stepped_by first (class_at old)) n
+  pub users : (d : Name) → has (fresh_names fresh) d ≡ (either_used first second links d && not (is_name (leaver first) d))
+  pub once : NoRepeat (fresh_names fresh)
+  pub newcomer : fresh_names last ≡ one_of (comer kept second)
+  pub parts : AllFresh (world new prefixes) (fresh ++ last)
+  pub at : (d : Name) → map.get mid d ≡ fresh_at last d (map.get kept d)
+
+-- what the code knows before it finishes
+pub made_of : (one : Places) (first second back : Option Step) (a b gone comes : Option Name) (names : List Name)
+    {prefixes : List Name} {old new : Places} {kept mid : KeptMap} {links : Links} {listed : List Name} {fresh : List Fresh} {old_made new_made old_asks new_asks : ℕ}
+    → IsHeld old prefixes kept links → CountsStep (class_at old) first second → PutsClass second
+    → ((n : Name) → class_at one n ≡ stepped_by first (class_at old) n) → ((n : Name) → class_at new n ≡ stepped_by second (class_at one) n) → AreBack back second (class_at one)
+    → a ≡ name_of first → b ≡ name_of second → gone ≡ leaver first → comes ≡ comer kept back → listed ≡ names
+    → ((d : Name) → has names d ≡ ((has (users_at links.reach a) d || has (users_at links.reach b) d) && not (is_name gone d))) → NoRepeat names
+    → (ready : IsReady (world new prefixes) listed comes kept mid fresh old_made new_made old_asks new_asks) → AreMade prefixes old new first second kept mid links fresh ready.last
+made_of one first second back a b gone comes names {kept = kept} {links = links} held counts puts once_first once_second back_second at_first at_second goes come same users once ready = record {
+  held = held;
+  counts = counts;
+  puts = puts;
+  stands = λ n. once_second n ∙ ap (λ z. stepped_by second z n) (λ i k. once_first k i);
+  users = λ d.
+      ap (λ z. has z d) (ready.others ∙ same) ∙ users d
+      ∙ ap (λ z. (has (users_at links.reach z) d || has (users_at links.reach b) d) && not (is_name gone d)) at_first
+      ∙ ap (λ z. (has (users_at links.reach (name_of first)) d || has (users_at links.reach z) d) && not (is_name gone d)) at_second
+      ∙ ap (λ z. either_used first second links d && not (is_name z d)) goes;
+  once = subst NoRepeat (sym (ready.others ∙ same)) once;
+  newcomer = ready.newcomer ∙ ap one_of (come ∙ comer_back kept back second (class_at one) back_second);
+  parts = ready.parts;
+  at = ready.at;
+}
+
+module _ {prefixes : List Name} {old new : Places} {first second : Option Step} {kept mid : KeptMap} {links : Links} {fresh last : List Fresh}
+    (made : AreMade prefixes old new first second kept mid links fresh last) where
+  abbrev pub touches : Name → Bool
+  touches n = at_step first n || at_step second n
+
+  untouched : (n : Name) → at_step first n ≡ false → at_step second n ≡ false → class_at new n ≡ class_at old n
+  untouched n e f = made.stands n ∙ stepped_not second (stepped_by first (class_at old)) n f ∙ stepped_not first (class_at old) n e
+
+  at_second : (n : Name) → at_step second n ≡ true → given_in new n ≡ true
+  at_second n e = ap is_some (made.stands n ∙ stepped_at second (stepped_by first (class_at old)) n e) ∙ puts_by second n made.puts e
+
+  at_first : (n : Name) → at_step first n ≡ true → class_at new n ≡ class_by first
+  at_first n e =
+      made.stands n ∙ stepped_not second (stepped_by first (class_at old)) n (apart_by first second (class_at old) n made.counts e)
+      ∙ stepped_at first (class_at old) n e
+
+  differ : Differ touches (world old prefixes) (world new prefixes)
+  differ = worlds_differ touches old new prefixes (λ n t. let p = or_no (at_step first n) (at_step second n) t in sym (untouched n p.0 p.1))
+
+  same : (n : Name) → touches n ≡ false → given_in old n ≡ given_in new n
+  same n t = let p = or_no (at_step first n) (at_step second n) t in ap is_some (sym (untouched n p.0 p.1))
+
+  goes : (d : Name) → is_name (leaver first) d ≡ (given_in old d && not (given_in new d))
+  goes d =
+      leaver_is first d ∙ ⊎_elim
+      (λ e. ap (λ b. b && not (is_some (class_by first))) e ∙ ap (λ o. not (is_some o)) (sym (at_first d e))
+      ∙ ap (λ b. b && not (given_in new d)) (sym (given_by first second (class_at old) d made.counts e)))
+      (λ e. ap (λ b. b && not (is_some (class_by first))) e ∙ ⊎_elim
+      (λ f. sym (ap (λ b. given_in old d && not b) (at_second d f) ∙ and_no (given_in old d)))
+      (λ f. sym (ap (λ o. given_in old d && not (is_some o)) (untouched d e f) ∙ and_not (given_in old d)))
+      (cases_Bool (at_step second d)))
+      (cases_Bool (at_step first d))
+
+  kept_is : (d : Name) → is_some (map.get kept d) ≡ given_in old d
+  kept_is d = same_test _ _
+      (λ h. let q = some_by (map.get kept d) h in made.held.parts.only d q.0 q.1)
+      (λ h. made.held.parts.complete d h)
+
+  comes : (d : Name) → is_name (comer kept second) d ≡ (not (given_in old d) && given_in new d)
+  comes d = comer_is kept second d ∙ ap (λ b. at_step second d && not b) (kept_is d) ∙ ⊎_elim
+      (λ f. ap (λ b. b && not (given_in old d)) f ∙ turn (given_in old d) ∙ ap (λ b. not (given_in old d) && b) (sym (at_second d f)))
+      (λ f. ap (λ b. b && not (given_in old d)) f ∙ ⊎_elim
+      (λ e. sym (ap (λ b. not b && given_in new d) (given_by first second (class_at old) d made.counts e)))
+      (λ e. sym (ap (λ o. not (given_in old d) && is_some o) (untouched d e f) ∙ not_and (given_in old d)))
+      (cases_Bool (at_step first d)))
+      (cases_Bool (at_step second d))
+
+  hit_to : (s : Option Step) (d : Name) → ((n : Name) → at_step s n ≡ true → touches n ≡ true) → has (users_at links.reach (name_of s)) d ≡ true → KeptHits touches kept d
+  hit_to None d t h = absurd (false≢true h)
+  hit_to (Some s) d t h = (step_name s, t (step_name s) (same_self (step_name s)), sym (made.held.linked Reaches (step_name s) d) ∙ h)
+
+  hit_from : (s : Option Step) (d n : Name) → at_step s n ≡ true → held_in Reaches kept d n ≡ true → has (users_at links.reach (name_of s)) d ≡ true
+  hit_from None d n e h = absurd (false≢true e)
+  hit_from (Some s) d n e h = made.held.linked Reaches (step_name s) d ∙ ap (held_in Reaches kept d) (sym (same_is n (step_name s) e)) ∙ h
+
+  hits_to : (d : Name) → either_used first second links d ≡ true → KeptHits touches kept d
+  hits_to d h = ⊎_elim
+      (λ e. hit_to first d (λ n t. or_left (at_step first n) (at_step second n) t) e)
+      (λ e. hit_to second d (λ n t. or_right (at_step first n) (at_step second n) t) e)
+      (or_split _ _ h)
+
+  hits_from : (d : Name) → KeptHits touches kept d → either_used first second links d ≡ true
+  hits_from d h = ⊎_elim
+      (λ e. or_left _ _ (hit_from first d h.0 e h.2))
+      (λ e. or_right (has (users_at links.reach (name_of first)) d) _ (hit_from second d h.0 e h.2))
+      (or_split (at_step first h.0) (at_step second h.0) h.1)
+
+  last_has : (d : Name) → has (fresh_names last) d ≡ is_name (comer kept second) d
+  last_has d = ap (λ z. has z d) made.newcomer ∙ one_has (comer kept second) d
+
+  all_names : (d : Name) → has (fresh_names (fresh ++ last)) d ≡ ((either_used first second links d && not (is_name (leaver first) d)) || is_name (comer kept second) d)
+  all_names d =
+      ap (λ z. has z d) (names_append fresh last) ∙ list_any-append (same_name d) (fresh_names fresh) (fresh_names last)
+      ∙ ap (λ b. b || has (fresh_names last) d) (made.users d)
+      ∙ ap (λ b. (either_used first second links d && not (is_name (leaver first) d)) || b) (last_has d)
+
+  exact : (d : Name) → (has (fresh_names (fresh ++ last)) d ≡ true → IsAffected (given_in new) (world new prefixes) touches d) × (IsAffected (given_in new) (world new prefixes) touches d → has (fresh_names (fresh ++ last)) d ≡ true)
+  exact d =
+      listed touches (given_in old) (given_in new) (world old prefixes) (world new prefixes) kept differ same made.held.parts
+      (fresh_names (fresh ++ last)) (either_used first second links) (is_name (leaver first)) (is_name (comer kept second))
+      hits_to hits_from goes comes all_names d
+
+  -- the classes of which parts were made are those that were kept, but the newcomer
+  used_kept : (d : Name) → has (fresh_names fresh) d ≡ true → IsSome (map.get kept d) × (is_name (leaver first) d ≡ false)
+  used_kept d h =
+      let p = and_front (either_used first second links d) (is_name (leaver first) d) (sym (made.users d) ∙ h) in
+      let hit = hits_to d p.0 in
+      (ap is_some (kept_by (map.get kept d) hit.0 hit.2).1, p.1)
+
+  pub fresh_kept : (d : Name) → has (fresh_names fresh) d ≡ true → (is_name (leaver first) d ≡ false) × IsSome (map.get mid d)
+  fresh_kept d h =
+      let p = used_kept d h in
+      (p.1, ap is_some (made.at d) ∙ fresh_some last d (map.get kept d) p.0)
+
+  pub gone_vacant : (d : Name) → is_name (leaver first) d ≡ true → class_at new d ≡ None
+  gone_vacant d g = not_some (class_at new d) (and_front (given_in old d) (given_in new d) (sym (goes d) ∙ g)).1
+
+  last_absent : (d : Name) → given_in old d ≡ true → has (fresh_names last) d ≡ false
+  last_absent d g = last_has d ∙ comes d ∙ ap (λ b. not b && given_in new d) g
+
+  all_once : NoRepeat (fresh_names (fresh ++ last))
+  all_once = subst NoRepeat (sym (names_append fresh last))
+      (once_joined (fresh_names fresh) (fresh_names last) made.once (subst NoRepeat (sym made.newcomer) (one_once (comer kept second)))
+      (λ d h. last_absent d (sym (kept_is d) ∙ (used_kept d h).0)))
+
+  kept_then : (d : Name) → cond (is_name (leaver first) d) None (map.get mid d) ≡ fresh_at last d (cond (given_in new d) (map.get kept d) None)
+  kept_then d = ap (cond (is_name (leaver first) d) None) (made.at d) ∙ ⊎_elim
+      (λ g.
+      let p = and_front (given_in old d) (given_in new d) (sym (goes d) ∙ g) in
+      ap (λ b. cond b None (fresh_at last d (map.get kept d))) g
+      ∙ sym (ap (λ b. fresh_at last d (cond b (map.get kept d) None)) p.1 ∙ no_fresh last d None (last_absent d p.0)))
+      (λ g.
+      ap (λ b. cond b None (fresh_at last d (map.get kept d))) g
+      ∙ ap (fresh_at last d) (⊎_elim
+      (λ e. ap (λ b. cond b (map.get kept d) None) (sym e))
+      (λ e. not_some (map.get kept d) (kept_is d ∙ stays_none _ _ (sym (goes d) ∙ g) e) ∙ ap (λ b. cond b (map.get kept d) None) (sym e))
+      (cases_Bool (given_in new d))))
+      (cases_Bool (is_name (leaver first) d))
+
+  -- with the leaver let go and the parts put in, what is held is right
+  pub held_then : (after : KeptMap) (joined : Links) → AreLinked after joined
+      → ((d : Name) → map.get after d ≡ fresh_at fresh d (cond (is_name (leaver first) d) None (map.get mid d)))
+      → IsHeld new prefixes after joined
+  held_then after joined linked at = record {
+    parts = holds_after touches (given_in old) (given_in new) (world old prefixes) (world new prefixes) kept differ same made.held.parts after (fresh ++ last) made.parts
+        (λ d. (exact d).0) (λ d. (exact d).1)
+        (λ d. at d ∙ ap (fresh_at fresh d) (kept_then d) ∙ sym (fresh_at_append fresh last d (cond (given_in new d) (map.get kept d) None)));
+    linked = linked;
+  }
+
+  pub bounded_then : (parts asks : ℕ) → parts ≤ length (fresh_names (fresh ++ last)) → asks ≤ 2 + reach_sum (fresh ++ last)
+      → IsBounded (given_in new) (world new prefixes) touches parts asks
+  bounded_then parts asks few fewer =
+      bounded_after touches (given_in new) (world new prefixes) (fresh ++ last) parts asks made.parts all_once (λ d. (exact d).0) (λ d. (exact d).1) few fewer

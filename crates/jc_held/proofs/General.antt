@@ -1,0 +1,179 @@
+-- What is kept of a world, through any edit.
+use Rattle.std.proofs.Common.{◌≡◌, ℕ, ◌+◌, ◌≤◌, Bool, true, false, not, ◌&&◌, ◌||◌, cond, List, [], ◌∷◌, length, map as list_map, Option, Some, None, IsSome, is_some, refl, sym, ap, ◌∙◌, subst, arith, ◌⊎◌, inl, inr, ⊎_elim}
+use Rattle.std.proofs.lemmas.Bool.{cases_Bool, false≢true}
+use Rattle.std.specs.FinMap as map
+use Rattle.jc_classes.specs.Laws.{Avoids, Differ}
+use Rattle.jc_classes.specs.NameLists.{has}
+use Rattle.jc_classes.specs.Names.{Name, same_name}
+use Rattle.jc_classes.specs.Parts.{Reach}
+use Rattle.jc_classes.specs.Parts.Reach.{itself}
+use Rattle.jc_classes.specs.Worlds.{World}
+use Rattle.jc_classes.proofs.worlds.NameTests.{same_is}
+use Rattle.jc_classes.proofs.worlds.Parts.{hits_either, part_there, reach_back, reach_there}
+use Rattle.jc_link.specs.Closures.{record_of}
+use Rattle.jc_held.specs.Affected.{AreReaches, IsAffected, IsBounded, NoRepeat, sum_of_lengths}
+use Rattle.jc_held.specs.declared.kept.Fresh.{Fresh}
+use Rattle.jc_held.specs.declared.kept.Kept.{Kept}
+use Rattle.jc_held.specs.inside.Kept.{AllFresh, AreKeys, IsKept, IsKeptOf, KeptHits, KeptMap, fresh_at, fresh_names, held_in, names_kept, provided_by, reach_sum, required_by}
+use Rattle.jc_held.specs.inside.Kept.Relation.{Reaches}
+use Rattle.jc_held.proofs.Tests.{and_join, and_split, listed_by, or_join, or_split}
+
+pub kept_by : (o : Option Kept) (n : Name) → has (names_kept Reaches o) n ≡ true → (k : Kept) × (o ≡ Some k)
+kept_by None n h = absurd (false≢true h)
+kept_by (Some k) n h = (k, refl)
+
+pub some_by : {X : Type 0} (o : Option X) → IsSome o → (x : X) × (o ≡ Some x)
+some_by None h = absurd (false≢true h)
+some_by (Some x) h = (x, refl)
+
+pub some_one : {X : Type 0} {x y : X} → Some x ≡ Some y → x ≡ y
+some_one e = cc
+
+pub none_some : {X : Type 0} {x : X} → None ≡ Some x → ⊥
+none_some e = cc
+
+-- ---- what is fresh
+
+pub fresh_found : (m : World) (xs : List Fresh) (d : Name) (o : Option Kept) (k : Kept) → AllFresh m xs → fresh_at xs d o ≡ Some k → (IsKeptOf m d k × (has (fresh_names xs) d ≡ true)) ⊎ ((o ≡ Some k) × (has (fresh_names xs) d ≡ false))
+fresh_found m [] d o k h e = inr (e, refl)
+fresh_found m (x ∷ xs) d o k h e =
+    elim (same_name d x.name.items) as (λ b. same_name d x.name.items ≡ b → cond b (Some x.kept) (fresh_at xs d o) ≡ Some k → (IsKeptOf m d k × ((b || has (fresh_names xs) d) ≡ true)) ⊎ ((o ≡ Some k) × ((b || has (fresh_names xs) d) ≡ false))) [
+      | true ↦ λ s e. inl (subst (λ j. IsKeptOf m d j) (some_one e) (subst (λ j. IsKeptOf m j x.kept) (sym (same_is d x.name.items s)) h.0), refl)
+      | false ↦ λ s e. fresh_found m xs d o k h.1 e
+    ] refl e
+
+pub fresh_some : (xs : List Fresh) (d : Name) (o : Option Kept) → IsSome o → IsSome (fresh_at xs d o)
+fresh_some [] d o h = h
+fresh_some (x ∷ xs) d o h =
+    elim (same_name d x.name.items) as (λ b. is_some (cond b (Some x.kept) (fresh_at xs d o)) ≡ true) [ true ↦ refl | false ↦ fresh_some xs d o h ]
+
+pub fresh_there : (xs : List Fresh) (d : Name) (o : Option Kept) → has (fresh_names xs) d ≡ true → IsSome (fresh_at xs d o)
+fresh_there [] d o h = absurd (false≢true h)
+fresh_there (x ∷ xs) d o h =
+    elim (same_name d x.name.items) as (λ b. (b || has (fresh_names xs) d) ≡ true → is_some (cond b (Some x.kept) (fresh_at xs d o)) ≡ true) [ true ↦ λ h. refl | false ↦ λ h. fresh_there xs d o h ] h
+
+-- ---- two worlds that agree but for touched names, of which g and h say what files give
+
+module _ (touched g h : Name → Bool) (w v : World) (kept : KeptMap) (differ : Differ touched w v) (same : (n : Name) → touched n ≡ false → g n ≡ h n) (held : IsKept g w kept) where
+  differ_back : Differ touched v w
+  differ_back n t = sym (differ n t)
+
+  reached : (d n : Name) → held_in Reaches kept d n ≡ true → (g d ≡ true) × Reach w d n
+  reached d n e =
+      let q = kept_by (map.get kept d) n e in
+      (held.only d q.0 q.1, (held.sound d q.0 q.1).reach.sound n (ap (λ o. has (names_kept Reaches o) n) (sym q.1) ∙ e))
+
+  kept_has : (d n : Name) → g d ≡ true → Reach w d n → held_in Reaches kept d n ≡ true
+  kept_has d n e r =
+      let q = some_by (map.get kept d) (held.complete d e) in
+      ap (λ o. has (names_kept Reaches o) n) q.1 ∙ (held.sound d q.0 q.1).reach.complete n r
+
+  pub affected_by : (d : Name) → h d ≡ true → KeptHits touched kept d ⊎ (touched d ≡ true) → IsAffected h v touched d
+  affected_by d e hits = (
+    e,
+    ⊎_elim
+        (λ k. hits_either touched w v d differ (k.0, k.1, (reached d k.0 k.2).1))
+        (λ t. (d, t, itself)) hits,
+  )
+
+  pub affected_kept : (d : Name) → IsAffected h v touched d → KeptHits touched kept d ⊎ (touched d ≡ true)
+  affected_kept d a =
+      ⊎_elim inr
+      (λ t.
+      let hit = hits_either touched v w d differ_back a.1 in
+      inl (hit.0, hit.1, kept_has d hit.0 (same d t ∙ a.0) hit.2))
+      (cases_Bool (touched d))
+
+  -- what is kept of a class that reaches no touched name stays right
+  pub keeps : (d : Name) (k : Kept) → Avoids touched w d → IsKeptOf w d k → IsKeptOf v d k
+  keeps d k avoids of =
+      let there : w d ≡ v d = differ d (avoids d itself) in
+      record {
+        part = part_there touched w v d differ avoids k.part of.part;
+        reach = record {
+          rises = of.reach.rises;
+          sound = λ n e. reach_there touched w v d differ avoids (of.reach.sound n e);
+          complete = λ n r. of.reach.complete n (reach_back touched w v d differ avoids r);
+        };
+        provided = subst (λ o. AreKeys k.provided (provided_by (record_of o) k.part)) there of.provided;
+        required = subst (λ o. AreKeys k.required (required_by (record_of o) k.part)) there of.required;
+      }
+
+  -- with the affected classes made afresh, and those that are no longer given left out, what is kept is right
+  pub holds_after : (after : KeptMap) (made : List Fresh) → AllFresh v made
+      → ((d : Name) → has (fresh_names made) d ≡ true → IsAffected h v touched d) → ((d : Name) → IsAffected h v touched d → has (fresh_names made) d ≡ true)
+      → ((d : Name) → map.get after d ≡ fresh_at made d (cond (h d) (map.get kept d) None))
+      → IsKept h v after
+  holds_after after made all sound complete at =
+      let split : (d : Name) (k : Kept) → map.get after d ≡ Some k → (h d ≡ true) × IsKeptOf v d k =
+      λ d k e. ⊎_elim
+      (λ p. ((sound d p.1).0, p.0))
+      (λ p. ⊎_elim
+      (λ q.
+      let was : map.get kept d ≡ Some k = sym (ap (λ b. cond b (map.get kept d) None) q) ∙ p.0 in (
+        q,
+        keeps d k
+            (λ n r. ⊎_elim
+            (λ t. absurd (false≢true (sym p.1 ∙ complete d (affected_by d q (inl (n, t, kept_has d n (held.only d k was) r))))))
+            (λ t. t)
+            (cases_Bool (touched n)))
+            (held.sound d k was),
+      ))
+      (λ q. absurd (none_some (sym (ap (λ b. cond b (map.get kept d) None) q) ∙ p.0)))
+      (cases_Bool (h d)))
+      (fresh_found v made d (cond (h d) (map.get kept d) None) k all (sym (at d) ∙ e)) in
+      record {
+        only = λ d k e. (split d k e).0;
+        sound = λ d k e. (split d k e).1;
+        complete = λ d q. ap is_some (at d) ∙ ⊎_elim
+            (λ e. fresh_there made d _ e)
+            (λ e. fresh_some made d _
+            (ap (λ b. is_some (cond b (map.get kept d) None)) q
+            ∙ held.complete d (same d (⊎_elim (λ t. absurd (false≢true (sym e ∙ complete d (affected_by d q (inr t))))) (λ t. t) (cases_Bool (touched d))) ∙ q)))
+            (cases_Bool (has (fresh_names made) d));
+      }
+
+  -- the users of the touched names, without the classes that go, and with those that come, are the affected ones
+  pub listed : (names : List Name) (hits goes comes : Name → Bool)
+      → ((d : Name) → hits d ≡ true → KeptHits touched kept d) → ((d : Name) → KeptHits touched kept d → hits d ≡ true)
+      → ((d : Name) → goes d ≡ (g d && not (h d))) → ((d : Name) → comes d ≡ (not (g d) && h d))
+      → ((d : Name) → has names d ≡ ((hits d && not (goes d)) || comes d))
+      → (d : Name) → (has names d ≡ true → IsAffected h v touched d) × (IsAffected h v touched d → has names d ≡ true)
+  listed names hits goes comes to from gone come is d =
+      let all : has names d ≡ (h d && (hits d || touched d)) =
+      is d ∙ ap (λ b. (hits d && not b) || comes d) (gone d) ∙ ap (λ b. (hits d && not (g d && not (h d))) || b) (come d)
+      ∙ listed_by (hits d) (touched d) (g d) (h d)
+      (λ e. let k = to d e in (reached d k.0 k.2).0)
+      (λ t e. from d (d, t, kept_has d d e itself))
+      (same d) in (
+        (λ e. let p = and_split _ _ (sym all ∙ e) in
+            affected_by d p.0 (⊎_elim (λ q. inl (to d q)) inr (or_split _ _ p.1))),
+        (λ a. all ∙ and_join _ _ a.0 (or_join _ _ (⊎_elim (λ k. inl (from d k)) inr (affected_kept d a)))),
+      )
+
+-- ---- the counts
+
+fresh_reaches : List Fresh → List (List Name)
+fresh_reaches xs = list_map (λ (x : Fresh). x.kept.reach) xs
+
+reaches_of : (m : World) (xs : List Fresh) → AllFresh m xs → AreReaches m (fresh_names xs) (fresh_reaches xs)
+unfolding fresh_reaches
+reaches_of m [] h = tt
+reaches_of m (x ∷ xs) h = (h.0.reach, reaches_of m xs h.1)
+
+sum_of : (xs : List Fresh) → sum_of_lengths (fresh_reaches xs) ≡ reach_sum xs
+unfolding fresh_reaches
+sum_of [] = refl
+sum_of (x ∷ xs) = ap (λ k. length x.kept.reach + k) (sum_of xs)
+
+pub bounded_after : (touched h : Name → Bool) (v : World) (made : List Fresh) (parts asks : ℕ) → AllFresh v made → NoRepeat (fresh_names made)
+    → ((d : Name) → has (fresh_names made) d ≡ true → IsAffected h v touched d) → ((d : Name) → IsAffected h v touched d → has (fresh_names made) d ≡ true)
+    → parts ≤ length (fresh_names made) → asks ≤ 2 + reach_sum made → IsBounded h v touched parts asks
+bounded_after touched h v made parts asks all once sound complete few fewer = record {
+  affected = fresh_names made;
+  reaches = fresh_reaches made;
+  are_affected = record { once = once; sound = sound; complete = complete };
+  are_reaches = reaches_of v made all;
+  made_few = few;
+  asked_few = let e = sum_of made in omega arith;
+}

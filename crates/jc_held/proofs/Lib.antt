@@ -1,0 +1,11 @@
+pub mod Tests
+pub mod General
+pub mod FreshLists
+pub mod KeptMaps
+pub mod SteppedTables
+pub mod UserNames
+pub mod Readying
+pub mod SteppedClasses
+pub mod ClassesChanged
+pub mod Leaving
+pub mod held

@@ -1,0 +1,125 @@
+-- Steps, and steps that are taken back.
+use Rattle.std.proofs.Common.{◌≡◌, Bool, true, false, not, ◌&&◌, cond, Option, Some, None, IsSome, is_some, refl, sym, ap, ◌∙◌, ⊎_elim}
+use Rattle.std.proofs.lemmas.Bool.{cases_Bool, false≢true}
+use Rattle.std.specs.FinMap as map
+use Rattle.jc_classes.specs.Facts.{Facts}
+use Rattle.jc_classes.specs.Names.{Name, same_name}
+use Rattle.jc_classes.proofs.worlds.NameTests.{same_is, same_self}
+use Rattle.jc_link.specs.Tables.{Places, class_at, placed}
+use Rattle.jc_held.specs.Steps.{Classes, class_by, step_class, step_name}
+use Rattle.jc_held.specs.declared.kept.Kept.{Kept}
+use Rattle.jc_held.specs.declared.step.Step.{Step}
+use Rattle.jc_held.specs.declared.step.Step.TheVariants.{Put, Remove}
+use Rattle.jc_held.specs.inside.Holding.{AreBack, AreNamed, AreThere, CountsStep, PutsClass, at_step, comer, leaver, stepped_by}
+use Rattle.jc_held.specs.inside.Kept.{KeptMap}
+use Rattle.jc_held.specs.inside.Readying.{is_name}
+use Rattle.jc_held.proofs.General.{none_some, some_one}
+use Rattle.jc_held.proofs.Tests.{and_no, and_yes}
+
+-- ---- a step
+
+pub stepped_not : (s : Option Step) (m : Classes) (n : Name) → at_step s n ≡ false → stepped_by s m n ≡ m n
+stepped_not None m n e = refl
+stepped_not (Some s) m n e = ap (λ b. cond b (step_class s) (m n)) e
+
+pub stepped_at : (s : Option Step) (m : Classes) (n : Name) → at_step s n ≡ true → stepped_by s m n ≡ class_by s
+stepped_at None m n e = absurd (false≢true e)
+stepped_at (Some s) m n e = ap (λ b. cond b (step_class s) (m n)) e
+
+pub given_by : (s other : Option Step) (m : Classes) (n : Name) → CountsStep m s other → at_step s n ≡ true → is_some (m n) ≡ true
+given_by None other m n h e = absurd (false≢true e)
+given_by (Some s) other m n h e = ap (λ k. is_some (m k)) (same_is n (step_name s) e) ∙ h.0
+
+pub apart_by : (s other : Option Step) (m : Classes) (n : Name) → CountsStep m s other → at_step s n ≡ true → at_step other n ≡ false
+apart_by None other m n h e = absurd (false≢true e)
+apart_by (Some s) other m n h e = ap (at_step other) (same_is n (step_name s) e) ∙ h.1
+
+pub puts_by : (s : Option Step) (n : Name) → PutsClass s → at_step s n ≡ true → is_some (class_by s) ≡ true
+puts_by None n h e = absurd (false≢true e)
+puts_by (Some s) n h e = h
+
+pub leaver_is : (s : Option Step) (d : Name) → is_name (leaver s) d ≡ (at_step s d && not (is_some (class_by s)))
+leaver_is None d = refl
+leaver_is (Some s) d = by (is_some (step_class s))
+  where
+    by : (b : Bool) → is_name (cond b None (Some (step_name s))) d ≡ (same_name d (step_name s) && not b)
+    by true = sym (and_no (same_name d (step_name s)))
+    by false = sym (and_yes (same_name d (step_name s)))
+
+pub comer_is : (kept : KeptMap) (s : Option Step) (d : Name) → is_name (comer kept s) d ≡ (at_step s d && not (is_some (map.get kept d)))
+comer_is kept None d = refl
+comer_is kept (Some s) d =
+    ⊎_elim
+    (λ e. here (is_some (map.get kept (step_name s))) ∙ ap (λ j. same_name d (step_name s) && not (is_some (map.get kept j))) (sym (same_is d (step_name s) e)))
+    (λ e. other (is_some (map.get kept (step_name s))) e ∙ ap (λ b. b && not (is_some (map.get kept d))) (sym e))
+    (cases_Bool (same_name d (step_name s)))
+  where
+    here : (b : Bool) → is_name (cond b None (Some (step_name s))) d ≡ (same_name d (step_name s) && not b)
+    here true = sym (and_no (same_name d (step_name s)))
+    here false = sym (and_yes (same_name d (step_name s)))
+
+    other : (b : Bool) → same_name d (step_name s) ≡ false → is_name (cond b None (Some (step_name s))) d ≡ false
+    other true e = refl
+    other false e = e
+
+-- ---- each class stands at its own name
+
+put_named : (s : Step) (f : Facts) → step_class s ≡ Some f → f.name ≡ step_name s
+put_named (Put g) f e = ap (λ (x : Facts). x.name) (sym (some_one e))
+put_named (Remove name) f e = absurd (none_some e)
+
+pub named_after : (s : Option Step) (old new : Places) → AreNamed old → ((n : Name) → class_at new n ≡ stepped_by s (class_at old) n) → AreNamed new
+named_after None old new h now = λ n f e. h n f (sym (now n) ∙ e)
+named_after (Some s) old new h now = λ n f e. ⊎_elim
+    (λ t. put_named s f (sym (now n ∙ stepped_at (Some s) (class_at old) n t) ∙ e) ∙ sym (same_is n (step_name s) t))
+    (λ t. h n f (sym (now n ∙ stepped_not (Some s) (class_at old) n t) ∙ e))
+    (cases_Bool (same_name n (step_name s)))
+
+-- of the one that comes nothing is kept
+pub comer_absent : (kept : KeptMap) (s : Option Step) (n : Name) → comer kept s ≡ Some n → map.get kept n ≡ None
+comer_absent kept None n h = absurd (none_some h)
+comer_absent kept (Some s) n h = by (map.get kept (step_name s)) refl h
+  where
+    by : (o : Option Kept) → map.get kept (step_name s) ≡ o → cond (is_some o) None (Some (step_name s)) ≡ Some n → map.get kept n ≡ None
+    by None e h = ap (map.get kept) (sym (some_one h)) ∙ e
+    by (Some k) e h = absurd (none_some h)
+
+-- ---- steps taken back
+
+pub back_at : (b s : Option Step) (m : Classes) (n : Name) → AreBack b s m → at_step b n ≡ at_step s n
+back_at None None m n h = refl
+back_at (Some b) (Some s) m n h = ap (same_name n) h.name
+back_at None (Some s) m n h = absurd h
+back_at (Some b) None m n h = absurd h
+
+pub comer_back : (kept : KeptMap) (b s : Option Step) (m : Classes) → AreBack b s m → comer kept b ≡ comer kept s
+comer_back kept None None m h = refl
+comer_back kept (Some b) (Some s) m h = ap (λ k. cond (is_some (map.get kept k)) None (Some k)) h.name
+comer_back kept None (Some s) m h = absurd h
+comer_back kept (Some b) None m h = absurd h
+
+twice : (b : Bool) (x y z : Option Facts) → (b ≡ true → x ≡ z) → cond b x (cond b y z) ≡ z
+twice true x y z h = h refl
+twice false x y z h = refl
+
+pub undone : (b s : Option Step) (m k : Classes) → AreBack b s m → ((n : Name) → k n ≡ stepped_by s m n) → (n : Name) → stepped_by b k n ≡ m n
+undone None None m k h now n = now n
+undone (Some b) (Some s) m k h now n =
+    ap (cond (same_name n (step_name b)) (step_class b)) (now n)
+    ∙ ap (λ j. cond (same_name n j) (step_class b) (cond (same_name n (step_name s)) (step_class s) (m n))) h.name
+    ∙ twice (same_name n (step_name s)) (step_class b) (step_class s) (m n) (λ e. h.class ∙ ap m (sym (same_is n (step_name s) e)))
+undone None (Some s) m k h now n = absurd h
+undone (Some b) None m k h now n = absurd h
+
+some_place : (o : Option (Option Facts)) → is_some (placed o) ≡ true → is_some o ≡ true
+some_place None h = h
+some_place (Some o) h = refl
+
+pub there_back : (b s : Option Step) (t u : Places) → AreBack b s (class_at t) → ((n : Name) → IsSome (map.get t n) → IsSome (map.get u n)) → AreThere b u
+there_back None s t u h stays = tt
+there_back (Some b) (Some s) t u h stays = λ f. stays (step_name b) (some_place (map.get t (step_name b)) (ap (λ j. is_some (class_at t j)) h.name ∙ ap is_some (sym h.class) ∙ f))
+there_back (Some b) None t u h stays = absurd h
+
+pub there_still : (b : Option Step) (t u : Places) → AreThere b t → ((n : Name) → at_step b n ≡ true → IsSome (map.get t n) → IsSome (map.get u n)) → AreThere b u
+there_still None t u h stays = tt
+there_still (Some b) t u h stays = λ f. stays (step_name b) (same_self (step_name b)) (h f)

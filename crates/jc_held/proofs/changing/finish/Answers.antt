@@ -1,0 +1,14 @@
+use Rattle.std.proofs.Common.{◌∙◌, ◌&&◌, not, ap}
+use Rattle.std.specs.Option.{option_copied}
+use Rattle.jc_held.specs.inside.Kept.{held_in}
+use Rattle.jc_held.specs.inside.Readying.{is_name}
+use Rattle.jc_held.proofs.Leaving.{links_left}
+use Rattle.jc_held.proofs.changing.finish.Goals as goal
+
+pub commit-requires-clause-linked : goal.commit-requires-clause-linked
+commit-requires-clause-linked c = λ r n d.
+    let gone = is_name (option_copied c.args.gone) in
+    let fresh = c.args.fresh.items in
+    c.give_up.ensures.linked r n d
+    ∙ ap (λ b. b && not (gone d && held_in r c.args.kept.now d n)) (c.requires.linked r n d)
+    ∙ links_left gone c.args.kept.now c.give_up.new.kept fresh c.give_up.ensures.kept (λ d h. (c.requires.there d h).0) r n d

@@ -1,0 +1,8 @@
+pub mod Holding
+pub mod Rising
+pub mod Places
+pub mod Dependants
+pub mod Classes
+pub mod Rows
+pub mod Provided
+pub mod Changed

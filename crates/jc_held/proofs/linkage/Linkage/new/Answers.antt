@@ -1,0 +1,11 @@
+use Rattle.jc_held.proofs.held.Holding.{nothing_held, nothing_named}
+use Rattle.jc_held.proofs.linkage.Linkage.new.Goals as goal
+
+pub invariant_of-linkage : goal.invariant_of-linkage
+invariant_of-linkage c =
+    let places = c.in_ok-table.table in
+    let kept = c.new-2.result in
+    let links = c.new-3.result in (
+      nothing_held places c.args.outside kept links c.in_ok-table.ensures.empty c.new-2.ensures c.new-3.ensures,
+      nothing_named places c.args.outside kept links c.in_ok-table.ensures.empty c.new-2.ensures,
+    )

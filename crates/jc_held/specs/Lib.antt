@@ -1,0 +1,4 @@
+pub mod Affected
+pub mod Linkages
+pub mod Steps
+pub mod inside

@@ -1,0 +1,5 @@
+pub mod Holding
+pub mod Kept
+pub mod Lending
+pub mod Readying
+pub mod Stepping

@@ -1,0 +1,15 @@
+-- Steps that are taken back.
+use Rattle.std.specs.Prelude.{◌≡◌, IsSome}
+use Rattle.std.specs.FinMap as map
+use Rattle.jc_link.specs.Tables.{Places}
+use Rattle.jc_held.specs.Steps.{Classes, step_class, step_name}
+use Rattle.jc_held.specs.declared.step.Step.{Step}
+
+-- it is at the same name, with the class that stood there
+pub record IsBack (back step : Step) (m : Classes) : Type 0 where
+  pub name : step_name back ≡ step_name step
+  pub class : step_class back ≡ m (step_name step)
+
+-- a class that it puts has its place
+abbrev pub IsThere : Step → Places → Type 0
+IsThere s places = IsSome (step_class s) → IsSome (map.get places (step_name s))

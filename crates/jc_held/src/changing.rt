@@ -1,0 +1,195 @@
+//! An edit of what stands at one name or two.
+
+ghost use Rattle.std.specs.Prelude.{◌≡◌, ◌-◌, ◌||◌, ◌&&◌, not, false, true, IfOk, IsSome, None, OnErr, OnOk, Some, cond};
+ghost use Rattle.std.specs.FinMap as map;
+ghost use Rattle.std.specs.Option.{option_copied, option_map};
+ghost use Rattle.jc_classes.specs.NameLists.{has};
+ghost use Rattle.jc_classes.specs.Names.{Name};
+ghost use Rattle.jc_link.specs.Tables.{class_at, world};
+ghost use Rattle.jc_held.specs.Affected.{IsBounded, NoRepeat};
+ghost use Rattle.jc_held.specs.Steps as steps;
+ghost use Rattle.jc_held.specs.inside.Holding as holding;
+ghost use Rattle.jc_held.specs.inside.Holding.{AreBack, AreNamed, AreThere, CountsStep, IsHeld, PutsClass, at_step, given_in, stepped_by};
+ghost use Rattle.jc_held.specs.inside.Kept.{AreLinked, Relation, fresh_at, fresh_has, fresh_names, held_in, linked};
+ghost use Rattle.jc_held.specs.inside.Readying.{is_name};
+
+use crate::affected::users_of;
+use crate::kept::{Fresh, Kept};
+use crate::linking::{commit, let_go};
+use crate::links::Links;
+use crate::preparing::prepare;
+use crate::step::{Step, make_step, take_back};
+use jc_base::{ByteMap, NoMemory};
+use jc_classes::{Facts, same};
+use jc_link::{Meter, Outside, Table};
+use std::alloc::Global;
+
+/// A step that counts: a class stands at its name, and the class beside it is another.
+pub(crate) fn counting(
+    kept: &ByteMap<Kept>,
+    first: Option<Step>,
+    put: &Option<Facts>,
+) -> Option<Step>
+    ensures { result ≡ holding.counting kept.now first put.now }
+{
+    let step = first?;
+    if kept.contains_key(step.name()) && !is_class(put, step.name()) {
+        Some(step)
+    } else {
+        None
+    }
+}
+
+/// Whether this is the name of the class.
+fn is_class(put: &Option<Facts>, name: &[u8]) -> bool
+    ensures { result ≡ steps.is_class put.now name.now }
+{
+    match put {
+        Some(facts) => same(name, facts.name()),
+        None => false,
+    }
+}
+
+/// Changes what stands at the names of two steps. At want of memory all stands as before.
+pub(crate) fn change_classes(
+    alloc: Global,
+    outside: &Outside,
+    table: &mut Table,
+    kept: &mut ByteMap<Kept>,
+    links: &mut Links,
+    first: Option<Step>,
+    second: Option<Step>,
+    meter: &mut Meter,
+) -> Result<(), NoMemory>
+    requires held { IsHeld table.old outside.now kept.old links.old }
+    requires named { AreNamed table.old }
+    requires first { CountsStep (class_at table.old) first second }
+    requires second { PutsClass second }
+    ensures ok { OnOk result ((n : Name) → class_at table.new n ≡ stepped_by second (stepped_by first (class_at table.old)) n) }
+    ensures err { OnErr result ((n : Name) → class_at table.new n ≡ class_at table.old n) }
+    ensures held { IsHeld table.new outside.now kept.new links.new }
+    ensures bounded { OnOk result (IsBounded (given_in table.new) (world table.new outside.now) (λ n. at_step first n || at_step second n) (meter.new.made - meter.old.made) (meter.new.asks - meter.old.asks)) }
+{
+    let gone = leaver(alloc, &first)?;
+    let names = users_of(alloc, links, name_of(&first), name_of(&second), lent(&gone))?;
+    let first = make(alloc, table, first)?;
+    let second = match make(alloc, table, second) {
+        Ok(back) => back,
+        Err(_) => {
+            unmake(table, first);
+            return Err(NoMemory);
+        }
+    };
+    let comes = comer(kept, &second);
+    let fresh = match prepare(alloc, table, outside, kept, links, &names, comes, meter) {
+        Ok(fresh) => fresh,
+        Err(_) => {
+            unmake(table, second);
+            unmake(table, first);
+            return Err(NoMemory);
+        }
+    };
+    finish(table, kept, links, lent(&gone), fresh);
+    Ok(())
+}
+
+/// Makes a step if there is one, and answers the one that takes it back.
+fn make(alloc: Global, table: &mut Table, step: Option<Step>) -> Result<Option<Step>, NoMemory>
+    requires { AreNamed table.old }
+    ensures ok { OnOk result ((n : Name) → class_at table.new n ≡ stepped_by step (class_at table.old) n) }
+    ensures back { IfOk result (λ back. AreBack back step (class_at table.old)) }
+    ensures there { OnOk result ((n : Name) → IsSome (map.get table.old n) → IsSome (map.get table.new n)) }
+    ensures err { OnErr result (table.new ≡ table.old) }
+{
+    let Some(step) = step else {
+        return Ok(None);
+    };
+    let back = make_step(alloc, table, step)?;
+    Ok(Some(back))
+}
+
+/// Takes a step back if there is one. No memory.
+fn unmake(table: &mut Table, back: Option<Step>)
+    requires { AreThere back table.old }
+    ensures ok { (n : Name) → class_at table.new n ≡ stepped_by back (class_at table.old) n }
+    ensures there { (n : Name) → at_step back n ≡ false → IsSome (map.get table.old n) → IsSome (map.get table.new n) }
+{
+    let Some(back) = back else {
+        return;
+    };
+    take_back(table, back);
+}
+
+/// The name of the class that goes by a step.
+fn leaver(alloc: Global, step: &Option<Step>) -> Result<Option<Vec<u8>>, NoMemory>
+    ensures { IfOk result (λ gone. option_map (λ name. name.items) gone ≡ holding.leaver step.now) }
+{
+    match step {
+        Some(Step::Remove(name)) => Ok(Some(Vec::from_slice(alloc, name)?)),
+        _ => Ok(None),
+    }
+}
+
+fn name_of(step: &Option<Step>) -> Option<&[u8]>
+    ensures { option_copied result ≡ holding.name_of step.now }
+{
+    match step {
+        Some(step) => Some(step.name()),
+        None => None,
+    }
+}
+
+fn lent(name: &Option<Vec<u8>>) -> Option<&[u8]>
+    ensures { option_copied result ≡ option_map (λ name. name.items) name.now }
+{
+    match name {
+        Some(name) => Some(name),
+        None => None,
+    }
+}
+
+/// The name of a class that comes by a step.
+fn comer<'a>(kept: &ByteMap<Kept>, step: &'a Option<Step>) -> Option<&'a [u8]>
+    ensures { option_copied result ≡ holding.comer kept.now step.now }
+{
+    let name = name_of(step)?;
+    if kept.contains_key(name) {
+        None
+    } else {
+        Some(name)
+    }
+}
+
+/// Lets a class go, and puts parts in the places of those that are kept. No memory.
+fn finish(
+    table: &mut Table,
+    kept: &mut ByteMap<Kept>,
+    links: &mut Links,
+    gone: Option<&[u8]>,
+    fresh: Vec<Fresh>,
+)
+    requires there { (d : Name) → has (fresh_names fresh.items) d ≡ true → (is_name (option_copied gone) d ≡ false) × IsSome (map.get kept.old d) }
+    requires once { NoRepeat (fresh_names fresh.items) }
+    requires linked { (r : Relation) (n d : Name) → linked r links.old n d ≡ (held_in r kept.old d n || fresh_has r fresh.items d n) }
+    requires vacant { (n : Name) → is_name (option_copied gone) n ≡ true → class_at table.old n ≡ None }
+    ensures classes { (n : Name) → class_at table.new n ≡ class_at table.old n }
+    ensures kept { (d : Name) → map.get kept.new d ≡ fresh_at fresh.items d (cond (is_name (option_copied gone.entry) d) None (map.get kept.old d)) }
+    ensures linked { AreLinked kept.new links.new }
+{
+    give_up(table, kept, links, gone);
+    commit(kept, links, fresh);
+}
+
+/// Lets a class go that stands nowhere any more, with its place. No memory.
+fn give_up(table: &mut Table, kept: &mut ByteMap<Kept>, links: &mut Links, gone: Option<&[u8]>)
+    requires { (n : Name) → is_name (option_copied gone) n ≡ true → class_at table.old n ≡ None }
+    ensures classes { (n : Name) → class_at table.new n ≡ class_at table.old n }
+    ensures kept { (d : Name) → map.get kept.new d ≡ cond (is_name (option_copied gone.entry) d) None (map.get kept.old d) }
+    ensures linked { (r : Relation) (n d : Name) → linked r links.new n d ≡ (linked r links.old n d && not (is_name (option_copied gone.entry) d && held_in r kept.old d n)) }
+{
+    let Some(name) = gone else {
+        return;
+    };
+    let_go(kept, links, name);
+    table.remove(name);
+}

@@ -1,0 +1,101 @@
+//! What is kept of a class.
+
+ghost use Rattle.std.specs.Prelude.{◌≡◌, IfOk, OnOk, length, map};
+ghost use Rattle.std.specs.Option.{option_copied};
+ghost use Rattle.jc_classes.specs.Names.{names_of};
+ghost use Rattle.jc_link.specs.Meters.{counted};
+ghost use Rattle.jc_link.specs.Tables.{world};
+ghost use Rattle.jc_held.specs.inside.Kept.{AllFresh, AreKeys, IsKeptOf, fresh_names, provided_by, reach_sum, required_by};
+
+use jc_base::NoMemory;
+use jc_classes::Facts;
+use jc_index::NameList;
+use jc_link::{Meter, Outside, Part, Table, gather, make_part};
+use jc_report::{provided_keys, required_keys};
+use std::alloc::Global;
+
+/// The part of a class, and the names that it depends on.
+#[derive(Drop)]
+pub(crate) struct Kept {
+    pub(crate) part: Part,
+    /// The names of its reach.
+    pub(crate) reach: NameList,
+    /// The keys of the rows that it provides.
+    pub(crate) provided: NameList,
+    /// The keys of the rows that it requires.
+    pub(crate) required: NameList,
+}
+
+/// What is to be kept of a class.
+#[derive(Drop)]
+pub(crate) struct Fresh {
+    pub(crate) name: Vec<u8>,
+    pub(crate) kept: Kept,
+}
+
+/// Gathers classes and makes their parts, in order.
+pub(crate) fn make_fresh(
+    alloc: Global,
+    table: &Table,
+    outside: &Outside,
+    names: &[Vec<u8>],
+    meter: &mut Meter,
+) -> Result<Vec<Fresh>, NoMemory>
+    ensures names { IfOk result (λ fresh. fresh_names fresh.items ≡ names_of names.now) }
+    ensures kept { IfOk result (λ fresh. AllFresh (world table.now outside.now) fresh.items) }
+    ensures made { OnOk result (meter.new.made ≡ counted meter.old.made (length names.now)) }
+    ensures asks { IfOk result (λ fresh. meter.new.asks ≡ counted meter.old.asks (reach_sum fresh.items)) }
+{
+    let mut fresh = Vec::new(alloc);
+    for name in names {
+        fresh.push(make_one(alloc, table, outside, name, meter)?)?;
+    }
+    Ok(fresh)
+}
+
+/// Gathers a class and makes its part.
+pub(crate) fn make_one(
+    alloc: Global,
+    table: &Table,
+    outside: &Outside,
+    name: &[u8],
+    meter: &mut Meter,
+) -> Result<Fresh, NoMemory>
+    ensures name { IfOk result (λ fresh. fresh.name.items ≡ name.now) }
+    ensures kept { IfOk result (λ fresh. IsKeptOf (world table.now outside.now) name.now fresh.kept) }
+    ensures made { OnOk result (meter.new.made ≡ counted meter.old.made 1) }
+    ensures asks { IfOk result (λ fresh. meter.new.asks ≡ counted meter.old.asks (length fresh.kept.reach)) }
+{
+    let closure = gather(alloc, table, outside, name, meter)?;
+    let part = make_part(alloc, &closure, meter)?;
+    let provided = provided_by(alloc, closure.record(), &part)?;
+    let required = required_by(alloc, closure.record(), &part)?;
+    let name = Vec::from_slice(alloc, name)?;
+    let kept = Kept {
+        part,
+        reach: closure.into_names(),
+        provided,
+        required,
+    };
+    Ok(Fresh { name, kept })
+}
+
+/// The keys of the rows that a class provides by its record; none where it has none.
+fn provided_by(alloc: Global, own: Option<&Facts>, part: &Part) -> Result<NameList, NoMemory>
+    ensures { IfOk result (λ keys. AreKeys keys (provided_by (option_copied own.entry) part.now)) }
+{
+    match own {
+        Some(facts) => Ok(NameList::of(provided_keys(alloc, facts, part)?)),
+        None => Ok(NameList::new(alloc)),
+    }
+}
+
+/// The keys of the rows that a class requires by its record; none where it has none.
+fn required_by(alloc: Global, own: Option<&Facts>, part: &Part) -> Result<NameList, NoMemory>
+    ensures { IfOk result (λ keys. AreKeys keys (required_by (option_copied own.entry) part.now)) }
+{
+    match own {
+        Some(facts) => Ok(NameList::of(required_keys(alloc, facts, part)?)),
+        None => Ok(NameList::new(alloc)),
+    }
+}

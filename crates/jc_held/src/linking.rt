@@ -1,0 +1,100 @@
+//! Parts are put in the place of those that are kept: links are added first, which may be refused and is then
+//! undone, and taken out last, which can't fail.
+
+ghost use Rattle.std.specs.Prelude.{◌≡◌, ◌||◌, ◌&&◌, not, true, IsSome, None, OnErr, OnOk};
+ghost use Rattle.std.specs.FinMap as map;
+ghost use Rattle.jc_classes.specs.Names.{Name, same_name};
+ghost use Rattle.jc_classes.specs.NameLists.{has};
+ghost use Rattle.jc_index.specs.Indexes.{Between};
+ghost use Rattle.jc_held.specs.Affected.{NoRepeat};
+ghost use Rattle.jc_held.specs.inside.Kept.{Relation, fresh_at, fresh_has, fresh_names, held_in, linked, names_by};
+
+use crate::kept::{Fresh, Kept};
+use crate::links::Links;
+use jc_base::{ByteMap, NoMemory};
+
+/// Links each class to what is to be kept of it. At want of memory some links may be there.
+pub(crate) fn link_fresh(links: &mut Links, fresh: &[Fresh]) -> Result<(), NoMemory>
+    ensures ok { OnOk result ((r : Relation) (n d : Name) → linked r links.new n d ≡ (linked r links.old n d || fresh_has r fresh.now d n)) }
+    ensures err { OnErr result ((r : Relation) (n d : Name) → Between (linked r links.old n d) (fresh_has r fresh.now d n) (linked r links.new n d)) }
+{
+    for one in fresh {
+        links.link(&one.name, &one.kept)?;
+    }
+    Ok(())
+}
+
+/// Takes back links that were perhaps made for classes, where what is kept of them lacks the name. No memory.
+pub(crate) fn undo_fresh(links: &mut Links, kept: &ByteMap<Kept>, fresh: &[Fresh])
+    ensures { (r : Relation) (n d : Name) → linked r links.new n d ≡ (linked r links.old n d && not (fresh_has r fresh.now d n && not (held_in r kept.now d n))) }
+{
+    for one in fresh {
+        undo_one(links, kept, one);
+    }
+}
+
+/// The same for one class.
+fn undo_one(links: &mut Links, kept: &ByteMap<Kept>, one: &Fresh)
+    ensures { (r : Relation) (n d : Name) → linked r links.new n d ≡ (linked r links.old n d && not ((same_name d one.now.name.items && has (names_by r one.now.kept) n) && not (held_in r kept.now d n))) }
+{
+    match kept.get(&one.name) {
+        Some(now) => links.unlink_but(&one.name, &one.kept, now),
+        None => links.unlink(&one.name, &one.kept),
+    }
+}
+
+/// Takes back links that were perhaps made for classes, and for one of which nothing was kept. No memory.
+pub(crate) fn undo_links(
+    links: &mut Links,
+    kept: &ByteMap<Kept>,
+    fresh: &[Fresh],
+    name: &[u8],
+    newcomer: &Kept,
+)
+    requires absent { map.get kept.now name.now ≡ None }
+    requires between { (r : Relation) (n d : Name) → Between (held_in r kept.now d n) (fresh_has r fresh.now d n || (same_name d name.now && has (names_by r newcomer.now) n)) (linked r links.old n d) }
+    ensures { (r : Relation) (n d : Name) → linked r links.new n d ≡ held_in r kept.now d n }
+{
+    links.unlink(name, newcomer);
+    undo_fresh(links, kept, fresh);
+}
+
+/// Puts parts in the places of those that are kept, and takes each class out at the names that it no longer
+/// depends on. No memory.
+pub(crate) fn commit(kept: &mut ByteMap<Kept>, links: &mut Links, fresh: Vec<Fresh>)
+    requires there { (d : Name) → has (fresh_names fresh.items) d ≡ true → IsSome (map.get kept.old d) }
+    requires apart { NoRepeat (fresh_names fresh.items) }
+    requires linked { (r : Relation) (n d : Name) → linked r links.old n d ≡ (held_in r kept.old d n || fresh_has r fresh.items d n) }
+    ensures kept { (d : Name) → map.get kept.new d ≡ fresh_at fresh.items d (map.get kept.old d) }
+    ensures linked { (r : Relation) (n d : Name) → linked r links.new n d ≡ held_in r kept.new d n }
+{
+    let mut fresh = fresh;
+    while let Some(one) = fresh.pop() {
+        put_one(kept, links, one);
+    }
+}
+
+/// The same for one class.
+fn put_one(kept: &mut ByteMap<Kept>, links: &mut Links, one: Fresh)
+    requires there { IsSome (map.get kept.old one.name.items) }
+    ensures kept { kept.new ≡ map.insert kept.old one.name.items one.kept }
+    ensures linked { (r : Relation) (n d : Name) → linked r links.new n d ≡ (linked r links.old n d && not (same_name d one.name.items && (held_in r kept.old d n && not (has (names_by r one.kept) n)))) }
+{
+    let Fresh { name, kept: now } = one;
+    let Ok(old) = kept.replace(&name, now) else {
+        unreachable!();
+    };
+    if let Some(now) = kept.get(&name) {
+        links.unlink_but(&name, &old, now);
+    }
+}
+
+/// Lets a class go. No memory.
+pub(crate) fn let_go(kept: &mut ByteMap<Kept>, links: &mut Links, name: &[u8])
+    ensures kept { kept.new ≡ map.remove kept.old name.now }
+    ensures linked { (r : Relation) (n d : Name) → linked r links.new n d ≡ (linked r links.old n d && not (same_name d name.now && held_in r kept.old d n)) }
+{
+    if let Some(gone) = kept.remove(name) {
+        links.unlink(name, &gone);
+    }
+}

@@ -1,0 +1,57 @@
+//! Which classes depend on which names, and which require which rows.
+
+ghost use Rattle.std.specs.Prelude.{◌≡◌, ◌||◌, ◌&&◌, not, OnErr, OnOk, false};
+ghost use Rattle.jc_classes.specs.Names.{Name, same_name};
+ghost use Rattle.jc_classes.specs.NameLists.{has};
+ghost use Rattle.jc_index.specs.Indexes.{Between};
+ghost use Rattle.jc_held.specs.inside.Kept.{Relation, linked, names_by};
+
+use crate::kept::Kept;
+use jc_base::NoMemory;
+use jc_index::Index;
+use std::alloc::Global;
+
+/// For each name the classes whose reach holds it, and for each row the classes that require it.
+#[derive(Drop)]
+pub(crate) struct Links {
+    pub(crate) reach: Index,
+    pub(crate) required: Index,
+}
+
+impl Links {
+    /// No links. No memory.
+    pub(crate) fn new(alloc: Global) -> Links
+        ensures { (r : Relation) (n d : Name) → linked r result n d ≡ false }
+    {
+        Links {
+            reach: Index::new(alloc),
+            required: Index::new(alloc),
+        }
+    }
+
+    /// Adds a class at each name that is kept of it. At want of memory it may be added at some of them.
+    pub(crate) fn link(&mut self, class: &[u8], kept: &Kept) -> Result<(), NoMemory>
+        ensures ok { OnOk result ((r : Relation) (n d : Name) → linked r self.new n d ≡ (linked r self.old n d || (same_name d class.now && has (names_by r kept.now) n))) }
+        ensures err { OnErr result ((r : Relation) (n d : Name) → Between (linked r self.old n d) (same_name d class.now && has (names_by r kept.now) n) (linked r self.new n d)) }
+    {
+        self.reach.link_all(&kept.reach, class)?;
+        self.required.link_all(&kept.required, class)
+    }
+
+    /// Takes a class out at each name that is kept of it. No memory.
+    pub(crate) fn unlink(&mut self, class: &[u8], kept: &Kept)
+        ensures { (r : Relation) (n d : Name) → linked r self.new n d ≡ (linked r self.old n d && not (same_name d class.now && has (names_by r kept.now) n)) }
+    {
+        self.reach.unlink_all(&kept.reach, class);
+        self.required.unlink_all(&kept.required, class);
+    }
+
+    /// Takes a class out at each name that one has and the other lacks. No memory.
+    pub(crate) fn unlink_but(&mut self, class: &[u8], kept: &Kept, other: &Kept)
+        ensures { (r : Relation) (n d : Name) → linked r self.new n d ≡ (linked r self.old n d && not (same_name d class.now && (has (names_by r kept.now) n && not (has (names_by r other.now) n)))) }
+    {
+        self.reach.unlink_all_but(&kept.reach, &other.reach, class);
+        self.required
+            .unlink_all_but(&kept.required, &other.required, class);
+    }
+}

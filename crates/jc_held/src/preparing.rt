@@ -1,0 +1,116 @@
+//! The parts that an edit needs are made and linked before anything is taken away.
+
+ghost use Rattle.std.specs.Prelude.{◌≡◌, ◌||◌, IfOk, None, OnErr, Some};
+ghost use Rattle.std.specs.FinMap as map;
+ghost use Rattle.std.specs.Option.{option_copied};
+ghost use Rattle.jc_classes.specs.Names.{Name, names_of};
+ghost use Rattle.jc_link.specs.Tables.{world};
+ghost use Rattle.jc_held.specs.inside.Kept.{AreLinked, Relation, fresh_has, held_in, linked};
+ghost use Rattle.jc_held.specs.inside.Readying.{IsReady};
+
+use crate::kept::{Fresh, Kept, make_fresh, make_one};
+use crate::linking::{link_fresh, undo_fresh, undo_links};
+use crate::links::Links;
+use jc_base::{ByteMap, NoMemory};
+use jc_link::{Meter, Outside, Table};
+use std::alloc::{AllocFailed, Global};
+
+/// Makes the parts of the affected classes, and of one that comes, and links them; the newcomer is kept
+/// already. At want of memory the links and what is kept are as before.
+pub(crate) fn prepare(
+    alloc: Global,
+    table: &Table,
+    outside: &Outside,
+    kept: &mut ByteMap<Kept>,
+    links: &mut Links,
+    names: &[Vec<u8>],
+    comes: Option<&[u8]>,
+    meter: &mut Meter,
+) -> Result<Vec<Fresh>, NoMemory>
+    requires linked { AreLinked kept.old links.old }
+    requires absent { (n : Name) → option_copied comes ≡ Some n → map.get kept.old n ≡ None }
+    ensures kept_err { OnErr result (kept.new ≡ kept.old) }
+    ensures linked_err { OnErr result (AreLinked kept.old links.new) }
+    ensures ready { IfOk result (λ fresh. IsReady (world table.now outside.now) (names_of names.now) (option_copied comes.entry) kept.old kept.new fresh.items meter.old.made meter.new.made meter.old.asks meter.new.asks) }
+    ensures linked { IfOk result (λ fresh. (r : Relation) (n d : Name) → linked r links.new n d ≡ (held_in r kept.new d n || fresh_has r fresh.items d n)) }
+{
+    match comes {
+        Some(name) => prepare_with(alloc, table, outside, kept, links, names, name, meter),
+        None => prepare_others(alloc, table, outside, kept, links, names, meter),
+    }
+}
+
+/// The same where a class comes.
+fn prepare_with(
+    alloc: Global,
+    table: &Table,
+    outside: &Outside,
+    kept: &mut ByteMap<Kept>,
+    links: &mut Links,
+    names: &[Vec<u8>],
+    name: &[u8],
+    meter: &mut Meter,
+) -> Result<Vec<Fresh>, NoMemory>
+    requires linked { AreLinked kept.old links.old }
+    requires absent { map.get kept.old name.now ≡ None }
+    ensures kept_err { OnErr result (kept.new ≡ kept.old) }
+    ensures linked_err { OnErr result (AreLinked kept.old links.new) }
+    ensures ready { IfOk result (λ fresh. IsReady (world table.now outside.now) (names_of names.now) (Some name.now) kept.old kept.new fresh.items meter.old.made meter.new.made meter.old.asks meter.new.asks) }
+    ensures linked { IfOk result (λ fresh. (r : Relation) (n d : Name) → linked r links.new n d ≡ (held_in r kept.new d n || fresh_has r fresh.items d n)) }
+{
+    let fresh = make_fresh(alloc, table, outside, names, meter)?;
+    let Fresh {
+        name: key,
+        kept: newcomer,
+    } = make_one(alloc, table, outside, name, meter)?;
+    match link_fresh(links, &fresh) {
+        Ok(()) => {}
+        Err(_) => {
+            undo_links(links, kept, &fresh, name, &newcomer);
+            return Err(NoMemory);
+        }
+    }
+    match links.link(name, &newcomer) {
+        Ok(()) => {}
+        Err(_) => {
+            undo_links(links, kept, &fresh, name, &newcomer);
+            return Err(NoMemory);
+        }
+    }
+    match kept.insert(key, newcomer) {
+        Ok(_) => Ok(fresh),
+        Err(
+            AllocFailed {
+                value: (_, newcomer),
+            },
+        ) => {
+            undo_links(links, kept, &fresh, name, &newcomer);
+            Err(NoMemory)
+        }
+    }
+}
+
+/// The same where none comes.
+fn prepare_others(
+    alloc: Global,
+    table: &Table,
+    outside: &Outside,
+    kept: &ByteMap<Kept>,
+    links: &mut Links,
+    names: &[Vec<u8>],
+    meter: &mut Meter,
+) -> Result<Vec<Fresh>, NoMemory>
+    requires linked { AreLinked kept.now links.old }
+    ensures linked_err { OnErr result (AreLinked kept.now links.new) }
+    ensures ready { IfOk result (λ fresh. IsReady (world table.now outside.now) (names_of names.now) None kept.now kept.now fresh.items meter.old.made meter.new.made meter.old.asks meter.new.asks) }
+    ensures linked { IfOk result (λ fresh. (r : Relation) (n d : Name) → linked r links.new n d ≡ (held_in r kept.now d n || fresh_has r fresh.items d n)) }
+{
+    let fresh = make_fresh(alloc, table, outside, names, meter)?;
+    match link_fresh(links, &fresh) {
+        Ok(()) => Ok(fresh),
+        Err(_) => {
+            undo_fresh(links, kept, &fresh);
+            Err(NoMemory)
+        }
+    }
+}
