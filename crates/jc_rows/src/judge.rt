@@ -17,6 +17,7 @@ use crate::tokens::Token;
 use crate::world_answers::{outside_answer, world_text};
 use anyhow::{Context, Result, bail};
 use jc_base::{ByteMap, SigKind};
+use jc_link::Outside;
 use jc_session::Session;
 use std::alloc::{AllocError, Global};
 use std::io::ErrorKind;
@@ -75,7 +76,7 @@ fn tell(rt: &impl Print, path: &str, number: usize, found: &Found) -> Result<()>
 }
 
 fn new_session(alloc: Global) -> Result<Session, AllocError> {
-    match Session::new(alloc) {
+    match Session::new(alloc, Outside::standard()) {
         Ok(session) => Ok(session),
         Err(_) => Err(AllocError),
     }

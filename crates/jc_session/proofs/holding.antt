@@ -1,5 +1,6 @@
 pub mod ClaimsOfPaths
-pub mod EmptyFile
-pub mod ClaimsWin
 pub mod ClaimsStay
+pub mod ClaimsWin
+pub mod EmptyFile
+pub mod NextClaim
 pub mod RowsByClaims

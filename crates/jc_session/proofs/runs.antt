@@ -4,3 +4,4 @@ pub mod LineAnswered
 pub mod RunsSoFar
 pub mod ByAnswers
 pub mod FailuresCounted
+pub mod OneRun

@@ -1,14 +1,21 @@
 -- What a list of lines owes.
-use Rattle.std.specs.Prelude.{ℕ, List, [], ◌∷◌, ◌++◌, drop, Option, Some, None, Result, Ok, Err, codes}
+use Rattle.std.specs.Prelude.{◌≡◌, ℕ, List, [], ◌∷◌, ◌++◌, drop, Option, Some, None, Result, Ok, Err, codes}
 use Rattle.jc_session.specs.declared.edit.EditError.{EditError}
 use Rattle.jc_session.specs.declared.source.SourceError.{SourceError}
 use Rattle.jc_session.specs.declared.source.SourceError.TheVariants as sources
 use Rattle.jc_report.specs.Files.{Files}
 use Rattle.jc_session.specs.Edits.{Change, Adds, Replaces, Removes, judge, after}
-use Rattle.jc_session.specs.ReportText.{report_text}
+use Rattle.jc_classes.specs.Facts.{Facts}
+use Rattle.jc_classes.specs.Names.{Name}
+use Rattle.jc_classes.specs.Parts as parts
+use Rattle.jc_classes.specs.Parts.{IsPart}
+use Rattle.jc_report.specs.PartText.{part_text}
+use Rattle.jc_report.specs.ReportText.{report_text}
+use Rattle.jc_report.specs.Reports as reports
+use Rattle.jc_report.specs.Reports.{IsReport, facts_at, world_of}
 use Rattle.jc_session.specs.AnswerText.{refused_text, unread_text}
 use Rattle.jc_session.specs.ListedText.{listed_text}
-use Rattle.jc_session.specs.Lines.{Command, Add, Replace, Remove, Report, Listing, End, Bad, command_of}
+use Rattle.jc_session.specs.Lines.{Command, Add, Replace, Remove, Report, Part, Listing, End, Bad, command_of}
 use Rattle.jc_session.specs.Sources.{SourceAnswers, next_answer}
 
 -- what one line is answered, and what is then
@@ -40,14 +47,28 @@ told_reply f s path change (Err sources.NoMemory) = Lacks s
 abbrev pub sourced_reply : Files → SourceAnswers → List ℕ → (List ℕ → Change) → Reply
 sourced_reply f s path change = told_reply f (drop 1 s) path change (next_answer s path)
 
-abbrev pub reply : Files → SourceAnswers → Command → Reply
-reply f s (Add path) = sourced_reply f s path (Adds path)
-reply f s (Replace path) = sourced_reply f s path (Replaces path)
-reply f s (Remove path) = edit_reply f s (Removes path)
-reply f s Report = Says (report_text f) f s
-reply f s (Listing name) = Lists (listed_text f name)
-reply f s End = Ends
-reply f s Bad = Says (codes "bad line\n") f s
+-- the report of the files
+abbrev pub SaysReport : List Name → Files → List ℕ → Type 0
+SaysReport prefixes f text = (r : reports.Report) × IsReport f prefixes r × (text ≡ report_text r)
+
+abbrev pub SaysPartBy : List Name → Files → Name → Option Facts → List ℕ → Type 0
+SaysPartBy prefixes f name None text = text ≡ codes "none\n"
+SaysPartBy prefixes f name (Some facts) text = (p : parts.Part) × IsPart (world_of f prefixes) name p × (text ≡ part_text facts p)
+
+-- the part of a class, or that no file gives it
+abbrev pub SaysPart : List Name → Files → Name → List ℕ → Type 0
+SaysPart prefixes f name text = SaysPartBy prefixes f name (facts_at f name) text
+
+-- a reply that a line is owed
+abbrev pub Replies : List Name → Files → SourceAnswers → Command → Reply → Type 0
+Replies prefixes f s (Add path) r = r ≡ sourced_reply f s path (Adds path)
+Replies prefixes f s (Replace path) r = r ≡ sourced_reply f s path (Replaces path)
+Replies prefixes f s (Remove path) r = r ≡ edit_reply f s (Removes path)
+Replies prefixes f s Report r = (text : List ℕ) × SaysReport prefixes f text × (r ≡ Says text f s)
+Replies prefixes f s (Part name) r = (text : List ℕ) × SaysPart prefixes f name text × (r ≡ Says text f s)
+Replies prefixes f s (Listing name) r = r ≡ Lists (listed_text f name)
+Replies prefixes f s End r = r ≡ Ends
+Replies prefixes f s Bad r = r ≡ Says (codes "bad line\n") f s
 
 pub data Ending : Type 0 where
   AtEnd : Ending
@@ -64,12 +85,18 @@ pub record Run : Type 0 where
 abbrev pub after_text : List ℕ → Run → Run
 after_text text run = record { text = text ++ run.text; files = run.files; source = run.source; ending = run.ending }
 
-unfoldable pub run_of : Files → SourceAnswers → List (List ℕ) → Run
-run_of f s [] = record { text = []; files = f; source = s; ending = AtEof }
-run_of f s (line ∷ lines) =
-    elim (reply f s (command_of line)) [
-      | Says text files source ↦ after_text text (run_of files source lines)
-      | Lists text ↦ after_text text (run_of f s lines)
-      | Ends ↦ record { text = []; files = f; source = s; ending = AtEnd }
-      | Lacks source ↦ record { text = []; files = f; source = source; ending = WithoutMemory }
-    ]
+-- what comes of a list of lines
+pub data RunsTo (prefixes : List Name) : Files → SourceAnswers → List (List ℕ) → Run → Type 0 where
+  at_eof : (f : Files) (s : SourceAnswers) → RunsTo prefixes f s [] (record { text = []; files = f; source = s; ending = AtEof })
+  says : (f g : Files) (s t : SourceAnswers) (line : List ℕ) (lines : List (List ℕ)) (text : List ℕ) (run : Run)
+      → Replies prefixes f s (command_of line) (Says text g t) → RunsTo prefixes g t lines run → RunsTo prefixes f s (line ∷ lines) (after_text text run)
+  lists : (f : Files) (s : SourceAnswers) (line : List ℕ) (lines : List (List ℕ)) (text : List ℕ) (run : Run)
+      → Replies prefixes f s (command_of line) (Lists text) → RunsTo prefixes f s lines run → RunsTo prefixes f s (line ∷ lines) (after_text text run)
+  ends : (f : Files) (s : SourceAnswers) (line : List ℕ) (lines : List (List ℕ))
+      → Replies prefixes f s (command_of line) Ends → RunsTo prefixes f s (line ∷ lines) (record { text = []; files = f; source = s; ending = AtEnd })
+  lacks : (f : Files) (s t : SourceAnswers) (line : List ℕ) (lines : List (List ℕ))
+      → Replies prefixes f s (command_of line) (Lacks t) → RunsTo prefixes f s (line ∷ lines) (record { text = []; files = f; source = t; ending = WithoutMemory })
+
+-- lines come to one thing
+abbrev pub OneRun : Type 0
+OneRun = (prefixes : List Name) (f : Files) (s : SourceAnswers) (lines : List (List ℕ)) (q r : Run) → RunsTo prefixes f s lines q → RunsTo prefixes f s lines r → q ≡ r

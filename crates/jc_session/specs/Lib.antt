@@ -7,11 +7,11 @@ pub mod Judged
 pub mod LentChecks
 pub mod Lines
 pub mod ListedText
-pub mod ReportText
 pub mod Runs
 pub mod SessionState
 pub mod Sources
 pub mod Statuses
+pub mod Touched
 pub mod inside
 pub use Rattle.jc_base.specs.Bytes
 pub use Rattle.jc_base.specs.CodeUnits

@@ -27,6 +27,7 @@ pub data Command : Type 0 where
   Replace : (path : List ℕ) → Command
   Remove : (path : List ℕ) → Command
   Report : Command
+  Part : (name : List ℕ) → Command
   Listing : (name : List ℕ) → Command
   End : Command
   Bad : Command
@@ -42,6 +43,7 @@ command_of line =
     else (if begins_with_word (codes "replace ") line then Replace (drop 8 line)
     else (if begins_with_word (codes "remove ") line then Remove (drop 7 line)
     else (if same_bytes line (codes "report") then Report
+    else (if begins_with_word (codes "part ") line then Part (drop 5 line)
     else (if begins_with_word (codes "list ") line then Listing (drop 5 line)
     else (if same_bytes line (codes "end") then End
-    else Bad))))))
+    else Bad)))))))

@@ -1,5 +1,16 @@
 -- What contracts see of a session.
+use Rattle.std.specs.Prelude.{ℕ, List}
+use Rattle.jc_classes.specs.Names.{Name}
 use Rattle.jc_report.specs.Files.{Files}
 
+-- files and the prefixes of outside names
+pub record HeldFiles : Type 0 where
+  pub files : Files
+  pub prefixes : List Name
+
+-- with the counts of the session's meter
 pub record SessionState : Type 0 where
   pub files : Files
+  pub prefixes : List Name
+  pub asks : ℕ
+  pub made : ℕ

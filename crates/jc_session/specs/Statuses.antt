@@ -1,7 +1,6 @@
 -- How the program ends, and what it tells on standard error.
 use Rattle.std.specs.Prelude.{◌≡◌, ℕ, ◌≤◌, ◌⊎◌, Bool, true, false, List, [], ◌++◌, Option, Some, Result, Ok, Err, MatchOption, codes, decimal}
 use Rattle.std.specs.FinMap as map
-use Rattle.std.specs.List.{list_any}
 use Rattle.std.specs.Io.KnownBytes.{Appends, Keeps}
 use Rattle.jc_base.specs.Device.{MoreFaults, WritesFront}
 use Rattle.jc_session.specs.declared.run_error.Ended.{Ended}
@@ -21,7 +20,7 @@ use Rattle.jc_report.specs.Files.{Files}
 use Rattle.jc_session.specs.Edits.{size_fault}
 use Rattle.jc_session.specs.Sources.{SourceAnswers}
 use Rattle.jc_session.specs.Runs.{RunsAs}
-use Rattle.jc_report.specs.FileRows.{rows, is_unreadable}
+use Rattle.jc_report.specs.Reports.{IsReport, Report, is_wrong}
 
 -- why the program ends with a line on standard error
 pub data Fault : Type 0 where
@@ -43,15 +42,15 @@ fault_of run_errors.Read = Input
 fault_of run_errors.Write = Output
 fault_of run_errors.NoMemory = NoMemory
 
--- of a run, by the files held at its end
-abbrev pub outcome_of : Result Ended RunError → Files → Outcome
-outcome_of (Ok how) f = Ok (list_any is_unreadable (rows f))
-outcome_of (Err e) f = Err (fault_of e)
+-- of a run, by the report held at its end
+abbrev pub IsOutcome : List (List ℕ) → Result Ended RunError → Files → Outcome → Type 0
+IsOutcome prefixes (Ok how) f outcome = (r : Report) × IsReport f prefixes r × (outcome ≡ Ok (is_wrong r))
+IsOutcome prefixes (Err e) f outcome = outcome ≡ Err (fault_of e)
 
 -- a run over the input, with no files at first, by the answers that its source gave
-abbrev pub RunsByAnswers : Result Ended RunError → Files → (input coming before now : Option (List ℕ)) → Type 0
-RunsByAnswers ending f input coming before now =
-    (bytes : List ℕ) → input ≡ Some bytes → (s : SourceAnswers) × RunsAs map.empty s bytes ending (record { files = f; source = Some []; coming = coming; before = before; now = now })
+abbrev pub RunsByAnswers : List (List ℕ) → Result Ended RunError → Files → (input coming before now : Option (List ℕ)) → Type 0
+RunsByAnswers prefixes ending f input coming before now =
+    (bytes : List ℕ) → input ≡ Some bytes → (s : SourceAnswers) × RunsAs prefixes map.empty s bytes ending (record { files = f; source = Some []; coming = coming; before = before; now = now })
 
 -- the listing of a file was written, or why the bytes are none, or not all of it
 abbrev pub ListsFile : List ℕ → Outcome → (before now : Option (List ℕ)) → Type 0
@@ -88,7 +87,7 @@ Checks outcome before now =
 abbrev pub Performs : Outcome → (input coming before now : Option (List ℕ)) → Type 0
 Performs outcome input coming before now =
     ((outcome ≡ Err Usage) × Keeps before now)
-    ⊎ ((ending : Result Ended RunError) × (f : Files) × (outcome ≡ outcome_of ending f) × RunsByAnswers ending f input coming before now)
+    ⊎ ((prefixes : List (List ℕ)) × (ending : Result Ended RunError) × (f : Files) × IsOutcome prefixes ending f outcome × RunsByAnswers prefixes ending f input coming before now)
     ⊎ ((path : List ℕ) × (answer : Result (List ℕ) SourceError) × ListsAs path answer outcome before now × (coming ≡ input))
     ⊎ (Checks outcome before now × (coming ≡ input))
 

@@ -3,17 +3,17 @@ ghost use Rattle.std.specs.Prelude.{◌≡◌, ◌≢◌, IfErr, IsSome, None, S
 ghost use Rattle.jc_session.specs.declared.run_error.RunError.TheVariants.{NoMemory, Read};
 ghost use Rattle.jc_session.specs.Edits.{judge};
 ghost use Rattle.jc_session.specs.Sources.{SourceAnswers, next_answer};
-ghost use Rattle.jc_session.specs.Answers.{Lists, edit_reply, reply, sourced_reply};
+ghost use Rattle.jc_session.specs.Answers.{Lists, edit_reply, sourced_reply};
 ghost use Rattle.jc_session.specs.ListedText.{listed_text};
 ghost use Rattle.jc_report.specs.FileRows.{winner};
 ghost use Rattle.jc_session.specs.Runs.{CountsWrites, LineMayLack, MayLack};
-ghost use Rattle.jc_session.specs.inside.Growth.{MayGrow, change_lent};
-ghost use Rattle.jc_session.specs.inside.Replies.{Gives, GivesByAnswers, command_lent, placed, said_by};
+ghost use Rattle.jc_session.specs.inside.Growth.{change_lent};
+ghost use Rattle.jc_session.specs.inside.Replies.{Gives, GivesByAnswers, GivesByReply, GivesOwed, command_lent, placed, said_by};
 
 use crate::answer_text::{write_bad_line, write_edit_answer, write_unread};
 use crate::command::Command;
 use crate::edit::{EditError, LentEdit};
-use crate::report_text::write_report;
+use crate::report_text::{write_part_of, write_report};
 use crate::run_error::RunError;
 use crate::session::Session;
 use crate::source::{Source, SourceError};
@@ -52,11 +52,11 @@ pub(crate) fn answer<S: Source, W: Output>(
     command: Command<'_>,
     out: &mut W,
 ) -> Result<Next, RunError>
-    ensures gives { (s : SourceAnswers) → S.answers source.old ≡ Some s → Gives session.old.files s (reply session.old.files s (command_lent command.entry))
+    ensures gives { (s : SourceAnswers) → S.answers source.old ≡ Some s → GivesOwed session.old.prefixes session.old.files s (command_lent command.entry)
         result session.new.files (S.answers source.new) (W.written out.old) (W.written out.new) }
     ensures lacks { (s : SourceAnswers) → S.answers source.old ≡ Some s → result ≡ Err NoMemory → LineMayLack session.old.files s (command_lent command.entry) }
-    ensures any { GivesByAnswers session.old.files (λ s. reply session.old.files s (command_lent command.entry)) (λ s. LineMayLack session.old.files s (command_lent command.entry))
-        result session.new.files (W.written out.old) (W.written out.new) }
+    ensures any { GivesByAnswers session.old.prefixes session.old.files (command_lent command.entry) result session.new.files (W.written out.old) (W.written out.new) }
+    ensures prefixes { session.new.prefixes ≡ session.old.prefixes }
     ensures failures { CountsWrites result (W.failures out.old) (W.failures out.new) }
     ensures err { IfErr result (λ e. e ≢ Read) }
 {
@@ -65,6 +65,7 @@ pub(crate) fn answer<S: Source, W: Output>(
         Command::Replace(path) => answer_sourced(session, source, path, Placing::Other, out),
         Command::Remove(path) => answer_edit(session, LentEdit::Remove(path), out),
         Command::Report => said(write_report(session.report(), out)),
+        Command::Part(name) => said(write_part_of(session.report(), name, out)),
         Command::List(name) => answer_listing(session, name, out),
         Command::Bad => said(write_bad_line(out)),
         Command::End => Ok(Next::Nothing),
@@ -82,8 +83,9 @@ fn answer_sourced<S: Source, W: Output>(
     ensures gives { (s : SourceAnswers) → S.answers source.old ≡ Some s → Gives session.old.files s (sourced_reply session.old.files s path.now (placed placing path.now))
         result session.new.files (S.answers source.new) (W.written out.old) (W.written out.new) }
     ensures lacks { (s : SourceAnswers) → S.answers source.old ≡ Some s → result ≡ Err NoMemory → MayLack session.old.files (placed placing path.now) (next_answer s path.now) }
-    ensures any { GivesByAnswers session.old.files (λ s. sourced_reply session.old.files s path.now (placed placing path.now)) (λ s. MayLack session.old.files (placed placing path.now) (next_answer s path.now))
+    ensures any { GivesByReply session.old.files (λ s. sourced_reply session.old.files s path.now (placed placing path.now)) (λ s. MayLack session.old.files (placed placing path.now) (next_answer s path.now))
         result session.new.files (W.written out.old) (W.written out.new) }
+    ensures prefixes { session.new.prefixes ≡ session.old.prefixes }
     ensures failures { CountsWrites result (W.failures out.old) (W.failures out.new) }
     ensures err { IfErr result (λ e. e ≢ Read) }
 {
@@ -102,7 +104,8 @@ fn answer_edit<W: Output>(
 ) -> Result<Next, RunError>
     ensures gives { (s t : SourceAnswers) → Gives session.old.files s (edit_reply session.old.files t (change_lent edit.entry))
         result session.new.files (Some t) (W.written out.old) (W.written out.new) }
-    ensures lacks { result ≡ Err NoMemory → (judge session.old.files (change_lent edit.entry) ≡ None) × MayGrow (change_lent edit.entry) }
+    ensures lacks { result ≡ Err NoMemory → judge session.old.files (change_lent edit.entry) ≡ None }
+    ensures prefixes { session.new.prefixes ≡ session.old.prefixes }
     ensures failures { CountsWrites result (W.failures out.old) (W.failures out.new) }
     ensures err { IfErr result (λ e. e ≢ Read) }
 {

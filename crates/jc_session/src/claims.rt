@@ -4,10 +4,12 @@ ghost use Rattle.std.specs.Prelude.{◌≡◌, ◌&&◌, ◌||◌, not, false, �
 ghost use Rattle.std.specs.Option.{option_map};
 ghost use Rattle.jc_base.specs.Bytes.{same_bytes};
 ghost use Rattle.jc_view.specs.Outcome.{class_named};
-ghost use Rattle.jc_session.specs.inside.Claims.{has_claim, first_claim, claimed_state};
+ghost use Rattle.std.specs.FinMap as map;
+ghost use Rattle.jc_session.specs.inside.Claims.{AreClaims, has_claim, first_claim, claimed_state};
+ghost use Rattle.jc_report.specs.Files.{Files};
 ghost use Rattle.jc_report.specs.FileRowView.{state_lent};
 ghost use Rattle.jc_report.specs.FileRows as rows;
-ghost use Rattle.jc_report.specs.FileRows.{names};
+ghost use Rattle.jc_report.specs.FileRows.{names, winner};
 
 use crate::file::File;
 use jc_base::{ByteMap, NoMemory};
@@ -83,6 +85,19 @@ impl Claims {
     {
         let paths = self.by_name.get(name)?;
         paths.keys().next()
+    }
+
+    /// The least of the paths but this one of the files that name the class.
+    pub(crate) fn other(&self, name: &[u8], path: &[u8]) -> Option<&[u8]>
+        ensures { (f : Files) → AreClaims self.now f → option_map (λ other. other.now) result ≡ winner (map.remove f path.now) name.now }
+    {
+        let paths = self.by_name.get(name)?;
+        for other in paths.keys() {
+            if other != path {
+                return Some(other);
+            }
+        }
+        None
     }
 }
 

@@ -13,6 +13,7 @@ pub(crate) enum Command<'a> {
     Replace(&'a [u8]),
     Remove(&'a [u8]),
     Report,
+    Part(&'a [u8]),
     List(&'a [u8]),
     End,
     Bad,
@@ -32,6 +33,8 @@ pub(crate) fn parse_line(line: &[u8]) -> Command<'_>
         Command::Remove(path)
     } else if line == b"report".as_slice() {
         Command::Report
+    } else if let Some(name) = after(line, b"part ") {
+        Command::Part(name)
     } else if let Some(name) = after(line, b"list ") {
         Command::List(name)
     } else if line == b"end".as_slice() {

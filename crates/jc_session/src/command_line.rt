@@ -10,7 +10,7 @@ ghost use Rattle.jc_report.specs.Files.{Files};
 ghost use Rattle.jc_session.specs.Checks.{Answer, CheckFault, ChecksAs, GivesAnswers, added};
 ghost use Rattle.jc_session.specs.Runs.{RunsAs};
 ghost use Rattle.jc_session.specs.Sources.{SourceAnswers, TakesAnswer, answer_of};
-ghost use Rattle.jc_session.specs.Statuses.{Checks, CountsInput, CountsOutput, ListsAs, Outcome, Performs, RunsByAnswers, Tells, outcome_of, outcome_of_check, status_of};
+ghost use Rattle.jc_session.specs.Statuses.{Checks, CountsInput, CountsOutput, ListsAs, Outcome, Performs, RunsByAnswers, Tells, IsOutcome, outcome_of_check, status_of};
 ghost use Rattle.jc_session.specs.inside.LentFaults.{outcome_lent};
 
 use crate::checking::check;
@@ -50,7 +50,16 @@ pub fn program<F: Files + AllocGlobal, R: Input, W: Output, E: Output>(
         × Tells outcome (E.written err.old) (E.written err.new) (E.failures err.old) (E.failures err.new) }
 {
     match asked(rt.alloc(), words) {
-        Ok(Request::Session) => serve(rt.alloc(), &mut FileSource::new(rt), input, out, err),
+        Ok(Request::Session(outside)) => {
+            serve(
+                rt.alloc(),
+                outside,
+                &mut FileSource::new(rt),
+                input,
+                out,
+                err,
+            )
+        }
         Ok(Request::List(path)) => list(rt.alloc(), &mut FileSource::new(rt), path, out, err),
         Ok(Request::Check(outside, folder)) => check_folder(rt, &outside, folder, out, err),
         Err(fault) => conclude(err, Err(fault)),
@@ -144,52 +153,54 @@ fn list_answer<'w, W: Output>(
 /// Runs a session without files to its end, tells on `err` why it stopped, and gives the status.
 fn serve<S: Source, R: Input, W: Output, E: Output>(
     alloc: Global,
+    outside: Outside,
     source: &mut S,
     input: &mut R,
     out: &mut W,
     err: &mut E,
 ) -> u8
-    ensures { (ending : Result Ended RunError) × (files : Files)
-        × (result ≡ status_of (outcome_of ending files))
-        × CountsInput (outcome_of ending files) (R.failures input.old) (R.failures input.new)
-        × CountsOutput (outcome_of ending files) (W.failures out.old) (W.failures out.new)
-        × Tells (outcome_of ending files) (E.written err.old) (E.written err.new) (E.failures err.old) (E.failures err.new)
+    ensures { (ending : Result Ended RunError) × (files : Files) × (outcome : Outcome) × IsOutcome outside ending files outcome
+        × (result ≡ status_of outcome)
+        × CountsInput outcome (R.failures input.old) (R.failures input.new)
+        × CountsOutput outcome (W.failures out.old) (W.failures out.new)
+        × Tells outcome (E.written err.old) (E.written err.new) (E.failures err.old) (E.failures err.new)
         × ((bytes : List ℕ) (s : SourceAnswers) → R.remaining input.old ≡ Some bytes → S.answers source.old ≡ Some s
-        → RunsAs map.empty s bytes ending (record {
+        → RunsAs outside map.empty s bytes ending (record {
           files = files;
           source = S.answers source.new;
           coming = R.remaining input.new;
           before = W.written out.old;
           now = W.written out.new;
         }))
-        × RunsByAnswers ending files (R.remaining input.old) (R.remaining input.new) (W.written out.old) (W.written out.new) }
+        × RunsByAnswers outside ending files (R.remaining input.old) (R.remaining input.new) (W.written out.old) (W.written out.new) }
 {
-    let outcome = perform(alloc, source, input, out);
+    let outcome = perform(alloc, outside, source, input, out);
     conclude(err, outcome)
 }
 
 /// Runs a session without files to its end, and says whether the report held then is wrong.
 fn perform<S: Source, R: Input, W: Output>(
     alloc: Global,
+    outside: Outside,
     source: &mut S,
     input: &mut R,
     out: &mut W,
 ) -> Result<bool, Fault<'static>>
     ensures { (ending : Result Ended RunError) × (files : Files)
-        × (outcome_lent result ≡ outcome_of ending files)
-        × CountsInput (outcome_of ending files) (R.failures input.old) (R.failures input.new)
-        × CountsOutput (outcome_of ending files) (W.failures out.old) (W.failures out.new)
+        × IsOutcome outside ending files (outcome_lent result)
+        × CountsInput (outcome_lent result) (R.failures input.old) (R.failures input.new)
+        × CountsOutput (outcome_lent result) (W.failures out.old) (W.failures out.new)
         × ((bytes : List ℕ) (s : SourceAnswers) → R.remaining input.old ≡ Some bytes → S.answers source.old ≡ Some s
-        → RunsAs map.empty s bytes ending (record {
+        → RunsAs outside map.empty s bytes ending (record {
           files = files;
           source = S.answers source.new;
           coming = R.remaining input.new;
           before = W.written out.old;
           now = W.written out.new;
         }))
-        × RunsByAnswers ending files (R.remaining input.old) (R.remaining input.new) (W.written out.old) (W.written out.new) }
+        × RunsByAnswers outside ending files (R.remaining input.old) (R.remaining input.new) (W.written out.old) (W.written out.new) }
 {
-    let mut session = Session::new(alloc)?;
+    let mut session = Session::new(alloc, outside)?;
     match run(alloc, &mut session, source, input, out) {
         Ok(_) => Ok(session.report().wrong()),
         Err(error) => Err(Fault::from(error)),

@@ -1,7 +1,10 @@
 //! Edits of the files, and why one is refused.
 
 ghost use Rattle.std.specs.Prelude.{◌≡◌};
+ghost use Rattle.std.specs.Option.{option_copied};
 ghost use Rattle.jc_session.specs.declared.edit.EditError.TheVariants.{NoMemory};
+ghost use Rattle.jc_session.specs.Touched.{path_of};
+ghost use Rattle.jc_session.specs.inside.Growth.{bytes_of, change_lent};
 
 use jc_base::NoMemory;
 use std::alloc::{AllocError, AllocFailed};
@@ -24,6 +27,26 @@ pub(crate) enum LentEdit<'a> {
     Add(&'a [u8], Vec<u8>),
     Replace(&'a [u8], Vec<u8>),
     Remove(&'a [u8]),
+}
+
+impl LentEdit<'_> {
+    pub(crate) fn path(&self) -> &[u8]
+        ensures { result.now ≡ path_of (change_lent self.now) }
+    {
+        match self {
+            LentEdit::Add(path, _) | LentEdit::Replace(path, _) | LentEdit::Remove(path) => path,
+        }
+    }
+
+    /// The bytes that are to stand at the path.
+    pub(crate) fn bytes(&self) -> Option<&[u8]>
+        ensures { option_copied result ≡ bytes_of (change_lent self.now) }
+    {
+        match self {
+            LentEdit::Add(_, bytes) | LentEdit::Replace(_, bytes) => Some(bytes),
+            LentEdit::Remove(_) => None,
+        }
+    }
 }
 
 /// What an accepted edit cost: class parts made, and classes asked for.

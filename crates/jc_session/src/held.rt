@@ -5,7 +5,7 @@ ghost use Rattle.std.specs.Prelude.{◌≡◌, [], IfOk, None, OnErr, Some, fals
 ghost use Rattle.std.specs.FinMap as map;
 ghost use Rattle.jc_session.specs.Edits.{after, judge};
 ghost use Rattle.jc_session.specs.inside.Claims.{AreClaims};
-ghost use Rattle.jc_session.specs.inside.Growth.{AreClaimsBesides, HasPlace, IsGrown, MayGrow, change_lent, committed, undone};
+ghost use Rattle.jc_session.specs.inside.Growth.{AreClaimsBesides, HasPlace, IsGrown, change_lent, committed, undone};
 
 use crate::claims::{Claims, claim, withdraw, withdraw_stale};
 use crate::edit::LentEdit;
@@ -58,7 +58,6 @@ pub(crate) fn grow<'a>(
     ensures undoes { IfOk result (λ grown. undone held.new.files grown ≡ held.old.files) }
     ensures err_files { OnErr result (held.new.files ≡ held.old.files) }
     ensures err_claims { OnErr result (AreClaims held.new.claims held.new.files) }
-    ensures memory { OnErr result (MayGrow (change_lent edit.entry)) }
 {
     match edit {
         LentEdit::Add(path, bytes) => grow_new(held, alloc, path, bytes),

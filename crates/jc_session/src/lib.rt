@@ -1,9 +1,10 @@
-//! A session over class files: files are added, replaced and removed one by one, and the report held
-//! says which class each names.
+//! A session over class files: files are added, replaced and removed one by one, and the report held is
+//! that of the files as they stand.
 #![tactic(auto)]
 
 mod answer;
 mod answer_text;
+mod changes;
 mod checking;
 mod claims;
 mod command;
@@ -14,6 +15,7 @@ mod file;
 mod file_listing;
 mod held;
 mod judge;
+mod laws;
 mod lines;
 mod report;
 mod report_text;
@@ -29,6 +31,7 @@ pub use checking::{CheckError, check};
 pub use command_line::program;
 pub use edit::{Done, Edit, EditError};
 pub use jc_report::{FileRow, FileState, winners_are_least};
+pub use laws::one_run;
 pub use report::Report;
 pub use report_text::{WriteError, write_report};
 pub use rows::Rows;

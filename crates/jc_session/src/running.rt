@@ -16,8 +16,8 @@ use jc_base::{Input, Output};
 use std::alloc::Global;
 
 /// Answers the lines of an input one by one: `add PATH`, `replace PATH`, `remove PATH`, `report`,
-/// `list NAME` and `end`. A line's answer is written before more of the input is read, and nothing is
-/// read behind the end of the input. An edit is made before it is answered.
+/// `part NAME`, `list NAME` and `end`. A line's answer is written before more of the input is read, and
+/// nothing is read behind the end of the input. An edit is made before it is answered.
 pub fn run<S: Source, R: Input, W: Output>(
     alloc: Global,
     session: &mut Session,
@@ -26,7 +26,7 @@ pub fn run<S: Source, R: Input, W: Output>(
     out: &mut W,
 ) -> Result<Ended, RunError>
     ensures runs { (bytes : List ℕ) (s : SourceAnswers) → R.remaining input.old ≡ Some bytes → S.answers source.old ≡ Some s
-        → RunsAs session.old.files s bytes result (record {
+        → RunsAs session.old.prefixes session.old.files s bytes result (record {
           files = session.new.files;
           source = S.answers source.new;
           coming = R.remaining input.new;
@@ -34,13 +34,14 @@ pub fn run<S: Source, R: Input, W: Output>(
           now = W.written out.new;
         }) }
     // Of any source: by the answers that it gave.
-    ensures by_answers { (bytes : List ℕ) → R.remaining input.old ≡ Some bytes → (s : SourceAnswers) × RunsAs session.old.files s bytes result (record {
+    ensures by_answers { (bytes : List ℕ) → R.remaining input.old ≡ Some bytes → (s : SourceAnswers) × RunsAs session.old.prefixes session.old.files s bytes result (record {
       files = session.new.files;
       source = Some [];
       coming = R.remaining input.new;
       before = W.written out.old;
       now = W.written out.new;
     }) }
+    ensures prefixes { session.new.prefixes ≡ session.old.prefixes }
     ensures reads { CountsReads result (R.failures input.old) (R.failures input.new) }
     ensures writes { CountsWrites result (W.failures out.old) (W.failures out.new) }
 {
@@ -62,10 +63,11 @@ fn answer_last<S: Source, W: Output>(
     line: &[u8],
     out: &mut W,
 ) -> Result<Ended, RunError>
-    ensures gives { (s : SourceAnswers) → S.answers source.old ≡ Some s → GivesLast session.old.files s line.now
+    ensures gives { (s : SourceAnswers) → S.answers source.old ≡ Some s → GivesLast session.old.prefixes session.old.files s line.now
         result session.new.files (S.answers source.new) (W.written out.old) (W.written out.new) }
     ensures lacks { (s : SourceAnswers) → S.answers source.old ≡ Some s → result ≡ Err NoMemory → LineMayLack session.old.files s (command_of line.now) }
-    ensures any { GivesLastByAnswers session.old.files line.now result session.new.files (W.written out.old) (W.written out.new) }
+    ensures any { GivesLastByAnswers session.old.prefixes session.old.files line.now result session.new.files (W.written out.old) (W.written out.new) }
+    ensures prefixes { session.new.prefixes ≡ session.old.prefixes }
     ensures failures { CountsWrites result (W.failures out.old) (W.failures out.new) }
     ensures err { IfErr result (λ e. e ≢ Read) }
 {

@@ -1,32 +1,38 @@
 //! A session over class files.
 
-ghost use Rattle.std.specs.Prelude.{◌≡◌, None, IsSome, IfOk, OnOk, OnErr, MatchResult};
+ghost use Rattle.std.specs.Prelude.{◌≡◌, ◌-◌, None, IsSome, IfOk, IfSome, OnOk, OnErr, MatchResult, is_some, true};
 ghost use Rattle.std.specs.Option.{option_map};
 ghost use Rattle.std.specs.FinMap as map;
-ghost use Rattle.jc_session.specs.declared.edit.EditError.TheVariants as errors;
+ghost use Rattle.jc_classes.specs.NameLists.{Lists};
+ghost use Rattle.jc_classes.specs.Names.{names_of};
+ghost use Rattle.jc_classes.specs.Parts.{IsPart, Reach};
 ghost use Rattle.jc_list.specs.declared.list_error.ListError.TheVariants as lists;
 ghost use Rattle.jc_list.specs.ListErrors.{CountsWrites, WritesListing};
-ghost use Rattle.jc_session.specs.ListedText.{listed_text};
 ghost use Rattle.jc_report.specs.FileRows.{winner};
+ghost use Rattle.jc_report.specs.Reports.{world_of};
+ghost use Rattle.jc_session.specs.ListedText.{listed_text};
 ghost use Rattle.jc_session.specs.Edits.{after, change_of, judge};
 ghost use Rattle.jc_session.specs.Judged.{IsJudged};
-ghost use Rattle.jc_session.specs.inside.Growth.{MayGrow, change_lent};
+ghost use Rattle.jc_session.specs.Touched.{IsBoundedEdit, gives, path_of};
+ghost use Rattle.jc_session.specs.inside.Growth.{change_lent};
 
 use crate::edit::{Done, Edit, EditError, LentEdit};
 use crate::file_listing::{list_file, write_none};
-use crate::held::{commit, grow};
 use crate::judge::judge;
 use crate::report::Report;
 use jc_base::{NoMemory, Output};
+use jc_link::{Meter, Outside, Part};
 use jc_list::ListError;
 use std::alloc::Global;
 use std::marker::Model;
 
-/// Class files by their paths, seen as a record whose `files` is a map from paths to bytes.
+/// Class files by their paths, with the report of them as they stand, seen as a record of the files, the
+/// prefixes of outside names, and how many classes were asked for and parts made.
 #[derive(Drop)]
 pub struct Session {
     alloc: Global,
     report: Report,
+    meter: Meter,
 }
 
 impl Model for Session {
@@ -37,26 +43,32 @@ impl Model for Session {
 
     ghost coded = { state_code };
 
-    ghost view = { λ a. record { files = a.report } };
+    ghost view = { λ a. record { files = a.report.files; prefixes = a.report.prefixes; asks = a.meter.asks; made = a.meter.made } };
 }
 
 impl Session {
-    /// A session with no files.
-    pub fn new(alloc: Global) -> Result<Session, NoMemory>
-        ensures { IfOk result (λ session. session ≡ record { files = map.empty }) }
+    /// A session with no files. Names with these prefixes that no file gives are outside.
+    pub fn new(alloc: Global, outside: Outside) -> Result<Session, NoMemory>
+        ensures { IfOk result (λ session. session ≡ record { files = map.empty; prefixes = outside; asks = 0; made = 0 }) }
     {
+        let (report, meter) = Report::new(alloc, outside)?;
         Ok(Session {
             alloc,
-            report: Report::new(alloc),
+            report,
+            meter,
         })
     }
 
-    /// Makes an edit, or refuses it and changes nothing.
+    /// Makes an edit, or refuses it and changes no file. Parts are made of those classes alone whose reach
+    /// holds a name that the edit touches.
     pub fn edit(&mut self, edit: Edit) -> Result<Done, EditError>
         ensures judged { MatchResult result (λ _. judge self.old.files (change_of edit) ≡ None) (λ e. IsJudged e (judge self.old.files (change_of edit))) }
         ensures ok { OnOk result (self.new.files ≡ after self.old.files (change_of edit)) }
-        ensures done { IfOk result (λ done. done ≡ record { made = 0; asks = 0 }) }
         ensures err { OnErr result (self.new.files ≡ self.old.files) }
+        ensures prefixes { self.new.prefixes ≡ self.old.prefixes }
+        ensures made { IfOk result (λ done. done.made ≡ self.new.made - self.old.made) }
+        ensures asks { IfOk result (λ done. done.asks ≡ self.new.asks - self.old.asks) }
+        ensures bounded { IfOk result (λ done. IsBoundedEdit self.old.files self.new.files self.new.prefixes (path_of (change_of edit)) done.made done.asks) }
     {
         match edit {
             Edit::Add(path, bytes) => self.make(LentEdit::Add(&path, bytes)),
@@ -65,28 +77,58 @@ impl Session {
         }
     }
 
-    /// The same by a borrowed path. Only an edit with bytes takes memory.
+    /// The same by a borrowed path.
     pub(crate) fn make(&mut self, edit: LentEdit<'_>) -> Result<Done, EditError>
         ensures judged { MatchResult result (λ _. judge self.old.files (change_lent edit.entry) ≡ None) (λ e. IsJudged e (judge self.old.files (change_lent edit.entry))) }
         ensures ok { OnOk result (self.new.files ≡ after self.old.files (change_lent edit.entry)) }
-        ensures done { IfOk result (λ done. done ≡ record { made = 0; asks = 0 }) }
         ensures err { OnErr result (self.new.files ≡ self.old.files) }
-        ensures memory { result ≡ Err errors.NoMemory → MayGrow (change_lent edit.entry) }
+        ensures prefixes { self.new.prefixes ≡ self.old.prefixes }
+        ensures made { IfOk result (λ done. done.made ≡ self.new.made - self.old.made) }
+        ensures asks { IfOk result (λ done. done.asks ≡ self.new.asks - self.old.asks) }
+        ensures bounded { IfOk result (λ done. IsBoundedEdit self.old.files self.new.files self.new.prefixes (path_of (change_lent edit.entry)) done.made done.asks) }
     {
-        let report = &mut self.report;
-        if let Some(fault) = judge(&report.held.files, &edit) {
+        if let Some(fault) = judge(&self.report.held.files, &edit) {
             return Err(fault);
         }
-        let grown = grow(&mut report.held, self.alloc, edit)?;
-        commit(&mut report.held, grown);
-        Ok(Done { made: 0, asks: 0 })
+        let made = self.meter.made();
+        let asks = self.meter.asks();
+        self.report.make(self.alloc, edit, &mut self.meter)?;
+        Ok(Done {
+            made: self.meter.made().saturating_sub(made),
+            asks: self.meter.asks().saturating_sub(asks),
+        })
     }
 
-    /// What is said of the files as they stand.
+    /// What is said of the files as they stand. No memory.
     pub fn report(&self) -> &Report
-        ensures { result.now ≡ self.now.files }
+        ensures files { result.now.files ≡ self.now.files }
+        ensures prefixes { result.now.prefixes ≡ self.now.prefixes }
     {
         &self.report
+    }
+
+    /// The part of a class that files give. No memory.
+    pub fn part(&self, name: &[u8]) -> Option<&Part>
+        ensures given { is_some result ≡ gives self.now.files name.now }
+        ensures part { IfSome result (λ part. IsPart (world_of self.now.files self.now.prefixes) name.now part.now) }
+    {
+        self.report.linkage.part(name)
+    }
+
+    /// The classes that files give whose reach holds a name, rising, also of a name that no file gives.
+    /// No memory.
+    pub fn dependants(&self, name: &[u8]) -> &[Vec<u8>]
+        ensures { Lists (names_of result.now) (λ d. (gives self.now.files d ≡ true) × Reach (world_of self.now.files self.now.prefixes) d name.now) }
+    {
+        self.report.linkage.dependants(name)
+    }
+
+    /// How often a class was asked for, and how many parts were made. No memory.
+    pub fn meter(&self) -> &Meter
+        ensures asks { result.now.asks ≡ self.now.asks }
+        ensures made { result.now.made ≡ self.now.made }
+    {
+        &self.meter
     }
 
     /// Writes the listing of the file that a class is taken from, or `none` where no file names it.
@@ -104,7 +146,7 @@ impl Session {
         }
     }
 
-    /// The bytes of the file at the path.
+    /// The bytes of the file at the path. No memory.
     pub fn file(&self, path: &[u8]) -> Option<&[u8]>
         ensures { option_map (λ bytes. bytes.now) result ≡ map.get self.now.files path.now }
     {

@@ -14,7 +14,7 @@ use std::alloc::{AllocError, Global};
 /// What the words ask for.
 #[derive(Drop)]
 pub(crate) enum Request<'w> {
-    Session,
+    Session(Outside),
     /// The listing of the file at a path.
     List(&'w str),
     /// The report of the files below a folder.
@@ -35,21 +35,28 @@ pub(crate) fn asked<'w>(alloc: Global, words: &'w [&'w str]) -> Result<Request<'
             None => Err(Fault::Usage),
         },
         Some(("check", matches)) => check_request(alloc, matches),
-        _ => Ok(Request::Session),
+        Some(("session", matches)) => Ok(Request::Session(outside(alloc, matches)?)),
+        _ => Err(Fault::Usage),
     }
 }
 
-/// The folder to check, and the outside prefixes: those that are given, else the standard ones.
+/// The folder to check, and the outside prefixes.
 fn check_request<'w>(alloc: Global, matches: &ArgMatches<'w>) -> Result<Request<'w>, Fault<'w>>
     ensures { IfErr result (λ fault. (fault_lent fault ≡ Usage) ⊎ (fault_lent fault ≡ NoMemory)) }
 {
-    let outside = match matches.get_strs("outside") {
-        Some(prefixes) => given_prefixes(alloc, prefixes)?,
-        None => Outside::standard(),
-    };
     match matches.get_str("DIR") {
-        Some(folder) => Ok(Request::Check(outside, folder)),
+        Some(folder) => Ok(Request::Check(outside(alloc, matches)?, folder)),
         None => Err(Fault::Usage),
+    }
+}
+
+/// The outside prefixes: those that are given, else the standard ones.
+fn outside<'w>(alloc: Global, matches: &ArgMatches<'w>) -> Result<Outside, Fault<'w>>
+    ensures { IfErr result (λ fault. (fault_lent fault ≡ Usage) ⊎ (fault_lent fault ≡ NoMemory)) }
+{
+    match matches.get_strs("outside") {
+        Some(prefixes) => given_prefixes(alloc, prefixes),
+        None => Ok(Outside::standard()),
     }
 }
 
@@ -82,14 +89,13 @@ fn words_fault(error: &clap::Error) -> Fault<'static>
 }
 
 fn jclink_command<'a>(alloc: Global) -> Result<Command<'a>, AllocError> {
-    let session = Command::new(alloc, "session");
+    let session = Command::new(alloc, "session").arg(outside_option(alloc))?;
     let file = Arg::new(alloc, "FILE").required(true);
     let list = Command::new(alloc, "list").arg(file)?;
-    let prefix = Arg::new(alloc, "outside")
-        .long("outside")
-        .action(ArgAction::Append);
     let folder = Arg::new(alloc, "DIR").required(true);
-    let check = Command::new(alloc, "check").arg(prefix)?.arg(folder)?;
+    let check = Command::new(alloc, "check")
+        .arg(outside_option(alloc))?
+        .arg(folder)?;
     Ok(
         Command::new(alloc, "jclink")
             .no_binary_name(true)
@@ -98,4 +104,10 @@ fn jclink_command<'a>(alloc: Global) -> Result<Command<'a>, AllocError> {
             .subcommand(list)?
             .subcommand(check)?,
     )
+}
+
+fn outside_option<'a>(alloc: Global) -> Arg<'a> {
+    Arg::new(alloc, "outside")
+        .long("outside")
+        .action(ArgAction::Append)
 }

@@ -13,12 +13,15 @@
 //!   paths: the parts of its classes, the circular ones, and a line `end`.
 //! - `link NAME`: the input is one such world: the part of the class, and how many names its reach has.
 //! - `count-links`: the input is one such world: how many parts are made, names asked for and answers given.
+//! - `edits`: each frame is a list of edits over a session of its own; the answer to each, and the reports and
+//!   dependants that are asked for between them.
 //! - `count-bytes N`, `count-parse N`, `count-faults N`, `count-insns N`, `count-code-faults N`: one number,
 //!   summed over N rounds: the bytes, how many are readable, how many faults they have, how many
 //!   instructions, or how many code faults.
 #![tactic(auto)]
 
 mod counts;
+mod edits;
 mod frames;
 mod instructions;
 mod links;
@@ -27,6 +30,7 @@ mod texts;
 mod views;
 
 use counts::{Counted, sum_of_rounds};
+use edits::write_lists;
 use frames::Frames;
 use instructions::{write_code_faults, write_instructions};
 use jc_base::{NoMemory, StdOutput};
@@ -123,6 +127,12 @@ fn print_links(rt: &(impl Print + AllocGlobal), input: &[u8]) -> io::Result<()> 
     }
 }
 
+/// Prints what comes of the lists of edits of all frames.
+fn print_lists(rt: &(impl Print + AllocGlobal), input: &[u8]) -> io::Result<()> {
+    let mut out = StdOutput::new(BufWriter::new(rt.alloc(), io::writer(rt))?);
+    write_lists(rt.alloc(), &mut out, input).map_err(out_of_memory)
+}
+
 /// Prints the part of a class of the world that the whole input is, and how many names its reach has.
 fn print_link(rt: &(impl Print + AllocGlobal), name: &str, input: &[u8]) -> io::Result<()> {
     let mut output = StdOutput::new(io::writer(rt));
@@ -171,6 +181,7 @@ fn main(rt: HostRuntime) -> io::Result<()> {
         "listings" => print_listings(&rt, &input),
         "links" => print_links(&rt, &input),
         "link" => print_link(&rt, rounds.as_ref().map_or("", String::as_str), &input),
+        "edits" => print_lists(&rt, &input),
         "count-links" => print_link_counts(&rt, &input),
         "count-bytes" => print_sum(&rt, Counted::Bytes, rounds, &input),
         "count-parse" => print_sum(&rt, Counted::Readable, rounds, &input),

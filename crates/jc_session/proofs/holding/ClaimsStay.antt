@@ -49,7 +49,7 @@ there-cond false x y n = refl
 names_at-insert : (f : Files) (path bytes n p : List ℕ) → names_at (fin.insert f path bytes) p n ≡ cond (same_bytes p path) (names bytes n) (names_at f p n)
 names_at-insert f path bytes n p = ap (λ o. names_there o n) (get-insert f path bytes p) ∙ there-cond (same_bytes p path) (Some bytes) (fin.get f p) n
 
-names_at-remove : (f : Files) (path n p : List ℕ) → names_at (fin.remove f path) p n ≡ cond (same_bytes p path) false (names_at f p n)
+pub names_at-remove : (f : Files) (path n p : List ℕ) → names_at (fin.remove f path) p n ≡ cond (same_bytes p path) false (names_at f p n)
 names_at-remove f path n p = ap (λ o. names_there o n) (get-remove f path p) ∙ there-cond (same_bytes p path) None (fin.get f p) n
 
 names_here : (f : Files) (path n p : List ℕ) (o : Option (List ℕ)) → fin.get f path ≡ o → same_bytes p path ≡ true → names_at f p n ≡ names_there o n

@@ -1,39 +1,63 @@
 -- A run over lines, from its front and from its end, and by which line it ends.
-use Rattle.std.proofs.Common.{◌≡◌, ◌≢◌, ◌∙◌, ◌++◌, ◌||◌, ◌↔◌, ℕ, Bool, true, false, List, [], ◌∷◌, Option, Some, None, Result, Ok, Err, refl, sym, ap, append_assoc, append-nil, drop}
+use Rattle.std.proofs.Common.{◌≡◌, ◌∙◌, ◌++◌, ◌||◌, ◌↔◌, ℕ, Bool, true, false, List, [], ◌∷◌, None, Some, Result, Ok, Err, Option, refl, sym, ap, subst, append_assoc, drop}
 use Rattle.jc_session.specs.declared.edit.EditError.{EditError}
 use Rattle.jc_session.specs.declared.run_error.Ended.{Ended}
 use Rattle.jc_session.specs.declared.run_error.Ended.TheVariants as ended
 use Rattle.jc_session.specs.declared.source.SourceError.{SourceError}
 use Rattle.jc_session.specs.declared.source.SourceError.TheVariants as sources
+use Rattle.jc_classes.specs.Names.{Name}
 use Rattle.jc_report.specs.Files.{Files}
 use Rattle.jc_session.specs.Edits.{Change, Adds, Replaces, Removes, judge}
-use Rattle.jc_session.specs.Lines.{Command, Add, Replace, Remove, Report, Listing, End, Bad, command_of}
+use Rattle.jc_session.specs.Lines.{Command, Add, Replace, Remove, Report, Part, Listing, End, Bad, command_of}
 use Rattle.jc_session.specs.Sources.{SourceAnswers, next_answer}
-use Rattle.jc_session.specs.Answers.{Reply, Says, Lists, Ends, Lacks, reply, judged_reply, told_reply, Run, Ending, AtEnd, AtEof, WithoutMemory, after_text, run_of}
+use Rattle.jc_session.specs.Answers.{Says, Lists, Ends, Lacks, judged_reply, told_reply, Replies, Run, RunsTo, AtEnd, AtEof, WithoutMemory, after_text}
+use Rattle.jc_session.specs.Answers.RunsTo.{at_eof, says, lists, ends, lacks}
 use Rattle.jc_session.specs.Runs.{ending_of, is_end, has_end}
 
--- a run from a reply on
-abbrev pub goes_on : Files → SourceAnswers → Reply → List (List ℕ) → Run
-goes_on f s (Says text files source) lines = after_text text (run_of files source lines)
-goes_on f s (Lists text) lines = after_text text (run_of f s lines)
-goes_on f s Ends lines = record { text = []; files = f; source = s; ending = AtEnd }
-goes_on f s (Lacks source) lines = record { text = []; files = f; source = source; ending = WithoutMemory }
-
-pub run_of-cons : (f : Files) (s : SourceAnswers) (line : List ℕ) (lines : List (List ℕ)) (r : Reply) → reply f s (command_of line) ≡ r
-    → run_of f s (line ∷ lines) ≡ goes_on f s r lines
-unfolding run_of
-run_of-cons f s line lines (Says text files source) e = rw (e, run_of) refl
-run_of-cons f s line lines (Lists text) e = rw (e, run_of) refl
-run_of-cons f s line lines Ends e = rw (e, run_of) refl
-run_of-cons f s line lines (Lacks source) e = rw (e, run_of) refl
-
-pub run_of-nil : (f : Files) (s : SourceAnswers) → run_of f s [] ≡ record { text = []; files = f; source = s; ending = AtEof }
-unfolding run_of
-run_of-nil f s = refl
+-- ---- runs joined
 
 after_text-twice : (first second : List ℕ) (run : Run) → after_text first (after_text second run) ≡ after_text (first ++ second) run
 after_text-twice first second run =
     ap (λ (text : List ℕ). let r : Run = record { text = text; files = run.files; source = run.source; ending = run.ending } in r) (sym (append_assoc first second run.text))
+
+end_not_eof : {P : Type 0} → AtEnd ≡ AtEof → P
+end_not_eof e = absurd cc
+
+want_not_eof : {P : Type 0} → WithoutMemory ≡ AtEof → P
+want_not_eof e = absurd cc
+
+want_not_end : {P : Type 0} → WithoutMemory ≡ AtEnd → P
+want_not_end e = absurd cc
+
+eof_not_at_end : {P : Type 0} → AtEof ≡ AtEnd → P
+eof_not_at_end e = absurd cc
+
+-- lines that were all answered, and more lines behind them
+pub joined : (prefixes : List Name) (more : List (List ℕ)) (later : Run) {f : Files} {s : SourceAnswers} {lines : List (List ℕ)} {run : Run}
+    → RunsTo prefixes f s lines run → run.ending ≡ AtEof → RunsTo prefixes run.files run.source more later → RunsTo prefixes f s (lines ++ more) (after_text run.text later)
+joined prefixes more later (at_eof f s) e d = d
+joined prefixes more later (says f g s t line lines text run owed rest) e d =
+    subst (RunsTo prefixes f s (line ∷ (lines ++ more))) (after_text-twice text run.text later)
+    (says f g s t line (lines ++ more) text (after_text run.text later) owed (joined prefixes more later rest e d))
+joined prefixes more later (lists f s line lines text run owed rest) e d =
+    subst (RunsTo prefixes f s (line ∷ (lines ++ more))) (after_text-twice text run.text later)
+    (lists f s line (lines ++ more) text (after_text run.text later) owed (joined prefixes more later rest e d))
+joined prefixes more later (ends f s line lines owed) e d = end_not_eof e
+joined prefixes more later (lacks f s t line lines owed) e d = want_not_eof e
+
+-- ---- so many lines
+
+-- a run that goes on
+abbrev pub run_so_far : (text : List ℕ) (files : Files) (source : SourceAnswers) → Run
+run_so_far text files source = record { text = text; files = files; source = source; ending = AtEof }
+
+-- all the lines were answered
+abbrev pub IsAnswered : List Name → Files → SourceAnswers → List (List ℕ) → (text : List ℕ) (files : Files) (source : SourceAnswers) → Type 0
+IsAnswered prefixes f s lines text files source = RunsTo prefixes f s lines (run_so_far text files source)
+
+pub answered_more : (prefixes : List Name) (f : Files) (s : SourceAnswers) (lines : List (List ℕ)) (text : List ℕ) (files : Files) (source : SourceAnswers) (line said : List ℕ) (new : Files) (left : SourceAnswers)
+    → IsAnswered prefixes f s lines text files source → IsAnswered prefixes files source (line ∷ []) said new left → IsAnswered prefixes f s (lines ++ line ∷ []) (text ++ said) new left
+answered_more prefixes f s lines text files source line said new left owed one = joined prefixes (line ∷ []) (run_so_far said new left) owed refl one
 
 -- ---- a line `end`
 
@@ -56,57 +80,55 @@ told_not_ends f s path change (Err sources.Unread) e = says_not_ends e
 told_not_ends f s path change (Err sources.NoMemory) e = lacks_not_ends e
 
 -- only `end` ends a run
-ends_by : (f : Files) (s : SourceAnswers) (command : Command) → reply f s command ≡ Ends → is_end command ≡ true
-ends_by f s (Add path) e = told_not_ends f (drop 1 s) path (Adds path) (next_answer s path) e
-ends_by f s (Replace path) e = told_not_ends f (drop 1 s) path (Replaces path) (next_answer s path) e
-ends_by f s (Remove path) e = judged_not_ends f s (Removes path) (judge f (Removes path)) e
-ends_by f s Report e = says_not_ends e
-ends_by f s (Listing name) e = lists_not_ends e
-ends_by f s End e = refl
-ends_by f s Bad e = says_not_ends e
+ends_by : (prefixes : List Name) (f : Files) (s : SourceAnswers) (command : Command) → Replies prefixes f s command Ends → is_end command ≡ true
+ends_by prefixes f s (Add path) owed = told_not_ends f (drop 1 s) path (Adds path) (next_answer s path) (sym owed)
+ends_by prefixes f s (Replace path) owed = told_not_ends f (drop 1 s) path (Replaces path) (next_answer s path) (sym owed)
+ends_by prefixes f s (Remove path) owed = judged_not_ends f s (Removes path) (judge f (Removes path)) (sym owed)
+ends_by prefixes f s Report owed = says_not_ends (sym owed.2)
+ends_by prefixes f s (Part name) owed = says_not_ends (sym owed.2)
+ends_by prefixes f s (Listing name) owed = lists_not_ends (sym owed)
+ends_by prefixes f s End owed = refl
+ends_by prefixes f s Bad owed = says_not_ends (sym owed)
 
-not_end_by : (f : Files) (s : SourceAnswers) (command : Command) → reply f s command ≢ Ends → is_end command ≡ false
-not_end_by f s (Add path) other = refl
-not_end_by f s (Replace path) other = refl
-not_end_by f s (Remove path) other = refl
-not_end_by f s Report other = refl
-not_end_by f s (Listing name) other = refl
-not_end_by f s End other = absurd (other refl)
-not_end_by f s Bad other = refl
+says_goes_on : (prefixes : List Name) (f : Files) (s : SourceAnswers) (command : Command) (text : List ℕ) (g : Files) (t : SourceAnswers) → Replies prefixes f s command (Says text g t) → is_end command ≡ false
+says_goes_on prefixes f s (Add path) text g t owed = refl
+says_goes_on prefixes f s (Replace path) text g t owed = refl
+says_goes_on prefixes f s (Remove path) text g t owed = refl
+says_goes_on prefixes f s Report text g t owed = refl
+says_goes_on prefixes f s (Part name) text g t owed = refl
+says_goes_on prefixes f s (Listing name) text g t owed = refl
+says_goes_on prefixes f s End text g t owed = says_not_ends owed
+says_goes_on prefixes f s Bad text g t owed = refl
+
+lists_goes_on : (prefixes : List Name) (f : Files) (s : SourceAnswers) (command : Command) (text : List ℕ) → Replies prefixes f s command (Lists text) → is_end command ≡ false
+lists_goes_on prefixes f s (Add path) text owed = refl
+lists_goes_on prefixes f s (Replace path) text owed = refl
+lists_goes_on prefixes f s (Remove path) text owed = refl
+lists_goes_on prefixes f s Report text owed = refl
+lists_goes_on prefixes f s (Part name) text owed = refl
+lists_goes_on prefixes f s (Listing name) text owed = refl
+lists_goes_on prefixes f s End text owed = lists_not_ends owed
+lists_goes_on prefixes f s Bad text owed = refl
 
 or_true : (b : Bool) → (b || true) ≡ true
 or_true true = refl
 or_true false = refl
 
-ending_by : (f : Files) (s : SourceAnswers) (line : List ℕ) (lines : List (List ℕ)) (r : Reply) (ending : Ending) → reply f s (command_of line) ≡ r → (run_of f s (line ∷ lines)).ending ≡ ending
-    → (goes_on f s r lines).ending ≡ ending
-ending_by f s line lines r ending is e = sym (ap (λ run. run.ending) (run_of-cons f s line lines r is)) ∙ e
+at_end : (prefixes : List Name) {f : Files} {s : SourceAnswers} {lines : List (List ℕ)} {run : Run} → RunsTo prefixes f s lines run → run.ending ≡ AtEnd → has_end lines ≡ true
+at_end prefixes (at_eof f s) e = eof_not_at_end e
+at_end prefixes (says f g s t line lines text run owed rest) e = ap (λ b. is_end (command_of line) || b) (at_end prefixes rest e) ∙ or_true (is_end (command_of line))
+at_end prefixes (lists f s line lines text run owed rest) e = ap (λ b. is_end (command_of line) || b) (at_end prefixes rest e) ∙ or_true (is_end (command_of line))
+at_end prefixes (ends f s line lines owed) e = ap (λ b. b || has_end lines) (ends_by prefixes f s (command_of line) owed)
+at_end prefixes (lacks f s t line lines owed) e = want_not_end e
 
-at_end_by : (f : Files) (s : SourceAnswers) (line : List ℕ) (lines : List (List ℕ)) (r : Reply) → reply f s (command_of line) ≡ r
-    → ((g : Files) (t : SourceAnswers) → (run_of g t lines).ending ≡ AtEnd → has_end lines ≡ true) → (run_of f s (line ∷ lines)).ending ≡ AtEnd → has_end (line ∷ lines) ≡ true
-at_end_by f s line lines (Says text files source) is later e =
-    ap (λ b. is_end (command_of line) || b) (later files source (ending_by f s line lines (Says text files source) AtEnd is e)) ∙ or_true (is_end (command_of line))
-at_end_by f s line lines (Lists text) is later e =
-    ap (λ b. is_end (command_of line) || b) (later f s (ending_by f s line lines (Lists text) AtEnd is e)) ∙ or_true (is_end (command_of line))
-at_end_by f s line lines Ends is later e = ap (λ b. b || has_end lines) (ends_by f s (command_of line) is)
-at_end_by f s line lines (Lacks source) is later e = absurd (let h : WithoutMemory ≡ AtEnd = ending_by f s line lines (Lacks source) AtEnd is e in cc)
-
-at_end : (lines : List (List ℕ)) (f : Files) (s : SourceAnswers) → (run_of f s lines).ending ≡ AtEnd → has_end lines ≡ true
-at_end [] f s e = absurd (let h : AtEof ≡ AtEnd = sym (ap (λ run. run.ending) (run_of-nil f s)) ∙ e in cc)
-at_end (line ∷ lines) f s e = at_end_by f s line lines (reply f s (command_of line)) refl (λ g t h. at_end lines g t h) e
-
-at_eof_by : (f : Files) (s : SourceAnswers) (line : List ℕ) (lines : List (List ℕ)) (r : Reply) → reply f s (command_of line) ≡ r
-    → ((g : Files) (t : SourceAnswers) → (run_of g t lines).ending ≡ AtEof → has_end lines ≡ false) → (run_of f s (line ∷ lines)).ending ≡ AtEof → has_end (line ∷ lines) ≡ false
-at_eof_by f s line lines (Says text files source) is later e =
-    ap (λ b. b || has_end lines) (not_end_by f s (command_of line) (λ ends. says_not_ends (sym is ∙ ends))) ∙ later files source (ending_by f s line lines (Says text files source) AtEof is e)
-at_eof_by f s line lines (Lists text) is later e =
-    ap (λ b. b || has_end lines) (not_end_by f s (command_of line) (λ ends. lists_not_ends (sym is ∙ ends))) ∙ later f s (ending_by f s line lines (Lists text) AtEof is e)
-at_eof_by f s line lines Ends is later e = absurd (let h : AtEnd ≡ AtEof = ending_by f s line lines Ends AtEof is e in cc)
-at_eof_by f s line lines (Lacks source) is later e = absurd (let h : WithoutMemory ≡ AtEof = ending_by f s line lines (Lacks source) AtEof is e in cc)
-
-at_eof : (lines : List (List ℕ)) (f : Files) (s : SourceAnswers) → (run_of f s lines).ending ≡ AtEof → has_end lines ≡ false
-at_eof [] f s e = refl
-at_eof (line ∷ lines) f s e = at_eof_by f s line lines (reply f s (command_of line)) refl (λ g t h. at_eof lines g t h) e
+all_before : (prefixes : List Name) {f : Files} {s : SourceAnswers} {lines : List (List ℕ)} {run : Run} → RunsTo prefixes f s lines run → run.ending ≡ AtEof → has_end lines ≡ false
+all_before prefixes (at_eof f s) e = refl
+all_before prefixes (says f g s t line lines text run owed rest) e =
+    ap (λ b. b || has_end lines) (says_goes_on prefixes f s (command_of line) text g t owed) ∙ all_before prefixes rest e
+all_before prefixes (lists f s line lines text run owed rest) e =
+    ap (λ b. b || has_end lines) (lists_goes_on prefixes f s (command_of line) text owed) ∙ all_before prefixes rest e
+all_before prefixes (ends f s line lines owed) e = end_not_eof e
+all_before prefixes (lacks f s t line lines owed) e = want_not_eof e
 
 false_not_true : (b : Bool) {P : Type 0} → b ≡ false → b ≡ true → P
 false_not_true b isnt is = absurd (let h : false ≡ true = sym isnt ∙ is in cc)
@@ -115,29 +137,7 @@ eof_not_end : {P : Type 0} → ended.Eof ≡ ended.End → P
 eof_not_end e = absurd cc
 
 -- by which of its lines a run ends
-pub by_end : (f : Files) (s : SourceAnswers) (lines : List (List ℕ)) (how : Ended) → (run_of f s lines).ending ≡ ending_of how → (how ≡ ended.End) ↔ (has_end lines ≡ true)
-by_end f s lines ended.End e = (λ _. at_end lines f s e, λ _. refl)
-by_end f s lines ended.Eof e = (λ is. eof_not_end is, λ yes. false_not_true (has_end lines) (at_eof lines f s e) yes)
-
--- ---- so many lines
-
--- the lines were answered: a run over them and more says this text, and goes on from these files and answers
-abbrev pub IsAnswered : Files → SourceAnswers → List (List ℕ) → (text : List ℕ) (files : Files) (source : SourceAnswers) → Type 0
-IsAnswered f s lines text files source = (more : List (List ℕ)) → run_of f s (lines ++ more) ≡ after_text text (run_of files source more)
-
-pub run_at : (f : Files) (s : SourceAnswers) (lines : List (List ℕ)) (text : List ℕ) (files : Files) (source : SourceAnswers) → IsAnswered f s lines text files source
-    → run_of f s lines ≡ record { text = text; files = files; source = source; ending = AtEof }
-run_at f s lines text files source owed =
-    sym (ap (run_of f s) (append-nil lines)) ∙ owed [] ∙ ap (after_text text) (run_of-nil files source)
-    ∙ ap (λ (t : List ℕ). let r : Run = record { text = t; files = files; source = source; ending = AtEof } in r) (append-nil text)
-
--- a reply says this text, and a run goes on behind it from these files and answers
-abbrev pub IsSaid : Files → SourceAnswers → Reply → (text : List ℕ) (files : Files) (source : SourceAnswers) → Type 0
-IsSaid f s r text files source = (more : List (List ℕ)) → goes_on f s r more ≡ after_text text (run_of files source more)
-
-pub answered_more : (f : Files) (s : SourceAnswers) (lines : List (List ℕ)) (text : List ℕ) (files : Files) (source : SourceAnswers) (line said : List ℕ) (new : Files) (left : SourceAnswers)
-    → IsAnswered f s lines text files source → IsSaid files source (reply files source (command_of line)) said new left → IsAnswered f s (lines ++ line ∷ []) (text ++ said) new left
-answered_more f s lines text files source line said new left owed says more =
-    ap (run_of f s) (append_assoc lines (line ∷ []) more) ∙ owed (line ∷ more)
-    ∙ ap (after_text text) (run_of-cons files source line more (reply files source (command_of line)) refl ∙ says more)
-    ∙ after_text-twice text said (run_of new left more)
+pub by_end : (prefixes : List Name) (f : Files) (s : SourceAnswers) (lines : List (List ℕ)) (run : Run) (how : Ended)
+    → RunsTo prefixes f s lines run → run.ending ≡ ending_of how → (how ≡ ended.End) ↔ (has_end lines ≡ true)
+by_end prefixes f s lines run ended.End d e = (λ _. at_end prefixes d e, λ _. refl)
+by_end prefixes f s lines run ended.Eof d e = (λ is. eof_not_end is, λ yes. false_not_true (has_end lines) (all_before prefixes d e) yes)

@@ -17,11 +17,11 @@ change_lent (lent.Add path bytes) = Adds path.now bytes.items
 change_lent (lent.Replace path bytes) = Replaces path.now bytes.items
 change_lent (lent.Remove path) = Removes path.now
 
--- an edit with bytes may take memory
-abbrev pub MayGrow : Change → Type 0
-MayGrow (Adds path bytes) = ⊤
-MayGrow (Replaces path bytes) = ⊤
-MayGrow (Removes path) = ⊥
+-- the bytes that are to stand at the path
+abbrev pub bytes_of : Change → Option (List ℕ)
+bytes_of (Adds path bytes) = Some bytes
+bytes_of (Replaces path bytes) = Some bytes
+bytes_of (Removes path) = None
 
 -- the files, with this at the path
 abbrev pub put_at : Files → List ℕ → Option (List ℕ) → Files

@@ -13,12 +13,13 @@ use Rattle.jc_session.specs.declared.run_error.Ended.{Ended}
 use Rattle.jc_session.specs.declared.run_error.Ended.TheVariants as ended
 use Rattle.jc_session.specs.declared.command.Command.{Command as LentCommand}
 use Rattle.jc_session.specs.declared.command.Command.TheVariants as lent
+use Rattle.jc_classes.specs.Names.{Name}
 use Rattle.jc_report.specs.Files.{Files}
 use Rattle.jc_session.specs.Edits.{Change, Adds, Replaces}
-use Rattle.jc_session.specs.Lines.{Command, Add, Replace, Remove, Report, Listing, End, Bad, command_of}
+use Rattle.jc_session.specs.Lines.{Command, Add, Replace, Remove, Report, Part, Listing, End, Bad, command_of}
 use Rattle.jc_session.specs.Sources.{SourceAnswers}
 use Rattle.jc_session.specs.Runs.{LineMayLack}
-use Rattle.jc_session.specs.Answers.{Reply, Says, Lists, Ends, Lacks, reply}
+use Rattle.jc_session.specs.Answers.{Reply, Says, Lists, Ends, Lacks, Replies}
 
 -- a borrowed command, with its path as bytes
 abbrev pub command_lent : LentCommand → Command
@@ -26,6 +27,7 @@ command_lent (lent.Add path) = Add path.now
 command_lent (lent.Replace path) = Replace path.now
 command_lent (lent.Remove path) = Remove path.now
 command_lent lent.Report = Report
+command_lent (lent.Part name) = Part name.now
 command_lent (lent.List name) = Listing name.now
 command_lent lent.End = End
 command_lent lent.Bad = Bad
@@ -66,19 +68,29 @@ next_of (Ok ended.Eof) = Ok next.Line
 next_of (Ok ended.End) = Ok next.Nothing
 next_of (Err e) = Err e
 
+-- a reply that is owed was given
+abbrev pub GivesOwed : List Name → Files → SourceAnswers → Command → Result Next RunError → (new : Files) (source : Option SourceAnswers) (before after : Option (List ℕ)) → Type 0
+GivesOwed prefixes f s command result new source before after = (r : Reply) × Replies prefixes f s command r × Gives f s r result new source before after
+
 -- the same for what stands behind the last LF
-abbrev pub GivesLast : Files → SourceAnswers → List ℕ → Result Ended RunError → (new : Files) (source : Option SourceAnswers) (before after : Option (List ℕ)) → Type 0
-GivesLast f s [] result new source before after = (result ≡ Ok ended.Eof) × (new ≡ f) × (source ≡ Some s) × Keeps before after
-GivesLast f s (x ∷ line) result new source before after = Gives f s (reply f s (command_of (x ∷ line))) (next_of result) new source before after
+abbrev pub GivesLast : List Name → Files → SourceAnswers → List ℕ → Result Ended RunError → (new : Files) (source : Option SourceAnswers) (before after : Option (List ℕ)) → Type 0
+GivesLast prefixes f s [] result new source before after = (result ≡ Ok ended.Eof) × (new ≡ f) × (source ≡ Some s) × Keeps before after
+GivesLast prefixes f s (x ∷ line) result new source before after = GivesOwed prefixes f s (command_of (x ∷ line)) (next_of result) new source before after
 
 -- ---- whatever the source is: by the answers that it gave, and with any later ones
 
-abbrev pub GivesByAnswers : Files → (SourceAnswers → Reply) → (SourceAnswers → Type 0) → Result Next RunError → (new : Files) (before after : Option (List ℕ)) → Type 0
-GivesByAnswers f reply_by may_lack_by result new before after =
+abbrev pub GivesByAnswers : List Name → Files → Command → Result Next RunError → (new : Files) (before after : Option (List ℕ)) → Type 0
+GivesByAnswers prefixes f command result new before after =
+    (given : SourceAnswers) × ((later : SourceAnswers) →
+    GivesOwed prefixes f (given ++ later) command result new (Some later) before after × (result ≡ Err run_errors.NoMemory → LineMayLack f (given ++ later) command))
+
+abbrev pub GivesLastByAnswers : List Name → Files → List ℕ → Result Ended RunError → (new : Files) (before after : Option (List ℕ)) → Type 0
+GivesLastByAnswers prefixes f line result new before after =
+    (given : SourceAnswers) × ((later : SourceAnswers) →
+    GivesLast prefixes f (given ++ later) line result new (Some later) before after × (result ≡ Err run_errors.NoMemory → LineMayLack f (given ++ later) (command_of line)))
+
+-- the same of a line that is owed one reply
+abbrev pub GivesByReply : Files → (SourceAnswers → Reply) → (SourceAnswers → Type 0) → Result Next RunError → (new : Files) (before after : Option (List ℕ)) → Type 0
+GivesByReply f reply_by may_lack_by result new before after =
     (given : SourceAnswers) × ((later : SourceAnswers) →
     Gives f (given ++ later) (reply_by (given ++ later)) result new (Some later) before after × (result ≡ Err run_errors.NoMemory → may_lack_by (given ++ later)))
-
-abbrev pub GivesLastByAnswers : Files → List ℕ → Result Ended RunError → (new : Files) (before after : Option (List ℕ)) → Type 0
-GivesLastByAnswers f line result new before after =
-    (given : SourceAnswers) × ((later : SourceAnswers) →
-    GivesLast f (given ++ later) line result new (Some later) before after × (result ≡ Err run_errors.NoMemory → LineMayLack f (given ++ later) (command_of line)))

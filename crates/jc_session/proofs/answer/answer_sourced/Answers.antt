@@ -17,7 +17,7 @@ returns-in-Ok-clause-any g c =
       λ later. (
         subst (λ change. Gives f (given ++ later) (edit_reply f later change) c.answer_edit.result c.answer_edit.new.session.files (Some later) (g.W.Output.written c.args.out.now) (g.W.Output.written c.answer_edit.new.out))
             c.edit.ensures (c.answer_edit.ensures.gives (given ++ later) later),
-        λ e. subst (λ change. judge f change ≡ None) c.edit.ensures (c.answer_edit.ensures.lacks e).0,
+        λ e. subst (λ change. judge f change ≡ None) c.edit.ensures (c.answer_edit.ensures.lacks e),
       ),
     )
 

@@ -1,14 +1,13 @@
-use Rattle.std.proofs.Common.{Err, inl, inr, refl}
+use Rattle.std.proofs.Common.{Err, inl, inr}
 use Rattle.jc_session.proofs.runs.FailuresCounted.{input_idle, output_idle}
 use Rattle.jc_session.proofs.runs.ByAnswers.{words_perform}
-use Rattle.jc_session.specs.Statuses.{outcome_of}
 use Rattle.jc_session.specs.inside.LentFaults.{fault_lent}
 use Rattle.jc_session.proofs.command_line.program.Goals as goal
 
 pub returns-in-Ok-Session : goal.returns-in-Ok-Session
 returns-in-Ok-Session g c =
     let did = c.serve.ensures in
-    (outcome_of did.0 did.1, inr (inl (did.0, did.1, refl, did.7)), did.2, did.3, did.4, did.5)
+    (did.2, inr (inl (c.in-Ok-Session.outside, did.0, did.1, did.3, did.9)), did.4, did.5, did.6, did.7)
 
 pub returns-in-Err : goal.returns-in-Err
 returns-in-Err g c =

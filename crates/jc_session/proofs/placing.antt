@@ -1,0 +1,4 @@
+pub mod ClassesPlaced
+pub mod ClassesRead
+pub mod EditPlaced
+pub mod HeldClasses

@@ -1,0 +1,3 @@
+pub mod FoundText
+pub mod HeldReport
+pub mod Looking
