@@ -1,0 +1,93 @@
+#!/usr/bin/env python3
+"""Keeps a report over a folder of class files while a build changes them, and tells what changes in it.
+
+Usage: hold.py JCLINK FOLDER [PREFIX]...
+
+One `jclink session` runs as a coprocess with FOLDER as its working folder. Every second the files are compared with
+those of the second before, by size and time, each that came, changed or went is one line, and the lines of the report
+that came or went are printed. Names with a PREFIX that no file gives are outside (none: java/ and javax/).
+"""
+import pathlib
+import subprocess
+import sys
+import time
+
+
+class Session:
+    def __init__(self, program, folder, prefixes):
+        words = [word for prefix in prefixes for word in ("--outside", prefix)]
+        program = pathlib.Path(program).resolve()
+        self.process = subprocess.Popen([program, "session", *words], cwd=folder, stdin=subprocess.PIPE, stdout=subprocess.PIPE)
+
+    def send(self, line):
+        self.process.stdin.write(line + b"\n")
+        self.process.stdin.flush()
+
+    def answer(self):
+        return self.process.stdout.readline().rstrip(b"\n")
+
+    def edit(self, word, path):
+        """An edit has one line of answer: ok, refused or unread."""
+        self.send(word + b" " + path)
+        return self.answer()
+
+    def report(self):
+        """Its lines, each with its section. The answer to an empty line stands behind a report as a mark."""
+        self.send(b"report")
+        self.send(b"")
+        section, lines = b"", set()
+        for line in iter(self.answer, b"bad line"):
+            if line.startswith(b"["):
+                section = line
+            else:
+                lines.add(section + b" " + line)
+        return lines
+
+
+def files_of(folder):
+    found = {}
+    for path in folder.rglob("*.class"):
+        try:
+            stat = path.stat()
+        except FileNotFoundError:
+            continue
+        found[bytes(path.relative_to(folder))] = stat.st_size, stat.st_mtime_ns
+    return found
+
+
+def edits(old, new):
+    """What came, changed and went; what went first, so that a class that moves is not given twice."""
+    for path in sorted(old.keys() - new.keys()):
+        yield b"remove", path
+    for path in sorted(new.keys() - old.keys()):
+        yield b"add", path
+    for path in sorted(new.keys() & old.keys()):
+        if new[path] != old[path]:
+            yield b"replace", path
+
+
+def main():
+    program, folder, *prefixes = sys.argv[1:]
+    folder, session = pathlib.Path(folder), Session(program, folder, prefixes)
+    files, report = {}, session.report()
+    while True:
+        now = files_of(folder)
+        changes = list(edits(files, now))
+        for word, path in changes:
+            answer = session.edit(word, path)
+            if answer != b"ok":
+                print(answer.decode(), flush=True)
+                now.pop(path, None)  # to be tried again
+                if word == b"replace":
+                    now[path] = None
+        if changes:
+            files, old, report = now, report, session.report()
+            for line in sorted(old - report):
+                print("-", line.decode())
+            for line in sorted(report - old):
+                print("+", line.decode(), flush=True)
+        time.sleep(1)
+
+
+if __name__ == "__main__":
+    main()

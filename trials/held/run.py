@@ -1,0 +1,166 @@
+#!/usr/bin/env python3
+"""Compares sessions with a plain judge over random lists of edits: after each edit the report, the parts that were made
+and the names asked for, and the dependants of every name.
+
+The judge (trials/check, trials/link) makes the whole report afresh from the files that remain and shares no code with
+the library. An edit has to make just the parts of the classes behind it whose reach held a name that it touched, or
+that it brought, and may ask for their reaches' names, and two more.
+
+Usage: run.py [SEED [COUNT]], seed 1 and 2,000 lists where none is given, once jc_trials is built.
+"""
+import argparse
+import collections
+import pathlib
+import random
+import struct
+import subprocess
+import sys
+
+sys.dont_write_bytecode = True
+HERE = pathlib.Path(__file__).resolve().parent
+sys.path[:0] = [str(HERE.parent), str(HERE.parent / "check")]
+import common
+import judge
+import worlds
+
+links = judge.links
+BATCH = 50
+
+
+def framed(piece):
+    return struct.pack(">I", len(piece)) + piece
+
+
+class Held:
+    """What is owed of the files that remain, all of it made afresh at each edit."""
+
+    def __init__(self, prefixes):
+        self.files, self.prefixes = {}, prefixes
+        self.made()
+
+    def made(self):
+        self.report = judge.Report(self.files, self.prefixes)
+        self.winners = {}
+        for path, name in self.report.names.items():
+            self.winners.setdefault(name, path)
+        self.reaches = {name: self.reach(name) for name in self.report.world.given}
+
+    def reach(self, name):
+        world, found = self.report.world, {name, links.OBJECT}
+        record = world.records[name]
+        waiting = [links.innermost(text) for _, tag, text, _ in record.references]
+        found.update(text for text in waiting if text is not None)
+        waiting = sorted(found)
+        while waiting:
+            here = world.records.get(waiting.pop())
+            for parent in here.supers() if here else []:
+                if parent not in found:
+                    found.add(parent)
+                    waiting.append(parent)
+        return found
+
+    def refusal(self, word, path, data):
+        if not 0 < len(path) <= 4096:
+            return "BadPath"
+        if word == b"a" and path in self.files:
+            return "AlreadyThere"
+        if word != b"a" and path not in self.files:
+            return "NoSuchFile"
+        return None
+
+    def edit(self, word, path, data):
+        """The answer's line, or for an accepted edit how many parts have to be made and the most asks."""
+        refusal = self.refusal(word, path, data)
+        if refusal:
+            return f"refused {refusal}"
+        old_winners, old_reaches = self.winners, self.reaches
+        self.files = {other: bytes for other, bytes in self.files.items() if other != path}
+        if word != b"d":
+            self.files[path] = data
+        self.made()
+        touched = {name for winners in (old_winners, self.winners) for name, winner in winners.items() if winner == path}
+        affected = [name for name in self.reaches if self.reaches[name] & touched]
+        again = [name for name in self.reaches if old_reaches.get(name, {name} & touched) & touched]
+        assert sorted(affected) == sorted(again), (affected, again)
+        return len(affected), 2 + sum(len(self.reaches[name]) for name in affected)
+
+    def dependants(self, name):
+        return "".join(f" {links.shown(user)}" for user in sorted(self.reaches) if name in self.reaches[user])
+
+
+def random_steps(rng):
+    """Edits over the paths and files of a small world, some of which are refused."""
+    files, prefixes = worlds.make_world(rng)
+    files = {path: data for path, data in files.items() if data is not None and path.endswith(b".class")}
+    paths, datas = sorted(files) or [b"A.class"], [*files.values(), worlds.PLAIN]
+    steps = [(b"a", path, files[path]) for path in rng.sample(sorted(files), len(files))]
+    for _ in range(rng.randrange(4, 12)):
+        path = rng.choice(paths) if rng.random() < 0.9 else rng.choice([b"", b"x" * 4097, b"new.class", b"0"])
+        word = rng.choice([b"a", b"r", b"r", b"d", b"d"])
+        steps.append((word, path, b"" if word == b"d" else rng.choice(datas)))
+        if word == b"d" and rng.random() < 0.5:
+            steps.append((b"a", path, rng.choice(datas)))
+    return steps, [prefix for prefix in prefixes or []]
+
+
+def names_of(held, steps):
+    names = set().union(*held.reaches.values()) if held.reaches else set()
+    return sorted(names)[:40] + [b"nothing", links.OBJECT]
+
+
+def script_of(steps, prefixes):
+    """The frames of a list, and what is owed for it: lines, or for an edit a pair of numbers."""
+    held, frames, owed = Held(tuple(prefixes) or judge.STANDARD), [framed(b"".join(map(framed, prefixes)))], []
+    for word, path, data in steps:
+        frames += [framed(word + path), framed(data)]
+        owed.append(held.edit(word, path, data))
+        frames += [framed(b"t"), framed(b"")]
+        owed += [*held.report.text().splitlines(), "end"]
+        for name in names_of(held, steps):
+            frames += [framed(b"q" + name), framed(b"")]
+            owed.append(held.dependants(name))
+    return framed(b"".join(frames)), owed + ["end"]
+
+
+def is_owed(line, owed):
+    if isinstance(owed, str):
+        return line == owed
+    words = line.split()
+    return len(words) == 3 and words[0] == "ok" and int(words[1]) == owed[0] and int(words[2]) <= owed[1]
+
+
+def compare(number, lines, owed, told):
+    for at, want in enumerate(owed):
+        if at >= len(lines) or not is_owed(lines[at], want):
+            print(f"list {number}, line {at + 1}: {lines[at:at + 1]} for {want!r}")
+            return False
+        if not isinstance(want, str):
+            told["edits"] += 1
+            told["parts"] += want[0]
+            told["asks"] += int(lines[at].split()[2])
+            told["most asks"] += want[1]
+        elif want.startswith("refused"):
+            told[want] += 1
+    return len(lines) == len(owed)
+
+
+def main():
+    parser = argparse.ArgumentParser()
+    parser.add_argument("seed", type=int, nargs="?", default=1)
+    parser.add_argument("count", type=int, nargs="?", default=2000)
+    options = parser.parse_args()
+    told, differ = collections.Counter(), 0
+    for start in range(0, options.count, BATCH):
+        numbers = range(start, min(start + BATCH, options.count))
+        scripts = [script_of(*random_steps(random.Random(f"{options.seed}.{number}"))) for number in numbers]
+        done = subprocess.run([common.PROGRAM, "edits"], input=b"".join(frames for frames, _ in scripts), capture_output=True)
+        lines = done.stdout.decode("ascii").split("\n")[:-1]
+        for number, (_, owed) in zip(numbers, scripts):
+            differ += not compare(number, lines[:len(owed)], owed, told)
+            lines = lines[len(owed):]
+    print(f"{options.count} lists, {differ} differ; " + ", ".join(f"{count} {what}" for what, count in sorted(told.items())))
+    sys.exit(1 if differ else 0)
+
+
+if __name__ == "__main__":
+    main()
