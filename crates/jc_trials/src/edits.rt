@@ -89,12 +89,17 @@ fn do_step<W: Output>(
 ) -> Result<(), NoMemory> {
     match asked {
         Asked::Add(path) => {
-            let edit = Edit::Add(Vec::from_slice(alloc, path)?, Vec::from_slice(alloc, bytes)?);
+            let edit = Edit::Add(
+                Vec::from_slice(alloc, path)?,
+                Vec::from_slice(alloc, bytes)?,
+            );
             write_edit(out, session.edit(edit));
         }
         Asked::Replace(path) => {
-            let edit =
-                Edit::Replace(Vec::from_slice(alloc, path)?, Vec::from_slice(alloc, bytes)?);
+            let edit = Edit::Replace(
+                Vec::from_slice(alloc, path)?,
+                Vec::from_slice(alloc, bytes)?,
+            );
             write_edit(out, session.edit(edit));
         }
         Asked::Remove(path) => {

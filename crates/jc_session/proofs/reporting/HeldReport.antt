@@ -92,11 +92,14 @@ module _ (rows_by : Facts → Part → List Row) (classes : List Class) where
   -- there is a list of them
   pub rows_there : ((row : Row) → GivesRow rows_by classes row → IsPlain row) → (put : List Row) × AreRows put (GivesRow rows_by classes)
   unfolding keys_given
-  rows_there plain = (map row_of (key_list keys_given), rows_of_keys (key_list keys_given) (GivesRow rows_by classes) (key_list_rises keys_given) plain
-      (λ key h.
-      let found = has-from_map row_key (flat_map class_gives classes) key (unlisted keys_given key h) in
-      (found.0, given found.0 found.1, sym found.2))
-      (λ row g. listed keys_given (row_key row) (has-map row_key (flat_map class_gives classes) row (giving row g))))
+  rows_there plain = (
+    map row_of (key_list keys_given),
+    rows_of_keys (key_list keys_given) (GivesRow rows_by classes) (key_list_rises keys_given) plain
+        (λ key h.
+        let found = has-from_map row_key (flat_map class_gives classes) key (unlisted keys_given key h) in
+        (found.0, given found.0 found.1, sym found.2))
+        (λ row g. listed keys_given (row_key row) (has-map row_key (flat_map class_gives classes) row (giving row g))),
+  )
 
 -- ---- a linkage whose classes are those of files
 
@@ -138,16 +141,19 @@ module _ (f : Files) (a : Linkage) (meets : (name : Name) → class_at a.classes
   pub report_held : RowsArePlain → (classes : List Class) → AreHeldClasses a classes → (r : Report) × IsReport f a.prefixes r × (classes ≡ r.classes)
   report_held law classes held =
       let provided = rows_there provided_rows classes (λ row. (plain_given law classes held row).0) in
-      let required = rows_there required_rows classes (λ row. (plain_given law classes held row).1) in
-      (record { files = rows f; classes = classes; circular = map name_of (filter (λ c. c.part.circular) classes); provided = provided.0; required = required.0 }, record {
-        files = refl;
-        rises = held.rises;
-        sound = λ k d lt. class_of _ (held.sound k d lt);
-        complete = λ name c h. held.complete name c (meets name ∙ h);
-        circular = refl;
-        provided = provided.1;
-        required = required.1;
-      }, refl)
+      let required = rows_there required_rows classes (λ row. (plain_given law classes held row).1) in (
+        record { files = rows f; classes = classes; circular = map name_of (filter (λ c. c.part.circular) classes); provided = provided.0; required = required.0 },
+        record {
+          files = refl;
+          rises = held.rises;
+          sound = λ k d lt. class_of _ (held.sound k d lt);
+          complete = λ name c h. held.complete name c (meets name ∙ h);
+          circular = refl;
+          provided = provided.1;
+          required = required.1;
+        },
+        refl,
+      )
 
   -- rows that are those of the classes held are those of the report
   pub provided_held : (put : List Row) → ((classes : List Class) → AreHeldClasses a classes → AreRows put (GivesRow provided_rows classes)) → (r : Report) → IsReport f a.prefixes r → put ≡ r.provided
