@@ -24,6 +24,16 @@ report
 remove a/A.class
 add gone
 report
+add tree/p/D.class
+add tree/I.class
+add tree/p/C.class
+add tree/q.class
+report
+replace x/A.class
+remove tree/p/C.class
+part p/D
+remove tree/I.class
+report
 wrong
 end
 """

@@ -9,8 +9,10 @@ import sys
 import time
 
 sys.dont_write_bytecode = True
-sys.path.insert(0, str(pathlib.Path(__file__).resolve().parent.parent))
+HERE = pathlib.Path(__file__).resolve().parent
+sys.path[:0] = [str(HERE.parent), str(HERE.parent / "check")]
 import common
+import judge
 
 MOST = 65_535
 
@@ -20,11 +22,14 @@ def need(holds, what):
         sys.exit(what)
 
 
+def name_of(number, same_class):
+    return b"A" if same_class else b"p%d/C%d" % (number % 97, number)
+
+
 def many_files(folder, same_class):
     """Adds as many files as a session holds and one more."""
     for number in range(MOST + 1):
-        name = b"A" if same_class else b"p%d/C%d" % (number % 97, number)
-        (folder / f"{number}").write_bytes(common.class_file(name))
+        (folder / f"{number}").write_bytes(common.class_file(name_of(number, same_class)))
     lines = "".join(f"add {number}\n" for number in range(MOST + 1)) + "report\nend\n"
     began = time.monotonic()
     done = subprocess.run([common.JCLINK, "session"], input=lines.encode(), cwd=folder, capture_output=True)
@@ -33,26 +38,24 @@ def many_files(folder, same_class):
     need(done.returncode == 0 and not done.stderr, f"status {done.returncode}, {done.stderr!r}")
     need(answers[:MOST] == ["ok"] * MOST, "an add is not answered ok")
     need(answers[MOST] == "refused 4 TooMany", f"one file too many: {answers[MOST]!r}")
-    paths = sorted(str(number) for number in range(MOST))
-    number_of = lambda path: "A" if same_class else "p%d/C%d" % (int(path) % 97, int(path))
-    rows = [f"{path}: class {number_of(path)}" for path in paths]
-    if same_class:
-        rows = [rows[0]] + [f"{path}: shadowed A by {paths[0]}" for path in paths[1:]]
-    need(answers[MOST + 1 :] == ["[files]", *rows, ""], "the report is another one")
+    files = {str(number).encode(): common.class_file(name_of(number, same_class)) for number in range(MOST)}
+    need("\n".join(answers[MOST + 1 :]) == judge.report(files)[0], "the report is another one")
     return took
 
 
 def coprocess(folder):
     """Gives each line only when the one before is answered."""
-    (folder / "a").write_bytes(common.class_file(b"A"))
-    (folder / "b").write_bytes(common.class_file(b"A")[:-1])
+    a, b = common.class_file(b"A"), common.class_file(b"A")[:-1]
+    (folder / "a").write_bytes(a)
+    (folder / "b").write_bytes(b)
+    lines_of = lambda files: judge.report(files)[0].splitlines()
     talk = [
         ("add a", ["ok"]),
         ("add a", ["refused 1 AlreadyThere"]),
-        ("report", ["[files]", "a: class A"]),
+        ("report", lines_of({b"a": a})),
         ("replace a", ["ok"]),
         ("add b", ["ok"]),
-        ("report", ["[files]", "a: class A", "b: unreadable 7 Short"]),
+        ("report", lines_of({b"a": a, b"b": b})),
         ("what", ["bad line"]),
         ("remove b", ["ok"]),
         ("remove b", ["refused 2 NoSuchFile"]),
