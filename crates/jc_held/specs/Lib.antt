@@ -1,4 +1,5 @@
 pub mod Affected
+pub mod ClassLent
 pub mod Linkages
 pub mod Steps
 pub mod inside

@@ -20,9 +20,6 @@ step_class (Remove name) = None
 abbrev pub is_step : Step → Name → Bool
 is_step s n = same_name n (step_name s)
 
-abbrev pub stepped : Step → Classes → Classes
-stepped s m n = cond (is_step s n) (step_class s) (m n)
-
 -- ---- a step and a class beside it
 
 abbrev pub is_class : Option Facts → Name → Bool

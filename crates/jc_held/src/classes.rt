@@ -1,7 +1,7 @@
 //! The classes that are held, with their parts.
 
 ghost use Rattle.std.specs.Iterator.{YieldsFirstBy, item_count};
-ghost use Rattle.jc_held.specs.inside.Lending.{class_lent};
+ghost use Rattle.jc_held.specs.ClassLent.{class_lent};
 
 use crate::kept::Kept;
 use jc_base::byte_map;

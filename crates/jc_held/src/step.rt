@@ -4,10 +4,10 @@ ghost use Rattle.std.specs.Prelude.{◌≡◌, false, IfOk, IsSome, OnErr, OnOk}
 ghost use Rattle.std.specs.FinMap as map;
 ghost use Rattle.jc_classes.specs.Names.{Name};
 ghost use Rattle.jc_link.specs.Tables.{class_at};
-ghost use Rattle.jc_held.specs.Steps.{is_step, step_name, stepped};
+ghost use Rattle.jc_held.specs.Steps.{is_step, step_name};
 ghost use Rattle.jc_held.specs.declared.step.Step.TheVariants.{Put, Remove};
 ghost use Rattle.jc_held.specs.inside.Holding.{AreNamed};
-ghost use Rattle.jc_held.specs.inside.Stepping.{IsBack, IsThere};
+ghost use Rattle.jc_held.specs.inside.Stepping.{IsBack, IsThere, stepped};
 
 use jc_base::NoMemory;
 use jc_classes::Facts;

@@ -6,12 +6,12 @@ use Rattle.jc_classes.specs.Facts.{Facts}
 use Rattle.jc_classes.specs.Names.{Name, same_name}
 use Rattle.jc_link.specs.Tables.{Places, class_at, world}
 use Rattle.jc_held.specs.Linkages.{Linkage}
-use Rattle.jc_held.specs.Steps.{Classes, is_class, step_class, step_name, stepped}
+use Rattle.jc_held.specs.Steps.{Classes, is_class, step_class, step_name}
 use Rattle.jc_held.specs.declared.links.Links.{Links}
 use Rattle.jc_held.specs.declared.step.Step.{Step}
 use Rattle.jc_held.specs.declared.step.Step.TheVariants.{Put}
 use Rattle.jc_held.specs.inside.Kept.{AreLinked, IsKept, KeptMap}
-use Rattle.jc_held.specs.inside.Stepping.{IsBack, IsThere}
+use Rattle.jc_held.specs.inside.Stepping.{IsBack, IsThere, stepped}
 
 abbrev pub given_in : Places → Name → Bool
 given_in places n = is_some (class_at places n)

@@ -4,11 +4,7 @@ use Rattle.std.specs.List.{flat_map}
 use Rattle.jc_classes.specs.Facts.{Facts}
 use Rattle.jc_classes.specs.Names.{Name}
 use Rattle.jc_report.specs.Reports as reports
-use Rattle.jc_held.specs.declared.classes.Class.{Class}
 use Rattle.jc_held.specs.declared.kept.Kept.{Kept}
-
-abbrev pub class_lent : Class → reports.Class
-class_lent c = record { facts = c.facts.now; part = c.part.now }
 
 -- records with what is kept of them, in order
 abbrev pub with_parts : List Facts → List (Name × Kept) → List reports.Class

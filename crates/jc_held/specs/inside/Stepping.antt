@@ -1,9 +1,13 @@
 -- Steps that are taken back.
-use Rattle.std.specs.Prelude.{◌≡◌, IsSome}
+use Rattle.std.specs.Prelude.{◌≡◌, IsSome, cond}
 use Rattle.std.specs.FinMap as map
 use Rattle.jc_link.specs.Tables.{Places}
-use Rattle.jc_held.specs.Steps.{Classes, step_class, step_name}
+use Rattle.jc_held.specs.Steps.{Classes, is_step, step_class, step_name}
 use Rattle.jc_held.specs.declared.step.Step.{Step}
+
+-- the classes behind a step
+abbrev pub stepped : Step → Classes → Classes
+stepped s m n = cond (is_step s n) (step_class s) (m n)
 
 -- it is at the same name, with the class that stood there
 pub record IsBack (back step : Step) (m : Classes) : Type 0 where

@@ -2,7 +2,8 @@ use Rattle.std.proofs.Common.{◌∙◌, sym, ap, cond, None, Some, is_some}
 use Rattle.std.specs.FinMap as map
 use Rattle.jc_classes.specs.Names.{same_name}
 use Rattle.jc_link.specs.Tables.{class_at}
-use Rattle.jc_held.specs.Steps.{is_step, stepped}
+use Rattle.jc_held.specs.Steps.{is_step}
+use Rattle.jc_held.specs.inside.Stepping.{stepped}
 use Rattle.jc_held.proofs.SteppedTables.{put_class, put_there, removed_class, removed_there}
 use Rattle.jc_held.proofs.step.take_back.Goals as goal
 
