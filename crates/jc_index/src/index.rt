@@ -1,9 +1,9 @@
 //! An index holds for each name the classes that depend on it.
 
-ghost use Rattle.std.specs.Prelude.{◌≡◌, ◌||◌, ◌&&◌, not, true, [], OnErr, OnOk};
+ghost use Rattle.std.specs.Prelude.{◌≡◌, ◌||◌, ◌&&◌, not, true, [], Some, IfSome, OnErr, OnOk, slice_get};
 ghost use Rattle.std.specs.FinMap as map;
 ghost use Rattle.std.specs.Iterator.{YieldsFirstRef, item_count};
-ghost use Rattle.std.specs.Option.{option_copied};
+ghost use Rattle.std.specs.Option.{option_copied, option_map};
 ghost use Rattle.std.specs.List.Sorted.{IsStrictlySortedBy};
 ghost use Rattle.jc_classes.specs.NameLists.{has, Lists};
 ghost use Rattle.jc_classes.specs.Names.{Name, name_cmp, names_of, same_name};
@@ -63,6 +63,15 @@ impl Index {
         ensures { option_copied result ≡ map.get self.now name.now }
     {
         self.lists.get(name)
+    }
+
+    /// The name at a place among those that have users, from 0, with its users; nothing beyond the last. No memory.
+    pub fn nth(&self, place: usize) -> Option<(&[u8], &NameList)>
+        ensures name { option_map (λ entry. entry.0.now) result ≡ slice_get (map.keys self.now) place }
+        ensures list { IfSome result (λ entry. map.get self.now entry.0.now ≡ Some entry.1.now) }
+        ensures used { (name : Name) → is_key self.now name ≡ true → (user : Name) × (has (users_of self.now name) user ≡ true) }
+    {
+        self.lists.iter().nth(place)
     }
 
     /// The names that have users, rising.
