@@ -5,4 +5,5 @@ pub mod Dependants
 pub mod Classes
 pub mod Rows
 pub mod Provided
+pub mod Holders
 pub mod Changed

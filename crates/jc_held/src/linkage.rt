@@ -1,16 +1,17 @@
 //! The classes of files, each with its part, and which of them depend on a name.
 
-ghost use Rattle.std.specs.Prelude.{◌≡◌, ◌-◌, List, IfOk, IfSome, IsTrue, OnErr, OnOk, is_some, true};
+ghost use Rattle.std.specs.Prelude.{◌≡◌, ◌-◌, List, IfOk, IfSome, IsTrue, OnErr, OnOk, is_some, slice_get, true};
 ghost use Rattle.std.specs.FinMap as map;
 ghost use Rattle.jc_classes.specs.NameLists.{Lists};
 ghost use Rattle.jc_classes.specs.Names.{Name, names_of};
 ghost use Rattle.jc_classes.specs.Parts.{IsPart, Reach};
 ghost use Rattle.jc_link.specs.Tables.{class_at, world};
 ghost use Rattle.jc_held.specs.Affected.{IsBounded};
+ghost use Rattle.jc_held.specs.Holders.{CountsHolders};
 ghost use Rattle.jc_held.specs.Linkages.{AreHeldClasses, HasPlainRows, given, world_held};
 ghost use Rattle.jc_report.specs.ClassRows.{provided_rows, required_rows};
 ghost use Rattle.jc_report.specs.Reports.{Class, GivesRow};
-ghost use Rattle.jc_report.specs.Rows.{AreRows};
+ghost use Rattle.jc_report.specs.Rows.{AreRows, Row};
 ghost use Rattle.jc_held.specs.Steps.{changed, is_touched};
 ghost use Rattle.jc_held.specs.inside.Holding as holding;
 
@@ -140,6 +141,16 @@ impl Linkage {
     {
         Required {
             keys: self.links.required.keys(),
+        }
+    }
+
+    /// How many classes require the row at a place of [`Linkage::required`], from 0; 0 beyond the last. No memory.
+    pub fn holders(&self, place: usize) -> usize
+        ensures { HasPlainRows self.now → (classes : List Class) → AreHeldClasses self.now classes → (rows : List Row) → AreRows rows (GivesRow required_rows classes) → CountsHolders classes (slice_get rows place) result }
+    {
+        match self.links.required.nth(place) {
+            Some((_, holders)) => holders.names().len(),
+            None => 0,
         }
     }
 }

@@ -38,7 +38,7 @@ use Rattle.jc_held.proofs.held.Rows.{row_kept, rows_of_kept}
 keys_provided : (a : Linkage) (d : Name) (f : Facts) (k : Kept) → IsKeptOf (world_held a) d k → record_of (world_held a d) ≡ Some f → AreKeys k.provided (provided_rows f k.part)
 keys_provided a d f k of e = subst (λ o. AreKeys k.provided (provided_by o k.part)) e of.provided
 
-keys_required : (a : Linkage) (d : Name) (f : Facts) (k : Kept) → IsKeptOf (world_held a) d k → record_of (world_held a d) ≡ Some f → AreKeys k.required (required_rows f k.part)
+pub keys_required : (a : Linkage) (d : Name) (f : Facts) (k : Kept) → IsKeptOf (world_held a) d k → record_of (world_held a d) ≡ Some f → AreKeys k.required (required_rows f k.part)
 keys_required a d f k of e = subst (λ o. AreKeys k.required (required_by o k.part)) e of.required
 
 -- ---- each row that a class provides has its name

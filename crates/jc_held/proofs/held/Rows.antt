@@ -35,7 +35,7 @@ module _ (a : Linkage) (kept : KeptMap) (held : IsKept (given a) (world_held a) 
       (f.0, f.1, has-from_map row_key (rows f.0 k.part) key (has_from all key (contains_of all key (sym (ks.same key) ∙ there))))
 
   module _ (classes : List Class) (h : AreHeldClasses a classes) where
-    class_of : (d : Name) (f : Facts) (p : Part) → class_at a.classes d ≡ Some f → IsPart (world_held a) d p → (c : Class) × Contains classes c × (c.facts ≡ f) × (c.part ≡ p)
+    class_of : (d : Name) (f : Facts) (p : Part) → class_at a.classes d ≡ Some f → IsPart (world_held a) d p → (c : Class) × Contains classes c × (name_of c ≡ d) × (c.facts ≡ f) × (c.part ≡ p)
     class_of d f p e part =
         let found = has-from_map name_of classes d (has_from (map name_of classes) d (h.complete d f e)) in
         let c = found.0 in
@@ -43,23 +43,28 @@ module _ (a : Linkage) (kept : KeptMap) (held : IsKept (given a) (world_held a) 
         let is = All-contains (IsHeldClass a) classes c h.sound there in (
           c,
           there,
+          found.2,
           some_one (sym is.facts ∙ ap (class_at a.classes) found.2 ∙ e),
           part_one (world_held a) d c.part p (subst (λ (n : Name). IsPart (world_held a) n c.part) found.2 is.part) part,
         )
 
-    row_given : (d : Name) (k : Kept) → fin.get kept d ≡ Some k → (key : Name) → has (keys k) key ≡ true → (row : Row) × GivesRow rows classes row × (key ≡ row_key row)
-    row_given d k e key there =
+    -- a key that is kept with a name is that of a row that the class of the name gives
+    pub class_given : (d : Name) (k : Kept) → fin.get kept d ≡ Some k → (key : Name) → has (keys k) key ≡ true
+        → (c : Class) × (row : Row) × Contains classes c × (name_of c ≡ d) × Contains (rows c.facts c.part) row × (row_key row ≡ key)
+    class_given d k e key there =
         let found = row_kept d k e key there in
         let f = found.0 in
         let row = found.2.0 in
         let c = class_of d f k.part found.1 (held.sound d k e).part in
-        let same : rows f k.part ≡ rows c.0.facts c.0.part = (λ i. rows (sym c.2 i) (sym c.3 i)) in (
-          row,
-          record { class = c.0; among = c.1; gives = subst (λ rs. Contains rs row) same (from_has (rows f k.part) row found.2.1) },
-          sym found.2.2,
-        )
+        let same : rows f k.part ≡ rows c.0.facts c.0.part = (λ i. rows (sym c.3 i) (sym c.4 i)) in
+        (c.0, row, c.1, c.2, subst (λ rs. Contains rs row) same (from_has (rows f k.part) row found.2.1), found.2.2)
 
-    key_given : (row : Row) → GivesRow rows classes row → (d : Name) × (k : Kept) × (fin.get kept d ≡ Some k) × (has (keys k) (row_key row) ≡ true)
+    row_given : (d : Name) (k : Kept) → fin.get kept d ≡ Some k → (key : Name) → has (keys k) key ≡ true → (row : Row) × GivesRow rows classes row × (key ≡ row_key row)
+    row_given d k e key there =
+        let found = class_given d k e key there in
+        (found.1, record { class = found.0; among = found.2; gives = found.4 }, sym found.5)
+
+    pub key_given : (row : Row) (g : GivesRow rows classes row) → (k : Kept) × (fin.get kept (name_of g.class) ≡ Some k) × (has (keys k) (row_key row) ≡ true)
     key_given row g =
         let c = g.class in
         let is = All-contains (IsHeldClass a) classes c h.sound g.among in
@@ -69,7 +74,6 @@ module _ (a : Linkage) (kept : KeptMap) (held : IsKept (given a) (world_held a) 
         let ks = are (name_of c) c.facts k.0 of (record_given a (name_of c) c.facts is.facts) in
         let all = map row_key (rows c.facts k.0.part) in
         let there : Has (rows c.facts k.0.part) row = subst (λ (p : Part). Has (rows c.facts p) row) same (has_from (rows c.facts c.part) row g.gives) in (
-          name_of c,
           k.0,
           k.1,
           ks.same (row_key row) ∙ has_of all (row_key row) (from_has all (row_key row) (has-map row_key (rows c.facts k.0.part) row there)),
@@ -83,4 +87,4 @@ module _ (a : Linkage) (kept : KeptMap) (held : IsKept (given a) (world_held a) 
     rows_of_kept all rises plain sound complete = rows_of_keys all (GivesRow rows classes) rises
         (λ row g. plain (name_of g.class) g.class.facts g.class.part row (All-contains (IsHeldClass a) classes g.class h.sound g.among).facts g.gives)
         (λ key there. let k = sound key (has_of all key there) in row_given k.0 k.1 k.2 key k.3)
-        (λ row g. let k = key_given row g in contains_of all (row_key row) (complete k.0 k.1 k.2 (row_key row) k.3))
+        (λ row g. let k = key_given row g in contains_of all (row_key row) (complete (name_of g.class) k.0 k.1 (row_key row) k.2))
