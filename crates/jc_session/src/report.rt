@@ -1,9 +1,10 @@
 //! The report that a session holds.
 
-ghost use Rattle.std.specs.Prelude.{◌≡◌, ◌-◌, IfOk, List, None, OnErr, OnOk, option_and_then};
+ghost use Rattle.std.specs.Prelude.{◌≡◌, ◌-◌, IfOk, List, None, OnErr, OnOk, option_and_then, slice_get};
 ghost use Rattle.std.specs.List.{list_any};
 ghost use Rattle.std.specs.Option.{option_map};
 ghost use Rattle.std.specs.FinMap as map;
+ghost use Rattle.jc_held.specs.Holders.{CountsHolders};
 ghost use Rattle.jc_report.specs.FileRows.{is_unreadable, rows, winner};
 ghost use Rattle.jc_report.specs.Reports as reports;
 ghost use Rattle.jc_report.specs.Reports.{IsReport, is_wrong};
@@ -124,6 +125,14 @@ impl Report {
     {
         rows_are_plain();
         self.linkage.required()
+    }
+
+    /// How many classes require the row at a place of [`Report::required`], from 0; 0 beyond the last. No memory.
+    pub(crate) fn holders(&self, place: usize) -> usize
+        ensures { (r : reports.Report) → IsReport self.now.files self.now.prefixes r → CountsHolders r.classes (slice_get r.required place) result }
+    {
+        rows_are_plain();
+        self.linkage.holders(place)
     }
 
     /// The bytes of the file that a class is taken from.

@@ -1,15 +1,17 @@
 //! A session over class files.
 
-ghost use Rattle.std.specs.Prelude.{◌≡◌, ◌-◌, None, IsSome, IfOk, IfSome, OnOk, OnErr, MatchResult, is_some, true};
+ghost use Rattle.std.specs.Prelude.{◌≡◌, ◌-◌, None, IsSome, IfOk, IfSome, OnOk, OnErr, MatchResult, is_some, slice_get, true};
 ghost use Rattle.std.specs.Option.{option_map};
 ghost use Rattle.std.specs.FinMap as map;
 ghost use Rattle.jc_classes.specs.NameLists.{Lists};
 ghost use Rattle.jc_classes.specs.Names.{names_of};
 ghost use Rattle.jc_classes.specs.Parts.{IsPart, Reach};
+ghost use Rattle.jc_held.specs.Holders.{CountsHolders};
 ghost use Rattle.jc_list.specs.declared.list_error.ListError.TheVariants as lists;
 ghost use Rattle.jc_list.specs.ListErrors.{CountsWrites, WritesListing};
 ghost use Rattle.jc_report.specs.FileRows.{winner};
-ghost use Rattle.jc_report.specs.Reports.{world_of};
+ghost use Rattle.jc_report.specs.Reports as reports;
+ghost use Rattle.jc_report.specs.Reports.{IsReport, world_of};
 ghost use Rattle.jc_session.specs.ListedText.{listed_text};
 ghost use Rattle.jc_session.specs.Edits.{after, change_of, judge};
 ghost use Rattle.jc_session.specs.Judged.{IsJudged};
@@ -121,6 +123,14 @@ impl Session {
         ensures { Lists (names_of result.now) (λ d. (gives self.now.files d ≡ true) × Reach (world_of self.now.files self.now.prefixes) d name.now) }
     {
         self.report.linkage.dependants(name)
+    }
+
+    /// How many classes that files give require the row at a place of [`Report::required`], from 0; 0 beyond the
+    /// last. No memory.
+    pub fn holders(&self, place: usize) -> usize
+        ensures { (r : reports.Report) → IsReport self.now.files self.now.prefixes r → CountsHolders r.classes (slice_get r.required place) result }
+    {
+        self.report.holders(place)
     }
 
     /// How often a class was asked for, and how many parts were made. No memory.
