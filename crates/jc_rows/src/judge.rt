@@ -5,6 +5,7 @@ use crate::class_answers::{faults_answer, fronts_answer, parse_answer};
 use crate::code_answers::{code_faults_answer, instructions_answer};
 use crate::compare::difference;
 use crate::dialogue::{Dialogue, NamedFile};
+use crate::edits::told_of_edits;
 use crate::file_answers::read_answer;
 use crate::listing_answers::listing_answer;
 use crate::outcome::{outcome_of_program, outcome_of_run};
@@ -138,6 +139,11 @@ impl Judge {
                 self.judge_run(rt.alloc(), what, row)
             }
             "then" => self.judge_run(rt.alloc(), what, row),
+            "edits" => {
+                self.session = new_session(rt.alloc())?;
+                self.judge_edits(rt.alloc(), what, row)
+            }
+            "then-edits" => self.judge_edits(rt.alloc(), what, row),
             "program" => self.judge_program(rt, what, row),
             "class" => self.define_class(rt.alloc(), what, row),
             "world" => self.judge_world(rt.alloc(), what, row),
@@ -172,6 +178,11 @@ impl Judge {
     fn judge_run(&mut self, alloc: Global, what: &str, row: &Row) -> Result<Found> {
         let mut dialogue = Dialogue::read(alloc, &self.names, &row.more)?;
         let told = told_of_run(alloc, &mut self.session, &mut dialogue)?;
+        judged(alloc, what, told)
+    }
+
+    fn judge_edits(&mut self, alloc: Global, what: &str, row: &Row) -> Result<Found> {
+        let told = told_of_edits(alloc, &self.names, &mut self.session, &row.more)?;
         judged(alloc, what, told)
     }
 

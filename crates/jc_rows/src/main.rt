@@ -51,6 +51,15 @@
 //!     words "WORD"..   the words of the program
 //!     ends ENDING      End, Eof or an error with its number, and `, wrong` where the report is; of a
 //!                      program its status
+//!
+//! A row of the kind `edits` is over a new session, `then-edits` and `then` over the one of the row above.
+//! Its lines are calls, with what they have to answer: `made N` of an edit that is accepted.
+//!
+//!     add PATH PARTS -> made N, asks at most M     and so `replace PATH PARTS` and `remove PATH`
+//!     remove PATH -> refused 2 NoSuchFile
+//!     dependants NAME -> NAMES     the classes that depend on a name
+//!     holders PLACE -> N           how many classes require the row at a place of the required ones
+//!     classes N FRONT              adds so many files, each with a class of its own: FRONT and a number
 #![tactic(auto)]
 
 mod assembler;
@@ -59,6 +68,7 @@ mod code_answers;
 mod compare;
 mod dialogue;
 mod doubles;
+mod edits;
 mod file_answers;
 mod judge;
 mod listing_answers;

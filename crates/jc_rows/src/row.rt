@@ -51,7 +51,8 @@ impl<'a> Statement<'a> {
     }
 }
 
-fn without_comment(text: &str) -> &str {
+/// What stands in front of a comment, without blanks around it.
+pub(crate) fn without_comment(text: &str) -> &str {
     let (text, _) = text.split_once('#').unwrap_or((text, ""));
     text.trim()
 }

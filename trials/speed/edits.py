@@ -1,0 +1,182 @@
+#!/usr/bin/env python3
+"""Measures what edits cost on a standing tree: all its files added one by one, then edits of classes with few and many
+dependants. Milliseconds from a line of `jclink session` to its answer, the reading of the file with them; parts and
+names asked for as jc_trials tells them of the same edits.
+
+Usage: edits.py TREE, once jclink and jc_trials are built. What depends on a class is found by this script's own
+reading of the class files. Each edit of the second table is made three times, and the least time told.
+"""
+import collections
+import os
+import pathlib
+import struct
+import subprocess
+import sys
+import threading
+import time
+
+sys.dont_write_bytecode = True
+sys.path.insert(0, str(pathlib.Path(__file__).resolve().parent.parent))
+import common
+
+OBJECT, STANDARD = b"java/lang/Object", (b"java/", b"javax/")
+SIZES = {7: 2, 8: 2, 16: 2, 15: 3, 3: 4, 4: 4, 9: 4, 10: 4, 11: 4, 12: 4, 18: 4, 5: 8, 6: 8}
+TIMES = 3
+
+
+class ClassNames:
+    """The names that a class file's constants, superclass and interfaces give."""
+
+    def __init__(self, data):
+        texts, classes, at, index = {}, {}, 10, 1
+        while index < struct.unpack_from(">H", data, 8)[0]:
+            tag = data[at]
+            if tag == 1:
+                size = struct.unpack_from(">H", data, at + 1)[0]
+                texts[index] = data[at + 3:at + 3 + size]
+                at += 3 + size
+            else:
+                if tag == 7:
+                    classes[index] = struct.unpack_from(">H", data, at + 1)[0]
+                at += 1 + SIZES[tag]
+            index += 2 if tag in (5, 6) else 1
+        name = {index: texts[of] for index, of in classes.items()}
+        this, parent, count = struct.unpack_from(">HHH", data, at + 2)
+        above = [parent] * (parent != 0) + list(struct.unpack_from(f">{count}H", data, at + 8))
+        self.name, self.above = name[this], [name[index] for index in above]
+        self.named = {self.element(text) for text in name.values()} - {None}
+
+    @staticmethod
+    def element(text):
+        if not text.startswith(b"["):
+            return text
+        inner = text.lstrip(b"[")
+        return inner[1:-1] if inner.startswith(b"L") else None
+
+
+def all_above(given, name, known):
+    if name not in known:
+        found, waiting = set(), [name]
+        while waiting:
+            here = given.get(waiting.pop())
+            for parent in here.above if here else []:
+                if parent not in found:
+                    found.add(parent)
+                    waiting.append(parent)
+        known[name] = found
+    return known[name]
+
+
+def count_dependants(given):
+    """How many classes' reach holds each name."""
+    counts, known = collections.Counter(), {}
+    for name, here in given.items():
+        reach = {name, OBJECT} | here.named
+        counts.update(reach.union(*(all_above(given, one, known) for one in reach)))
+    return counts
+
+
+def choose(given, counts):
+    """Names of classes to edit, with what is told of each."""
+    used = sorted(given, key=lambda name: (-counts[name], name))
+    near = min(used, key=lambda name: abs(counts[name] - 1000))
+    leaf = min((name for name in used if counts[name] == 1), key=lambda name: (abs(len(given[name].named) - 10), name))
+    absent = sorted((name for name in counts if name not in given), key=lambda name: (-counts[name], name))
+    missed = next(name for name in absent if not name.startswith(STANDARD))
+    return [("a class that no other depends on", leaf), (f"a class with {counts[near]:,} dependants", near),
+            ("the class with most", used[0])], [("the class that most miss", missed), ("java/lang/String", b"java/lang/String")]
+
+
+class Session:
+    def __init__(self, folder):
+        self.process = subprocess.Popen([common.JCLINK, "session"], cwd=folder, stdin=subprocess.PIPE, stdout=subprocess.PIPE)
+
+    def send(self, lines):
+        self.process.stdin.write(b"".join(line + b"\n" for line in lines))
+        self.process.stdin.flush()
+
+    def answers(self, lines):
+        """The answers to lines that each have one, and the seconds until the last of them."""
+        start = time.perf_counter()
+        writer = threading.Thread(target=self.send, args=(lines,))
+        writer.start()
+        told = [self.process.stdout.readline() for _ in lines]
+        seconds = time.perf_counter() - start
+        writer.join()
+        return told, seconds
+
+    def memory(self):
+        text = pathlib.Path(f"/proc/{self.process.pid}/status").read_text()
+        return int(text.split("VmHWM:")[1].split()[0]) / 1000
+
+    def close(self):
+        self.send([b"end"])
+        _, _, usage = os.wait4(self.process.pid, 0)
+        self.process.returncode = 0
+        return usage.ru_utime + usage.ru_stime
+
+
+def edits_of(kept, fresh, paths):
+    """Each edit as its words: what is told of it, and its lines in order."""
+    for what, name in kept:
+        yield f"replace {what}", [b"replace " + paths[name]]
+    what, name = kept[-1]
+    yield f"remove {what}, and add it", [b"remove " + paths[name], b"add " + paths[name]]
+    for what, name in fresh:
+        path = b"fresh/" + name + b".class"
+        yield f"add {what}, and remove it", [b"add " + path, b"remove " + path]
+
+
+def counts_told(folder, lines):
+    """Parts and names asked for by each of these lines."""
+    letters = {b"add": b"a", b"replace": b"r", b"remove": b"d"}
+    frames = [b""]
+    for line in lines:
+        word, path = line.split(b" ", 1)
+        data = b"" if word == b"remove" else (folder / os.fsdecode(path)).read_bytes()
+        frames += [letters[word] + path, data]
+    done = subprocess.run([common.PROGRAM, "edits"], input=common.framed([common.framed(frames)]), capture_output=True, check=True)
+    return [tuple(map(int, line.split()[1:])) for line in done.stdout.splitlines() if line.startswith(b"ok ")]
+
+
+def write_fresh(folder, fresh):
+    for _, name in fresh:
+        path = folder / "fresh" / os.fsdecode(name + b".class")
+        path.parent.mkdir(parents=True, exist_ok=True)
+        path.write_bytes(common.class_file(name=name))
+
+
+def main():
+    folder = pathlib.Path(sys.argv[1])
+    paths, given = {}, {}
+    for path in sorted(folder.rglob("*.class")):
+        names = ClassNames(path.read_bytes())
+        paths.setdefault(names.name, bytes(path.relative_to(folder)))
+        given.setdefault(names.name, names)
+    counts = count_dependants(given)
+    kept, fresh = choose(given, counts)
+    write_fresh(folder, fresh)
+    adds = [b"add " + path for path in sorted(paths.values())]
+    edits = list(edits_of(kept, fresh, paths))
+    session = Session(folder)
+    told, seconds = session.answers(adds)
+    assert set(told) == {b"ok\n"}, collections.Counter(told)
+    memory = session.memory()
+    rows = []
+    for what, lines in edits:
+        rounds = [[session.answers([line]) for line in lines] for _ in range(TIMES)]
+        assert all(answer == [b"ok\n"] for one in rounds for answer, _ in one), rounds
+        rows.append((what, [min(one[at][1] for one in rounds) * 1000 for at in range(len(lines))]))
+    cpu = session.close()
+    done = counts_told(folder, adds + [line for _, lines in edits for line in lines])
+    first, rest = done[:len(adds)], iter(done[len(adds):])
+    print(f"{len(adds)} files added: {sum(made for made, _ in first)} parts, {sum(asks for _, asks in first)} asks, {seconds:.1f} seconds, {memory:.0f} MB; in all {cpu:.1f} seconds of a processor\n")
+    print("| edit | parts | asks | milliseconds |\n|---|---|---|---|")
+    for what, times in rows:
+        counts = [next(rest) for _ in times]
+        print(f"| {what} | " + " | ".join(", ".join(texts) for texts in (
+            [f"{made:,}" for made, _ in counts], [f"{asks:,}" for _, asks in counts], [f"{one:.3f}" for one in times])) + " |")
+
+
+if __name__ == "__main__":
+    main()
