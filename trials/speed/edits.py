@@ -95,8 +95,14 @@ class Session:
         self.process.stdin.write(b"".join(line + b"\n" for line in lines))
         self.process.stdin.flush()
 
+    def answer(self, line):
+        """The answer to a line that has one, and the seconds until it came."""
+        start = time.perf_counter()
+        self.send([line])
+        return self.process.stdout.readline(), time.perf_counter() - start
+
     def answers(self, lines):
-        """The answers to lines that each have one, and the seconds until the last of them."""
+        """The answers to many lines, and the seconds until the last of them."""
         start = time.perf_counter()
         writer = threading.Thread(target=self.send, args=(lines,))
         writer.start()
@@ -116,14 +122,14 @@ class Session:
         return usage.ru_utime + usage.ru_stime
 
 
-def edits_of(kept, fresh, paths):
+def edits_of(kept, fresh, paths, beside):
     """Each edit as its words: what is told of it, and its lines in order."""
     for what, name in kept:
         yield f"replace {what}", [b"replace " + paths[name]]
     what, name = kept[-1]
     yield f"remove {what}, and add it", [b"remove " + paths[name], b"add " + paths[name]]
     for what, name in fresh:
-        path = b"fresh/" + name + b".class"
+        path = bytes(beside / os.fsdecode(name + b".class"))
         yield f"add {what}, and remove it", [b"add " + path, b"remove " + path]
 
 
@@ -139,15 +145,14 @@ def counts_told(folder, lines):
     return [tuple(map(int, line.split()[1:])) for line in done.stdout.splitlines() if line.startswith(b"ok ")]
 
 
-def write_fresh(folder, fresh):
+def write_fresh(beside, fresh):
     for _, name in fresh:
-        path = folder / "fresh" / os.fsdecode(name + b".class")
+        path = beside / os.fsdecode(name + b".class")
         path.parent.mkdir(parents=True, exist_ok=True)
         path.write_bytes(common.class_file(name=name))
 
 
-def main():
-    folder = pathlib.Path(sys.argv[1])
+def measure(folder, beside):
     paths, given = {}, {}
     for path in sorted(folder.rglob("*.class")):
         names = ClassNames(path.read_bytes())
@@ -155,27 +160,32 @@ def main():
         given.setdefault(names.name, names)
     counts = count_dependants(given)
     kept, fresh = choose(given, counts)
-    write_fresh(folder, fresh)
+    write_fresh(beside, fresh)
     adds = [b"add " + path for path in sorted(paths.values())]
-    edits = list(edits_of(kept, fresh, paths))
+    edits = list(edits_of(kept, fresh, paths, beside))
     session = Session(folder)
     told, seconds = session.answers(adds)
     assert set(told) == {b"ok\n"}, collections.Counter(told)
     memory = session.memory()
-    rows = []
+    rows, idle = [], min(session.answer(b"")[1] for _ in range(10 * TIMES))
     for what, lines in edits:
-        rounds = [[session.answers([line]) for line in lines] for _ in range(TIMES)]
-        assert all(answer == [b"ok\n"] for one in rounds for answer, _ in one), rounds
+        rounds = [[session.answer(line) for line in lines] for _ in range(TIMES)]
+        assert all(answer == b"ok\n" for one in rounds for answer, _ in one), rounds
         rows.append((what, [min(one[at][1] for one in rounds) * 1000 for at in range(len(lines))]))
     cpu = session.close()
     done = counts_told(folder, adds + [line for _, lines in edits for line in lines])
     first, rest = done[:len(adds)], iter(done[len(adds):])
-    print(f"{len(adds)} files added: {sum(made for made, _ in first)} parts, {sum(asks for _, asks in first)} asks, {seconds:.1f} seconds, {memory:.0f} MB; in all {cpu:.1f} seconds of a processor\n")
+    print(f"{len(adds)} files added: {sum(made for made, _ in first)} parts, {sum(asks for _, asks in first)} asks, {seconds:.1f} seconds, {memory:.0f} MB; in all {cpu:.1f} seconds of a processor; a line that asks for nothing is answered in {idle * 1000:.3f} milliseconds\n")
     print("| edit | parts | asks | milliseconds |\n|---|---|---|---|")
     for what, times in rows:
         counts = [next(rest) for _ in times]
         print(f"| {what} | " + " | ".join(", ".join(texts) for texts in (
             [f"{made:,}" for made, _ in counts], [f"{asks:,}" for _, asks in counts], [f"{one:.3f}" for one in times])) + " |")
+
+
+def main():
+    with common.Workplace() as beside:
+        measure(pathlib.Path(sys.argv[1]), beside)
 
 
 if __name__ == "__main__":
