@@ -1,5 +1,5 @@
 -- The text of the class that was found is that of its part.
-use Rattle.std.proofs.Common.{◌≡◌, ℕ, List, Option, Some, None, refl, sym, subst}
+use Rattle.std.proofs.Common.{List, Option, Some, None, refl, sym, subst}
 use Rattle.jc_classes.specs.Facts.{Facts}
 use Rattle.jc_classes.specs.Names.{Name}
 use Rattle.jc_held.specs.declared.classes.Class.{Class}

@@ -1,12 +1,12 @@
 -- What is held of files is their report.
-use Rattle.std.proofs.Common.{◌≡◌, ◌∙◌, ◌⊎◌, inl, inr, ⊎_elim, Bool, true, false, cond, List, [], ◌∷◌, map, Option, Some, None, refl, ap, sym, subst}
+use Rattle.std.proofs.Common.{◌≡◌, ◌∙◌, inl, inr, ⊎_elim, Bool, true, false, cond, List, [], ◌∷◌, map, Option, Some, refl, ap, sym, subst}
 use Rattle.std.specs.FinMap as fin
-use Rattle.std.specs.List.{All, Contains, filter, flat_map}
+use Rattle.std.specs.List.{Contains, filter, flat_map}
 use Rattle.std.specs.List.Sorted.{IsStrictlySortedBy}
 use Rattle.std.proofs.lemmas.Bool.{cases_Bool}
 use Rattle.jc_base.specs.Bytes.{bytes_cmp, same_bytes}
 use Rattle.jc_base.proofs.Membership.{Has, has_from, from_has, has-flat_map, has-from_flat_map, has-from_map, has-map}
-use Rattle.jc_base.proofs.maps.FiniteMaps.{entry_from_get, get_from_entry, get-insert, keys_rise, same_bytes_decides, same_bytes_equiv}
+use Rattle.jc_base.proofs.maps.FiniteMaps.{entry_from_get, get_from_entry, get-insert, keys_rise, same_bytes_decides}
 use Rattle.jc_classes.specs.Facts.{Facts}
 use Rattle.jc_classes.specs.Names.{Name, name_cmp}
 use Rattle.jc_classes.specs.Parts.{IsPart, Part}
@@ -21,7 +21,7 @@ use Rattle.jc_report.specs.Reports.{Class, GivesRow, IsClassOf, IsReport, Report
 use Rattle.jc_report.specs.RowKeyLaws.{RowsArePlain}
 use Rattle.jc_report.specs.RowKeys.{IsPlain, row_key, row_of}
 use Rattle.jc_report.specs.Rows.{AreRows, Row}
-use Rattle.jc_report.proofs.reports.OneReport.{all_has, report_one}
+use Rattle.jc_report.proofs.reports.OneReport.{all_has}
 use Rattle.jc_report.proofs.row_keys.RowsOfKeys.{rows_of_keys}
 use Rattle.jc_report.proofs.rows.RowsAreOne.{are_rows_one}
 

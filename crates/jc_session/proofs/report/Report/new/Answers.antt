@@ -1,4 +1,4 @@
-use Rattle.std.proofs.Common.{ap, refl, sym, subst, ◌∙◌}
+use Rattle.std.proofs.Common.{ap, refl, sym, ◌∙◌}
 use Rattle.std.specs.FinMap as fin
 use Rattle.jc_held.specs.Linkages.{Linkage}
 use Rattle.jc_link.specs.Tables.{class_at}
