@@ -33,7 +33,19 @@ fn told_of_line(
 ) -> Result<Option<String>> {
     let (tokens, wanted) = tokens_of(alloc, line)?;
     let wanted = without_comment(wanted.unwrap_or(""));
-    match tokens.as_slice() {
+    told_of_call(alloc, names, session, line, tokens.as_slice(), wanted)
+}
+
+/// What the call of these words answers otherwise than it has to.
+fn told_of_call(
+    alloc: Global,
+    names: &Names,
+    session: &mut Session,
+    line: &str,
+    words: &[Token<'_>],
+    wanted: &str,
+) -> Result<Option<String>> {
+    match words {
         [
             Token::Word("classes"),
             Token::Word(count),

@@ -2,120 +2,100 @@
 
 use crate::dialogue::NamedFile;
 use anyhow::{Result, bail};
-use jc_base::{ByteMap, MemOutput, NoMemory};
-use jc_file::parse;
-use jc_link::{Facts, Meter, Outside, OutsideError, Table, gather, make_part};
-use jc_report::write_part;
+use jc_base::{MemOutput, NoMemory};
+use jc_file::{ParseError, parse};
+use jc_link::{Facts, Meter, Outside, OutsideError, Part, Table, gather, make_part};
+use jc_report::{write_name, write_part};
 use jc_text::TextWriter;
 use std::alloc::{AllocError, Global};
 
 /// So much room a text has.
 const ROOM: usize = 1 << 20;
 
-/// A table of the classes that files give.
-#[derive(Drop)]
-struct World {
-    table: Table,
-    meter: Meter,
-    outside: Outside,
-    names: ByteMap<()>,
-}
-
-impl World {
-    fn new(alloc: Global) -> Result<World, NoMemory> {
-        let (table, meter) = Table::new(alloc)?;
-        Ok(World {
-            table,
-            meter,
-            outside: Outside::standard(),
-            names: ByteMap::new(alloc),
-        })
-    }
-
-    /// Adds a file, where none with a lesser path gives the class.
-    fn add(&mut self, alloc: Global, file: &NamedFile) -> Result<()> {
-        let Ok(view) = parse(alloc, &file.bytes) else {
-            bail!("no readable class file");
-        };
-        let Ok(facts) = Facts::of(alloc, &view, file.name.as_bytes()) else {
-            bail!("no memory");
-        };
-        let name = Vec::from_slice(alloc, facts.name())?;
-        if self.names.contains_key(&name) && self.has_before(&name, file.name.as_bytes()) {
-            return Ok(());
-        }
-        let (Ok(_), Ok(_)) = (self.table.put(facts), self.names.insert(name, ())) else {
-            bail!("no memory");
-        };
-        Ok(())
-    }
-
-    fn has_before(&mut self, name: &[u8], path: &[u8]) -> bool {
-        match self.table.get(name, &mut self.meter) {
-            Some(facts) => facts.path() < path,
-            None => false,
-        }
-    }
-
-    /// Writes the part of a class, and says whether it is circular.
-    fn write(
-        &mut self,
-        alloc: Global,
-        out: &mut TextWriter<'_, MemOutput>,
-        name: &[u8],
-    ) -> Result<bool, NoMemory> {
-        let closure = gather(alloc, &self.table, &self.outside, name, &mut self.meter)?;
-        let part = make_part(alloc, &closure, &mut self.meter)?;
-        if let Some(facts) = self.table.get(name, &mut self.meter) {
-            write_part(out, facts, &part);
-        }
-        Ok(part.is_circular())
-    }
-}
-
 /// The parts of the classes that files give, by name, and which of them are circular.
 pub(crate) fn world_text(alloc: Global, files: &[NamedFile]) -> Result<Vec<u8>> {
-    let Ok(mut world) = World::new(alloc) else {
-        bail!("no memory");
-    };
-    for file in files {
-        world.add(alloc, file)?;
+    match text_of_world(alloc, files) {
+        Ok(text) => Ok(text),
+        Err(_) => bail!("no memory, or no room"),
     }
+}
+
+fn text_of_world(alloc: Global, files: &[NamedFile]) -> Result<Vec<u8>, NoMemory> {
     let Ok(mut output) = MemOutput::new(alloc, ROOM) else {
-        bail!("no memory");
+        return Err(NoMemory);
     };
-    write_world(alloc, &mut world, &mut output)?;
+    write_world(alloc, files, &mut output)?;
     Ok(Vec::from_slice(alloc, output.bytes())?)
 }
 
-fn write_world(alloc: Global, world: &mut World, output: &mut MemOutput) -> Result<()> {
+fn write_world(alloc: Global, files: &[NamedFile], output: &mut MemOutput) -> Result<(), NoMemory> {
+    let (table, mut meter) = table_of(alloc, files)?;
     let mut out = TextWriter::new(output);
+    write_parts(alloc, &mut out, &table, &mut meter)?;
+    match out.finish() {
+        Ok(()) => Ok(()),
+        Err(_) => Err(NoMemory),
+    }
+}
+
+fn write_parts(
+    alloc: Global,
+    out: &mut TextWriter<'_, MemOutput>,
+    table: &Table,
+    meter: &mut Meter,
+) -> Result<(), NoMemory> {
     let mut circular = Vec::new(alloc);
-    for name in names_of(alloc, world)? {
-        let Ok(is_circular) = world.write(alloc, &mut out, &name) else {
-            bail!("no memory");
-        };
-        if is_circular {
-            circular.push(name)?;
+    for facts in table.classes() {
+        let part = part_of(alloc, table, facts.name(), meter)?;
+        write_part(out, facts, &part);
+        if part.is_circular() {
+            circular.push(facts.name())?;
         }
     }
     out.text(b"[circular]\n");
     for name in &circular {
-        out.shown(name);
-        out.text(b"\n");
+        write_name(out, name);
     }
-    match out.finish() {
-        Ok(()) => Ok(()),
-        Err(_) => bail!("no room"),
+    Ok(())
+}
+
+fn part_of(alloc: Global, table: &Table, name: &[u8], meter: &mut Meter) -> Result<Part, NoMemory> {
+    let closure = gather(alloc, table, &Outside::standard(), name, meter)?;
+    make_part(alloc, &closure, meter)
+}
+
+/// A table of the classes that files give: of several files with one class the one whose path is least
+/// gives it, and one that is unreadable gives none.
+fn table_of(alloc: Global, files: &[NamedFile]) -> Result<(Table, Meter), NoMemory> {
+    let (mut table, meter) = Table::new(alloc)?;
+    for file in files {
+        let path = file.name.as_bytes();
+        if let Some(facts) = facts_of(alloc, path, &file.bytes)? {
+            put_lesser(&mut table, facts, path)?;
+        }
+    }
+    Ok((table, meter))
+}
+
+fn facts_of(alloc: Global, path: &[u8], bytes: &[u8]) -> Result<Option<Facts>, NoMemory> {
+    match parse(alloc, bytes) {
+        Ok(view) => Ok(Some(Facts::of(alloc, &view, path)?)),
+        Err(ParseError::NoMemory) => Err(NoMemory),
+        Err(_) => Ok(None),
     }
 }
 
-fn names_of(alloc: Global, world: &World) -> Result<Vec<Vec<u8>>> {
-    let mut names = Vec::new(alloc);
-    for name in world.names.keys() {
-        names.push(Vec::from_slice(alloc, name)?)?;
+/// Puts the facts of the file at a path into the table, unless one with a lesser path gives their class.
+fn put_lesser(table: &mut Table, facts: Facts, path: &[u8]) -> Result<(), NoMemory> {
+    let before = match table.put(facts) {
+        Ok(Some(before)) => before,
+        Ok(None) => return Ok(()),
+        Err(_) => return Err(NoMemory),
+    };
+    if before.path() < path && table.put(before).is_err() {
+        return Err(NoMemory);
     }
-    Ok(names)
+    Ok(())
 }
 
 /// Whether the prefixes of all lines but the first cover the name in the first, or why they are refused.

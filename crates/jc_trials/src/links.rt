@@ -1,61 +1,12 @@
 //! The parts of the classes of worlds.
 
 use crate::frames::Frames;
-use jc_base::{ByteMap, NoMemory, Output};
+use jc_base::{NoMemory, Output};
 use jc_file::{ParseError, parse};
-use jc_link::{Facts, Meter, Outside, Table, gather, make_part};
-use jc_report::write_part;
+use jc_link::{Facts, Meter, Outside, Part, Table, gather, make_part};
+use jc_report::{write_name, write_part};
 use jc_text::TextWriter;
 use std::alloc::Global;
-
-/// The classes of a world, and what is counted of its table.
-#[derive(Drop)]
-struct World {
-    table: Table,
-    meter: Meter,
-    names: ByteMap<()>,
-}
-
-impl World {
-    /// The world of a frame: in it stand, in the order of their paths, frames of a path and of a file's
-    /// bytes by turns. A file is passed over where it is unreadable or an earlier one gives its class.
-    fn of(alloc: Global, frame: &[u8]) -> Result<World, NoMemory> {
-        let (table, meter) = Table::new(alloc)?;
-        let mut world = World {
-            table,
-            meter,
-            names: ByteMap::new(alloc),
-        };
-        let mut path: Option<&[u8]> = None;
-        for piece in Frames::new(frame) {
-            path = match path {
-                None => Some(piece),
-                Some(path) => {
-                    world.add(alloc, path, piece)?;
-                    None
-                }
-            };
-        }
-        Ok(world)
-    }
-
-    fn add(&mut self, alloc: Global, path: &[u8], bytes: &[u8]) -> Result<(), NoMemory> {
-        let view = match parse(alloc, bytes) {
-            Ok(view) => view,
-            Err(ParseError::NoMemory) => return Err(NoMemory),
-            Err(_) => return Ok(()),
-        };
-        if self.names.contains_key(view.name()) {
-            return Ok(());
-        }
-        let name = Vec::from_slice(alloc, view.name())?;
-        let facts = Facts::of(alloc, &view, path)?;
-        match (self.table.put(facts), self.names.insert(name, ())) {
-            (Ok(_), Ok(_)) => Ok(()),
-            _ => Err(NoMemory),
-        }
-    }
-}
 
 /// Writes for each frame the parts of its classes by name, which of them are circular, and a line `end`.
 pub(crate) fn write_links<W: Output>(
@@ -64,7 +15,8 @@ pub(crate) fn write_links<W: Output>(
     input: &[u8],
 ) -> Result<(), NoMemory> {
     for frame in Frames::new(input) {
-        write_world(alloc, out, World::of(alloc, frame)?)?;
+        let (table, mut meter) = table_of(alloc, frame)?;
+        write_world(alloc, out, &table, &mut meter)?;
         out.text(b"end\n");
     }
     Ok(())
@@ -73,29 +25,20 @@ pub(crate) fn write_links<W: Output>(
 fn write_world<W: Output>(
     alloc: Global,
     out: &mut TextWriter<'_, W>,
-    world: World,
+    table: &Table,
+    meter: &mut Meter,
 ) -> Result<(), NoMemory> {
-    let World {
-        table,
-        mut meter,
-        names,
-    } = world;
-    let outside = Outside::standard();
     let mut circular = Vec::new(alloc);
-    for name in names.keys() {
-        let closure = gather(alloc, &table, &outside, name, &mut meter)?;
-        let part = make_part(alloc, &closure, &mut meter)?;
-        if let Some(facts) = table.get(name, &mut meter) {
-            write_part(out, facts, &part);
-        }
+    for facts in table.classes() {
+        let part = part_of(alloc, table, facts.name(), meter)?;
+        write_part(out, facts, &part);
         if part.is_circular() {
-            circular.push(Vec::from_slice(alloc, name)?)?;
+            circular.push(facts.name())?;
         }
     }
     out.text(b"[circular]\n");
     for name in &circular {
-        out.shown(name);
-        out.text(b"\n");
+        write_name(out, name);
     }
     Ok(())
 }
@@ -108,14 +51,9 @@ pub(crate) fn write_link<W: Output>(
     frame: &[u8],
     name: &[u8],
 ) -> Result<u64, NoMemory> {
-    let World {
-        table,
-        mut meter,
-        ..
-    } = World::of(alloc, frame)?;
-    let closure = gather(alloc, &table, &Outside::standard(), name, &mut meter)?;
+    let (table, mut meter) = table_of(alloc, frame)?;
+    let part = part_of(alloc, &table, name, &mut meter)?;
     let asks = meter.asks();
-    let part = make_part(alloc, &closure, &mut meter)?;
     if let Some(facts) = table.get(name, &mut meter) {
         write_part(out, facts, &part);
     }
@@ -125,17 +63,56 @@ pub(crate) fn write_link<W: Output>(
 /// Makes the parts of all classes of a world, and tells how many there are, how many names were asked
 /// for, and how many answers the parts have.
 pub(crate) fn count_links(alloc: Global, frame: &[u8]) -> Result<(u64, u64, u64), NoMemory> {
-    let World {
-        table,
-        mut meter,
-        names,
-    } = World::of(alloc, frame)?;
-    let outside = Outside::standard();
+    let (table, mut meter) = table_of(alloc, frame)?;
+    let answers = count_answers(alloc, &table, &mut meter)?;
+    Ok((meter.made(), meter.asks(), answers))
+}
+
+fn count_answers(alloc: Global, table: &Table, meter: &mut Meter) -> Result<u64, NoMemory> {
     let mut answers = 0u64;
-    for name in names.keys() {
-        let closure = gather(alloc, &table, &outside, name, &mut meter)?;
-        let part = make_part(alloc, &closure, &mut meter)?;
+    for facts in table.classes() {
+        let part = part_of(alloc, table, facts.name(), meter)?;
         answers = answers.wrapping_add(part.answers().len() as u64);
     }
-    Ok((meter.made(), meter.asks(), answers))
+    Ok(answers)
+}
+
+/// The part of a class of a table, with the standard prefixes outside.
+fn part_of(alloc: Global, table: &Table, name: &[u8], meter: &mut Meter) -> Result<Part, NoMemory> {
+    let closure = gather(alloc, table, &Outside::standard(), name, meter)?;
+    make_part(alloc, &closure, meter)
+}
+
+/// The classes of the world of a frame: in it stand, in the order of their paths, frames of a path and of
+/// a file's bytes by turns. A file is passed over where it is unreadable or an earlier one gives its class.
+fn table_of(alloc: Global, frame: &[u8]) -> Result<(Table, Meter), NoMemory> {
+    let (mut table, meter) = Table::new(alloc)?;
+    let mut frames = Frames::new(frame);
+    while let (Some(path), Some(bytes)) = (frames.next(), frames.next()) {
+        if let Some(facts) = facts_of(alloc, path, bytes)? {
+            put_first(&mut table, facts)?;
+        }
+    }
+    Ok((table, meter))
+}
+
+fn facts_of(alloc: Global, path: &[u8], bytes: &[u8]) -> Result<Option<Facts>, NoMemory> {
+    match parse(alloc, bytes) {
+        Ok(view) => Ok(Some(Facts::of(alloc, &view, path)?)),
+        Err(ParseError::NoMemory) => Err(NoMemory),
+        Err(_) => Ok(None),
+    }
+}
+
+/// Puts the facts into the table, unless their class has some.
+fn put_first(table: &mut Table, facts: Facts) -> Result<(), NoMemory> {
+    let before = match table.put(facts) {
+        Ok(Some(before)) => before,
+        Ok(None) => return Ok(()),
+        Err(_) => return Err(NoMemory),
+    };
+    match table.put(before) {
+        Ok(_) => Ok(()),
+        Err(_) => Err(NoMemory),
+    }
 }

@@ -33,13 +33,14 @@ use counts::{Counted, sum_of_rounds};
 use edits::write_lists;
 use frames::Frames;
 use instructions::{write_code_faults, write_instructions};
-use jc_base::{NoMemory, StdOutput};
+use jc_base::{NoMemory, Output, StdOutput};
 use jc_file::{ClassView, ParseError, parse};
+use jc_report::write_refusal;
 use jc_text::TextWriter;
 use links::{count_links, write_link, write_links};
 use listings::write_listings;
 use std::alloc::Global;
-use std::io::{BufWriter, Read, Write};
+use std::io::{BufWriter, Read};
 use std::{env, io};
 use texts::kind_answer;
 use views::{write_fault_line, write_view};
@@ -48,59 +49,78 @@ use views::{write_fault_line, write_view};
 #[derive(Clone, Copy)]
 enum Asked {
     Parse,
-    Texts,
     Views,
     Faults,
     Instructions,
     CodeFaults,
 }
 
-fn write_name<W: Write>(out: &mut W, view: &ClassView<'_>) -> io::Result<()> {
-    write!(out, "ok ")?;
-    for byte in view.name() {
-        write!(out, "{byte:02x}")?;
-    }
-    writeln!(out)
+fn write_name<W: Output>(out: &mut TextWriter<'_, W>, view: &ClassView<'_>) {
+    out.text(b"ok ");
+    out.hexadecimal(view.name());
+    out.text(b"\n");
 }
 
-fn write_refusal<W: Write>(out: &mut W, asked: Asked, error: ParseError) -> io::Result<()> {
-    let word = match asked {
-        Asked::Parse => "",
-        _ => "refused ",
-    };
-    writeln!(out, "{word}{} {error:?}", error.code())
+fn write_refused<W: Output>(out: &mut TextWriter<'_, W>, asked: Asked, error: ParseError) {
+    match asked {
+        Asked::Parse => {}
+        _ => out.text(b"refused "),
+    }
+    write_refusal(out, error);
+    out.text(b"\n");
 }
 
-fn write_answer<W: Write>(
-    alloc: Global,
-    out: &mut W,
-    asked: Asked,
-    frame: &[u8],
-) -> io::Result<()> {
-    if let Asked::Texts = asked {
-        return writeln!(out, "{}", kind_answer(alloc, frame));
-    }
+fn write_answer<W: Output>(alloc: Global, out: &mut TextWriter<'_, W>, asked: Asked, frame: &[u8]) {
     match (parse(alloc, frame), asked) {
+        (Ok(view), Asked::Parse) => write_name(out, &view),
         (Ok(view), Asked::Views) => write_view(alloc, out, &view),
         (Ok(view), Asked::Faults) => write_fault_line(alloc, out, &view),
         (Ok(view), Asked::Instructions) => write_instructions(out, &view),
         (Ok(view), Asked::CodeFaults) => write_code_faults(alloc, out, &view),
-        (Ok(view), _) => write_name(out, &view),
-        (Err(error), _) => write_refusal(out, asked, error),
+        (Err(error), _) => write_refused(out, asked, error),
     }
 }
 
-fn answer_all<W: Write>(alloc: Global, out: &mut W, asked: Asked, input: &[u8]) -> io::Result<()> {
+fn write_answers<W: Output>(
+    alloc: Global,
+    out: &mut TextWriter<'_, W>,
+    asked: Asked,
+    input: &[u8],
+) {
     for frame in Frames::new(input) {
-        write_answer(alloc, out, asked, frame)?;
+        write_answer(alloc, out, asked, frame);
     }
-    out.flush()
+}
+
+fn write_kinds<W: Output>(alloc: Global, out: &mut TextWriter<'_, W>, input: &[u8]) {
+    for frame in Frames::new(input) {
+        out.text(kind_answer(alloc, frame));
+        out.text(b"\n");
+    }
+}
+
+/// Writes what still waits.
+fn finish<W: Output>(out: &mut TextWriter<'_, W>) -> io::Result<()> {
+    match out.finish() {
+        Ok(()) => Ok(()),
+        Err(_) => Err(io::Error::from(io::ErrorKind::Other)),
+    }
 }
 
 /// Prints the answers to all frames.
 fn print_answers(rt: &(impl Print + AllocGlobal), asked: Asked, input: &[u8]) -> io::Result<()> {
-    let mut out = BufWriter::new(rt.alloc(), io::writer(rt))?;
-    answer_all(rt.alloc(), &mut out, asked, input)
+    let mut output = StdOutput::new(io::writer(rt));
+    let mut out = TextWriter::new(&mut output);
+    write_answers(rt.alloc(), &mut out, asked, input);
+    finish(&mut out)
+}
+
+/// Prints for each frame whether it is a text of its kind.
+fn print_kinds(rt: &(impl Print + AllocGlobal), input: &[u8]) -> io::Result<()> {
+    let mut output = StdOutput::new(io::writer(rt));
+    let mut out = TextWriter::new(&mut output);
+    write_kinds(rt.alloc(), &mut out, input);
+    finish(&mut out)
 }
 
 /// Prints the listings of all frames.
@@ -121,10 +141,7 @@ fn print_links(rt: &(impl Print + AllocGlobal), input: &[u8]) -> io::Result<()> 
     let mut output = StdOutput::new(io::writer(rt));
     let mut out = TextWriter::new(&mut output);
     write_links(rt.alloc(), &mut out, input).map_err(out_of_memory)?;
-    match out.finish() {
-        Ok(()) => Ok(()),
-        Err(_) => Err(io::Error::from(io::ErrorKind::Other)),
-    }
+    finish(&mut out)
 }
 
 /// Prints what comes of the lists of edits of all frames.
@@ -140,10 +157,7 @@ fn print_link(rt: &(impl Print + AllocGlobal), name: &str, input: &[u8]) -> io::
     let asks = write_link(rt.alloc(), &mut out, input, name.as_bytes()).map_err(out_of_memory)?;
     out.decimal(asks);
     out.text(b" asks\n");
-    match out.finish() {
-        Ok(()) => Ok(()),
-        Err(_) => Err(io::Error::from(io::ErrorKind::Other)),
-    }
+    finish(&mut out)
 }
 
 /// Prints what is counted of the world that the whole input is.
@@ -173,7 +187,7 @@ fn main(rt: HostRuntime) -> io::Result<()> {
     let rounds = arguments.next();
     match asked.as_str() {
         "parse" => print_answers(&rt, Asked::Parse, &input),
-        "texts" => print_answers(&rt, Asked::Texts, &input),
+        "texts" => print_kinds(&rt, &input),
         "views" => print_answers(&rt, Asked::Views, &input),
         "faults" => print_answers(&rt, Asked::Faults, &input),
         "instructions" => print_answers(&rt, Asked::Instructions, &input),

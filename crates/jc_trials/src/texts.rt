@@ -20,10 +20,10 @@ fn is_of_its_kind(alloc: Global, frame: &[u8]) -> Result<bool, NoMemory> {
 }
 
 /// `yes` or `no`, or that memory was refused.
-pub(crate) fn kind_answer(alloc: Global, frame: &[u8]) -> &'static str {
+pub(crate) fn kind_answer(alloc: Global, frame: &[u8]) -> &'static [u8] {
     match is_of_its_kind(alloc, frame) {
-        Ok(true) => "yes",
-        Ok(false) => "no",
-        Err(_) => "no memory",
+        Ok(true) => b"yes",
+        Ok(false) => b"no",
+        Err(_) => b"no memory",
     }
 }
