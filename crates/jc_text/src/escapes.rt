@@ -1,7 +1,7 @@
 //! Names, texts and paths as printable ASCII.
 
 ghost use Rattle.std.specs.Prelude.{◌≡◌, ◌≤◌, length, take, drop};
-ghost use Rattle.std.specs.List.{flat_map, prefix_len};
+ghost use Rattle.std.specs.List.{flat_map, list_all, prefix_len};
 ghost use Rattle.jc_base.specs.CodeUnits.{units_before};
 ghost use Rattle.jc_text.specs.Sends.{Sends};
 ghost use Rattle.jc_text.specs.Escapes.{is_plain, path_byte_text, path_text, shown, unit_text};
@@ -16,7 +16,7 @@ impl<'w, W: Output> TextWriter<'w, W> {
     pub fn shown(&mut self, text: &[u8])
         ensures { Sends W.written W.failures self.old self.new (shown text.now) }
     {
-        if plain_len(text) == text.len() {
+        if are_plain(text) {
             self.text(text);
         } else if check_units(text).is_ok() {
             self.units(text);
@@ -92,6 +92,17 @@ fn split_plain(bytes: &[u8]) -> (&[u8], &[u8])
     ensures escaped { result.1.now ≡ drop (prefix_len is_plain bytes.now) bytes.now }
 {
     bytes.split_at(plain_len(bytes))
+}
+
+// Whether all bytes are plain. No byte ends the loop, so many can be looked at in one step.
+fn are_plain(text: &[u8]) -> bool
+    ensures { result ≡ list_all is_plain text.now }
+{
+    let mut plain = true;
+    for byte in text {
+        plain &= is_plain(u16::from(*byte));
+    }
+    plain
 }
 
 // How many bytes at the front are plain.

@@ -47,6 +47,7 @@ impl Pending {
     }
 
     /// Keeps more bytes, if there is room for them, and says whether there was.
+    #[inline]
     pub(crate) fn keep(&mut self, bytes: &[u8]) -> bool
         ensures kept { result ≡ true → self.new ≡ self.old ++ bytes.now }
         ensures full { result ≡ false → self.new ≡ self.old }

@@ -33,15 +33,12 @@ impl<'w, W: Output> TextWriter<'w, W> {
     }
 
     /// Hands over bytes as they are.
+    #[inline]
     pub fn text(&mut self, bytes: &[u8])
         ensures { Sends W.written W.failures self.old self.new bytes.now }
     {
-        if self.pending.keep(bytes) {
-            return;
-        }
-        self.flush();
         if !self.pending.keep(bytes) {
-            self.send(bytes);
+            self.text_without_room(bytes);
         }
     }
 
@@ -56,6 +53,18 @@ impl<'w, W: Output> TextWriter<'w, W> {
             Err(DeviceFault)
         } else {
             Ok(())
+        }
+    }
+
+    /// Writes what waits, and then the bytes too where they are more than the buffer holds.
+    #[cold]
+    #[inline(never)]
+    fn text_without_room(&mut self, bytes: &[u8])
+        ensures { Sends W.written W.failures self.old self.new bytes.now }
+    {
+        self.flush();
+        if !self.pending.keep(bytes) {
+            self.send(bytes);
         }
     }
 

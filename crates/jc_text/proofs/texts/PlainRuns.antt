@@ -2,9 +2,9 @@
 use Rattle.std.proofs.Common.{◌≡◌, ◌<◌, ◌++◌, ℕ, suc, true, false, List, [], ◌∷◌, length, take, drop, Option, Some, None, refl, sym, ap, ◌∙◌, subst, arith, inl, inr, length-append}
 use Rattle.std.specs.Prelude.{codes, is_some}
 use Rattle.std.specs.Int.{to_be_bytes, w16}
-use Rattle.std.specs.List.{flat_map, prefix_len, AllByRecursion}
+use Rattle.std.specs.List.{flat_map, list_all, prefix_len, AllByRecursion}
 use Rattle.std.specs.Option.{option_map_or}
-use Rattle.std.proofs.lemmas.Bool.{cases_Bool, ne_eqb}
+use Rattle.std.proofs.lemmas.Bool.{and_parts, cases_Bool, ne_eqb}
 use Rattle.std.proofs.lemmas.Bool.Decides.{nat_tests}
 use Rattle.jc_base.specs.ModifiedUtf8.{IsUnit, spelled}
 use Rattle.jc_base.specs.TextTests.{units_of}
@@ -104,17 +104,10 @@ record IsItself (text : List ℕ) : Type 0 where
   spelling : text ≡ spelled text
   shows : flat_map unit_text text ≡ text
 
-all_plain : (c : ℕ) (xs : List ℕ) → prefix_len is_plain (c ∷ xs) ≡ suc (length xs) → (is_plain c ≡ true) × (prefix_len is_plain xs ≡ length xs)
-all_plain c xs e =
-    elim (cases_Bool (is_plain c)) [
-      | inl hit ↦ (hit, omega (arith, prefix_yes c xs hit, e))
-      | inr miss ↦ absurd (omega (arith, prefix_no c xs miss, e))
-    ]
-
-plain_is_itself : (text : List ℕ) → prefix_len is_plain text ≡ length text → IsItself text
+plain_is_itself : (text : List ℕ) → list_all is_plain text ≡ true → IsItself text
 plain_is_itself [] e = record { units = tt; spelling = refl; shows = refl }
 plain_is_itself (c ∷ xs) e =
-    let first = all_plain c xs e in
+    let first = and_parts (is_plain c) (list_all is_plain xs) e in
     let rest = plain_is_itself xs first.1 in
     let bounds = plain_is_spelled c first.0 in
     record {
@@ -126,7 +119,7 @@ plain_is_itself (c ∷ xs) e =
 shown_by : (text units : List ℕ) → units_of text ≡ Some units → shown text ≡ flat_map unit_text units
 shown_by text units e = ap (λ o. option_map_or (flat_map unit_text) o (codes "!" ++ hexadecimal text)) e
 
-pub shown_plain : (text : List ℕ) → prefix_len is_plain text ≡ length text → shown text ≡ text
+pub shown_plain : (text : List ℕ) → list_all is_plain text ≡ true → shown text ≡ text
 shown_plain text e =
     let itself = plain_is_itself text e in
     shown_by text text ((units_decide text text).1 (itself.units, itself.spelling)) ∙ itself.shows

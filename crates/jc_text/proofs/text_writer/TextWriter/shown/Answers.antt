@@ -3,8 +3,8 @@ use Rattle.jc_text.proofs.Sending.{◌⟫◌, sends_equal}
 use Rattle.jc_text.proofs.texts.PlainRuns.{shown_plain, shown_spelled, shown_unspelled}
 use Rattle.jc_text.proofs.text_writer.TextWriter.shown.Goals as goal
 
-pub returns-then-plain_len-text : goal.returns-then-plain_len-text
-returns-then-plain_len-text g c = sends_equal (sym (shown_plain c.args.text.now (sym c.plain_len.ensures.length ∙ c.if-plain_len-text.true))) c.text.ensures
+pub returns-then-are_plain : goal.returns-then-are_plain
+returns-then-are_plain g c = sends_equal (sym (shown_plain c.args.text.now (sym c.are_plain.ensures ∙ c.if-are_plain.true))) c.text.ensures
 
 pub returns-then-is_ok : goal.returns-then-is_ok
 returns-then-is_ok g c =
