@@ -89,6 +89,27 @@ between_then a f x added mid new e g k b = (λ h. b.0 (e ∙ or_left a f h), λ 
     by false f true x e h g k = g (sym e)
     by false f false x e h g k = k h
 
+pub between_fewer : (a x y new : Bool) → (x ≡ true → y ≡ true) → Between a x new → Between a y new
+between_fewer a x y new g b = (b.0, λ h. by a (b.1 h))
+  where
+    by : (a : Bool) → (a || x) ≡ true → (a || y) ≡ true
+    by true e = refl
+    by false e = g e
+
+-- l, it is linked; k, it is kept; o, it is kept of the one class
+pub linked_anyway : (l s h k o : Bool) → (s ≡ true → k ≡ o) → (k ≡ true → l ≡ true) → (l || (s && (h && not o))) ≡ (l || (s && h))
+linked_anyway true s h k o g f = refl
+linked_anyway false false h k o g f = refl
+linked_anyway false true false k o g f = refl
+linked_anyway false true true k false g f = refl
+linked_anyway false true true k true g f = absurd (false≢true (f (g refl)))
+
+-- what is added there is added without looking
+pub added_anyway : (s h o : Bool) → (s && (h && not o)) ≡ true → (s && h) ≡ true
+added_anyway true true o e = refl
+added_anyway true false o e = absurd (false≢true e)
+added_anyway false h o e = absurd (false≢true e)
+
 -- ---- links that are undone
 
 -- k, it is kept; o, it is kept of the one class

@@ -7,21 +7,39 @@ ghost use Rattle.jc_classes.specs.Names.{Name, same_name};
 ghost use Rattle.jc_classes.specs.NameLists.{has};
 ghost use Rattle.jc_index.specs.Indexes.{Between};
 ghost use Rattle.jc_held.specs.Affected.{NoRepeat};
-ghost use Rattle.jc_held.specs.inside.Kept.{Relation, fresh_at, fresh_has, fresh_names, held_in, linked, names_by};
+ghost use Rattle.jc_held.specs.inside.Kept.{AreLinked, Relation, fresh_at, fresh_has, fresh_names, held_in, linked, names_by};
 
 use crate::kept::{Fresh, Kept};
 use crate::links::Links;
 use jc_base::{ByteMap, NoMemory};
 
-/// Links each class to what is to be kept of it. At want of memory some links may be there.
-pub(crate) fn link_fresh(links: &mut Links, fresh: &[Fresh]) -> Result<(), NoMemory>
+/// Links each class to what is to be kept of it, where what is kept lacks the name. At want of memory some links may
+/// be there.
+pub(crate) fn link_fresh(
+    links: &mut Links,
+    kept: &ByteMap<Kept>,
+    fresh: &[Fresh],
+) -> Result<(), NoMemory>
+    requires { AreLinked kept.now links.old }
     ensures ok { OnOk result ((r : Relation) (n d : Name) → linked r links.new n d ≡ (linked r links.old n d || fresh_has r fresh.now d n)) }
     ensures err { OnErr result ((r : Relation) (n d : Name) → Between (linked r links.old n d) (fresh_has r fresh.now d n) (linked r links.new n d)) }
 {
     for one in fresh {
-        links.link(&one.name, &one.kept)?;
+        link_one(links, kept, one)?;
     }
     Ok(())
+}
+
+/// The same for one class.
+fn link_one(links: &mut Links, kept: &ByteMap<Kept>, one: &Fresh) -> Result<(), NoMemory>
+    requires { (r : Relation) (n d : Name) → held_in r kept.now d n ≡ true → linked r links.old n d ≡ true }
+    ensures ok { OnOk result ((r : Relation) (n d : Name) → linked r links.new n d ≡ (linked r links.old n d || (same_name d one.now.name.items && has (names_by r one.now.kept) n))) }
+    ensures err { OnErr result ((r : Relation) (n d : Name) → Between (linked r links.old n d) (same_name d one.now.name.items && has (names_by r one.now.kept) n) (linked r links.new n d)) }
+{
+    match kept.get(&one.name) {
+        Some(now) => links.link_but(&one.name, &one.kept, now),
+        None => links.link(&one.name, &one.kept),
+    }
 }
 
 /// Takes back links that were perhaps made for classes, where what is kept of them lacks the name. No memory.

@@ -38,6 +38,22 @@ impl Links {
         self.required.link_all(&kept.required, class)
     }
 
+    /// Adds a class at each name that is kept of it and not of another. At want of memory it may be added at some
+    /// of them.
+    pub(crate) fn link_but(
+        &mut self,
+        class: &[u8],
+        kept: &Kept,
+        other: &Kept,
+    ) -> Result<(), NoMemory>
+        ensures ok { OnOk result ((r : Relation) (n d : Name) → linked r self.new n d ≡ (linked r self.old n d || (same_name d class.now && (has (names_by r kept.now) n && not (has (names_by r other.now) n))))) }
+        ensures err { OnErr result ((r : Relation) (n d : Name) → Between (linked r self.old n d) (same_name d class.now && (has (names_by r kept.now) n && not (has (names_by r other.now) n))) (linked r self.new n d)) }
+    {
+        self.reach.link_all_but(&kept.reach, &other.reach, class)?;
+        self.required
+            .link_all_but(&kept.required, &other.required, class)
+    }
+
     /// Takes a class out at each name that is kept of it. No memory.
     pub(crate) fn unlink(&mut self, class: &[u8], kept: &Kept)
         ensures { (r : Relation) (n d : Name) → linked r self.new n d ≡ (linked r self.old n d && not (same_name d class.now && has (names_by r kept.now) n)) }

@@ -63,7 +63,7 @@ fn prepare_with(
         name: key,
         kept: newcomer,
     } = make_one(alloc, table, outside, name, meter)?;
-    match link_fresh(links, &fresh) {
+    match link_fresh(links, kept, &fresh) {
         Ok(()) => {}
         Err(_) => {
             undo_links(links, kept, &fresh, name, &newcomer);
@@ -106,7 +106,7 @@ fn prepare_others(
     ensures linked { IfOk result (λ fresh. (r : Relation) (n d : Name) → linked r links.new n d ≡ (held_in r kept.now d n || fresh_has r fresh.items d n)) }
 {
     let fresh = make_fresh(alloc, table, outside, names, meter)?;
-    match link_fresh(links, &fresh) {
+    match link_fresh(links, kept, &fresh) {
         Ok(()) => Ok(fresh),
         Err(_) => {
             undo_fresh(links, kept, &fresh);

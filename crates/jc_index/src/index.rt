@@ -124,6 +124,33 @@ impl Index {
         Ok(())
     }
 
+    /// Adds a user at each of some names that others lack. At want of memory it may be added at some of them.
+    pub fn link_all_but(
+        &mut self,
+        names: &NameList,
+        others: &NameList,
+        user: &[u8],
+    ) -> Result<(), NoMemory>
+        ensures ok { OnOk result ((n d : Name) → has (users_of self.new n) d ≡ (has (users_of self.old n) d || (same_name d user.now && (has names.now n && not (has others.now n))))) }
+        ensures err { OnErr result ((n d : Name) → Between (has (users_of self.old n) d) (same_name d user.now && (has names.now n && not (has others.now n))) (has (users_of self.new n) d)) }
+    {
+        for name in names.names() {
+            self.link_unless(name, others, user)?;
+        }
+        Ok(())
+    }
+
+    /// Adds a user at a name, unless others have it.
+    fn link_unless(&mut self, name: &[u8], others: &NameList, user: &[u8]) -> Result<(), NoMemory>
+        ensures ok { OnOk result ((n d : Name) → has (users_of self.new n) d ≡ (has (users_of self.old n) d || (same_name d user.now && (same_name n name.now && not (has others.now n))))) }
+        ensures err { OnErr result (self.new ≡ self.old) }
+    {
+        if others.has(name) {
+            return Ok(());
+        }
+        self.link(name, user)
+    }
+
     /// Takes a user out at each of some names. No memory.
     pub fn unlink_all(&mut self, names: &NameList, user: &[u8])
         ensures { (n d : Name) → has (users_of self.new n) d ≡ (has (users_of self.old n) d && not (same_name d user.now && has names.now n)) }

@@ -15,6 +15,10 @@ use Rattle.jc_index.proofs.lists.Edited.{has_front}
 abbrev pub LinkedTo : (old new : UserLists) (names : List Name) (upto : ℕ) (user : Name) → Type 0
 LinkedTo old new names upto user = (n d : Name) → has (users_of new n) d ≡ (has (users_of old n) d || (same_name d user && has (take upto names) n))
 
+-- and this one at the first names, of those that pass a test
+abbrev pub LinkedWhere : (old new : UserLists) (names : List Name) (passes : Name → Bool) (upto : ℕ) (user : Name) → Type 0
+LinkedWhere old new names passes upto user = (n d : Name) → has (users_of new n) d ≡ (has (users_of old n) d || (same_name d user && (has (take upto names) n && passes n)))
+
 -- but this one at the first names, of those that pass a test
 abbrev pub UnlinkedTo : (old new : UserLists) (names : List Name) (passes : Name → Bool) (upto : ℕ) (user : Name) → Type 0
 UnlinkedTo old new names passes upto user = (n d : Name) → has (users_of new n) d ≡ (has (users_of old n) d && not (same_name d user && (has (take upto names) n && passes n)))
@@ -58,6 +62,49 @@ linked_some old new names i user so_far n d = (
   λ e. so_far n d ∙ more_true (has (users_of old n) d) (same_name d user && has (take i names) n) e,
   λ e. few_true (has (users_of old n) d) (same_name d user) (has (take i names) n) (has names n) (has_front names i n) (sym (so_far n d) ∙ e),
 )
+
+-- ---- links that were added where a test passes
+
+added_where : (a s h p x : Bool) → ((a || (s && (h && p))) || (s && (x && p))) ≡ (a || (s && ((h || x) && p)))
+added_where true s h p x = refl
+added_where false false h p x = refl
+added_where false true true true x = refl
+added_where false true true false true = refl
+added_where false true true false false = refl
+added_where false true false p x = refl
+
+pub linked_more_where : (old now new : UserLists) (names : List Name) (passes : Name → Bool) (i : ℕ) (name user : Name) → i < length names → name_at names i ≡ name → LinkedWhere old now names passes i user → ((n d : Name) → has (users_of new n) d ≡ (has (users_of now n) d || (same_name d user && (same_name n name && passes n)))) → LinkedWhere old new names passes (i + 1) user
+linked_more_where old now new names passes i name user l e so_far linked n d =
+    linked n d
+    ∙ ap (λ b. b || (same_name d user && (same_name n name && passes n))) (so_far n d)
+    ∙ added_where (has (users_of old n) d) (same_name d user) (has (take i names) n) (passes n) (same_name n name)
+    ∙ ap (λ b. has (users_of old n) d || (same_name d user && (b && passes n))) (sym (has_more names i name n l e))
+
+both_more : (h all p : Bool) → (h ≡ true → all ≡ true) → (h && p) ≡ true → (all && p) ≡ true
+both_more true all p f e = ap (λ b. b && p) (f refl) ∙ e
+both_more false all p f e = absurd (false≢true e)
+
+pub linked_some_where : (old new : UserLists) (names : List Name) (passes : Name → Bool) (i : ℕ) (user : Name) → LinkedWhere old new names passes i user → (n d : Name) → Between (has (users_of old n) d) (same_name d user && (has names n && passes n)) (has (users_of new n) d)
+linked_some_where old new names passes i user so_far n d = (
+  λ e. so_far n d ∙ more_true (has (users_of old n) d) (same_name d user && (has (take i names) n && passes n)) e,
+  λ e. few_true (has (users_of old n) d) (same_name d user) (has (take i names) n && passes n) (has names n && passes n) (both_more (has (take i names) n) (has names n) (passes n) (has_front names i n)) (sym (so_far n d) ∙ e),
+)
+
+-- a user is added at no name that others have, and at one that they lack
+pub had_by_others : (a x s o : Bool) → (x ≡ true → o ≡ true) → a ≡ (a || (s && (x && not o)))
+had_by_others true x s o f = refl
+had_by_others false x false o f = refl
+had_by_others false false true o f = refl
+had_by_others false true true true f = refl
+had_by_others false true true false f = absurd (false≢true (f refl))
+
+pub lacked_by_others : (a x s o : Bool) → (x ≡ true → o ≡ false) → (a || (x && s)) ≡ (a || (s && (x && not o)))
+lacked_by_others true x s o f = refl
+lacked_by_others false false true o f = refl
+lacked_by_others false false false o f = refl
+lacked_by_others false true false o f = refl
+lacked_by_others false true true false f = refl
+lacked_by_others false true true true f = absurd (false≢true (sym (f refl)))
 
 -- ---- links that were taken out
 
