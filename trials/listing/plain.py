@@ -7,12 +7,13 @@ file too, and the plain one judges nothing. The times are seconds of a processor
 Usage: plain.py [--jars FOLDER] [--seed N]. Without --jars it lists what it compiles from trials/sources. It
 builds jc_trials by `rt run`, and needs javac and rustc.
 """
+import pathlib
 import resource
 import subprocess
 import sys
 
 sys.dont_write_bytecode = True
-sys.path.insert(0, __file__.rsplit("/", 2)[0])
+sys.path.insert(0, str(pathlib.Path(__file__).resolve().parent.parent))
 import common
 
 RUNS = 5
