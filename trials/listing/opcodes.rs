@@ -1,4 +1,5 @@
-//! The opcodes by their numbers, with what follows each.
+//! The opcodes by their numbers, with what follows each: the table of `jc_code`, taken over. It is javap.py that
+//! compares mnemonics with those of another program.
 
 #[derive(Clone, Copy, PartialEq)]
 pub enum Operands {
