@@ -7,6 +7,11 @@ use Rattle.jc_classes.specs.Names.{Name, same_name}
 use Rattle.jc_classes.proofs.worlds.NameTests.{same_is, same_self}
 use Rattle.jc_held.specs.declared.kept.Kept.{Kept}
 use Rattle.jc_held.specs.inside.Kept.{KeptMap, Relation, held_in, names_by, names_kept}
+use Rattle.jc_held.specs.inside.Kept.Relation.{Reaches, Requires}
+
+pub by_relation : (P : Relation → Type 0) → P Reaches → P Requires → (r : Relation) → P r
+by_relation P a b Reaches = a
+by_relation P a b Requires = b
 
 pub kept_at : (kept : KeptMap) (x : Name) (k : Kept) (d : Name) → map.get (map.insert kept x k) d ≡ cond (same_name d x) (Some k) (map.get kept d)
 kept_at kept x k d = map.get-insert nat_list_cmp_total kept x k d

@@ -118,10 +118,8 @@ impl Index {
         ensures ok { OnOk result ((n d : Name) → has (users_of self.new n) d ≡ (has (users_of self.old n) d || (same_name d user.now && has names.now n))) }
         ensures err { OnErr result ((n d : Name) → Between (has (users_of self.old n) d) (same_name d user.now && has names.now n) (has (users_of self.new n) d)) }
     {
-        for name in names.names() {
-            self.link(name, user)?;
-        }
-        Ok(())
+        let none = NameList::new(self.alloc);
+        self.link_all_but(names, &none, user)
     }
 
     /// Adds a user at each of some names that others lack. At want of memory it may be added at some of them.

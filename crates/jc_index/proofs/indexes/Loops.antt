@@ -8,16 +8,12 @@ use Rattle.std.specs.declared.alloc.Global.{Global}
 use Rattle.jc_classes.specs.NameLists.{has}
 use Rattle.jc_classes.specs.Names.{Name, names_of, same_name}
 use Rattle.jc_classes.specs.Numbers.{name_at}
-use Rattle.jc_index.specs.Indexes.{UserLists, users_of, Linked, Between}
+use Rattle.jc_index.specs.Indexes.{UserLists, users_of, Between}
 use Rattle.jc_index.proofs.lists.Edited.{has_front}
 
--- how the users are those that they were, and this one at the first names
-abbrev pub LinkedTo : (old new : UserLists) (names : List Name) (upto : ℕ) (user : Name) → Type 0
-LinkedTo old new names upto user = (n d : Name) → has (users_of new n) d ≡ (has (users_of old n) d || (same_name d user && has (take upto names) n))
-
--- and this one at the first names, of those that pass a test
-abbrev pub LinkedWhere : (old new : UserLists) (names : List Name) (passes : Name → Bool) (upto : ℕ) (user : Name) → Type 0
-LinkedWhere old new names passes upto user = (n d : Name) → has (users_of new n) d ≡ (has (users_of old n) d || (same_name d user && (has (take upto names) n && passes n)))
+-- how the users are those that they were, and this one at the first names, of those that pass a test
+abbrev pub LinkedTo : (old new : UserLists) (names : List Name) (passes : Name → Bool) (upto : ℕ) (user : Name) → Type 0
+LinkedTo old new names passes upto user = (n d : Name) → has (users_of new n) d ≡ (has (users_of old n) d || (same_name d user && (has (take upto names) n && passes n)))
 
 -- but this one at the first names, of those that pass a test
 abbrev pub UnlinkedTo : (old new : UserLists) (names : List Name) (passes : Name → Bool) (upto : ℕ) (user : Name) → Type 0
@@ -32,21 +28,6 @@ has_more names i name n l e = list_any_more (same_name n) names i [] l ∙ ap (�
 
 -- ---- links that were added
 
-added_more : (a s h x : Bool) → ((a || (s && h)) || (x && s)) ≡ (a || (s && (h || x)))
-added_more true s h x = refl
-added_more false true true x = refl
-added_more false true false true = refl
-added_more false true false false = refl
-added_more false false h true = refl
-added_more false false h false = refl
-
-pub linked_more : (old now new : UserLists) (names : List Name) (i : ℕ) (name user : Name) → i < length names → name_at names i ≡ name → LinkedTo old now names i user → Linked now new name user → LinkedTo old new names (i + 1) user
-linked_more old now new names i name user l e so_far linked n d =
-    linked n d
-    ∙ ap (λ b. b || (same_name n name && same_name d user)) (so_far n d)
-    ∙ added_more (has (users_of old n) d) (same_name d user) (has (take i names) n) (same_name n name)
-    ∙ ap (λ b. has (users_of old n) d || (same_name d user && b)) (sym (has_more names i name n l e))
-
 more_true : (a b : Bool) → a ≡ true → (a || b) ≡ true
 more_true true b e = refl
 more_true false b e = absurd (false≢true e)
@@ -56,39 +37,39 @@ few_true true s h all f e = refl
 few_true false true h all f e = f e
 few_true false false h all f e = e
 
--- links at the first names are some of those at all of them
-pub linked_some : (old new : UserLists) (names : List Name) (i : ℕ) (user : Name) → LinkedTo old new names i user → (n d : Name) → Between (has (users_of old n) d) (same_name d user && has names n) (has (users_of new n) d)
-linked_some old new names i user so_far n d = (
-  λ e. so_far n d ∙ more_true (has (users_of old n) d) (same_name d user && has (take i names) n) e,
-  λ e. few_true (has (users_of old n) d) (same_name d user) (has (take i names) n) (has names n) (has_front names i n) (sym (so_far n d) ∙ e),
-)
+added_more : (a s h p x : Bool) → ((a || (s && (h && p))) || (s && (x && p))) ≡ (a || (s && ((h || x) && p)))
+added_more true s h p x = refl
+added_more false false h p x = refl
+added_more false true true true x = refl
+added_more false true true false true = refl
+added_more false true true false false = refl
+added_more false true false p x = refl
 
--- ---- links that were added where a test passes
-
-added_where : (a s h p x : Bool) → ((a || (s && (h && p))) || (s && (x && p))) ≡ (a || (s && ((h || x) && p)))
-added_where true s h p x = refl
-added_where false false h p x = refl
-added_where false true true true x = refl
-added_where false true true false true = refl
-added_where false true true false false = refl
-added_where false true false p x = refl
-
-pub linked_more_where : (old now new : UserLists) (names : List Name) (passes : Name → Bool) (i : ℕ) (name user : Name) → i < length names → name_at names i ≡ name → LinkedWhere old now names passes i user → ((n d : Name) → has (users_of new n) d ≡ (has (users_of now n) d || (same_name d user && (same_name n name && passes n)))) → LinkedWhere old new names passes (i + 1) user
-linked_more_where old now new names passes i name user l e so_far linked n d =
+pub linked_more : (old now new : UserLists) (names : List Name) (passes : Name → Bool) (i : ℕ) (name user : Name) → i < length names → name_at names i ≡ name → LinkedTo old now names passes i user → ((n d : Name) → has (users_of new n) d ≡ (has (users_of now n) d || (same_name d user && (same_name n name && passes n)))) → LinkedTo old new names passes (i + 1) user
+linked_more old now new names passes i name user l e so_far linked n d =
     linked n d
     ∙ ap (λ b. b || (same_name d user && (same_name n name && passes n))) (so_far n d)
-    ∙ added_where (has (users_of old n) d) (same_name d user) (has (take i names) n) (passes n) (same_name n name)
+    ∙ added_more (has (users_of old n) d) (same_name d user) (has (take i names) n) (passes n) (same_name n name)
     ∙ ap (λ b. has (users_of old n) d || (same_name d user && (b && passes n))) (sym (has_more names i name n l e))
 
 both_more : (h all p : Bool) → (h ≡ true → all ≡ true) → (h && p) ≡ true → (all && p) ≡ true
 both_more true all p f e = ap (λ b. b && p) (f refl) ∙ e
 both_more false all p f e = absurd (false≢true e)
 
-pub linked_some_where : (old new : UserLists) (names : List Name) (passes : Name → Bool) (i : ℕ) (user : Name) → LinkedWhere old new names passes i user → (n d : Name) → Between (has (users_of old n) d) (same_name d user && (has names n && passes n)) (has (users_of new n) d)
-linked_some_where old new names passes i user so_far n d = (
+-- links at the first names are some of those at all of them
+pub linked_some : (old new : UserLists) (names : List Name) (passes : Name → Bool) (i : ℕ) (user : Name) → LinkedTo old new names passes i user → (n d : Name) → Between (has (users_of old n) d) (same_name d user && (has names n && passes n)) (has (users_of new n) d)
+linked_some old new names passes i user so_far n d = (
   λ e. so_far n d ∙ more_true (has (users_of old n) d) (same_name d user && (has (take i names) n && passes n)) e,
   λ e. few_true (has (users_of old n) d) (same_name d user) (has (take i names) n && passes n) (has names n && passes n) (both_more (has (take i names) n) (has names n) (passes n) (has_front names i n)) (sym (so_far n d) ∙ e),
 )
+
+-- where there are no others
+pub no_others : (names others : List Name) (n : Name) → others ≡ [] → (has names n && not (has others n)) ≡ has names n
+no_others names others n e = ap (λ l. has names n && not (has l n)) e ∙ and_yes (has names n)
+  where
+    and_yes : (a : Bool) → (a && true) ≡ a
+    and_yes true = refl
+    and_yes false = refl
 
 -- a user is added at no name that others have, and at one that they lack
 pub had_by_others : (a x s o : Bool) → (x ≡ true → o ≡ true) → a ≡ (a || (s && (x && not o)))

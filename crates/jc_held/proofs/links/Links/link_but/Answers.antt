@@ -3,14 +3,10 @@ use Rattle.std.proofs.lemmas.Result.{on_err_weaker}
 use Rattle.jc_classes.specs.NameLists.{has}
 use Rattle.jc_classes.specs.Names.{Name, same_name}
 use Rattle.jc_index.specs.Indexes.{Between, users_of}
-use Rattle.jc_held.specs.inside.Kept.{Relation, linked, names_by}
-use Rattle.jc_held.specs.inside.Kept.Relation.{Reaches, Requires}
+use Rattle.jc_held.specs.inside.Kept.{linked, names_by}
+use Rattle.jc_held.proofs.KeptMaps.{by_relation}
 use Rattle.jc_held.proofs.Tests.{between_more}
 use Rattle.jc_held.proofs.links.Links.link_but.Goals as goal
-
-by_relation : (P : Relation → Type 0) → P Reaches → P Requires → (r : Relation) → P r
-by_relation P a b Reaches = a
-by_relation P a b Requires = b
 
 pub returns-clause-err : goal.returns-clause-err
 returns-clause-err c =

@@ -1,32 +1,27 @@
-use Rattle.std.proofs.Common.{◌≡◌, ◌<◌, ◌&&◌, ℕ, List, length, sym, subst, ◌∙◌, arith}
-use Rattle.std.proofs.lemmas.List.{length-map}
-use Rattle.std.specs.declared.vec.Vec.{Vec}
-use Rattle.std.specs.declared.alloc.Global.{Global}
-use Rattle.jc_classes.specs.Names.{Name, names_of, same_name}
-use Rattle.jc_classes.specs.Numbers.{name_at}
+use Rattle.std.proofs.Common.{◌≡◌, ◌&&◌, ◌||◌, not, ap, ◌∙◌, subst}
+use Rattle.std.proofs.lemmas.Result.{on_ok_weaker, on_err_weaker}
 use Rattle.jc_classes.specs.NameLists.{has}
-use Rattle.jc_index.specs.Indexes.{Between, UserLists, users_of}
-use Rattle.jc_index.proofs.indexes.Lists.{on_err_any}
-use Rattle.jc_index.proofs.indexes.Loops.{linked_more, linked_some, held_name}
+use Rattle.jc_classes.specs.Names.{Name, same_name}
+use Rattle.jc_index.specs.Indexes.{Between, users_of}
+use Rattle.jc_index.proofs.indexes.Loops.{no_others}
 use Rattle.jc_index.proofs.index.Index.link_all.Goals as goal
 
-pub returns-in_err-link-clause-err : goal.returns-in_err-link-clause-err
-returns-in_err-link-clause-err c =
+pub returns-clause-ok : goal.returns-clause-ok
+returns-clause-ok c =
     let old = c.args.self.now in
-    let names = names_of c.names-name-items.result.now in
+    let new = c.link_all_but.new.self in
     let user = c.args.user.now in
-    let some : (n d : Name) → Between (has (users_of old n) d) (same_name d user && has c.args.names.now n) (has (users_of c.link.new.self n) d) =
-    λ n d. subst (λ (u : UserLists). Between (has (users_of old n) d) (same_name d user && has c.args.names.now n) (has (users_of u n) d)) (sym c.in_err-link.ensures.err)
-    (subst (λ (l : List Name). Between (has (users_of old n) d) (same_name d user && has l n) (has (users_of c.loop-name.self n) d)) c.names-name-items.ensures.names
-    (linked_some old c.loop-name.self names c.loop-name.name-index user c.loop-name.invariant n d)) in
-    on_err_any c.from_residual.result some
+    let names = c.args.names.now in
+    on_ok_weaker {P = (n d : Name) → has (users_of new n) d ≡ (has (users_of old n) d || (same_name d user && (has names n && not (has c.new-none.result n))))} c.link_all_but.result
+    (λ h n d. h n d ∙ ap (λ b. has (users_of old n) d || (same_name d user && b)) (no_others names c.new-none.result n c.new-none.ensures))
+    c.link_all_but.ensures.ok
 
-pub loop-name-preserved : goal.loop-name-preserved
-loop-name-preserved c =
-    let items = c.names-name-items.result.now in
-    let i = c.loop-name.name-index in
-    let name = c.deref.result.now in
-    let within : i < length items = omega arith in
-    let named : name_at (names_of items) i ≡ name = held_name items i c.name-item.result within c.name-item.is ∙ sym c.deref.ensures.value in
-    linked_more c.args.self.now c.loop-name.self c.link.new.self (names_of items) i name c.args.user.now
-    (omega (arith, within, length-map items (λ (v : Vec ℕ Global). v.items))) named c.loop-name.invariant c.in_ok-link.ensures.ok
+pub returns-clause-err : goal.returns-clause-err
+returns-clause-err c =
+    let old = c.args.self.now in
+    let new = c.link_all_but.new.self in
+    let user = c.args.user.now in
+    let names = c.args.names.now in
+    on_err_weaker {P = (n d : Name) → Between (has (users_of old n) d) (same_name d user && (has names n && not (has c.new-none.result n))) (has (users_of new n) d)} c.link_all_but.result
+    (λ h n d. subst (λ b. Between (has (users_of old n) d) (same_name d user && b) (has (users_of new n) d)) (no_others names c.new-none.result n c.new-none.ensures) (h n d))
+    c.link_all_but.ensures.err
