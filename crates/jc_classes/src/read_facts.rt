@@ -98,7 +98,7 @@ fn constant_texts(alloc: Global, class: &ClassView) -> Result<TextList, NoMemory
     for index in 0..class.constant_count() {
         texts = texts.with(text_or_empty(class, index))?;
     }
-    Ok(texts)
+    Ok(texts.fitted())
 }
 
 fn text_or_empty<'a>(class: &ClassView<'a>, index: u16) -> &'a [u8]
@@ -181,6 +181,7 @@ fn member_entries(
     for member in members {
         push_some(&mut entries, member_entry(class, &member))?;
     }
+    entries.shrink_to_fit();
     Ok(entries)
 }
 
@@ -205,6 +206,7 @@ fn reference_entries(alloc: Global, class: &ClassView) -> Result<Vec<ReferenceEn
     for index in 1..class.constant_count() {
         push_some(&mut entries, reference_entry(class, index))?;
     }
+    entries.shrink_to_fit();
     Ok(entries)
 }
 

@@ -50,6 +50,19 @@ impl TextList {
         Ok(TextList { bytes, ends })
     }
 
+    /// The list with no room to spare. No memory.
+    pub(crate) fn fitted(self) -> TextList
+        ensures { result ≡ self }
+    {
+        let TextList {
+            mut bytes,
+            mut ends,
+        } = self;
+        bytes.shrink_to_fit();
+        ends.shrink_to_fit();
+        TextList { bytes, ends }
+    }
+
     /// The text of a number; an empty one past the last.
     pub(crate) fn text(&self, number: usize) -> &[u8]
         ensures { result.now ≡ slice_index_or self.now number [] }

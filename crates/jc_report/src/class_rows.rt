@@ -132,7 +132,7 @@ fn is_required(answer: &Answer) -> bool
     match answer {
         Answer::Outside(_) => true,
         Answer::Error(error, _) => is_missing(*error),
-        Answer::ToClass(_) | Answer::ToMember { .. } | Answer::NotLoaded => false,
+        Answer::ToClass(_) | Answer::ToMember(_) | Answer::NotLoaded => false,
     }
 }
 

@@ -175,18 +175,9 @@ fn write_answer<W: Output>(out: &mut TextWriter<'_, W>, answer: &Answer)
 {
     match answer {
         Answer::ToClass(class) => write_found(out, class.as_slice()),
-        Answer::ToMember {
-            class,
-            name,
-            descriptor,
-        } => {
+        Answer::ToMember(member) => {
             out.text(b"To ");
-            write_member(
-                out,
-                class.as_slice(),
-                name.as_slice(),
-                descriptor.as_slice(),
-            );
+            write_member(out, member.class(), member.name(), member.descriptor());
         }
         Answer::Outside(name) => {
             out.text(b"Outside ");

@@ -10,7 +10,7 @@ use Rattle.jc_resolve.specs.declared.answers.Answer.TheVariants as made
 
 abbrev pub answer_of : Answer → defs.Answer
 answer_of (made.ToClass n) = answer.ToClass n.items
-answer_of (made.ToMember c n d) = answer.ToMember c.items (record { name = n.items; descriptor = d.items })
+answer_of (made.ToMember m) = answer.ToMember m.class m.key
 answer_of (made.Outside n) = answer.Beyond n.items
 answer_of made.NotLoaded = answer.NotLoaded
 answer_of (made.Error e n) = answer.Wrong e n.items

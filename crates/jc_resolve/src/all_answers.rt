@@ -42,7 +42,7 @@ fn answer_all(
 {
     let mut above = Seen::new(alloc, classes.len())?;
     let mut covered = Seen::new(alloc, classes.len())?;
-    let mut answers = Vec::new(alloc);
+    let mut answers = Vec::with_capacity(alloc, facts.reference_count())?;
     let mut at = 0;
     while let Some(reference) = facts.reference(at) {
         let answer = resolve(
@@ -65,7 +65,7 @@ fn answer_all(
 fn none_loaded(alloc: Global, facts: &Facts) -> Result<Vec<Answer>, NoMemory>
     ensures { IfOk result (λ list. map answer_of list.items ≡ map (λ (r : Reference). NotLoaded) facts.now.references) }
 {
-    let mut answers = Vec::new(alloc);
+    let mut answers = Vec::with_capacity(alloc, facts.reference_count())?;
     for _at in 0..facts.reference_count() {
         answers.push(Answer::NotLoaded)?;
     }

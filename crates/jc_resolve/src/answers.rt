@@ -12,6 +12,7 @@ ghost use Rattle.jc_resolve.specs.inside.Loading.{sees};
 ghost use Rattle.jc_resolve.specs.Answers.{answer_of};
 
 use crate::classes::Classes;
+use crate::declared_member::DeclaredMember;
 use crate::loads::{Load, can_see};
 use crate::resolve::{Begun, NamedNode, Outcome};
 use crate::settle::Settled;
@@ -25,11 +26,7 @@ pub enum Answer {
     /// It names this class, or this array.
     ToClass(Vec<u8>),
     /// It names this field or method, which the class declares.
-    ToMember {
-        class: Vec<u8>,
-        name: Vec<u8>,
-        descriptor: Vec<u8>,
-    },
+    ToMember(DeclaredMember),
     /// It depends on this outside name.
     Outside(Vec<u8>),
     /// The class that has the reference does not load.
@@ -67,14 +64,9 @@ fn settled_answer(
 {
     match settled {
         Settled::To(hit) => {
-            let class = Vec::from_slice(alloc, classes.name(hit.node))?;
-            let name = Vec::from_slice(alloc, hit.member.name)?;
-            let descriptor = Vec::from_slice(alloc, hit.member.descriptor)?;
-            Ok(Answer::ToMember {
-                class,
-                name,
-                descriptor,
-            })
+            let class = classes.name(hit.node);
+            let member = DeclaredMember::of(alloc, class, hit.member.name, hit.member.descriptor)?;
+            Ok(Answer::ToMember(member))
         }
         Settled::Beyond(node) => {
             let name = Vec::from_slice(alloc, classes.name(node))?;

@@ -6,6 +6,7 @@ mod access;
 mod all_answers;
 mod answers;
 mod classes;
+mod declared_member;
 mod fields;
 mod hierarchy;
 mod loaded;
@@ -18,4 +19,5 @@ mod resolve;
 mod settle;
 
 pub use answers::Answer;
+pub use declared_member::DeclaredMember;
 pub use hierarchy::{Hierarchy, Loading};

@@ -2,7 +2,6 @@ use Rattle.std.proofs.Common.{◌++◌, ap, codes, sym, ◌∙◌}
 use Rattle.jc_text.specs.Escapes.{shown}
 use Rattle.jc_text.proofs.Sending.{◌⟫◌, sends_equal}
 use Rattle.jc_resolve.specs.Answers.{answer_of}
-use Rattle.jc_classes.specs.Facts.{Key}
 use Rattle.jc_report.specs.PartText.{answer_text, error_text, member_text}
 use Rattle.jc_report.proofs.part_text.write_answer.Goals as goal
 
@@ -12,9 +11,9 @@ returns-in-ToClass g c =
 
 pub returns-in-ToMember : goal.returns-in-ToMember
 returns-in-ToMember g c =
-    let key : Key = record { name = c.in-ToMember.name.items; descriptor = c.in-ToMember.descriptor.items } in
-    let member = c.write_member.ensures key (sym c.as_slice-in-ToMember-2.ensures.value) (sym c.as_slice-in-ToMember-3.ensures.value) in
-    sends_equal (ap (λ class. codes "To " ++ member_text class key) c.as_slice-in-ToMember.ensures.value ∙ ap (λ a. answer_text (answer_of a)) (sym c.in-ToMember.is)) (c.text.ensures ⟫ member)
+    let key = c.in-ToMember.member.key in
+    let member = c.write_member.ensures key (sym c.name.ensures) (sym c.descriptor.ensures) in
+    sends_equal (ap (λ class. codes "To " ++ member_text class key) c.class.ensures ∙ ap (λ a. answer_text (answer_of a)) (sym c.in-ToMember.is)) (c.text.ensures ⟫ member)
 
 pub returns-in-Outside : goal.returns-in-Outside
 returns-in-Outside g c =

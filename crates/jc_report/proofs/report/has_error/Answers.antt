@@ -10,7 +10,7 @@ use Rattle.jc_report.proofs.report.has_error.Goals as goal
 
 no_error : (a : Answer) → ((e : LinkageError) (n : Vec ℕ Global) → a ≡ made.Error e n → ⊥) → is_error (answer_of a) ≡ false
 no_error (made.ToClass n) h = refl
-no_error (made.ToMember c n d) h = refl
+no_error (made.ToMember m) h = refl
 no_error (made.Outside n) h = refl
 no_error made.NotLoaded h = refl
 no_error (made.Error e n) h = absurd (h e n refl)
