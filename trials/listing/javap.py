@@ -3,8 +3,9 @@
 
 Compiles the sources of trials/sources for Java 7 and 8, lets the program jc_trials list each class file,
 reads the listings and javap's text into the same words, and compares them line by line: the class with
-its flags, version and superclass, the constants, the members with their flags, signatures and source
-file, each instruction with its operands and the reference in its comment, switches and exception tables.
+its flags, version and superclass, how many interfaces, members and attributes it has, the constants, the
+members with their flags, signatures and source file, each instruction with its operands and the reference
+in its comment, switches and exception tables. A fault that is listed is a difference.
 With --jars also over the class files of versions 51 and 52 in the jars of a folder.
 
 Usage: javap.py [--seed N] [--jars FOLDER] [--most N]. It builds the program by `rt run`, and needs javac
@@ -102,9 +103,15 @@ def instruction(line, this, loads):
     return " ".join([at, mnemonic, *operands]) + (f" // {said}" if said else "")
 
 
+def counts(lines):
+    """How many interfaces, fields, methods and attributes of the class a listing has."""
+    of = Counter(line.split(" ")[0] for line in lines)
+    return f"counts {of['interface']} {of['field']} {of['method']} {of['attribute']}"
+
+
 def ours(lines):
     """A listing in the words that are compared."""
-    out, this, inner = [], "", False
+    out, this = [], ""
     for line in lines:
         words = line.split(" ")
         if line.startswith("      "):
@@ -125,7 +132,7 @@ def ours(lines):
             this = plain(line[6:])
             out.append(f"class {this}")
         elif words[0] == "super":
-            out.append(line if line == "super none" else f"super {plain(line[6:])}")
+            out += [line if line == "super none" else f"super {plain(line[6:])}", counts(lines)]
         elif words[0] == "flags" or words[0] == "version":
             out.append(line)
         elif words[0] in ("field", "method"):
@@ -146,6 +153,7 @@ UTF8 = re.compile(r"^ +#(\d+) = (Utf8) {0,15}(.*)$")
 INSN = re.compile(r"^ +(\d+): (\w+)\s*(.*)$")
 CASE = re.compile(r"^\s+(-?\d+|default): (-?\d+)$")
 CATCH = re.compile(r"^\s+(\d+)\s+(\d+)\s+(\d+)\s+(any|Class .*)$")
+COUNTS = re.compile(r"^  interfaces: (\d+), fields: (\d+), methods: (\d+), attributes: (\d+)$")
 ROOM = re.compile(r"^      stack=(\d+), locals=(\d+), args_size=\d+$")
 
 
@@ -195,6 +203,8 @@ class Reader:
             self.out += [f"class {self.this}", f"flags {self.flags}", f"version {self.major}.{self.minor}"]
         elif line.startswith("  super_class: "):
             self.out.append("super " + (line.split("// ")[1].replace('"', "") if "//" in line else "none"))
+        elif COUNTS.match(line):
+            self.out.append("counts {} {} {} {}".format(*COUNTS.match(line).groups()))
 
     def take(self, line):
         if line == "Constant pool:":

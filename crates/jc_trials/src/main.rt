@@ -3,9 +3,7 @@
 //!
 //! - `parse`: a line for each: `ok` and the class's name in hexadecimal, or the refusal.
 //! - `texts`: `yes` or `no` for each: whether it is a text of the kind that its first byte tells.
-//! - `views`: what the view of each lends and its format faults, or the refusal.
 //! - `faults`: a line for each: its format faults, or the refusal.
-//! - `instructions`: the code of each method, a line for each instruction and each handler.
 //! - `code-faults`: a line for each: its code faults, each with its method and place, or the refusal.
 //! - `listings`: the listing of each, or `refused`, and a line `end` behind it; last, in a line, how
 //!   many have a fault.
@@ -22,17 +20,16 @@
 
 mod counts;
 mod edits;
+mod fault_lines;
 mod frames;
-mod instructions;
 mod links;
 mod listings;
 mod texts;
-mod views;
 
 use counts::{Counted, sum_of_rounds};
 use edits::write_lists;
+use fault_lines::{write_code_fault_line, write_fault_line};
 use frames::Frames;
-use instructions::{write_code_faults, write_instructions};
 use jc_base::{NoMemory, Output, StdOutput};
 use jc_file::{ClassView, ParseError, parse};
 use jc_report::write_refusal;
@@ -43,15 +40,12 @@ use std::alloc::Global;
 use std::io::{BufWriter, Read};
 use std::{env, io};
 use texts::kind_answer;
-use views::{write_fault_line, write_view};
 
 /// What is told of each frame.
 #[derive(Clone, Copy)]
 enum Asked {
     Parse,
-    Views,
     Faults,
-    Instructions,
     CodeFaults,
 }
 
@@ -73,10 +67,8 @@ fn write_refused<W: Output>(out: &mut TextWriter<'_, W>, asked: Asked, error: Pa
 fn write_answer<W: Output>(alloc: Global, out: &mut TextWriter<'_, W>, asked: Asked, frame: &[u8]) {
     match (parse(alloc, frame), asked) {
         (Ok(view), Asked::Parse) => write_name(out, &view),
-        (Ok(view), Asked::Views) => write_view(alloc, out, &view),
         (Ok(view), Asked::Faults) => write_fault_line(alloc, out, &view),
-        (Ok(view), Asked::Instructions) => write_instructions(out, &view),
-        (Ok(view), Asked::CodeFaults) => write_code_faults(alloc, out, &view),
+        (Ok(view), Asked::CodeFaults) => write_code_fault_line(alloc, out, &view),
         (Err(error), _) => write_refused(out, asked, error),
     }
 }
@@ -188,9 +180,7 @@ fn main(rt: HostRuntime) -> io::Result<()> {
     match asked.as_str() {
         "parse" => print_answers(&rt, Asked::Parse, &input),
         "texts" => print_kinds(&rt, &input),
-        "views" => print_answers(&rt, Asked::Views, &input),
         "faults" => print_answers(&rt, Asked::Faults, &input),
-        "instructions" => print_answers(&rt, Asked::Instructions, &input),
         "code-faults" => print_answers(&rt, Asked::CodeFaults, &input),
         "listings" => print_listings(&rt, &input),
         "links" => print_links(&rt, &input),
