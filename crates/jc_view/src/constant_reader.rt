@@ -1,13 +1,14 @@
 //! Looking constants up by their index, in bytes that were gone over.
 
-ghost use Rattle.std.specs.Prelude.{◌≡◌, ◌+◌, ◌≤◌, drop, length};
-ghost use Rattle.std.specs.Option.{option_map};
+ghost use Rattle.std.specs.Prelude.{◌≡◌, ◌+◌, ◌≤◌, drop, length, option_and_then};
+ghost use Rattle.std.specs.Option.{option_copied, option_map};
 ghost use Rattle.jc_view.specs.Reading.{after, after_body, after_sized, body_value, sized_value};
 ghost use Rattle.jc_view.specs.inside.ConstantRead.{constant_read};
-ghost use Rattle.jc_view.specs.ConstantPool.{index_value};
+ghost use Rattle.jc_view.specs.ConstantPool.{index_value, utf8_text};
 ghost use Rattle.jc_base.specs.Endian.{big_number};
 ghost use Rattle.jc_view.specs.Moves.{Lends};
 ghost use Rattle.jc_view.specs.ClassFile.{ClassFile, constant_at};
+ghost use Rattle.jc_view.specs.Lookups.{utf8_at};
 ghost use Rattle.jc_view.specs.inside.ConstantPlaces.{Holds};
 ghost use Rattle.jc_view.specs.Places.{place_at};
 ghost use Rattle.jc_view.specs.Lent.{constant_of};
@@ -32,6 +33,30 @@ pub(crate) fn entry<'a>(
     ensures { (c : ClassFile) → Holds bytes.now offsets.now c → option_map constant_of result ≡ constant_at c index }
 {
     constant_at(bytes, place_at(offsets, index)?)
+}
+
+/// The text of the Utf8 constant of an index; the constants of other kinds are not read.
+pub(crate) fn text_entry<'a>(
+    bytes: &'a [u8],
+    offsets: &[Option<usize>],
+    index: ConstantIndex,
+) -> Option<&'a [u8]>
+    ensures { (c : ClassFile) → Holds bytes.now offsets.now c → option_copied result ≡ utf8_at c index }
+{
+    text_at(bytes, place_at(offsets, index)?)
+}
+
+/// The text of the Utf8 constant that begins at a place (JVMS 4.4.7).
+#[tactic(auto, unfolding(crate::specs::inside::ConstantRead::constant_read))]
+fn text_at(bytes: &[u8], place: usize) -> Option<&[u8]>
+    ensures { option_copied result ≡ option_and_then utf8_text (constant_read place bytes.now) }
+{
+    let mut cursor = Cursor::new(bytes);
+    cursor.take(place)?;
+    if cursor.u1()? != ConstantKind::Utf8.tag() {
+        return None;
+    }
+    read_text(&mut cursor)
 }
 
 /// The constant that begins at a place.

@@ -14,7 +14,7 @@ ghost use Rattle.jc_view.specs.Refusal.{HasHead, IsLayoutOf, IsNamed, IsReadable
 use crate::attribute_kind::Holder;
 use crate::attributes::Attributes;
 use crate::constant_pool::{Constant, ConstantIndex, ConstantKind};
-use crate::constant_reader::entry;
+use crate::constant_reader::{entry, text_entry};
 use crate::indexes::Indexes;
 use crate::interfaces::Interfaces;
 use crate::layout_reader::{ClassNumbers, ClassTables, skip_class};
@@ -177,10 +177,7 @@ impl<'a> ClassView<'a> {
     pub fn utf8(&self, index: ConstantIndex) -> Option<&'a [u8]>
         ensures { option_copied result ≡ utf8_at self.now index }
     {
-        let Constant::Utf8(text) = entry(self.bytes, &self.offsets, index)? else {
-            return None;
-        };
-        Some(text)
+        text_entry(self.bytes, &self.offsets, index)
     }
 
     /// The text of the Class constant of an index.
@@ -265,10 +262,7 @@ fn class_text<'a>(
     let Constant::Class(text) = entry(bytes, offsets, index)? else {
         return None;
     };
-    let Constant::Utf8(name) = entry(bytes, offsets, text)? else {
-        return None;
-    };
-    Some(name)
+    text_entry(bytes, offsets, text)
 }
 
 /// The text of the Class constant of an index, where it is a class name.
