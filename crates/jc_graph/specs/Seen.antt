@@ -20,6 +20,11 @@ pub record IsSeen (flags : List Bool) (list : List ℕ) : Type 0 where
   pub all : IsListed flags list
   pub flagged : (v : ℕ) → Contains list v → flag_at flags v ≡ true
 
+-- a flag for each node, and the nodes whose flags are set in the order in which they were added
+pub record SeenNodes : Type 0 where
+  pub flags : List Bool
+  pub list : List ℕ
+
 -- how many flags are not set
 unfoldable pub unseen : List Bool → ℕ
 unseen [] = 0
@@ -27,7 +32,7 @@ unseen (b ∷ bs) = cond b 0 1 + unseen bs
 
 -- these nodes were added, at the end of the list
 pub record Grows (flags : List Bool) (list : List ℕ) (flags2 : List Bool) (list2 : List ℕ) (nodes : List ℕ) : Type 0 where
-  pub seen : IsSeen flags2 list2
+  pub seen : IsSeen flags list → IsSeen flags2 list2
   pub size : length flags2 ≡ length flags
   pub kept : (v : ℕ) → flag_at flags v ≡ true → flag_at flags2 v ≡ true
   pub added : (v : ℕ) → Contains nodes v → flag_at flags2 v ≡ true

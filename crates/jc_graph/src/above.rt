@@ -3,7 +3,7 @@
 ghost use Rattle.std.specs.Prelude.{◌≡◌, ◌<◌, length, OnOk};
 ghost use Rattle.std.specs.List.{All};
 ghost use Rattle.jc_graph.specs.Graph.{ups_of, AreNodes};
-ghost use Rattle.jc_graph.specs.Seen.{IsSeen, TellsAbove};
+ghost use Rattle.jc_graph.specs.Seen.{TellsAbove};
 
 use crate::rows::row;
 use crate::seen::Seen;
@@ -13,9 +13,8 @@ use jc_base::NoMemory;
 pub fn mark_above(ups: &[Vec<usize>], seen: &mut Seen, starts: &[usize]) -> Result<(), NoMemory>
     requires starts { All (λ v. v < length ups.now) starts.now }
     requires nodes { AreNodes (ups_of ups.now) (length ups.now) }
-    requires seen { IsSeen seen.old.flags.items seen.old.list.items }
-    requires flags { length seen.old.flags.items ≡ length ups.now }
-    ensures { OnOk result (TellsAbove (length ups.now) (ups_of ups.now) starts.now seen.new.flags.items seen.new.list.items) }
+    requires flags { length seen.old.flags ≡ length ups.now }
+    ensures { OnOk result (TellsAbove (length ups.now) (ups_of ups.now) starts.now seen.new.flags seen.new.list) }
 {
     seen.clear();
     for start in starts {

@@ -7,7 +7,7 @@ ghost use Rattle.jc_classes.specs.MethodLookup.{declared, of_object};
 ghost use Rattle.jc_classes.specs.Names.{object as java_lang_object};
 ghost use Rattle.jc_classes.specs.Worlds.{member, fields_of, methods_of, flags_of};
 ghost use Rattle.jc_graph.specs.Graph.{ups_of};
-ghost use Rattle.jc_graph.specs.Seen.{IsSeen, TellsAbove};
+ghost use Rattle.jc_graph.specs.Seen.{TellsAbove};
 ghost use Rattle.jc_resolve.specs.inside.Indexed.{filled, name_at, record_at, super_at, supers_before, onward_row, IsGraph};
 ghost use Rattle.jc_resolve.specs.inside.Access.{TellsPackages};
 ghost use Rattle.jc_resolve.specs.inside.Picks.{gives};
@@ -185,9 +185,8 @@ impl<'c, 't> Classes<'c, 't> {
     /// Sees what is above some nodes, each node once.
     pub(crate) fn see_above(&self, seen: &mut Seen, starts: &[usize]) -> Result<(), NoMemory>
         requires starts { All (λ v. v < length self.now.standing.now) starts.now }
-        requires seen { IsSeen seen.old.flags.items seen.old.list.items }
-        requires flags { length seen.old.flags.items ≡ length self.now.standing.now }
-        ensures { OnOk result (TellsAbove (length self.now.standing.now) (ups_of self.now.ups.now) starts.now seen.new.flags.items seen.new.list.items) }
+        requires seen { length seen.old.flags ≡ length self.now.standing.now }
+        ensures { OnOk result (TellsAbove (length self.now.standing.now) (ups_of self.now.ups.now) starts.now seen.new.flags seen.new.list) }
     {
         mark_above(self.ups, seen, starts)
     }

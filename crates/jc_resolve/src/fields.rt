@@ -5,7 +5,6 @@ ghost use Rattle.std.specs.Option.{IfSome};
 ghost use Rattle.jc_classes.specs.Worlds.{World};
 ghost use Rattle.jc_classes.specs.FieldLookup.{FindsField};
 ghost use Rattle.jc_classes.specs.Lent.{key_lent};
-ghost use Rattle.jc_graph.specs.Seen.{IsSeen};
 ghost use Rattle.jc_resolve.specs.inside.Indexed.{name_at, good_at, IsIndexed};
 ghost use Rattle.jc_resolve.specs.inside.Shown.{indexed_of};
 ghost use Rattle.jc_resolve.specs.inside.Looking.{found_at};
@@ -26,11 +25,9 @@ pub(crate) fn find_field<'a>(
 ) -> Result<Option<Hit<'a>>, NoMemory>
     requires start { start < length classes.now.standing.now }
     requires good { good_at (indexed_of classes.now) start ≡ true }
-    requires seen { IsSeen seen.old.flags.items seen.old.list.items }
-    requires flags { length seen.old.flags.items ≡ length classes.now.standing.now }
+    requires seen { length seen.old.flags ≡ length classes.now.standing.now }
     ensures within { IfOk result (λ r. IfSome r (λ h. h.node < length classes.now.standing.now)) }
-    ensures seen { OnOk result (IsSeen seen.new.flags.items seen.new.list.items) }
-    ensures flags { OnOk result (length seen.new.flags.items ≡ length classes.now.standing.now) }
+    ensures seen { OnOk result (length seen.new.flags ≡ length classes.now.standing.now) }
     ensures found { IfOk result (λ r. (m : World) → IsIndexed m (indexed_of classes.now) → FindsField m (key_lent key.entry) (name_at (indexed_of classes.now) start) (option_map (found_at (indexed_of classes.now)) r)) }
 {
     seen.clear();

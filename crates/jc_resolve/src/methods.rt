@@ -5,7 +5,6 @@ ghost use Rattle.std.specs.Option.{IfSome};
 ghost use Rattle.std.specs.Bool.{Decides};
 ghost use Rattle.jc_classes.specs.Worlds.{World};
 ghost use Rattle.jc_classes.specs.MethodLookup.{FindsInClasses, FindsMethod, FindsInterfaceMethod};
-ghost use Rattle.jc_graph.specs.Seen.{IsSeen};
 ghost use Rattle.jc_classes.specs.Lent.{key_lent};
 ghost use Rattle.jc_resolve.specs.inside.Indexed.{name_at, good_at, IsIndexed};
 ghost use Rattle.jc_resolve.specs.inside.Shown.{indexed_of};
@@ -65,14 +64,10 @@ pub(crate) fn find_method<'a>(
 ) -> Result<Option<Hit<'a>>, NoMemory>
     requires start { start < length classes.now.standing.now }
     requires good { good_at (indexed_of classes.now) start ≡ true }
-    requires above { IsSeen above.old.flags.items above.old.list.items }
-    requires above_size { length above.old.flags.items ≡ length classes.now.standing.now }
-    requires covered { IsSeen covered.old.flags.items covered.old.list.items }
-    requires covered_size { length covered.old.flags.items ≡ length classes.now.standing.now }
-    ensures above { OnOk result (IsSeen above.new.flags.items above.new.list.items) }
-    ensures above_size { OnOk result (length above.new.flags.items ≡ length classes.now.standing.now) }
-    ensures covered { OnOk result (IsSeen covered.new.flags.items covered.new.list.items) }
-    ensures covered_size { OnOk result (length covered.new.flags.items ≡ length classes.now.standing.now) }
+    requires above { length above.old.flags ≡ length classes.now.standing.now }
+    requires covered { length covered.old.flags ≡ length classes.now.standing.now }
+    ensures above { OnOk result (length above.new.flags ≡ length classes.now.standing.now) }
+    ensures covered { OnOk result (length covered.new.flags ≡ length classes.now.standing.now) }
     ensures within { IfOk result (λ r. IfSome r (λ h. h.node < length classes.now.standing.now)) }
     ensures found { IfOk result (λ r. (m : World) → IsIndexed m (indexed_of classes.now) → FindsMethod m (key_lent key.entry) (name_at (indexed_of classes.now) start) (option_map (found_at (indexed_of classes.now)) r)) }
 {
@@ -92,14 +87,10 @@ pub(crate) fn find_interface_method<'a>(
     key: Key,
 ) -> Result<Option<Hit<'a>>, NoMemory>
     requires start { start < length classes.now.standing.now }
-    requires above { IsSeen above.old.flags.items above.old.list.items }
-    requires above_size { length above.old.flags.items ≡ length classes.now.standing.now }
-    requires covered { IsSeen covered.old.flags.items covered.old.list.items }
-    requires covered_size { length covered.old.flags.items ≡ length classes.now.standing.now }
-    ensures above { OnOk result (IsSeen above.new.flags.items above.new.list.items) }
-    ensures above_size { OnOk result (length above.new.flags.items ≡ length classes.now.standing.now) }
-    ensures covered { OnOk result (IsSeen covered.new.flags.items covered.new.list.items) }
-    ensures covered_size { OnOk result (length covered.new.flags.items ≡ length classes.now.standing.now) }
+    requires above { length above.old.flags ≡ length classes.now.standing.now }
+    requires covered { length covered.old.flags ≡ length classes.now.standing.now }
+    ensures above { OnOk result (length above.new.flags ≡ length classes.now.standing.now) }
+    ensures covered { OnOk result (length covered.new.flags ≡ length classes.now.standing.now) }
     ensures within { IfOk result (λ r. IfSome r (λ h. h.node < length classes.now.standing.now)) }
     ensures found { IfOk result (λ r. (m : World) → IsIndexed m (indexed_of classes.now) → FindsInterfaceMethod m (key_lent key.entry) (name_at (indexed_of classes.now) start) (option_map (found_at (indexed_of classes.now)) r)) }
 {

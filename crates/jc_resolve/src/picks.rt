@@ -6,7 +6,6 @@ ghost use Rattle.std.specs.Option.{IfSome};
 ghost use Rattle.std.specs.List.{All, Contains, filter};
 ghost use Rattle.jc_classes.specs.Worlds.{World};
 ghost use Rattle.jc_classes.specs.MethodLookup.{FindsAbove};
-ghost use Rattle.jc_graph.specs.Seen.{IsSeen};
 ghost use Rattle.jc_classes.specs.Lent.{key_lent};
 ghost use Rattle.jc_resolve.specs.inside.Indexed.{name_at, IsIndexed};
 ghost use Rattle.jc_resolve.specs.inside.Shown.{indexed_of};
@@ -42,8 +41,8 @@ fn candidates(
 /// Whether no candidate stands below a node, and its method is not abstract.
 fn is_pick(classes: &Classes, covered: &Seen, node: usize, key: Key) -> bool
     requires node { node < length classes.now.standing.now }
-    requires flags { length covered.now.flags.items ≡ length classes.now.standing.now }
-    ensures { result ≡ is_pick (indexed_of classes.now) (key_lent key.entry) covered.now.flags.items node }
+    requires covered { length covered.now.flags ≡ length classes.now.standing.now }
+    ensures { result ≡ is_pick (indexed_of classes.now) (key_lent key.entry) covered.now.flags node }
 {
     if covered.has(node) {
         return false;
@@ -57,8 +56,8 @@ fn is_pick(classes: &Classes, covered: &Seen, node: usize, key: Key) -> bool
 /// The first node that is a pick.
 fn first_pick(classes: &Classes, covered: &Seen, nodes: &[usize], key: Key) -> Option<usize>
     requires nodes { All (λ v. v < length classes.now.standing.now) nodes.now }
-    requires flags { length covered.now.flags.items ≡ length classes.now.standing.now }
-    ensures { TellsFirst (is_pick (indexed_of classes.now) (key_lent key.entry) covered.now.flags.items) nodes.now result }
+    requires covered { length covered.now.flags ≡ length classes.now.standing.now }
+    ensures { TellsFirst (is_pick (indexed_of classes.now) (key_lent key.entry) covered.now.flags) nodes.now result }
 {
     for node in nodes {
         if is_pick(classes, covered, *node, key) {
@@ -71,8 +70,8 @@ fn first_pick(classes: &Classes, covered: &Seen, nodes: &[usize], key: Key) -> O
 /// Whether no other node is a pick.
 fn is_only(classes: &Classes, covered: &Seen, nodes: &[usize], key: Key, first: usize) -> bool
     requires nodes { All (λ v. v < length classes.now.standing.now) nodes.now }
-    requires flags { length covered.now.flags.items ≡ length classes.now.standing.now }
-    ensures { Decides result ((w : ℕ) → Contains nodes.now w → is_pick (indexed_of classes.now) (key_lent key.entry) covered.now.flags.items w ≡ true → w ≡ first) }
+    requires covered { length covered.now.flags ≡ length classes.now.standing.now }
+    ensures { Decides result ((w : ℕ) → Contains nodes.now w → is_pick (indexed_of classes.now) (key_lent key.entry) covered.now.flags w ≡ true → w ≡ first) }
 {
     for node in nodes {
         if *node != first && is_pick(classes, covered, *node, key) {
@@ -85,8 +84,8 @@ fn is_only(classes: &Classes, covered: &Seen, nodes: &[usize], key: Key, first: 
 /// The node that is the only pick.
 fn sole_pick(classes: &Classes, covered: &Seen, nodes: &[usize], key: Key) -> Option<usize>
     requires nodes { All (λ v. v < length classes.now.standing.now) nodes.now }
-    requires flags { length covered.now.flags.items ≡ length classes.now.standing.now }
-    ensures { TellsSole (is_pick (indexed_of classes.now) (key_lent key.entry) covered.now.flags.items) nodes.now result }
+    requires covered { length covered.now.flags ≡ length classes.now.standing.now }
+    ensures { TellsSole (is_pick (indexed_of classes.now) (key_lent key.entry) covered.now.flags) nodes.now result }
 {
     match first_pick(classes, covered, nodes, key) {
         Some(first) => {
@@ -134,8 +133,8 @@ pub(crate) fn lowest(classes: &Classes, nodes: &[usize]) -> Option<usize>
 /// The node whose method is chosen.
 fn pick(classes: &Classes, covered: &Seen, nodes: &[usize], key: Key) -> Option<usize>
     requires nodes { All (λ v. v < length classes.now.standing.now) nodes.now }
-    requires flags { length covered.now.flags.items ≡ length classes.now.standing.now }
-    ensures { TellsPick (indexed_of classes.now) (key_lent key.entry) covered.now.flags.items nodes.now result }
+    requires covered { length covered.now.flags ≡ length classes.now.standing.now }
+    ensures { TellsPick (indexed_of classes.now) (key_lent key.entry) covered.now.flags nodes.now result }
 {
     match sole_pick(classes, covered, nodes, key) {
         Some(node) => Some(node),
@@ -154,14 +153,10 @@ pub(crate) fn find_above<'a>(
     key: Key,
 ) -> Result<Option<Hit<'a>>, NoMemory>
     requires start { start < length classes.now.standing.now }
-    requires above { IsSeen above.old.flags.items above.old.list.items }
-    requires above_size { length above.old.flags.items ≡ length classes.now.standing.now }
-    requires covered { IsSeen covered.old.flags.items covered.old.list.items }
-    requires covered_size { length covered.old.flags.items ≡ length classes.now.standing.now }
-    ensures above { OnOk result (IsSeen above.new.flags.items above.new.list.items) }
-    ensures above_size { OnOk result (length above.new.flags.items ≡ length classes.now.standing.now) }
-    ensures covered { OnOk result (IsSeen covered.new.flags.items covered.new.list.items) }
-    ensures covered_size { OnOk result (length covered.new.flags.items ≡ length classes.now.standing.now) }
+    requires above { length above.old.flags ≡ length classes.now.standing.now }
+    requires covered { length covered.old.flags ≡ length classes.now.standing.now }
+    ensures above { OnOk result (length above.new.flags ≡ length classes.now.standing.now) }
+    ensures covered { OnOk result (length covered.new.flags ≡ length classes.now.standing.now) }
     ensures within { IfOk result (λ r. IfSome r (λ h. h.node < length classes.now.standing.now)) }
     ensures found { IfOk result (λ r. (m : World) → IsIndexed m (indexed_of classes.now) → FindsAbove m (key_lent key.entry) (name_at (indexed_of classes.now) start) (option_map (found_at (indexed_of classes.now)) r)) }
 {

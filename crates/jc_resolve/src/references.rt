@@ -3,7 +3,6 @@
 ghost use Rattle.std.specs.Prelude.{◌≡◌, ◌<◌, ℕ, length, true, IfOk, OnOk, option_map};
 ghost use Rattle.jc_classes.specs.Worlds.{World};
 ghost use Rattle.jc_classes.specs.Parts.{ResolvesOf, class_of};
-ghost use Rattle.jc_graph.specs.Seen.{IsSeen};
 ghost use Rattle.jc_resolve.specs.inside.Indexed.{Indexed, name_at, good_at, IsIndexed};
 ghost use Rattle.jc_resolve.specs.inside.Shown.{indexed_of};
 ghost use Rattle.jc_resolve.specs.inside.Resolved.{named_of, IsWithinAll, IsWithinSome, TellsLoads, TellsGood};
@@ -51,14 +50,10 @@ pub(crate) fn resolve(
     requires class_good { good_at (indexed_of classes.now) class ≡ true }
     requires loads { length loads.now ≡ length classes.now.standing.now }
     requires good { TellsGood (indexed_of classes.now) loads.now }
-    requires above { IsSeen above.old.flags.items above.old.list.items }
-    requires above_size { length above.old.flags.items ≡ length classes.now.standing.now }
-    requires covered { IsSeen covered.old.flags.items covered.old.list.items }
-    requires covered_size { length covered.old.flags.items ≡ length classes.now.standing.now }
-    ensures above { OnOk result (IsSeen above.new.flags.items above.new.list.items) }
-    ensures above_size { OnOk result (length above.new.flags.items ≡ length classes.now.standing.now) }
-    ensures covered { OnOk result (IsSeen covered.new.flags.items covered.new.list.items) }
-    ensures covered_size { OnOk result (length covered.new.flags.items ≡ length classes.now.standing.now) }
+    requires above { length above.old.flags ≡ length classes.now.standing.now }
+    requires covered { length covered.old.flags ≡ length classes.now.standing.now }
+    ensures above { OnOk result (length above.new.flags ≡ length classes.now.standing.now) }
+    ensures covered { OnOk result (length covered.new.flags ≡ length classes.now.standing.now) }
     ensures found { IfOk result (λ a. (m : World) → TellsLoads m (indexed_of classes.now) (length classes.now.standing.now) loads.now
         → IsIndexed m (indexed_of classes.now)
         → ResolvesOf m (name_at (indexed_of classes.now) class) reference.entry.kind (reference_lent reference.entry) (answer_of a)) }

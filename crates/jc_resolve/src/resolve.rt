@@ -8,7 +8,6 @@ ghost use Rattle.jc_classes.specs.Loading.{Loading};
 ghost use Rattle.jc_classes.specs.declared.linkage_error.LinkageError.TheVariants.{NoField, NoMethod};
 ghost use Rattle.jc_classes.specs.Resolution.{Starts, ResolvesField, ResolvesMethod, ResolvesInterfaceMethod, class_answer, start_of, object_start};
 ghost use Rattle.std.specs.Prelude.{Some};
-ghost use Rattle.jc_graph.specs.Seen.{IsSeen};
 ghost use Rattle.jc_classes.specs.Lent.{key_lent};
 ghost use Rattle.jc_resolve.specs.inside.Indexed.{Indexed, name_at, good_at, IsIndexed};
 ghost use Rattle.jc_resolve.specs.inside.Shown.{indexed_of};
@@ -153,10 +152,8 @@ pub(crate) fn resolve_field<'a>(
     requires class_good { good_at (indexed_of classes.now) class ≡ true }
     requires loads { length loads.now ≡ length classes.now.standing.now }
     requires good { TellsGood (indexed_of classes.now) loads.now }
-    requires seen { IsSeen seen.old.flags.items seen.old.list.items }
-    requires seen_size { length seen.old.flags.items ≡ length classes.now.standing.now }
-    ensures seen { OnOk result (IsSeen seen.new.flags.items seen.new.list.items) }
-    ensures seen_size { OnOk result (length seen.new.flags.items ≡ length classes.now.standing.now) }
+    requires seen { length seen.old.flags ≡ length classes.now.standing.now }
+    ensures seen { OnOk result (length seen.new.flags ≡ length classes.now.standing.now) }
     ensures found { IfOk result (λ r. (m : World) (text : Name) → TellsLoads m (indexed_of classes.now) (length classes.now.standing.now) loads.now
         → IsIndexed m (indexed_of classes.now)
         → ResolvesField m (name_at (indexed_of classes.now) class) (named_of (indexed_of classes.now) reference text) (key_lent key.entry) (outcome_of (indexed_of classes.now) (named_of (indexed_of classes.now) reference text) NoField r)) }
@@ -188,14 +185,10 @@ pub(crate) fn resolve_method<'a>(
     requires class_good { good_at (indexed_of classes.now) class ≡ true }
     requires loads { length loads.now ≡ length classes.now.standing.now }
     requires good { TellsGood (indexed_of classes.now) loads.now }
-    requires above { IsSeen above.old.flags.items above.old.list.items }
-    requires above_size { length above.old.flags.items ≡ length classes.now.standing.now }
-    requires covered { IsSeen covered.old.flags.items covered.old.list.items }
-    requires covered_size { length covered.old.flags.items ≡ length classes.now.standing.now }
-    ensures above { OnOk result (IsSeen above.new.flags.items above.new.list.items) }
-    ensures above_size { OnOk result (length above.new.flags.items ≡ length classes.now.standing.now) }
-    ensures covered { OnOk result (IsSeen covered.new.flags.items covered.new.list.items) }
-    ensures covered_size { OnOk result (length covered.new.flags.items ≡ length classes.now.standing.now) }
+    requires above { length above.old.flags ≡ length classes.now.standing.now }
+    requires covered { length covered.old.flags ≡ length classes.now.standing.now }
+    ensures above { OnOk result (length above.new.flags ≡ length classes.now.standing.now) }
+    ensures covered { OnOk result (length covered.new.flags ≡ length classes.now.standing.now) }
     ensures found { IfOk result (λ r. (m : World) (text : Name) → TellsLoads m (indexed_of classes.now) (length classes.now.standing.now) loads.now
         → IsIndexed m (indexed_of classes.now)
         → ResolvesMethod m (name_at (indexed_of classes.now) class) (named_of (indexed_of classes.now) reference text) (key_lent key.entry) (outcome_of (indexed_of classes.now) (named_of (indexed_of classes.now) reference text) NoMethod r)) }
@@ -230,14 +223,10 @@ pub(crate) fn resolve_interface_method<'a>(
     requires class_good { good_at (indexed_of classes.now) class ≡ true }
     requires loads { length loads.now ≡ length classes.now.standing.now }
     requires good { TellsGood (indexed_of classes.now) loads.now }
-    requires above { IsSeen above.old.flags.items above.old.list.items }
-    requires above_size { length above.old.flags.items ≡ length classes.now.standing.now }
-    requires covered { IsSeen covered.old.flags.items covered.old.list.items }
-    requires covered_size { length covered.old.flags.items ≡ length classes.now.standing.now }
-    ensures above { OnOk result (IsSeen above.new.flags.items above.new.list.items) }
-    ensures above_size { OnOk result (length above.new.flags.items ≡ length classes.now.standing.now) }
-    ensures covered { OnOk result (IsSeen covered.new.flags.items covered.new.list.items) }
-    ensures covered_size { OnOk result (length covered.new.flags.items ≡ length classes.now.standing.now) }
+    requires above { length above.old.flags ≡ length classes.now.standing.now }
+    requires covered { length covered.old.flags ≡ length classes.now.standing.now }
+    ensures above { OnOk result (length above.new.flags ≡ length classes.now.standing.now) }
+    ensures covered { OnOk result (length covered.new.flags ≡ length classes.now.standing.now) }
     ensures found { IfOk result (λ r. (m : World) (text : Name) → TellsLoads m (indexed_of classes.now) (length classes.now.standing.now) loads.now
         → IsIndexed m (indexed_of classes.now)
         → ResolvesInterfaceMethod m (name_at (indexed_of classes.now) class) (named_of (indexed_of classes.now) reference text) (key_lent key.entry) (outcome_of (indexed_of classes.now) (named_of (indexed_of classes.now) reference text) NoMethod r)) }

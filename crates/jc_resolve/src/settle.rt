@@ -7,7 +7,6 @@ ghost use Rattle.jc_classes.specs.Names.{Name};
 ghost use Rattle.jc_classes.specs.Worlds.{World};
 ghost use Rattle.jc_classes.specs.declared.linkage_error.LinkageError.{LinkageError};
 ghost use Rattle.jc_classes.specs.Resolution.{Settles};
-ghost use Rattle.jc_graph.specs.Seen.{IsSeen};
 ghost use Rattle.jc_resolve.specs.inside.Indexed.{name_at, good_at, IsIndexed};
 ghost use Rattle.jc_resolve.specs.inside.Shown.{indexed_of};
 ghost use Rattle.jc_resolve.specs.inside.Looking.{found_at};
@@ -55,10 +54,8 @@ pub(crate) fn find_beyond(
     start: usize,
 ) -> Result<Option<usize>, NoMemory>
     requires start { start < length classes.now.standing.now }
-    requires seen { IsSeen seen.old.flags.items seen.old.list.items }
-    requires seen_size { length seen.old.flags.items ≡ length classes.now.standing.now }
-    ensures seen { OnOk result (IsSeen seen.new.flags.items seen.new.list.items) }
-    ensures seen_size { OnOk result (length seen.new.flags.items ≡ length classes.now.standing.now) }
+    requires seen { length seen.old.flags ≡ length classes.now.standing.now }
+    ensures seen { OnOk result (length seen.new.flags ≡ length classes.now.standing.now) }
     ensures found { IfOk result (λ r. (m : World) → IsIndexed m (indexed_of classes.now)
         → TellsBeyond m (indexed_of classes.now) (name_at (indexed_of classes.now) start) r) }
 {
@@ -82,10 +79,8 @@ pub(crate) fn settle<'a>(
     requires start { start < length classes.now.standing.now }
     requires home { IfSome found (λ h. h.node < length classes.now.standing.now) }
     requires good { good_at (indexed_of classes.now) class ≡ true }
-    requires seen { IsSeen seen.old.flags.items seen.old.list.items }
-    requires seen_size { length seen.old.flags.items ≡ length classes.now.standing.now }
-    ensures seen { OnOk result (IsSeen seen.new.flags.items seen.new.list.items) }
-    ensures seen_size { OnOk result (length seen.new.flags.items ≡ length classes.now.standing.now) }
+    requires seen { length seen.old.flags ≡ length classes.now.standing.now }
+    ensures seen { OnOk result (length seen.new.flags ≡ length classes.now.standing.now) }
     ensures found { IfOk result (λ s. (m : World) (text : Name) (e : Option Name) (missing : LinkageError)
         → IsIndexed m (indexed_of classes.now)
         → Settles m (name_at (indexed_of classes.now) class) (named_at (indexed_of classes.now) target text e) (name_at (indexed_of classes.now) start) missing (option_map (found_at (indexed_of classes.now)) found.entry) (answer_of (indexed_of classes.now) (named_at (indexed_of classes.now) target text e) missing s)) }

@@ -1,5 +1,5 @@
 -- The walk that sees what is above some nodes.
-use Rattle.std.proofs.Common.{◌≡◌, ℕ, ◌+◌, ◌<◌, ◌≤◌, Bool, true, false, List, length, sym, subst, ◌∙◌, ◌⊎◌, ⊎_elim, arith}
+use Rattle.std.proofs.Common.{◌≡◌, ℕ, ◌+◌, ◌<◌, ◌≤◌, Bool, true, false, List, [], length, sym, subst, ◌∙◌, ◌⊎◌, ⊎_elim, arith}
 use Rattle.std.proofs.lemmas.Bool.{false≢true}
 use Rattle.std.proofs.lemmas.List.Elements.{Contains-get_or, All-contains}
 use Rattle.std.proofs.lemmas.List.{get_or_default}
@@ -9,6 +9,7 @@ use Rattle.jc_graph.specs.Graph.{Ups, Above}
 use Rattle.jc_graph.specs.Graph.Above.{direct, further}
 use Rattle.jc_graph.specs.Seen.{AboveSome, TellsAbove}
 use Rattle.jc_graph.specs.inside.Climb.{Rooted, Climbing}
+use Rattle.jc_graph.proofs.marked.SeenLemmas.{seen_none}
 
 -- the place of a node of a list
 pub place_of : (list : List ℕ) (v : ℕ) → Contains list v → (j : ℕ) × (j < length list) × (node_at list j ≡ v)
@@ -21,10 +22,10 @@ pub last_or_less : (j i : ℕ) → j < i + 1 → (j ≡ i) ⊎ (j < i)
 last_or_less j i k = search arith
 
 module _ (count : ℕ) (up : Ups) (starts : List ℕ) where
-  pub rooted_start : (flags : List Bool) (list : List ℕ) → length flags ≡ count → IsSeen flags list → ((v : ℕ) → flag_at flags v ≡ false) → Rooted count up starts flags list 0
-  rooted_start flags list e s n = record {
+  pub rooted_start : (flags : List Bool) (list : List ℕ) → length flags ≡ count → list ≡ [] → ((v : ℕ) → flag_at flags v ≡ false) → Rooted count up starts flags list 0
+  rooted_start flags list e l n = record {
     size = e;
-    seen = s;
+    seen = subst (IsSeen flags) (sym l) (seen_none flags n);
     sound = λ v h. absurd (false≢true (sym (n v) ∙ h));
     first = λ j v l. absurd (omega arith);
   }
@@ -32,7 +33,7 @@ module _ (count : ℕ) (up : Ups) (starts : List ℕ) where
   pub rooted_more : (flags : List Bool) (list : List ℕ) (f2 : List Bool) (l2 : List ℕ) (i : ℕ) → i < length starts → Rooted count up starts flags list i → Grows flags list f2 l2 (up (node_at starts i)) → Rooted count up starts f2 l2 (i + 1)
   rooted_more flags list f2 l2 i l r g = record {
     size = g.size ∙ r.size;
-    seen = g.seen;
+    seen = g.seen r.seen;
     sound = λ v h. ⊎_elim (r.sound v) (λ c. (node_at starts i, contains_at starts i l, direct c)) (g.only v h);
     first = λ j v k c. ⊎_elim
         (λ (e : j ≡ i). g.added v (subst (λ z. Contains (up (node_at starts z)) v) e c))
@@ -46,7 +47,7 @@ module _ (count : ℕ) (up : Ups) (starts : List ℕ) where
       record {
         rooted = record {
           size = g.size ∙ r.rooted.size;
-          seen = g.seen;
+          seen = g.seen r.rooted.seen;
           sound = λ v h. ⊎_elim (r.rooted.sound v) (λ c. (here.0, here.1, further here.2 c)) (g.only v h);
           first = λ j v k c. g.kept v (r.rooted.first j v k c);
         };

@@ -41,6 +41,15 @@ seen_add flags list v l s = record {
   flagged = λ u c. ⊎_elim (λ p. flag_stays flags v u (s.flagged u p)) (λ p. ap (flag_at (set flags v true)) (sym p) ∙ flag_same flags v true l) (Contains-push_cases list v u c);
 }
 
+pub seen_none : (flags : List Bool) → ((v : ℕ) → flag_at flags v ≡ false) → IsSeen flags []
+seen_none flags n = record {
+  all = record {
+    nodes = λ k d l. absurd (omega arith);
+    listed = λ v e. absurd (false≢true (sym (n v) ∙ e));
+  };
+  flagged = λ v c. absurd (let l = c.1 in omega arith);
+}
+
 pub seen_drop : (flags : List Bool) (list : List ℕ) (v : ℕ) → IsListed flags (list ++ v ∷ []) → IsListed (set flags v false) list
 seen_drop flags list v s =
     let l : v < length flags = All-contains (λ w. w < length flags) (list ++ v ∷ []) v s.nodes (Contains-push list v) in
@@ -64,9 +73,9 @@ pub contains_one : (v u : ℕ) → Contains (v ∷ []) u → v ≡ u
 contains_one v u (zero, l, e) = e
 contains_one v u (suc k, l, e) = absurd (omega arith)
 
-pub grows_same : (flags : List Bool) (list : List ℕ) (v : ℕ) → IsSeen flags list → flag_at flags v ≡ true → Grows flags list flags list (v ∷ [])
-grows_same flags list v s e = record {
-  seen = s;
+pub grows_same : (flags : List Bool) (list : List ℕ) (v : ℕ) → flag_at flags v ≡ true → Grows flags list flags list (v ∷ [])
+grows_same flags list v e = record {
+  seen = λ s. s;
   size = refl;
   kept = λ u h. h;
   added = λ u c. ap (flag_at flags) (sym (contains_one v u c)) ∙ e;
@@ -81,9 +90,9 @@ node_push [] v j l = absurd (omega arith)
 node_push (x ∷ xs) v zero l = refl
 node_push (x ∷ xs) v (suc j) l = node_push xs v j (omega arith)
 
-pub grows_add : (flags : List Bool) (list : List ℕ) (v : ℕ) → v < length flags → IsSeen flags list → flag_at flags v ≡ false → Grows flags list (set flags v true) (list ++ v ∷ []) (v ∷ [])
-grows_add flags list v l s e = record {
-  seen = seen_add flags list v l s;
+pub grows_add : (flags : List Bool) (list : List ℕ) (v : ℕ) → v < length flags → flag_at flags v ≡ false → Grows flags list (set flags v true) (list ++ v ∷ []) (v ∷ [])
+grows_add flags list v l e = record {
+  seen = seen_add flags list v l;
   size = length-set flags v true;
   kept = λ u h. flag_stays flags v u h;
   added = λ u c. ap (flag_at (set flags v true)) (sym (contains_one v u c)) ∙ flag_same flags v true l;
@@ -95,7 +104,7 @@ grows_add flags list v l s e = record {
 
 pub grows_more : (f : List Bool) (l : List ℕ) (f2 : List Bool) (l2 : List ℕ) (f3 : List Bool) (l3 xs ys : List ℕ) → Grows f l f2 l2 xs → Grows f2 l2 f3 l3 ys → Grows f l f3 l3 (xs ++ ys)
 grows_more f l f2 l2 f3 l3 xs ys g h = record {
-  seen = h.seen;
+  seen = λ s. h.seen (g.seen s);
   size = h.size ∙ g.size;
   kept = λ v e. h.kept v (g.kept v e);
   added = λ v c. ⊎_elim (λ p. h.kept v (g.added v p)) (λ p. h.added v p) (Contains-append_cases xs ys v c);
@@ -105,9 +114,9 @@ grows_more f l f2 l2 f3 l3 xs ys g h = record {
   counted = h.counted ∙ g.counted;
 }
 
-pub grows_none : (f : List Bool) (l : List ℕ) → IsSeen f l → Grows f l f l []
-grows_none f l s = record {
-  seen = s;
+pub grows_none : (f : List Bool) (l : List ℕ) → Grows f l f l []
+grows_none f l = record {
+  seen = λ s. s;
   size = refl;
   kept = λ u h. h;
   added = λ u c. absurd (let k = c.1 in omega arith);

@@ -41,9 +41,7 @@ loop-reference-preserved c =
     let n = c.in_ok-answer.ensures in
     record {
       above = n.above;
-      above_size = n.above_size;
       covered = n.covered;
-      covered_size = n.covered_size;
       within = omega (arith, l);
       answered = λ m told index.
           subst (λ z. AreAnswers m d Loaded (take (at + 1) refs) z) (sym f)

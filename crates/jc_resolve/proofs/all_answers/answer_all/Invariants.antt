@@ -2,7 +2,6 @@ use Rattle.std.proofs.Common.{◌≡◌, ◌≤◌, ◌-◌, map, take, length}
 use Rattle.jc_classes.specs.Worlds.{World}
 use Rattle.jc_classes.specs.Loading.Loading.{Loaded}
 use Rattle.jc_classes.specs.Parts.{AreAnswers}
-use Rattle.jc_graph.specs.Seen.{IsSeen}
 use Rattle.jc_resolve.specs.inside.Indexed.{name_at, IsIndexed}
 use Rattle.jc_resolve.specs.inside.Shown.{indexed_of}
 use Rattle.jc_resolve.specs.inside.Resolved.{TellsLoads}
@@ -11,10 +10,8 @@ use Rattle.jc_resolve.proofs.all_answers.answer_all.Given as goal
 
 abbrev pub invariant-loop-reference : goal.invariant-loop-reference
 invariant-loop-reference l = record {
-  above : IsSeen l.above.flags.items l.above.list.items;
-  above_size : length l.above.flags.items ≡ length l.classes.standing.now;
-  covered : IsSeen l.covered.flags.items l.covered.list.items;
-  covered_size : length l.covered.flags.items ≡ length l.classes.standing.now;
+  above : length l.above.flags ≡ length l.classes.standing.now;
+  covered : length l.covered.flags ≡ length l.classes.standing.now;
   within : l.at ≤ length l.facts.references;
   answered : (m : World) → TellsLoads m (indexed_of l.classes) (length l.classes.standing.now) l.loads
       → IsIndexed m (indexed_of l.classes)

@@ -6,4 +6,4 @@ use Rattle.jc_resolve.specs.inside.Picks.{is_pick}
 use Rattle.jc_resolve.proofs.picks.is_only.Given as goal
 
 abbrev pub invariant-loop-node : goal.invariant-loop-node
-invariant-loop-node l = (j : ℕ) → j < l.node-index → is_pick (indexed_of l.classes) (key_lent l.key) l.covered.flags.items (node_at l.nodes j) ≡ true → node_at l.nodes j ≡ l.first
+invariant-loop-node l = (j : ℕ) → j < l.node-index → is_pick (indexed_of l.classes) (key_lent l.key) l.covered.flags (node_at l.nodes j) ≡ true → node_at l.nodes j ≡ l.first

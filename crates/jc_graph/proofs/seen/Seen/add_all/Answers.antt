@@ -6,8 +6,8 @@ use Rattle.jc_graph.proofs.seen.Seen.add_all.Goals as goal
 
 pub loop-node-preserved : goal.loop-node-preserved
 loop-node-preserved c =
-    let f = c.args.self.now.flags.items in
-    let l = c.args.self.now.list.items in
+    let f = c.args.self.now.flags in
+    let l = c.args.self.now.list in
     let i = c.loop-node.node-index in
-    let more = grows_more f l c.loop-node.self.flags.items c.loop-node.self.list.items c.add_once.new.self.flags.items c.add_once.new.self.list.items (take i c.args.nodes.now) _ c.loop-node.invariant c.in_ok-add_once.ensures in
-    subst (λ z. Grows f l c.add_once.new.self.flags.items c.add_once.new.self.list.items z) (sym (take_more c.args.nodes.now i 0 c.loop-node-test.true)) more
+    let more = grows_more f l c.loop-node.self.flags c.loop-node.self.list c.add_once.new.self.flags c.add_once.new.self.list (take i c.args.nodes.now) _ c.loop-node.invariant c.in_ok-add_once.ensures in
+    subst (λ z. Grows f l c.add_once.new.self.flags c.add_once.new.self.list z) (sym (take_more c.args.nodes.now i 0 c.loop-node-test.true)) more

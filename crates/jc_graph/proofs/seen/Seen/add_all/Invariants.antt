@@ -3,4 +3,4 @@ use Rattle.jc_graph.specs.Seen.{Grows}
 use Rattle.jc_graph.proofs.seen.Seen.add_all.Given as goal
 
 abbrev pub invariant-loop-node : goal.invariant-loop-node
-invariant-loop-node l = Grows l.fn.self.flags.items l.fn.self.list.items l.self.flags.items l.self.list.items (take l.node-index l.nodes)
+invariant-loop-node l = Grows l.fn.self.flags l.fn.self.list l.self.flags l.self.list (take l.node-index l.nodes)

@@ -4,9 +4,9 @@ use Rattle.jc_graph.proofs.seen.Seen.clear.Given as goal
 
 abbrev pub invariant-loop-node : goal.invariant-loop-node
 invariant-loop-node l = record {
-  seen : IsListed l.self.flags.items l.self.list.items;
-  size : length l.self.flags.items ≡ length l.fn.self.flags.items;
+  seen : IsListed l.self-inside.flags.items l.self-inside.list.items;
+  size : length l.self-inside.flags.items ≡ length l.fn.self.flags;
 }
 
 abbrev pub decreases-loop-node : goal.decreases-loop-node
-decreases-loop-node l = length l.self.list.items
+decreases-loop-node l = length l.self-inside.list.items
