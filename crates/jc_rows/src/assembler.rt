@@ -110,6 +110,14 @@ impl Pool {
     }
 }
 
+/// The one word of a line.
+fn word_of<'a>(tokens: &[Token<'a>]) -> Result<&'a str> {
+    match tokens {
+        [Token::Word(word)] => Ok(*word),
+        _ => bail!("one word is wanted"),
+    }
+}
+
 fn hexadecimal(word: &str) -> Result<u16> {
     u16::from_str_radix(word, 16).context("flags in hexadecimal")
 }
@@ -140,27 +148,40 @@ impl Assembler {
     /// Takes a line.
     fn take(&mut self, alloc: Global, line: &str) -> Result<()> {
         let (tokens, _) = tokens_of(alloc, line)?;
-        match tokens.as_slice() {
-            [Token::Word("version"), Token::Word(major)] => self.major = major.parse::<u16>()?,
-            [Token::Word("flags"), Token::Word(flags)] => self.flags = hexadecimal(flags)?,
-            [Token::Word("super"), Token::Word("none")] => self.super_class = 0,
-            [Token::Word("super"), Token::Quoted(name)] => {
-                self.super_class = self.pool.class(alloc, name)?;
-            }
-            [Token::Word("implements"), Token::Quoted(name)] => {
-                let interface = self.pool.class(alloc, name)?;
-                self.interfaces.add(&[interface], &[])?;
-            }
-            [Token::Word("refers"), rest @ ..] => self.refer(alloc, rest)?,
-            _ => self.declare(alloc, &tokens)?,
+        let [Token::Word(word), rest @ ..] = tokens.as_slice() else {
+            bail!("no line of a class");
+        };
+        match *word {
+            "version" => self.major = word_of(rest)?.parse::<u16>()?,
+            "flags" => self.flags = hexadecimal(word_of(rest)?)?,
+            "super" => self.set_super(alloc, rest)?,
+            "implements" => self.implement(alloc, rest)?,
+            "refers" => self.refer(alloc, rest)?,
+            kind => self.declare(alloc, kind, rest)?,
         }
         Ok(())
     }
 
+    fn set_super(&mut self, alloc: Global, tokens: &[Token]) -> Result<()> {
+        self.super_class = match tokens {
+            [Token::Word("none")] => 0,
+            [Token::Quoted(name)] => self.pool.class(alloc, name)?,
+            _ => bail!("no superclass"),
+        };
+        Ok(())
+    }
+
+    fn implement(&mut self, alloc: Global, tokens: &[Token]) -> Result<()> {
+        let [Token::Quoted(name)] = tokens else {
+            bail!("an interface without its name");
+        };
+        let interface = self.pool.class(alloc, name)?;
+        self.interfaces.add(&[interface], &[])
+    }
+
     /// A field or a method, with the code `return` where it has one.
-    fn declare(&mut self, alloc: Global, tokens: &[Token]) -> Result<()> {
+    fn declare(&mut self, alloc: Global, kind: &str, tokens: &[Token]) -> Result<()> {
         let [
-            Token::Word(kind),
             Token::Word(flags),
             Token::Quoted(name),
             Token::Quoted(descriptor),
@@ -171,7 +192,7 @@ impl Assembler {
         let flags = hexadecimal(flags)?;
         let name = self.pool.utf8(alloc, name)?;
         let descriptor = self.pool.utf8(alloc, descriptor)?;
-        if *kind == "field" {
+        if kind == "field" {
             return self.fields.add(&[flags, name, descriptor, 0], &[]);
         }
         if flags & WITHOUT_CODE != 0 {
@@ -202,7 +223,7 @@ impl Assembler {
         Ok(())
     }
 
-    fn into_file(self, alloc: Global) -> Result<Vec<u8>> {
+    fn file(&self, alloc: Global) -> Result<Vec<u8>> {
         let mut file = Vec::new(alloc);
         let count = self.pool.count()?;
         push_numbers(&mut file, &[0xcafe, 0xbabe, 0, self.major, count])?;
@@ -231,5 +252,5 @@ pub(crate) fn assemble(alloc: Global, name: &str, lines: &[&str]) -> Result<Vec<
     for line in lines {
         assembler.take(alloc, line)?;
     }
-    assembler.into_file(alloc)
+    assembler.file(alloc)
 }

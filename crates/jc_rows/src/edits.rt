@@ -45,29 +45,24 @@ fn told_of_call(
     words: &[Token<'_>],
     wanted: &str,
 ) -> Result<Option<String>> {
-    match words {
-        [
-            Token::Word("classes"),
-            Token::Word(count),
-            Token::Word(front),
-        ] => {
-            add_classes(alloc, session, count.parse::<u32>()?, front)?;
-            Ok(None)
-        }
-        [Token::Word("dependants"), Token::Word(name)] => {
-            let found = dependants(alloc, session, name)?;
+    let [Token::Word(word), Token::Word(argument), rest @ ..] = words else {
+        bail!("no such call");
+    };
+    match *word {
+        "classes" => add_classes(alloc, session, argument.parse::<u32>()?, rest),
+        "dependants" => {
+            let found = dependants(alloc, session, argument)?;
             Ok(unlike(alloc, line, wanted, &found)?)
         }
-        [Token::Word("holders"), Token::Word(place)] => {
-            let found = session.holders(place.parse::<usize>()?);
+        "holders" => {
+            let found = session.holders(argument.parse::<usize>()?);
             Ok(unlike(alloc, line, wanted, &format!(in alloc; "{found}")?)?)
         }
-        [Token::Word(word), Token::Word(path), parts @ ..] => {
-            let bytes = bytes_of(alloc, names, parts)?;
-            let done = session.edit(edit_of(alloc, word, path, bytes)?);
+        _ => {
+            let bytes = bytes_of(alloc, names, rest)?;
+            let done = session.edit(edit_of(alloc, word, argument, bytes)?);
             Ok(told_of_edit(alloc, line, wanted, done)?)
         }
-        _ => bail!("no such call"),
     }
 }
 
@@ -85,7 +80,15 @@ fn unlike(
 }
 
 /// Adds files, each with a class below java/lang/Object, whose names are the front and a number from 1.
-fn add_classes(alloc: Global, session: &mut Session, count: u32, front: &str) -> Result<()> {
+fn add_classes(
+    alloc: Global,
+    session: &mut Session,
+    count: u32,
+    words: &[Token<'_>],
+) -> Result<Option<String>> {
+    let [Token::Word(front)] = words else {
+        bail!("classes without the front of their names");
+    };
     for index in 0..count {
         let name = format!(in alloc; "{front}{}", index.saturating_add(1))?;
         let path = Vec::from_slice(alloc, name.as_bytes())?;
@@ -93,7 +96,7 @@ fn add_classes(alloc: Global, session: &mut Session, count: u32, front: &str) ->
             bail!("a refused edit");
         };
     }
-    Ok(())
+    Ok(None)
 }
 
 /// The classes that depend on a name, a blank between them.

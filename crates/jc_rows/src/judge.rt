@@ -10,7 +10,7 @@ use crate::file_answers::read_answer;
 use crate::listing_answers::listing_answer;
 use crate::outcome::{outcome_of_program, outcome_of_run};
 use crate::parts::{Names, bytes_of};
-use crate::row::{Row, head_of, rows_of};
+use crate::row::{Row, Statement, head_of, rows_of};
 use crate::text_answers::{
     field_answer, method_answer, name_answer, signature_answer, units_answer,
 };
@@ -54,7 +54,12 @@ pub(crate) fn judge_file(
     text: &str,
 ) -> Result<Tally> {
     let rows = rows_of(rt.alloc(), text)?;
-    Judge::new(rt.alloc())?.judge_rows(rt, path, &rows)
+    judge_all(rt, path, &rows)
+}
+
+fn judge_all(rt: &(impl Files + AllocGlobal + Print), path: &str, rows: &[Row]) -> Result<Tally> {
+    let mut judge = Judge::new(rt.alloc())?;
+    judge.judge_rows(rt, path, rows)
 }
 
 impl Tally {
@@ -120,7 +125,7 @@ impl Judge {
 
     fn judge(&mut self, rt: &(impl Files + AllocGlobal), row: &Row) -> Result<Found> {
         match front_of(rt.alloc(), row)? {
-            (name, Token::Equals) => self.define(rt.alloc(), name, row),
+            (name, Token::Equals) => define(rt.alloc(), &mut self.names, name, row),
             (kind, Token::Quoted(what)) => self.judge_kind(rt, kind, what, row),
             _ => bail!("neither a definition nor a row"),
         }
@@ -134,103 +139,103 @@ impl Judge {
         row: &Row,
     ) -> Result<Found> {
         match kind {
-            "run" => {
+            "run" | "edits" => {
                 self.session = new_session(rt.alloc())?;
-                self.judge_run(rt.alloc(), what, row)
+                self.judge_session(rt.alloc(), kind, what, row)
             }
-            "then" => self.judge_run(rt.alloc(), what, row),
-            "edits" => {
-                self.session = new_session(rt.alloc())?;
-                self.judge_edits(rt.alloc(), what, row)
-            }
-            "then-edits" => self.judge_edits(rt.alloc(), what, row),
-            "program" => self.judge_program(rt, what, row),
-            "class" => self.define_class(rt.alloc(), what, row),
-            "world" => self.judge_world(rt.alloc(), what, row),
-            _ => self.judge_bytes(rt, kind, what, row),
+            "then" | "then-edits" => self.judge_session(rt.alloc(), kind, what, row),
+            _ => judge_named(rt, &mut self.names, kind, what, row),
         }
     }
 
-    fn define(&mut self, alloc: Global, name: &str, row: &Row) -> Result<Found> {
-        let statement = row.statement(alloc)?;
-        let bytes = bytes_of(alloc, &self.names, statement.parts())?;
-        self.name(alloc, name, bytes)
-    }
-
-    /// Names the class file that the lines of a row tell: by what stands behind `as`, else by its class.
-    fn define_class(&mut self, alloc: Global, class: &str, row: &Row) -> Result<Found> {
-        let bytes = assemble(alloc, class, &row.more)?;
-        match head_of(alloc, row.head)?.parts() {
-            [Token::Word("as"), Token::Word(name)] => self.name(alloc, name, bytes),
-            _ => self.name(alloc, class, bytes),
-        }
-    }
-
-    fn name(&mut self, alloc: Global, name: &str, bytes: Vec<u8>) -> Result<Found> {
-        let name = Vec::from_slice(alloc, name.as_bytes())?;
-        match self.names.insert(name, bytes) {
-            Ok(None) => Ok(Found::Definition),
-            Ok(Some(_)) => bail!("a name is given twice"),
-            Err(_) => bail!("no memory"),
-        }
-    }
-
-    fn judge_run(&mut self, alloc: Global, what: &str, row: &Row) -> Result<Found> {
-        let mut dialogue = Dialogue::read(alloc, &self.names, &row.more)?;
-        let told = told_of_run(alloc, &mut self.session, &mut dialogue)?;
+    /// Judges a row over the session as it stands.
+    fn judge_session(&mut self, alloc: Global, kind: &str, what: &str, row: &Row) -> Result<Found> {
+        let told = match kind {
+            "run" | "then" => told_of_run(alloc, &self.names, &mut self.session, &row.more)?,
+            _ => told_of_edits(alloc, &self.names, &mut self.session, &row.more)?,
+        };
         judged(alloc, what, told)
     }
+}
 
-    fn judge_edits(&mut self, alloc: Global, what: &str, row: &Row) -> Result<Found> {
-        let told = told_of_edits(alloc, &self.names, &mut self.session, &row.more)?;
-        judged(alloc, what, told)
+/// Judges a row that asks for no session.
+fn judge_named(
+    rt: &(impl Files + AllocGlobal),
+    names: &mut Names,
+    kind: &str,
+    what: &str,
+    row: &Row,
+) -> Result<Found> {
+    match kind {
+        "class" => define_class(rt.alloc(), names, what, row),
+        "program" => judge_program(rt, names, what, row),
+        "world" => judge_world(rt.alloc(), names, what, row),
+        _ => judge_bytes(rt, names, kind, what, row),
     }
+}
 
-    fn judge_program(
-        &mut self,
-        rt: &(impl Files + AllocGlobal),
-        what: &str,
-        row: &Row,
-    ) -> Result<Found> {
-        let dialogue = Dialogue::read(rt.alloc(), &self.names, &row.more)?;
-        let told = told_of_program(rt, &dialogue)?;
-        judged(rt.alloc(), what, told)
-    }
+fn define(alloc: Global, names: &mut Names, name: &str, row: &Row) -> Result<Found> {
+    let bytes = row_bytes(alloc, names, &row.statement(alloc)?)?;
+    name_bytes(alloc, names, name, bytes)
+}
 
-    fn judge_world(&mut self, alloc: Global, what: &str, row: &Row) -> Result<Found> {
-        let dialogue = Dialogue::read(alloc, &self.names, &row.more)?;
-        let found = world_text(alloc, &dialogue.held)?;
-        let wanted = dialogue.wanted.output.as_slice();
-        if found.as_slice() == wanted {
-            return Ok(Found::Right);
-        }
-        let told = difference(alloc, "parts", wanted, &found)?;
-        judged(alloc, what, Some(told))
+/// Names the class file that the lines of a row tell: by what stands behind `as`, else by its class.
+fn define_class(alloc: Global, names: &mut Names, class: &str, row: &Row) -> Result<Found> {
+    let bytes = assemble(alloc, class, &row.more)?;
+    match head_of(alloc, row.head)?.parts() {
+        [Token::Word("as"), Token::Word(name)] => name_bytes(alloc, names, name, bytes),
+        _ => name_bytes(alloc, names, class, bytes),
     }
+}
 
-    fn judge_bytes(
-        &mut self,
-        rt: &(impl Files + AllocGlobal),
-        kind: &str,
-        what: &str,
-        row: &Row,
-    ) -> Result<Found> {
-        let (bytes, wanted) = self.asked(rt.alloc(), row)?;
-        let found = answer(rt, kind, &bytes)?;
-        if found == wanted {
-            return Ok(Found::Right);
-        }
-        let told = difference(rt.alloc(), kind, wanted.as_bytes(), found.as_bytes())?;
-        judged(rt.alloc(), what, Some(told))
+fn name_bytes(alloc: Global, names: &mut Names, name: &str, bytes: Vec<u8>) -> Result<Found> {
+    let name = Vec::from_slice(alloc, name.as_bytes())?;
+    match names.insert(name, bytes) {
+        Ok(None) => Ok(Found::Definition),
+        Ok(Some(_)) => bail!("a name is given twice"),
+        Err(_) => bail!("no memory"),
     }
+}
 
-    /// The bytes of a row, and the answer that is wanted.
-    fn asked(&self, alloc: Global, row: &Row) -> Result<(Vec<u8>, String)> {
-        let statement = row.statement(alloc)?;
-        let bytes = bytes_of(alloc, &self.names, statement.parts())?;
-        let wanted = statement.answer.context("a row without its answer")?;
-        Ok((bytes, wanted))
-    }
+fn judge_program(
+    rt: &(impl Files + AllocGlobal),
+    names: &Names,
+    what: &str,
+    row: &Row,
+) -> Result<Found> {
+    let dialogue = Dialogue::read(rt.alloc(), names, &row.more)?;
+    let told = told_of_program(rt, &dialogue)?;
+    judged(rt.alloc(), what, told)
+}
+
+fn judge_world(alloc: Global, names: &Names, what: &str, row: &Row) -> Result<Found> {
+    let dialogue = Dialogue::read(alloc, names, &row.more)?;
+    let found = world_text(alloc, &dialogue.held)?;
+    judged_bytes(
+        alloc,
+        "parts",
+        what,
+        dialogue.wanted.output.as_slice(),
+        &found,
+    )
+}
+
+fn judge_bytes(
+    rt: &(impl Files + AllocGlobal),
+    names: &Names,
+    kind: &str,
+    what: &str,
+    row: &Row,
+) -> Result<Found> {
+    let statement = row.statement(rt.alloc())?;
+    let bytes = row_bytes(rt.alloc(), names, &statement)?;
+    let found = answer(rt, kind, &bytes)?;
+    let wanted = statement.answer.context("a row without its answer")?;
+    judged_bytes(rt.alloc(), kind, what, wanted.as_bytes(), found.as_bytes())
+}
+
+fn row_bytes(alloc: Global, names: &Names, statement: &Statement) -> Result<Vec<u8>> {
+    bytes_of(alloc, names, statement.parts())
 }
 
 /// The word that a row begins with, and what stands behind it.
@@ -244,12 +249,14 @@ fn front_of<'a>(alloc: Global, row: &Row<'a>) -> Result<(&'a str, Token<'a>)> {
 /// What is told of a run that goes otherwise than its dialogue.
 fn told_of_run(
     alloc: Global,
+    names: &Names,
     session: &mut Session,
-    dialogue: &mut Dialogue,
-) -> Result<Option<String>, AllocError> {
-    let found = outcome_of_run(alloc, session, dialogue)?;
+    lines: &[&str],
+) -> Result<Option<String>> {
+    let mut dialogue = Dialogue::read(alloc, names, lines)?;
+    let found = outcome_of_run(alloc, session, &mut dialogue)?;
     match unlike(alloc, session, &dialogue.held)? {
-        None => dialogue.wanted.difference(alloc, &found),
+        None => Ok(dialogue.wanted.difference(alloc, &found)?),
         told => Ok(told),
     }
 }
@@ -311,6 +318,20 @@ fn judged(alloc: Global, what: &str, difference: Option<String>) -> Result<Found
         None => Found::Right,
         Some(told) => Found::Wrong(format!(in alloc; "{what}: {told}")?),
     })
+}
+
+/// What is found where these bytes are wanted.
+fn judged_bytes(
+    alloc: Global,
+    kind: &str,
+    what: &str,
+    wanted: &[u8],
+    found: &[u8],
+) -> Result<Found> {
+    if found == wanted {
+        return Ok(Found::Right);
+    }
+    judged(alloc, what, Some(difference(alloc, kind, wanted, found)?))
 }
 
 /// What the call of a kind answers to the bytes.
