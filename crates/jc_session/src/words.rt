@@ -89,21 +89,28 @@ fn words_fault(error: &clap::Error) -> Fault<'static>
 }
 
 fn jclink_command<'a>(alloc: Global) -> Result<Command<'a>, AllocError> {
-    let session = Command::new(alloc, "session").arg(outside_option(alloc))?;
+    Command::new(alloc, "jclink")
+        .no_binary_name(true)
+        .subcommand_required(true)
+        .subcommand(session_command(alloc)?)?
+        .subcommand(list_command(alloc)?)?
+        .subcommand(check_command(alloc)?)
+}
+
+fn session_command<'a>(alloc: Global) -> Result<Command<'a>, AllocError> {
+    Command::new(alloc, "session").arg(outside_option(alloc))
+}
+
+fn list_command<'a>(alloc: Global) -> Result<Command<'a>, AllocError> {
     let file = Arg::new(alloc, "FILE").required(true);
-    let list = Command::new(alloc, "list").arg(file)?;
+    Command::new(alloc, "list").arg(file)
+}
+
+fn check_command<'a>(alloc: Global) -> Result<Command<'a>, AllocError> {
     let folder = Arg::new(alloc, "DIR").required(true);
-    let check = Command::new(alloc, "check")
+    Command::new(alloc, "check")
         .arg(outside_option(alloc))?
-        .arg(folder)?;
-    Ok(
-        Command::new(alloc, "jclink")
-            .no_binary_name(true)
-            .subcommand_required(true)
-            .subcommand(session)?
-            .subcommand(list)?
-            .subcommand(check)?,
-    )
+        .arg(folder)
 }
 
 fn outside_option<'a>(alloc: Global) -> Arg<'a> {
