@@ -29,7 +29,9 @@ impl Model for Seen {
 impl Seen {
     /// None of the nodes.
     pub fn new(alloc: Global, count: usize) -> Result<Seen, NoMemory>
-        ensures { IfOk result (λ s. length s.flags ≡ count) }
+        ensures size { IfOk result (λ s. length s.flags ≡ count) }
+        ensures none { IfOk result (λ s. (v : ℕ) → flag_at s.flags v ≡ false) }
+        ensures list { IfOk result (λ s. s.list ≡ []) }
     {
         Ok(Seen {
             flags: vec![in alloc; false; count]?,
