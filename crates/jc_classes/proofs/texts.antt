@@ -1,3 +1,4 @@
+pub mod AskedTexts
 pub mod ConstantTexts
 pub mod Entries
 pub mod FaultsOfMethods

@@ -1,5 +1,5 @@
 -- What linking keeps of a class file.
-use Rattle.std.specs.Prelude.{ℕ, Bool, List, [], ◌∷◌, Option, Some, None, length, ◌==◌, not}
+use Rattle.std.specs.Prelude.{ℕ, Bool, List, Option, length, ◌==◌, not}
 use Rattle.jc_file.specs.declared.fault.Fault.{Fault}
 use Rattle.jc_code.specs.declared.code_fault.CodeFault.{CodeFault}
 use Rattle.jc_classes.specs.Names.{Name}

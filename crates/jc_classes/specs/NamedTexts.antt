@@ -1,5 +1,5 @@
 -- What the text of a Class constant names (JVMS 4.4.1): of an array its descriptor stands there.
-use Rattle.std.specs.Prelude.{ℕ, ◌-◌, ◌==◌, List, [], ◌∷◌, length, take, Option, Some, None, if◌then◌else◌}
+use Rattle.std.specs.Prelude.{ℕ, ◌==◌, List, [], ◌∷◌, length, take, Option, Some, None, if◌then◌else◌}
 use Rattle.jc_classes.specs.Names.{Name}
 use Rattle.jc_classes.specs.Facts.{Named}
 use Rattle.jc_classes.specs.Facts.Named.{Class, Array}

@@ -1,3 +1,4 @@
+pub mod ClassTexts
 pub mod ConstantTexts
 pub mod FactsShown
 pub mod Numbering

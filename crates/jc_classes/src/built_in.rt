@@ -126,7 +126,7 @@ fn list_of(alloc: Global, texts: &[&[u8]]) -> Result<TextList, NoMemory>
 {
     let mut list = TextList::new(alloc);
     for text in texts {
-        list = list.with(text)?;
+        list.push(text)?;
     }
     Ok(list)
 }

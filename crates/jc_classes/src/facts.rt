@@ -19,7 +19,7 @@ use std::marker::Model;
 #[derive(Drop)]
 pub struct Facts {
     pub(crate) path: Vec<u8>,
-    /// The texts of the constants, by their indexes.
+    /// The texts of names and descriptors, by their numbers.
     pub(crate) texts: TextList,
     pub(crate) name: u16,
     pub(crate) flags: u16,
@@ -32,7 +32,8 @@ pub struct Facts {
     pub(crate) code_faults: Vec<(usize, CodeFault)>,
 }
 
-/// A field or a method, by the indexes of its texts.
+/// A field or a method, by the numbers of its texts: first those of their constants, and then their own
+/// among the texts that are kept.
 #[derive(Clone, Copy)]
 pub(crate) struct MemberEntry {
     pub(crate) name: u16,
@@ -40,7 +41,8 @@ pub(crate) struct MemberEntry {
     pub(crate) flags: u16,
 }
 
-/// A reference, by the indexes of its texts.
+/// A reference, by the numbers of its texts in the same way. A reference to a class has the empty text for
+/// name and descriptor.
 #[derive(Clone, Copy)]
 pub(crate) struct ReferenceEntry {
     pub(crate) index: u16,

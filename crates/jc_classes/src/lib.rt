@@ -3,6 +3,7 @@
 #![tactic(auto)]
 
 mod built_in;
+mod class_texts;
 mod facts;
 mod laws;
 mod linkage_error;

@@ -10,8 +10,9 @@ ghost use Rattle.jc_file.specs.Faults.{faults};
 ghost use Rattle.jc_code.specs.MethodFaults.{code_faults, method_faults};
 ghost use Rattle.jc_classes.specs.FactsOf.{class_name, class_reference, facts_of, faulty_facts, interfaces_in, member_of, member_reference, reference_at, references_in, sound_facts};
 ghost use Rattle.jc_classes.specs.inside.FactsShown.{member_shown, reference_shown, text_at};
-ghost use Rattle.jc_classes.specs.inside.ConstantTexts.{key_at, key_shown, text_or_empty, texts_of};
+ghost use Rattle.jc_classes.specs.inside.ConstantTexts.{key_at, key_shown, texts_of};
 
+use crate::class_texts::ClassTexts;
 use crate::facts::{Facts, MemberEntry, ReferenceEntry};
 use crate::reference_kind::ReferenceKind;
 use crate::text_list::TextList;
@@ -37,23 +38,30 @@ impl Facts {
     }
 }
 
-/// The facts of a class file without a format fault.
+/// The facts of a class file without a format fault. Entries are read by the indexes of their texts, which are
+/// then numbered, so that no text is kept that linking does not ask for.
 fn sound_facts(alloc: Global, class: &ClassView, path: &[u8]) -> Result<Facts, NoMemory>
     ensures { IfOk result (λ facts. facts ≡ sound_facts path.now class.now) }
 {
     let path = Vec::from_slice(alloc, path)?;
-    let texts = constant_texts(alloc, class)?;
-    let interfaces = interface_entries(alloc, class)?;
-    let fields = member_entries(alloc, class, class.fields())?;
-    let methods = member_entries(alloc, class, class.methods())?;
-    let references = reference_entries(alloc, class)?;
+    let mut texts = ClassTexts::new(alloc, class)?;
+    let name = texts.number(own_name_index(class))?;
+    let superclass = texts.number_of_some(name_index(class, class.super_class()))?;
+    let entries = interface_entries(alloc, class)?;
+    let interfaces = texts.names(entries)?;
+    let entries = member_entries(alloc, class, class.fields())?;
+    let fields = texts.members(entries)?;
+    let entries = member_entries(alloc, class, class.methods())?;
+    let methods = texts.members(entries)?;
+    let entries = reference_entries(alloc, class)?;
+    let references = texts.references(entries)?;
     let code_faults = all_code_faults(alloc, class)?;
     Ok(Facts {
         path,
-        texts,
-        name: own_name_index(class),
+        texts: texts.into_list(),
+        name,
         flags: class.flags(),
-        superclass: name_index(class, class.super_class()),
+        superclass,
         interfaces,
         fields,
         methods,
@@ -74,7 +82,8 @@ fn faulty_facts(
     ensures { IfOk result (λ facts. facts ≡ faulty_facts path.now class.now) }
 {
     let path = Vec::from_slice(alloc, path)?;
-    let texts = TextList::new(alloc).with(class.name())?;
+    let mut texts = TextList::new(alloc);
+    texts.push(class.name())?;
     Ok(Facts {
         path,
         texts,
@@ -88,23 +97,6 @@ fn faulty_facts(
         format_faults,
         code_faults: Vec::new(alloc),
     })
-}
-
-/// The text of each Utf8 constant, by its index; an empty one at any other.
-fn constant_texts(alloc: Global, class: &ClassView) -> Result<TextList, NoMemory>
-    ensures { IfOk result (λ texts. texts ≡ texts_of class.now) }
-{
-    let mut texts = TextList::new(alloc);
-    for index in 0..class.constant_count() {
-        texts = texts.with(text_or_empty(class, index))?;
-    }
-    Ok(texts.fitted())
-}
-
-fn text_or_empty<'a>(class: &ClassView<'a>, index: u16) -> &'a [u8]
-    ensures { result.now ≡ text_or_empty class.now index }
-{
-    class.utf8(ConstantIndex(index)).unwrap_or(&[])
 }
 
 /// Adds an entry, where there is one.
@@ -181,7 +173,6 @@ fn member_entries(
     for member in members {
         push_some(&mut entries, member_entry(class, &member))?;
     }
-    entries.shrink_to_fit();
     Ok(entries)
 }
 
@@ -206,7 +197,6 @@ fn reference_entries(alloc: Global, class: &ClassView) -> Result<Vec<ReferenceEn
     for index in 1..class.constant_count() {
         push_some(&mut entries, reference_entry(class, index))?;
     }
-    entries.shrink_to_fit();
     Ok(entries)
 }
 

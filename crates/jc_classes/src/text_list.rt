@@ -1,6 +1,6 @@
 //! Many texts in one buffer.
 
-ghost use Rattle.std.specs.Prelude.{◌≡◌, ◌<◌, ◌≤◌, ◌-◌, ◌++◌, [], ◌∷◌, drop, length, slice_index_or, take, IfOk};
+ghost use Rattle.std.specs.Prelude.{◌≡◌, ◌<◌, ◌≤◌, ◌-◌, ◌++◌, [], ◌∷◌, drop, length, slice_index_or, take, OnErr, OnOk};
 ghost use Rattle.jc_classes.specs.inside.TextList.{start_at};
 
 use jc_base::NoMemory;
@@ -37,17 +37,27 @@ impl TextList {
         }
     }
 
-    /// The list and a text behind it.
-    pub(crate) fn with(self, text: &[u8]) -> Result<TextList, NoMemory>
-        ensures { IfOk result (λ texts. texts ≡ self ++ text.now ∷ []) }
+    /// Puts a text behind the others.
+    pub(crate) fn push(&mut self, text: &[u8]) -> Result<(), NoMemory>
+        ensures ok { OnOk result (self.new ≡ self.old ++ text.now ∷ []) }
+        ensures err { OnErr result (self.new ≡ self.old) }
     {
-        let TextList {
-            mut bytes,
-            mut ends,
-        } = self;
-        bytes.extend_from_slice(text)?;
-        ends.push(bytes.len())?;
-        Ok(TextList { bytes, ends })
+        let before = self.bytes.len();
+        self.bytes.extend_from_slice(text)?;
+        match self.ends.push(self.bytes.len()) {
+            Ok(()) => Ok(()),
+            Err(_) => {
+                self.bytes.truncate(before);
+                Err(NoMemory)
+            }
+        }
+    }
+
+    /// How many texts there are.
+    pub(crate) fn len(&self) -> usize
+        ensures { result ≡ length self.now }
+    {
+        self.ends.len()
     }
 
     /// The list with no room to spare. No memory.

@@ -1,9 +1,9 @@
 -- The text of a Utf8 constant by its index.
-use Rattle.std.proofs.Common.{◌≡◌, ℕ, zero, suc, ◌+◌, ◌-◌, ◌<◌, ◌≤◌, List, [], ◌∷◌, ◌++◌, map, Option, Some, None, refl, sym, ap, ◌∙◌, arith}
+use Rattle.std.proofs.Common.{◌≡◌, ℕ, zero, suc, ◌+◌, ◌-◌, ◌<◌, ◌≤◌, List, [], ◌∷◌, ◌++◌, length, Option, Some, None, refl, ap, ◌∙◌, arith}
 use Rattle.std.specs.Option.{option_map_or}
-use Rattle.std.specs.Prelude.{option_and_then, slice_index_or}
+use Rattle.std.specs.Prelude.{option_and_then}
 use Rattle.std.specs.List.{flat_map, range_with_len}
-use Rattle.std.proofs.lemmas.List.FromFn.{get_or-map-range_with_len, map-range_with_len_more}
+use Rattle.std.proofs.lemmas.List.FromFn.{get_or-map-range_with_len, length-map-range_with_len}
 use Rattle.std.proofs.lemmas.Grind.{flat_map-append}
 use Rattle.std.proofs.lemmas.List.{append-nil}
 use Rattle.jc_view.specs.declared.constant_pool.ConstantIndex.{ConstantIndex}
@@ -18,10 +18,13 @@ within : (c : ClassFile) (index : ConstantIndex) (text : List ℕ) (entry : Opti
 within c index text None e h = absurd cc
 within c index text (Some entry) e h = (usable_within c index.0 entry e).1
 
+pub text_within : (c : ClassFile) (index : ConstantIndex) (text : List ℕ) → utf8_at c index ≡ Some text → index.0 < 1 + all_slots c.constants
+text_within c index text h = within c index text (constant_at c index) refl h
+
 pub text_there : (c : ClassFile) (index : ConstantIndex) (text : List ℕ) → utf8_at c index ≡ Some text → text_at (texts_of c) index.0 ≡ text
 unfolding texts_of
 text_there c index text h =
-    get_or-map-range_with_len (text_or_empty c) 0 (1 + all_slots c.constants) index.0 index.0 [] (within c index text (constant_at c index) refl h) (omega arith)
+    get_or-map-range_with_len (text_or_empty c) 0 (1 + all_slots c.constants) index.0 index.0 [] (text_within c index text h) (omega arith)
     ∙ ap (λ o. option_map_or (λ t. t) o []) h
 
 -- index 0 is of no constant
@@ -29,15 +32,9 @@ pub no_text : (c : ClassFile) → text_at (texts_of c) 0 ≡ []
 unfolding texts_of
 no_text c = get_or-map-range_with_len (text_or_empty c) 0 (1 + all_slots c.constants) 0 0 [] (omega arith) (omega arith)
 
-pub texts_more : (c : ClassFile) (index : ℕ) (texts : List (List ℕ)) (text : List ℕ) → texts ≡ map (text_or_empty c) (range_with_len 0 index) → text ≡ text_or_empty c index
-    → texts ++ text ∷ [] ≡ map (text_or_empty c) (range_with_len 0 (index + 1))
-texts_more c index texts text e t =
-    ap (λ xs. xs ++ text ∷ []) e ∙ ap (λ x. map (text_or_empty c) (range_with_len 0 index) ++ x ∷ []) t
-    ∙ sym (map-range_with_len_more (text_or_empty c) 0 index index (omega arith))
-
-pub texts_all : (c : ClassFile) (index : ℕ) (texts : List (List ℕ)) → texts ≡ map (text_or_empty c) (range_with_len 0 index) → index ≡ 1 + all_slots c.constants → texts ≡ texts_of c
+pub length_texts_of : (c : ClassFile) → length (texts_of c) ≡ 1 + all_slots c.constants
 unfolding texts_of
-texts_all c index texts e n = e ∙ ap (λ k. map (text_or_empty c) (range_with_len 0 k)) n
+length_texts_of c = length-map-range_with_len (text_or_empty c) 0 (1 + all_slots c.constants)
 
 -- ---- numbers in a row
 

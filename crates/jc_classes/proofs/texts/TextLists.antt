@@ -1,6 +1,6 @@
 -- A text behind others, and the text of a number.
 use Rattle.std.proofs.Common.{◌≡◌, ℕ, zero, suc, ◌+◌, ◌-◌, ◌<◌, ◌≤◌, List, [], ◌∷◌, ◌++◌, length, take, drop, slice_index_or, refl, sym, ap, subst, ◌∙◌, arith}
-use Rattle.std.proofs.lemmas.List.{drop-append-le, take-append-le, length-append, length-drop}
+use Rattle.std.proofs.lemmas.List.{drop-append-le, take-append-le, length-drop}
 use Rattle.std.proofs.Math.Seq.{drop-append_seam, take-length}
 use Rattle.jc_classes.specs.inside.TextList.{texts_from, AreEnds, start_at}
 
@@ -67,3 +67,9 @@ texts_end bytes from (end ∷ ends) (suc number) h = texts_end bytes end ends nu
 pub no_texts : (bytes : List ℕ) → texts_from bytes 0 [] ≡ []
 unfolding texts_from
 no_texts bytes = refl
+
+-- a text for each end
+pub length_texts : (bytes : List ℕ) (from : ℕ) (ends : List ℕ) → length ends ≡ length (texts_from bytes from ends)
+unfolding texts_from
+length_texts bytes from [] = refl
+length_texts bytes from (end ∷ ends) = ap suc (length_texts bytes end ends)

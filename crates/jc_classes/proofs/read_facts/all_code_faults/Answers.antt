@@ -1,4 +1,4 @@
-use Rattle.std.proofs.Common.{◌≡◌, ◌∙◌, ◌∷◌, ◌++◌, map, ap, refl, subst, ◌+◌, sym}
+use Rattle.std.proofs.Common.{◌≡◌, ◌∙◌, ◌∷◌, ◌++◌, map, ap, subst, ◌+◌, sym}
 use Rattle.std.specs.Iterator.Adapters.{enumerate_source, enumerate_count}
 use Rattle.jc_view.specs.declared.attribute_kind.Holder.TheVariants as holders
 use Rattle.jc_view.specs.Places.{methods_in, methods_place}

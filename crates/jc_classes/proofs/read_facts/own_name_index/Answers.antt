@@ -1,4 +1,4 @@
-use Rattle.std.proofs.Common.{[], ap, sym, ◌∙◌}
+use Rattle.std.proofs.Common.{[], ap, ◌∙◌}
 use Rattle.std.specs.Option.{option_map_or}
 use Rattle.jc_view.specs.ClassFile.{class_text_at}
 use Rattle.jc_classes.proofs.texts.ConstantTexts.{no_text}

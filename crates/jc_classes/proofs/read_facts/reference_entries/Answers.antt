@@ -1,4 +1,4 @@
-use Rattle.std.proofs.Common.{◌≡◌, ◌-◌, ◌++◌, map, ap, sym, ◌∙◌, arith}
+use Rattle.std.proofs.Common.{◌≡◌, ◌-◌, ◌++◌, ap, sym, ◌∙◌, arith}
 use Rattle.std.specs.List.{flat_map, range_with_len}
 use Rattle.std.specs.Option.{option_to_list}
 use Rattle.jc_view.specs.ClassFile.{all_slots}
@@ -21,4 +21,4 @@ unfolding references_in
 returns c =
     let class = c.args.class.now in
     let n : c.loop-index.index - 1 ≡ all_slots class.constants = omega (arith, c.loop-index-test.false, c.loop-index.auto.index-end, c.constant_count-index-end.ensures) in
-    ap (map (reference_shown (texts_of class))) c.shrink_to_fit.ensures.items ∙ c.loop-index.invariant ∙ ap (λ k. flat_map (λ index. option_to_list (reference_at class index)) (range_with_len 1 k)) n
+    c.loop-index.invariant ∙ ap (λ k. flat_map (λ index. option_to_list (reference_at class index)) (range_with_len 1 k)) n

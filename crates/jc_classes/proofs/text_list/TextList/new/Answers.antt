@@ -1,4 +1,4 @@
-use Rattle.std.proofs.Common.{[], ◌≡◌, sym, subst, ap, refl, ◌∙◌}
+use Rattle.std.proofs.Common.{ap, ◌∙◌}
 use Rattle.jc_classes.specs.inside.TextList.{texts_from}
 use Rattle.jc_classes.proofs.texts.TextLists.{no_texts}
 use Rattle.jc_classes.proofs.text_list.TextList.new.Goals as goal

@@ -1,5 +1,5 @@
 use Rattle.std.proofs.Common.{◌≡◌, ℕ, ◌-◌, ◌<◌, ◌≤◌, List, [], length, take, drop, slice_index_or, sym, ap, subst, ◌∙◌}
-use Rattle.jc_classes.specs.inside.TextList.{texts_from, start_at}
+use Rattle.jc_classes.specs.inside.TextList.{start_at}
 use Rattle.jc_classes.proofs.texts.TextLists.{IsPart, part_is, texts_end}
 use Rattle.jc_classes.proofs.text_list.TextList.text.Goals as goal
 
