@@ -26,3 +26,4 @@ pub use numbers::Numbers;
 pub use reference::Reference;
 pub use reference_kind::ReferenceKind;
 pub use standing::Standing;
+pub use text_list::TextList;

@@ -9,7 +9,7 @@ use std::marker::Model;
 
 /// Texts, one behind the other. Seen as the list of them.
 #[derive(Drop)]
-pub(crate) struct TextList {
+pub struct TextList {
     bytes: Vec<u8>,
     ends: Vec<usize>,
 }
@@ -28,7 +28,7 @@ impl Model for TextList {
 
 impl TextList {
     /// A list without a text, which takes no memory.
-    pub(crate) fn new(alloc: Global) -> TextList
+    pub fn new(alloc: Global) -> TextList
         ensures { result ≡ [] }
     {
         TextList {
@@ -38,7 +38,7 @@ impl TextList {
     }
 
     /// Puts a text behind the others.
-    pub(crate) fn push(&mut self, text: &[u8]) -> Result<(), NoMemory>
+    pub fn push(&mut self, text: &[u8]) -> Result<(), NoMemory>
         ensures ok { OnOk result (self.new ≡ self.old ++ text.now ∷ []) }
         ensures err { OnErr result (self.new ≡ self.old) }
     {
@@ -54,14 +54,14 @@ impl TextList {
     }
 
     /// How many texts there are.
-    pub(crate) fn len(&self) -> usize
+    pub fn len(&self) -> usize
         ensures { result ≡ length self.now }
     {
         self.ends.len()
     }
 
     /// The list with no room to spare. No memory.
-    pub(crate) fn fitted(self) -> TextList
+    pub fn fitted(self) -> TextList
         ensures { result ≡ self }
     {
         let TextList {
@@ -74,7 +74,7 @@ impl TextList {
     }
 
     /// The text of a number; an empty one past the last.
-    pub(crate) fn text(&self, number: usize) -> &[u8]
+    pub fn text(&self, number: usize) -> &[u8]
         ensures { result.now ≡ slice_index_or self.now number [] }
     {
         let ends = self.ends.as_slice();

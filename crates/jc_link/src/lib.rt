@@ -16,7 +16,7 @@ pub use gathering::gather;
 pub use jc_classes::{
     Facts, Key, LinkageError, Reference, ReferenceKind, affected_by_either, locality, part_is_one,
 };
-pub use jc_resolve::{Answer, Loading};
+pub use jc_resolve::{Answer, Answers, Loading};
 pub use laws::{places_change, prefixes_differ, worlds_differ};
 pub use meter::Meter;
 pub use outside::{Outside, OutsideError};

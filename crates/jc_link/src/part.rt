@@ -1,12 +1,12 @@
 //! What is found of a class: how it loads, whether it is circular, its faults, and the answers to its
 //! references.
 
-ghost use Rattle.std.specs.Prelude.{◌≡◌, IfOk, OnErr, OnOk, map};
+ghost use Rattle.std.specs.Prelude.{◌≡◌, IfOk, OnErr, OnOk};
 ghost use Rattle.jc_classes.specs.Lent.{stands_of};
 ghost use Rattle.jc_classes.specs.Names.{Name};
 ghost use Rattle.jc_classes.specs.Parts.{IsPart};
 ghost use Rattle.jc_classes.specs.Worlds.{World, code_faults_of, format_faults_of};
-ghost use Rattle.jc_resolve.specs.Answers.{answer_of, loading_of};
+ghost use Rattle.jc_resolve.specs.Answers.{loading_of};
 ghost use Rattle.jc_link.specs.Closures.{IsClosure};
 ghost use Rattle.jc_link.specs.Meters.{counted};
 
@@ -16,7 +16,7 @@ use jc_base::NoMemory;
 use jc_classes::Standing;
 use jc_code::CodeFault;
 use jc_file::Fault;
-use jc_resolve::{Answer, Hierarchy, Loading};
+use jc_resolve::{Answers, Hierarchy, Loading};
 use std::alloc::Global;
 use std::marker::Model;
 
@@ -27,7 +27,7 @@ pub struct Part {
     load: Loading,
     format_faults: Vec<Fault>,
     code_faults: Vec<(usize, CodeFault)>,
-    answers: Vec<Answer>,
+    answers: Answers,
 }
 
 impl Model for Part {
@@ -70,10 +70,10 @@ impl Part {
     }
 
     /// The answer to each of its references, in their order (JVMS 5.4.3).
-    pub fn answers(&self) -> &[Answer]
-        ensures { map answer_of result.now ≡ self.now.answers }
+    pub fn answers(&self) -> &Answers
+        ensures { result.now ≡ self.now.answers }
     {
-        self.answers.as_slice()
+        &self.answers
     }
 }
 

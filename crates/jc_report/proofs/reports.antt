@@ -1,3 +1,4 @@
+pub mod AnswersLeft
 pub mod AnyLeft
 pub mod CircularLines
 pub mod ClassesOfTables

@@ -115,7 +115,7 @@ pub(crate) fn push_required<'t>(
     for number in 0..answers.len() {
         match facts.reference(number) {
             Some(reference) => {
-                if is_required(&answers[number]) {
+                if is_required(answers.at(number)) {
                     rows.push(reference_row(reference))?;
                 }
             }
@@ -126,13 +126,13 @@ pub(crate) fn push_required<'t>(
 }
 
 /// Whether an answer says that what is referred to is outside, or that nothing gives it.
-fn is_required(answer: &Answer) -> bool
-    ensures { result ≡ class_rows.is_required (answer_of answer.now) }
+fn is_required(answer: Answer<'_>) -> bool
+    ensures { result ≡ class_rows.is_required (answer_of answer.entry) }
 {
     match answer {
         Answer::Outside(_) => true,
-        Answer::Error(error, _) => is_missing(*error),
-        Answer::ToClass(_) | Answer::ToMember(_) | Answer::NotLoaded => false,
+        Answer::Error(error, _) => is_missing(error),
+        Answer::ToClass(_) | Answer::ToMember(_, _) | Answer::NotLoaded => false,
     }
 }
 

@@ -15,7 +15,7 @@ use jc_code::CodeFault;
 use jc_file::Fault;
 use jc_link::Part;
 use jc_list::{write_code_fault_line, write_format_line};
-use jc_resolve::{Answer, Loading};
+use jc_resolve::{Answer, Answers, Loading};
 use jc_text::TextWriter;
 
 /// The part of the class that the facts are of: how it loads, its faults, and the answer to each of its
@@ -92,12 +92,12 @@ fn write_method_fault<W: Output>(out: &mut TextWriter<'_, W>, method: usize, fau
 }
 
 /// The answer to each reference.
-fn write_answers<W: Output>(out: &mut TextWriter<'_, W>, facts: &Facts, answers: &[Answer])
-    ensures { Sends W.written W.failures out.old out.new (answer_lines facts.now.references (map answer_of answers.now)) }
+fn write_answers<W: Output>(out: &mut TextWriter<'_, W>, facts: &Facts, answers: &Answers)
+    ensures { Sends W.written W.failures out.old out.new (answer_lines facts.now.references answers.now) }
 {
     for number in 0..answers.len() {
         match facts.reference(number) {
-            Some(reference) => write_answer_line(out, reference, &answers[number]),
+            Some(reference) => write_answer_line(out, reference, answers.at(number)),
             None => return,
         }
     }
@@ -106,9 +106,9 @@ fn write_answers<W: Output>(out: &mut TextWriter<'_, W>, facts: &Facts, answers:
 fn write_answer_line<W: Output>(
     out: &mut TextWriter<'_, W>,
     reference: Reference<'_>,
-    answer: &Answer,
+    answer: Answer<'_>,
 )
-    ensures { Sends W.written W.failures out.old out.new (answer_line (reference_lent reference.entry) (answer_of answer.now)) }
+    ensures { Sends W.written W.failures out.old out.new (answer_line (reference_lent reference.entry) (answer_of answer.entry)) }
 {
     out.text(b"  #");
     out.decimal(reference.index);
@@ -170,21 +170,21 @@ fn write_member<W: Output>(
     out.shown(descriptor);
 }
 
-fn write_answer<W: Output>(out: &mut TextWriter<'_, W>, answer: &Answer)
-    ensures { Sends W.written W.failures out.old out.new (answer_text (answer_of answer.now)) }
+fn write_answer<W: Output>(out: &mut TextWriter<'_, W>, answer: Answer<'_>)
+    ensures { Sends W.written W.failures out.old out.new (answer_text (answer_of answer.entry)) }
 {
     match answer {
-        Answer::ToClass(class) => write_found(out, class.as_slice()),
-        Answer::ToMember(member) => {
+        Answer::ToClass(class) => write_found(out, class),
+        Answer::ToMember(class, key) => {
             out.text(b"To ");
-            write_member(out, member.class(), member.name(), member.descriptor());
+            write_member(out, class, key.name, key.descriptor);
         }
         Answer::Outside(name) => {
             out.text(b"Outside ");
-            out.shown(name.as_slice());
+            out.shown(name);
         }
         Answer::NotLoaded => out.text(b"NotLoaded"),
-        Answer::Error(error, name) => write_error(out, *error, name.as_slice()),
+        Answer::Error(error, name) => write_error(out, error, name),
     }
 }
 

@@ -21,7 +21,7 @@ use crate::tree::Tree;
 use jc_base::NoMemory;
 use jc_classes::Facts;
 use jc_link::{Meter, Outside, Part, gather, make_part};
-use jc_resolve::{Answer, Loading};
+use jc_resolve::{Answer, Answers, Loading};
 use std::alloc::Global;
 use std::marker::Model;
 
@@ -236,11 +236,11 @@ fn is_load_error(load: &Loading) -> bool
     }
 }
 
-fn has_error(answers: &[Answer]) -> bool
-    ensures { result ≡ list_any is_error (map answer_of answers.now) }
+fn has_error(answers: &Answers) -> bool
+    ensures { result ≡ list_any is_error answers.now }
 {
-    for answer in answers {
-        if let Answer::Error(_, _) = answer {
+    for number in 0..answers.len() {
+        if let Answer::Error(_, _) = answers.at(number) {
             return true;
         }
     }

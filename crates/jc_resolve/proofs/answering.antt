@@ -4,3 +4,4 @@ pub mod Begins
 pub mod Making
 pub mod Texts
 pub mod Lists
+pub mod Entries

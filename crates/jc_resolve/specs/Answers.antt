@@ -3,17 +3,18 @@ use Rattle.jc_classes.specs.Loading.{Loading as How}
 use Rattle.jc_classes.specs.Loading.{Loading as how}
 use Rattle.jc_resolve.specs.declared.hierarchy.Loading.{Loading}
 use Rattle.jc_resolve.specs.declared.hierarchy.Loading.TheVariants as loading
+use Rattle.jc_classes.specs.Lent.{key_lent}
 use Rattle.jc_classes.specs.Resolution as defs
 use Rattle.jc_classes.specs.Resolution.{Answer as answer}
 use Rattle.jc_resolve.specs.declared.answers.Answer.{Answer}
 use Rattle.jc_resolve.specs.declared.answers.Answer.TheVariants as made
 
 abbrev pub answer_of : Answer → defs.Answer
-answer_of (made.ToClass n) = answer.ToClass n.items
-answer_of (made.ToMember m) = answer.ToMember m.class m.key
-answer_of (made.Outside n) = answer.Beyond n.items
+answer_of (made.ToClass n) = answer.ToClass n.now
+answer_of (made.ToMember n k) = answer.ToMember n.now (key_lent k)
+answer_of (made.Outside n) = answer.Beyond n.now
 answer_of made.NotLoaded = answer.NotLoaded
-answer_of (made.Error e n) = answer.Wrong e n.items
+answer_of (made.Error e n) = answer.Wrong e n.now
 
 abbrev pub loading_of : Loading → How
 loading_of loading.Loaded = how.Loaded

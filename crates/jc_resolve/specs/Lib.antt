@@ -1,4 +1,3 @@
 pub mod Answers
-pub mod DeclaredMembers
 pub mod Numbered
 pub mod inside

@@ -1,6 +1,6 @@
 pub mod Access
+pub mod AnswersShown
 pub mod Chain
-pub mod DeclaredShown
 pub mod Indexed
 pub mod Loaded
 pub mod Loading

@@ -7,11 +7,11 @@ ghost use Rattle.jc_classes.specs.Loading.Loading.{Loaded};
 ghost use Rattle.jc_classes.specs.Parts.{AreAnswers, class_of};
 ghost use Rattle.jc_classes.specs.Resolution.Answer.{NotLoaded};
 ghost use Rattle.jc_classes.specs.Worlds.{World, references_of};
-ghost use Rattle.jc_resolve.specs.Answers.{answer_of};
 ghost use Rattle.jc_resolve.specs.inside.Indexed.{name_at, record_at, IsIndexed};
 ghost use Rattle.jc_resolve.specs.inside.Shown.{indexed_of};
 ghost use Rattle.jc_resolve.specs.inside.Resolved.{loading_of, load_at, TellsLoads, TellsGood};
 
+use crate::answer_list::Answers;
 use crate::answers::Answer;
 use crate::classes::Classes;
 use crate::loads::Load;
@@ -22,14 +22,14 @@ use jc_graph::Seen;
 use std::alloc::Global;
 
 /// The answers to the references of a class that loads.
-fn answer_all(
+fn answer_all<'a>(
     alloc: Global,
-    classes: &Classes,
+    classes: &'a Classes,
     loads: &[Load],
     class: usize,
-    facts: &Facts,
+    facts: &'a Facts,
     nodes: &[Option<usize>],
-) -> Result<Vec<Answer>, NoMemory>
+) -> Result<Answers, NoMemory>
     requires loads { length loads.now ≡ length classes.now.standing.now }
     requires good { TellsGood (indexed_of classes.now) loads.now }
     requires class { class < length classes.now.standing.now }
@@ -38,11 +38,11 @@ fn answer_all(
     requires within { (v : ℕ) → Contains nodes.now (Some v) → v < length classes.now.standing.now }
     ensures { IfOk result (λ list. (m : World) → TellsLoads m (indexed_of classes.now) (length classes.now.standing.now) loads.now
         → IsIndexed m (indexed_of classes.now)
-        → AreAnswers m (name_at (indexed_of classes.now) class) Loaded facts.now.references (map answer_of list.items)) }
+        → AreAnswers m (name_at (indexed_of classes.now) class) Loaded facts.now.references list) }
 {
     let mut above = Seen::new(alloc, classes.len())?;
     let mut covered = Seen::new(alloc, classes.len())?;
-    let mut answers = Vec::with_capacity(alloc, facts.reference_count())?;
+    let mut answers = Answers::new(alloc, facts.reference_count())?;
     let mut at = 0;
     while let Some(reference) = facts.reference(at) {
         let answer = resolve(
@@ -58,14 +58,14 @@ fn answer_all(
         answers.push(answer)?;
         at += 1;
     }
-    Ok(answers)
+    Ok(answers.fitted())
 }
 
 /// The answers to the references of a class that does not load.
-fn none_loaded(alloc: Global, facts: &Facts) -> Result<Vec<Answer>, NoMemory>
-    ensures { IfOk result (λ list. map answer_of list.items ≡ map (λ (r : Reference). NotLoaded) facts.now.references) }
+fn none_loaded(alloc: Global, facts: &Facts) -> Result<Answers, NoMemory>
+    ensures { IfOk result (λ list. list ≡ map (λ (r : Reference). NotLoaded) facts.now.references) }
 {
-    let mut answers = Vec::with_capacity(alloc, facts.reference_count())?;
+    let mut answers = Answers::new(alloc, facts.reference_count())?;
     for _at in 0..facts.reference_count() {
         answers.push(Answer::NotLoaded)?;
     }
@@ -79,7 +79,7 @@ pub(crate) fn answers(
     loads: &[Load],
     class: usize,
     nodes: &[Option<usize>],
-) -> Result<Vec<Answer>, NoMemory>
+) -> Result<Answers, NoMemory>
     requires loads { length loads.now ≡ length classes.now.standing.now }
     requires good { TellsGood (indexed_of classes.now) loads.now }
     requires class { class < length classes.now.standing.now }
@@ -87,11 +87,11 @@ pub(crate) fn answers(
     requires within { (v : ℕ) → Contains nodes.now (Some v) → v < length classes.now.standing.now }
     ensures { IfOk result (λ list. (m : World) → TellsLoads m (indexed_of classes.now) (length classes.now.standing.now) loads.now
         → IsIndexed m (indexed_of classes.now)
-        → AreAnswers m (name_at (indexed_of classes.now) class) (loading_of (indexed_of classes.now) (load_at loads.now class)) (references_of (record_at (indexed_of classes.now) class)) (map answer_of list.items)) }
+        → AreAnswers m (name_at (indexed_of classes.now) class) (loading_of (indexed_of classes.now) (load_at loads.now class)) (references_of (record_at (indexed_of classes.now) class)) list) }
 {
     let facts = match classes.at(class) {
         Standing::Class(facts) => facts,
-        _ => return Ok(Vec::new(alloc)),
+        _ => return Answers::new(alloc, 0),
     };
     if let Load::Loaded = loads[class] {
         answer_all(alloc, classes, loads, class, facts, nodes)

@@ -10,13 +10,13 @@ ghost use Rattle.jc_classes.specs.Names.{names_of, object as java_lang_object};
 ghost use Rattle.jc_classes.specs.Numbers.{name_at};
 ghost use Rattle.jc_classes.specs.Parts.{AreAnswers, class_of};
 ghost use Rattle.jc_classes.specs.Worlds.{World, Above, references_of};
-ghost use Rattle.jc_resolve.specs.Answers.{answer_of, loading_of};
+ghost use Rattle.jc_resolve.specs.Answers.{loading_of};
 ghost use Rattle.jc_resolve.specs.inside.Shown.{indexed_of};
 ghost use Rattle.jc_resolve.specs.Numbered.{Agrees, IsClosed, numbered, record_of};
 ghost use Rattle.jc_resolve.specs.inside.Resolved.{loading_of as loading_at};
 
 use crate::all_answers::answers;
-use crate::answers::Answer;
+use crate::answer_list::Answers;
 use crate::classes::Classes;
 use crate::loaded::{Loaded, load_classes};
 use crate::loads::Load;
@@ -118,12 +118,12 @@ impl<'c, 't> Hierarchy<'c, 't> {
         alloc: Global,
         class: usize,
         nodes: &[Option<usize>],
-    ) -> Result<Vec<Answer>, NoMemory>
+    ) -> Result<Answers, NoMemory>
         requires class { class < length self.now.names }
         requires nodes { map (option_map (name_at self.now.names)) nodes.now ≡ map (λ (r : Reference). class_of r.named) (references_of (record_of self.now class)) }
         requires within { (v : ℕ) → Contains nodes.now (Some v) → v < length self.now.names }
         ensures { IfOk result (λ list. (m : World) (how : How) → Agrees m self.now → Loads m (name_at self.now.names class) how
-            → AreAnswers m (name_at self.now.names class) how (references_of (record_of self.now class)) (map answer_of list.items)) }
+            → AreAnswers m (name_at self.now.names class) how (references_of (record_of self.now class)) list) }
     {
         answers(alloc, &self.classes, self.loads.as_slice(), class, nodes)
     }

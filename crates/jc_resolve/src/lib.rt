@@ -4,9 +4,9 @@
 
 mod access;
 mod all_answers;
+mod answer_list;
 mod answers;
 mod classes;
-mod declared_member;
 mod fields;
 mod hierarchy;
 mod loaded;
@@ -18,6 +18,6 @@ mod references;
 mod resolve;
 mod settle;
 
+pub use answer_list::Answers;
 pub use answers::Answer;
-pub use declared_member::DeclaredMember;
 pub use hierarchy::{Hierarchy, Loading};

@@ -34,16 +34,16 @@ fn named(reference: Reference, node: Option<usize>) -> NamedNode
 }
 
 /// The answer of a reference. `node` is the node of the class that it names.
-pub(crate) fn resolve(
+pub(crate) fn resolve<'a>(
     alloc: Global,
-    classes: &Classes,
+    classes: &'a Classes,
     loads: &[Load],
     above: &mut Seen,
     covered: &mut Seen,
     class: usize,
-    reference: Reference,
+    reference: Reference<'a>,
     node: Option<usize>,
-) -> Result<Answer, NoMemory>
+) -> Result<Answer<'a>, NoMemory>
     requires node { class_of (named_by reference.class.now) ≡ option_map (name_at (indexed_of classes.now)) node }
     requires within { IsWithinSome (length classes.now.standing.now) node }
     requires class { class < length classes.now.standing.now }
@@ -61,23 +61,23 @@ pub(crate) fn resolve(
     let text = reference.class;
     let named = named(reference, node);
     match reference.kind {
-        ReferenceKind::Class => resolve_class(alloc, classes, loads, class, named, text),
+        ReferenceKind::Class => Ok(resolve_class(classes, loads, class, named, text)),
         ReferenceKind::Field => {
             let key = reference.key;
             let outcome = resolve_field(alloc, classes, loads, above, class, named, key)?;
-            outcome_answer(alloc, classes, text, LinkageError::NoField, outcome)
+            Ok(outcome_answer(classes, text, LinkageError::NoField, outcome))
         }
         ReferenceKind::Method => {
             let key = reference.key;
             let outcome = resolve_method(alloc, classes, loads, above, covered, class, named, key)?;
-            outcome_answer(alloc, classes, text, LinkageError::NoMethod, outcome)
+            Ok(outcome_answer(classes, text, LinkageError::NoMethod, outcome))
         }
         ReferenceKind::InterfaceMethod => {
             let key = reference.key;
             let outcome = resolve_interface_method(
                 alloc, classes, loads, above, covered, class, named, key,
             )?;
-            outcome_answer(alloc, classes, text, LinkageError::NoMethod, outcome)
+            Ok(outcome_answer(classes, text, LinkageError::NoMethod, outcome))
         }
     }
 }

@@ -21,7 +21,7 @@ front_refl a = ([], sym (append-nil a))
 front_trans : (a b d : List (List ℕ)) → IsFront a b → IsFront b d → IsFront a d
 front_trans a b d p q = (p.0 ++ q.0, q.1 ∙ ap (λ x. x ++ q.0) p.1 ∙ append_assoc a p.0 q.0)
 
-text_stays : (a b : List (List ℕ)) (number : ℕ) → IsFront a b → number < length a → text_at b number ≡ text_at a number
+pub text_stays : (a b : List (List ℕ)) (number : ℕ) → IsFront a b → number < length a → text_at b number ≡ text_at a number
 text_stays a b number f l = ap (λ x. text_at x number) f.1 ∙ get_or-append a f.0 [] number l
 
 pub index_within : (c : ClassFile) (index : ℕ) (text : List ℕ) → utf8_at c (record { 0 = index }) ≡ Some text → index < 1 + all_slots c.constants

@@ -1,8 +1,7 @@
 -- A part by its fields.
-use Rattle.std.specs.Prelude.{map}
 use Rattle.jc_classes.specs.Parts.{Part}
-use Rattle.jc_resolve.specs.Answers.{answer_of, loading_of}
+use Rattle.jc_resolve.specs.Answers.{loading_of}
 use Rattle.jc_link.specs.declared.part.Part.TheInside.{Inside}
 
 abbrev pub part_shown : Inside → Part
-part_shown a = record { circular = a.circular; load = loading_of a.load; format_faults = a.format_faults.items; code_faults = a.code_faults.items; answers = map answer_of a.answers.items }
+part_shown a = record { circular = a.circular; load = loading_of a.load; format_faults = a.format_faults.items; code_faults = a.code_faults.items; answers = a.answers }

@@ -1,10 +1,11 @@
 -- A required reference adds its row, and another adds none.
-use Rattle.std.proofs.Common.{◌≡◌, ◌∙◌, ◌+◌, ◌++◌, ◌∷◌, drop, map, sym, ap, append-nil}
-use Rattle.std.proofs.lemmas.List.{drop_all, drop_more}
+use Rattle.std.proofs.Common.{◌≡◌, ◌∙◌, ◌+◌, ◌++◌, ◌∷◌, arith, drop, map, sym, ap, append-nil}
+use Rattle.std.proofs.lemmas.List.{drop_all}
 use Rattle.jc_classes.specs.Lent.{reference_lent}
 use Rattle.jc_resolve.specs.Answers.{answer_of}
 use Rattle.jc_report.specs.ClassRows.{reference_row, rows_required}
 use Rattle.jc_report.specs.RowView.{row_lent}
+use Rattle.jc_report.proofs.reports.AnswersLeft.{next_answer}
 use Rattle.jc_report.proofs.rows.MemberRows.{added, left_required, left_resolved, no_answers, past_references}
 use Rattle.jc_report.proofs.class_rows.push_required.Goals as goal
 use Rattle.jc_report.proofs.class_rows.push_required.Goals.{then-is_required+in_ok-push-in-Some, else-is_required}
@@ -15,11 +16,10 @@ loop-number-preserved c =
     let answers = c.answers-answers.result.now in
     let n = c.loop-number.number in
     let r = reference_lent c.in-Some.reference in
-    let a = c.index-answers-number.result in
-    let rest = map answer_of (drop (n + 1) answers) in
+    let a = c.at.result in
+    let rest = drop (n + 1) answers in
     let left = rows_required (drop (n + 1) refs) rest in
-    let first : drop n answers ≡ a ∷ drop (n + 1) answers = drop_more answers n a c.loop-number-test.true ∙ ap (λ x. x ∷ drop (n + 1) answers) (sym c.index-answers-number.is) in
-    let read : rows_required (drop n refs) (map answer_of (drop n answers)) ≡ rows_required (drop n refs) (answer_of a ∷ rest) = ap (λ xs. rows_required (drop n refs) (map answer_of xs)) first in
+    let read : rows_required (drop n refs) (drop n answers) ≡ rows_required (drop n refs) (answer_of a ∷ rest) = ap (rows_required (drop n refs)) (next_answer answers n a c.at.ensures) in
     elim c.if-is_required.branch [
       | then-is_required+in_ok-push-in-Some w ↦
           ap (λ rows. map row_lent rows.items ++ left) w.rows-is
@@ -35,7 +35,7 @@ loop-number-preserved c =
 pub returns-in-None : goal.returns-in-None
 returns-in-None c =
     let refs = c.args.facts.now.references in
-    let left = map answer_of (drop c.loop-number.number c.answers-answers.result.now) in
+    let left = drop c.loop-number.number c.answers-answers.result.now in
     sym (append-nil _)
     ∙ ap (λ xs. map row_lent c.loop-number.rows.items ++ xs) (sym (past_references refs left c.loop-number.number (sym c.in-None.ensures)))
     ∙ c.loop-number.invariant
@@ -47,6 +47,6 @@ returns c =
     let n = c.loop-number.number in
     let answers = c.answers-answers.result.now in
     sym (append-nil _)
-    ∙ ap (λ xs. map row_lent c.loop-number.rows.items ++ xs) (sym (ap (λ xs. rows_required (drop n refs) (map answer_of xs)) (drop_all n answers c.loop-number-test.false) ∙ no_answers (drop n refs)))
+    ∙ ap (λ xs. map row_lent c.loop-number.rows.items ++ xs) (sym (ap (rows_required (drop n refs)) (drop_all n answers (omega (arith, c.loop-number-test.false, c.len-number-end.ensures))) ∙ no_answers (drop n refs)))
     ∙ c.loop-number.invariant
     ∙ ap (λ xs. map row_lent c.args.rows.now.items ++ rows_required refs xs) c.answers-answers.ensures

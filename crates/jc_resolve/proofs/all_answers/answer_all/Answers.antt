@@ -1,5 +1,5 @@
-use Rattle.std.proofs.Common.{◌≡◌, ◌<◌, ◌+◌, option_map, Some, arith, ◌++◌, ◌∷◌, [], map, take, length, sym, ap, subst, ◌∙◌}
-use Rattle.std.proofs.lemmas.List.{take_more, map-append}
+use Rattle.std.proofs.Common.{◌≡◌, ◌<◌, ◌+◌, option_map, Some, arith, ◌++◌, ◌∷◌, [], take, length, sym, ap, subst, ◌∙◌}
+use Rattle.std.proofs.lemmas.List.{take_more}
 use Rattle.std.proofs.lemmas.Option.{slice_get_within, get_or_from_slice_get}
 use Rattle.std.specs.List.{slice_get}
 use Rattle.jc_classes.specs.Facts.{Reference}
@@ -35,18 +35,17 @@ loop-reference-preserved c =
     let x = indexed_of c.args.classes.now in
     let d = name_at x c.args.class in
     let a = c.in_ok-answer.answer in
-    let answers = c.loop-reference.answers.items in
+    let answers = c.loop-reference.answers in
     let e = take_more refs at r l ∙ ap (λ z. take at refs ++ z ∷ []) (get_or_from_slice_get refs at r r got) in
-    let f = ap (map answer_of) c.in_ok-push.ensures.items ∙ map-append answer_of answers (a ∷ []) in
     let n = c.in_ok-answer.ensures in
     record {
       above = n.above;
       covered = n.covered;
       within = omega (arith, l);
       answered = λ m told index.
-          subst (λ z. AreAnswers m d Loaded (take (at + 1) refs) z) (sym f)
-          (subst (λ z. AreAnswers m d Loaded z (map answer_of answers ++ answer_of a ∷ [])) (sym e)
-          (answers_push m d Loaded (take at refs) (map answer_of answers) r (answer_of a) (c.loop-reference.invariant.answered m told index) (n.found m told index)));
+          subst (λ z. AreAnswers m d Loaded (take (at + 1) refs) z) (sym c.in_ok-push.ensures)
+          (subst (λ z. AreAnswers m d Loaded z (answers ++ answer_of a ∷ [])) (sym e)
+          (answers_push m d Loaded (take at refs) answers r (answer_of a) (c.loop-reference.invariant.answered m told index) (n.found m told index)));
     }
 
 pub loop-reference-smaller : goal.loop-reference-smaller
@@ -63,4 +62,6 @@ returns c = λ m told index.
     let refs = c.args.facts.now.references in
     let at = c.loop-reference.at in
     let e = past refs at (none_of reference_lent (slice_get refs at) c.reference.result c.reference.ensures c.in_default.not-Some) in
-    subst (λ z. AreAnswers m (name_at (indexed_of c.args.classes.now) c.args.class) Loaded z (map answer_of c.loop-reference.answers.items)) (take_whole refs at e) (c.loop-reference.invariant.answered m told index)
+    let d = name_at (indexed_of c.args.classes.now) c.args.class in
+    subst (AreAnswers m d Loaded refs) (sym c.fitted.ensures)
+    (subst (λ z. AreAnswers m d Loaded z c.loop-reference.answers) (take_whole refs at e) (c.loop-reference.invariant.answered m told index))

@@ -12,10 +12,8 @@ use Rattle.jc_resolve.specs.inside.Indexed.{name_at, record_at, IsIndexed}
 use Rattle.jc_resolve.specs.inside.Shown.{indexed_of}
 use Rattle.jc_resolve.specs.inside.Resolved.{load_at, loading_of, TellsLoads}
 use Rattle.jc_resolve.proofs.lookups.IfOks.{if_ok_map}
-use Rattle.jc_resolve.specs.Answers.{answer_of}
-use Rattle.jc_resolve.specs.declared.answers.Answer.{Answer}
-use Rattle.std.specs.declared.vec.Vec.{Vec}
-use Rattle.std.specs.declared.alloc.Global.{Global}
+use Rattle.std.proofs.Common.{List}
+use Rattle.jc_classes.specs.Resolution.{Answer}
 use Rattle.jc_resolve.proofs.loading.Nets.{none_answers}
 use Rattle.jc_resolve.proofs.all_answers.answers.Goals as goal
 
@@ -29,7 +27,7 @@ returns-in_default-loads c =
     let own : c.in-Class.facts.now.references ≡ refs = ap (λ s. references_of (stands_of s)) (sym c.in-Class.is) ∙ ap references_of c.at.ensures in
     let is : get_or c.args.loads.now c.args.class code.Loaded ≡ l = get_or_default c.args.loads.now c.args.class code.Loaded (code.Fails fault.NoClass 0) (omega (arith, c.requires.class, c.requires.loads)) in
     let not : l ≡ code.Loaded → ⊥ = λ e. c.in_default-loads.not-Loaded (is ∙ e) in
-    let f = λ (v : Vec Answer Global) (e : map answer_of v.items ≡ map (λ (r : Reference). NotLoaded) c.in-Class.facts.now.references) (m : World) (told : TellsLoads m x count c.args.loads.now)
+    let f = λ (v : List Answer) (e : v ≡ map (λ (r : Reference). NotLoaded) c.in-Class.facts.now.references) (m : World) (told : TellsLoads m x count c.args.loads.now)
     (index : IsIndexed m x).
     subst (λ z. AreAnswers m d (loading_of x l) refs z) (sym (e ∙ ap (map (λ (r : Reference). NotLoaded)) own)) (none_answers m d x l not refs) in
     if_ok_map _ _ _ f c.none_loaded.ensures

@@ -1,17 +1,13 @@
 use Rattle.std.proofs.Common.{◌∷◌, ◌++◌, [], map, ap, sym, ◌∙◌, arith}
-use Rattle.std.proofs.lemmas.List.{map-append}
 use Rattle.jc_classes.specs.Facts.{Reference}
 use Rattle.jc_classes.specs.Resolution.Answer.{NotLoaded}
-use Rattle.jc_resolve.specs.Answers.{answer_of}
-use Rattle.jc_resolve.specs.declared.answers.Answer.TheVariants as answer
 use Rattle.jc_resolve.proofs.answering.Lists.{map_more}
 use Rattle.jc_resolve.proofs.loading.Nets.{take_whole}
 use Rattle.jc_resolve.proofs.all_answers.none_loaded.Goals as goal
 
 pub loop-at-preserved : goal.loop-at-preserved
 loop-at-preserved c =
-    let answers = c.loop-at.answers.items in
-    ap (map answer_of) c.in_ok-push.ensures.items ∙ map-append answer_of answers (answer.NotLoaded ∷ []) ∙ ap (λ z. z ++ NotLoaded ∷ []) c.loop-at.invariant
+    c.in_ok-push.ensures ∙ ap (λ z. z ++ NotLoaded ∷ []) c.loop-at.invariant
     ∙ sym (map_more NotLoaded c.args.facts.now.references c.loop-at._at (omega (arith, c.loop-at-test.true, c.loop-at.auto._at-end, c.reference_count-at-end.ensures)))
 
 pub returns : goal.returns

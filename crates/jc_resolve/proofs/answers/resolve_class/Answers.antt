@@ -1,5 +1,4 @@
-use Rattle.std.proofs.Common.{◌≡◌, ◌<◌, length, ap, subst}
-use Rattle.jc_classes.specs.Resolution.Answer.{ToClass}
+use Rattle.std.proofs.Common.{◌≡◌, ◌<◌, length, refl, subst}
 use Rattle.jc_resolve.specs.inside.Indexed.{name_at, IsIndexed}
 use Rattle.jc_resolve.specs.inside.Shown.{indexed_of}
 use Rattle.jc_classes.specs.Worlds.{World, text_of}
@@ -8,7 +7,6 @@ use Rattle.jc_resolve.specs.inside.Resolved.{load_at, loading_of, named_of, Tell
 use Rattle.jc_resolve.specs.inside.Loading.{sees}
 use Rattle.jc_resolve.specs.declared.answers.Answer.{Answer}
 use Rattle.jc_resolve.specs.inside.Resolved.{IsWithinAll, IsWithinSome}
-use Rattle.jc_resolve.proofs.lookups.IfOks.{if_ok_map}
 use Rattle.jc_resolve.specs.Answers.{answer_of}
 use Rattle.jc_resolve.proofs.answering.Making.{class_made, array_made, primitive_made}
 use Rattle.jc_resolve.proofs.answers.resolve_class.Goals as goal
@@ -19,7 +17,7 @@ returns-in-Class c =
     let count = length c.args.classes.now.standing.now in
     let l : c.in-Class.node < count = subst (IsWithinAll count) c.in-Class.is c.requires.reference in
     let f = λ (a : Answer) (e : answer_of a ≡ class_answer c.args.text.now (name_at x c.in-Class.node) (loading_of x (load_at c.args.loads.now c.in-Class.node)) (sees x c.args.classes.now.packages.items c.args.class c.in-Class.node)) (m : World) (told : TellsLoads m x count c.args.loads.now) (index : IsIndexed m x) (same : text_of (named_of x c.args.reference c.args.text.now) ≡ c.args.text.now). class_made m count x c.args.classes.now.graph c.args.classes.now.packages.items c.args.classes.now.numbered index c.args.loads.now told c.args.class c.in-Class.node c.args.text.now c.args.reference (answer_of a) c.requires.class l c.in-Class.is same e in
-    if_ok_map _ _ _ f c.node_answer.ensures
+    f c.node_answer.result c.node_answer.ensures
 
 pub returns-in-Some : goal.returns-in-Some
 returns-in-Some c =
@@ -27,9 +25,9 @@ returns-in-Some c =
     let count = length c.args.classes.now.standing.now in
     let l : c.in-Some.node < count = subst (IsWithinSome count) c.in-Some.is (subst (IsWithinAll count) c.in-Array.is c.requires.reference) in
     let f = λ (a : Answer) (e : answer_of a ≡ class_answer c.args.text.now (name_at x c.in-Some.node) (loading_of x (load_at c.args.loads.now c.in-Some.node)) (sees x c.args.classes.now.packages.items c.args.class c.in-Some.node)) (m : World) (told : TellsLoads m x count c.args.loads.now) (index : IsIndexed m x) (same : text_of (named_of x c.args.reference c.args.text.now) ≡ c.args.text.now). array_made m count x c.args.classes.now.graph c.args.classes.now.packages.items c.args.classes.now.numbered index c.args.loads.now told c.args.class c.in-Some.node c.args.text.now c.args.reference c.in-Array.element (answer_of a) c.requires.class l c.in-Array.is c.in-Some.is e in
-    if_ok_map _ _ _ f c.node_answer-in-Some.ensures
+    f c.node_answer-in-Some.result c.node_answer-in-Some.ensures
 
-pub returns-in_ok-name-in-None : goal.returns-in_ok-name-in-None
-returns-in_ok-name-in-None c =
+pub returns-in-None : goal.returns-in-None
+returns-in-None c =
     let x = indexed_of c.args.classes.now in
-    λ m told index same. primitive_made m x c.args.class c.args.text.now c.args.reference c.in-Array.element _ c.in-Array.is c.in-None.is (ap ToClass c.in_ok-name-in-None.ensures.items)
+    λ m told index same. primitive_made m x c.args.class c.args.text.now c.args.reference c.in-Array.element _ c.in-Array.is c.in-None.is refl

@@ -9,7 +9,6 @@ use Rattle.jc_resolve.specs.inside.Shown.{indexed_of}
 use Rattle.jc_resolve.specs.inside.Resolved.{named_of, outcome_of, TellsLoads}
 use Rattle.jc_classes.specs.Lent.{reference_lent}
 use Rattle.jc_resolve.proofs.answering.Texts.{text_named}
-use Rattle.jc_resolve.proofs.lookups.IfOks.{if_ok_map}
 use Rattle.jc_resolve.specs.Answers.{answer_of}
 use Rattle.jc_resolve.specs.declared.answers.Answer.{Answer}
 use Rattle.jc_resolve.proofs.references.resolve.Goals as goal
@@ -38,7 +37,7 @@ returns-in-Class-clause-found c =
     let f = λ (a : Answer) (e : (m : World) → TellsLoads m x count c.args.loads.now → IsIndexed m x → text_of (named_of x c.named-named.result text) ≡ text → ResolvesClass m d (named_of x c.named-named.result text) (answer_of a))
     (m : World) (told : TellsLoads m x count c.args.loads.now) (index : IsIndexed m x).
     subst (λ k. ResolvesOf m d k r (answer_of a)) (sym c.in-Class.is) (subst (λ z. ResolvesClass m d z (answer_of a)) ne (e m told index (ap text_of ne ∙ text_named text))) in
-    if_ok_map _ _ _ f c.resolve_class.ensures
+    f c.resolve_class.result c.resolve_class.ensures
 
 pub returns-in_ok-outcome-in-Field-clause-found : goal.returns-in_ok-outcome-in-Field-clause-found
 returns-in_ok-outcome-in-Field-clause-found c =
@@ -55,7 +54,7 @@ returns-in_ok-outcome-in-Field-clause-found c =
     subst (λ k. ResolvesOf m d k r (answer_of a)) (sym c.in-Field.is)
     (subst (λ z. ResolvesField m d t r.key z) (sym (e t (text_named text)))
     (subst (λ z. ResolvesField m d z r.key (outcome_of x z error.NoField o)) ne (c.in_ok-outcome-in-Field.ensures.found m text told index))) in
-    if_ok_map _ _ _ f c.outcome_answer.ensures
+    f c.outcome_answer.result c.outcome_answer.ensures
 
 pub returns-in_ok-outcome-in-Method-clause-found : goal.returns-in_ok-outcome-in-Method-clause-found
 returns-in_ok-outcome-in-Method-clause-found c =
@@ -72,7 +71,7 @@ returns-in_ok-outcome-in-Method-clause-found c =
     subst (λ k. ResolvesOf m d k r (answer_of a)) (sym c.in-Method.is)
     (subst (λ z. ResolvesMethod m d t r.key z) (sym (e t (text_named text)))
     (subst (λ z. ResolvesMethod m d z r.key (outcome_of x z error.NoMethod o)) ne (c.in_ok-outcome-in-Method.ensures.found m text told index))) in
-    if_ok_map _ _ _ f c.outcome_answer-in-Method.ensures
+    f c.outcome_answer-in-Method.result c.outcome_answer-in-Method.ensures
 
 pub returns-in_ok-outcome-in-InterfaceMethod-clause-found : goal.returns-in_ok-outcome-in-InterfaceMethod-clause-found
 returns-in_ok-outcome-in-InterfaceMethod-clause-found c =
@@ -89,4 +88,4 @@ returns-in_ok-outcome-in-InterfaceMethod-clause-found c =
     subst (λ k. ResolvesOf m d k r (answer_of a)) (sym c.in-InterfaceMethod.is)
     (subst (λ z. ResolvesInterfaceMethod m d t r.key z) (sym (e t (text_named text)))
     (subst (λ z. ResolvesInterfaceMethod m d z r.key (outcome_of x z error.NoMethod o)) ne (c.in_ok-outcome-in-InterfaceMethod.ensures.found m text told index))) in
-    if_ok_map _ _ _ f c.outcome_answer-in-InterfaceMethod.ensures
+    f c.outcome_answer-in-InterfaceMethod.result c.outcome_answer-in-InterfaceMethod.ensures

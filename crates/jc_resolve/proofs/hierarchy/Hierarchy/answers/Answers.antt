@@ -1,17 +1,15 @@
-use Rattle.std.proofs.Common.{◌≡◌, ◌<◌, length, map, IfOk, sym, subst, arith}
-use Rattle.std.specs.declared.vec.Vec.{Vec}
-use Rattle.std.specs.declared.alloc.Global.{Global}
+use Rattle.std.proofs.Common.{◌≡◌, ◌<◌, length, IfOk, sym, subst, arith}
+use Rattle.std.proofs.Common.{List}
+use Rattle.jc_classes.specs.Resolution.{Answer}
 use Rattle.jc_classes.proofs.worlds.One.{load_one}
 use Rattle.jc_classes.specs.Loading.{Load as Loads, Loading as How}
 use Rattle.jc_classes.specs.Numbers.{name_at}
 use Rattle.jc_classes.specs.Parts.{AreAnswers}
 use Rattle.jc_classes.specs.Worlds.{World, references_of}
-use Rattle.jc_resolve.specs.Answers.{answer_of}
 use Rattle.jc_resolve.specs.inside.Indexed.{IsIndexed}
 use Rattle.jc_resolve.specs.inside.Shown.{indexed_of}
 use Rattle.jc_resolve.specs.Numbered.{Numbered, Agrees, numbered, record_of}
 use Rattle.jc_resolve.specs.inside.Resolved.{load_at, loading_of, TellsLoads}
-use Rattle.jc_resolve.specs.declared.answers.Answer.{Answer}
 use Rattle.jc_resolve.proofs.loading.Held.{index_held}
 use Rattle.jc_resolve.proofs.lookups.IfOks.{if_ok_map}
 use Rattle.jc_resolve.proofs.hierarchy.Hierarchy.answers.Goals as goal
@@ -32,12 +30,12 @@ returns c =
     let loads = c.self.inside.loads.items in
     let held = c.self.invariant in
     let within : class < length v.names = subst (λ (z : Numbered). class < length z.names) (sym c.self.view_is) c.requires.class in
-    let f = λ (as1 : Vec Answer Global) (e : (m : World) → TellsLoads m x count c.as_slice.result.now → IsIndexed m x
-    → AreAnswers m (name_at v.names class) (loading_of x (load_at c.as_slice.result.now class)) (references_of (record_of v class)) (map answer_of as1.items))
+    let f = λ (as1 : List Answer) (e : (m : World) → TellsLoads m x count c.as_slice.result.now → IsIndexed m x
+    → AreAnswers m (name_at v.names class) (loading_of x (load_at c.as_slice.result.now class)) (references_of (record_of v class)) as1)
     (m : World) (how : How) (agrees : Agrees m v) (load : Loads m (name_at v.names class) how).
     let index = index_held i.names.now i.standing.now i.ups.now m i.rank.items i.good.items held.net agrees in
     let told : TellsLoads m x count c.as_slice.result.now = subst (TellsLoads m x count) (sym c.as_slice.ensures.value) (held.told m index) in
     let same : loading_of x (load_at c.as_slice.result.now class) ≡ how = load_one (told class (omega (arith, within, held.net.names))) load in
-    subst (λ z. AreAnswers m (name_at v.names class) z (references_of (record_of v class)) (map answer_of as1.items)) same (e m told index) in
-    subst (λ (z : Numbered). IfOk c.answers.result (λ (as1 : Vec Answer Global). (m : World) (how : How) → Agrees m z → Loads m (name_at z.names class) how
-    → AreAnswers m (name_at z.names class) how (references_of (record_of z class)) (map answer_of as1.items))) c.self.view_is (if_ok_map _ _ _ f c.answers.ensures)
+    subst (λ z. AreAnswers m (name_at v.names class) z (references_of (record_of v class)) as1) same (e m told index) in
+    subst (λ (z : Numbered). IfOk c.answers.result (λ (as1 : List Answer). (m : World) (how : How) → Agrees m z → Loads m (name_at z.names class) how
+    → AreAnswers m (name_at z.names class) how (references_of (record_of z class)) as1)) c.self.view_is (if_ok_map _ _ _ f c.answers.ensures)
