@@ -301,7 +301,7 @@ def listings(frames):
     """The lines of each listing, from the program."""
     text = common.answer_text("listings", frames)
     found = [[]]
-    for line in text.split("\n")[:-2]:
+    for line in text.splitlines():
         if line == "end":
             found.append([])
         else:

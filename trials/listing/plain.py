@@ -51,7 +51,6 @@ def main():
         frames.write_bytes(common.framed([path.read_bytes() for path in files]))
         mine = list_all([common.PROGRAM, "listings"], frames, ours)
         plain = list_all([build_plain(work)], frames, theirs)
-        # The last line of the program of the trial tells how many have a fault.
         listed, expected = (text.read_bytes().split(b"\nend\n")[:-1] for text in (ours, theirs))
         unlike = [path for path, one, other in zip(files, listed, expected) if one != other]
         print(f"{len(files)} class files, {frames.stat().st_size} bytes, listings of {ours.stat().st_size}; {len(unlike)} differ")

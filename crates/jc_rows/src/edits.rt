@@ -50,6 +50,7 @@ fn told_of_call(
     };
     match *word {
         "classes" => add_classes(alloc, session, argument.parse::<u32>()?, rest),
+        "copies" => add_copies(alloc, names, session, argument.parse::<u32>()?, rest),
         "dependants" => {
             let found = dependants(alloc, session, argument)?;
             Ok(unlike(alloc, line, wanted, &found)?)
@@ -90,13 +91,40 @@ fn add_classes(
         bail!("classes without the front of their names");
     };
     for index in 0..count {
-        let name = format!(in alloc; "{front}{}", index.saturating_add(1))?;
-        let path = Vec::from_slice(alloc, name.as_bytes())?;
-        let Ok(_) = session.edit(Edit::Add(path, assemble(alloc, &name, &[])?)) else {
-            bail!("a refused edit");
-        };
+        let name = numbered(alloc, front, index)?;
+        add_file(session, &name, assemble(alloc, &name, &[])?)?;
     }
     Ok(None)
+}
+
+/// Adds files with the same bytes, whose paths are the front and a number from 1.
+fn add_copies(
+    alloc: Global,
+    names: &Names,
+    session: &mut Session,
+    count: u32,
+    words: &[Token<'_>],
+) -> Result<Option<String>> {
+    let [Token::Word(front), parts @ ..] = words else {
+        bail!("copies without the front of their paths");
+    };
+    for index in 0..count {
+        let path = numbered(alloc, front, index)?;
+        add_file(session, &path, bytes_of(alloc, names, parts)?)?;
+    }
+    Ok(None)
+}
+
+fn numbered(alloc: Global, front: &str, index: u32) -> Result<String, AllocError> {
+    format!(in alloc; "{front}{}", index.saturating_add(1))
+}
+
+fn add_file(session: &mut Session, path: &str, bytes: Vec<u8>) -> Result<()> {
+    let path = Vec::from_slice(*bytes.allocator(), path.as_bytes())?;
+    match session.edit(Edit::Add(path, bytes)) {
+        Ok(_) => Ok(()),
+        Err(_) => bail!("a refused edit"),
+    }
 }
 
 /// The classes that depend on a name, a blank between them.

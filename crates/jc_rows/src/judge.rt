@@ -7,15 +7,14 @@ use crate::compare::difference;
 use crate::dialogue::{Dialogue, NamedFile};
 use crate::edits::told_of_edits;
 use crate::file_answers::read_answer;
-use crate::listing_answers::listing_answer;
 use crate::outcome::{outcome_of_program, outcome_of_run};
 use crate::parts::{Names, bytes_of};
+use crate::prefix_answers::outside_answer;
 use crate::row::{Row, Statement, head_of, rows_of};
 use crate::text_answers::{
     field_answer, method_answer, name_answer, signature_answer, units_answer,
 };
 use crate::tokens::Token;
-use crate::world_answers::{outside_answer, world_text};
 use anyhow::{Context, Result, bail};
 use jc_base::{ByteMap, SigKind};
 use jc_link::Outside;
@@ -169,7 +168,6 @@ fn judge_named(
     match kind {
         "class" => define_class(rt.alloc(), names, what, row),
         "program" => judge_program(rt, names, what, row),
-        "world" => judge_world(rt.alloc(), names, what, row),
         _ => judge_bytes(rt, names, kind, what, row),
     }
 }
@@ -206,18 +204,6 @@ fn judge_program(
     let dialogue = Dialogue::read(rt.alloc(), names, &row.more)?;
     let told = told_of_program(rt, &dialogue)?;
     judged(rt.alloc(), what, told)
-}
-
-fn judge_world(alloc: Global, names: &Names, what: &str, row: &Row) -> Result<Found> {
-    let dialogue = Dialogue::read(alloc, names, &row.more)?;
-    let found = world_text(alloc, &dialogue.held)?;
-    judged_bytes(
-        alloc,
-        "parts",
-        what,
-        dialogue.wanted.output.as_slice(),
-        &found,
-    )
 }
 
 fn judge_bytes(
@@ -349,7 +335,6 @@ fn bytes_answer(alloc: Global, kind: &str, bytes: &[u8]) -> Result<String, Alloc
         "faults" => faults_answer(alloc, bytes),
         "instructions" => instructions_answer(alloc, bytes),
         "code-faults" => code_faults_answer(alloc, bytes),
-        "listing" => listing_answer(alloc, bytes),
         "outside" => outside_answer(alloc, bytes),
         "units" => units_answer(alloc, bytes),
         "name" => name_answer(alloc, bytes),

@@ -8,8 +8,7 @@
 //!     KIND "what" PARTS -> ANSWER     a row: what the call of this kind answers to the bytes
 //!
 //! PARTS are bytes one after another: hexadecimal digits in any grouping, a NAME, a "text" (its bytes as
-//! they stand in the file) or `(PARTS)`. A part with `*N` behind it stands N times, and `@` in it is the
-//! number of the time, from 1, in decimal digits. The kinds and their answers:
+//! they stand in the file) or `(PARTS)`. A part with `*N` behind it stands N times.
 //!
 //! A row `class "NAME" as WORD` names a class file, of version 52 and flags 0021 below java/lang/Object,
 //! with what the lines below it tell. Each constant stands once, in the order in which it is first
@@ -19,13 +18,14 @@
 //!     field FLAGS "NAME" "DESCRIPTOR"; method FLAGS "NAME" "DESCRIPTOR", with the code `return`
 //!     refers class "CLASS"; refers field "CLASS" "NAME" "DESCRIPTOR", and so method and imethod
 //!
+//! The other kinds and their answers:
+//!
 //! - `parse`: `class NAME`, or a refusal with its number and place, as `6 Trailing(53)`. `fronts`: the one
 //!   answer of `parse` to each proper beginning of the bytes, how many they may be.
 //! - `faults`: `none`, or each fault's rule and place, as `F1 5, F2 6`.
 //! - `instructions`: of a code each instruction's offset, mnemonic and operands, and the offset where they
 //!   end, as `0 iload 1, rest 2`. `code-faults`: `none`, or each code fault's rule and place of the first
 //!   method.
-//! - `listing`: the listing in one line, ` /` in place of LF and `@` in place of `#`.
 //! - `outside`: whether the prefixes of all lines but the first cover the name in the first.
 //! - `units`: the code units, four digits each, or `none`; or `bad at PLACE`.
 //! - `name`: what the text is of `unqualified`, `method` and `class`, or `none`.
@@ -34,14 +34,14 @@
 //! - `class-signature`, `method-signature` and `field-signature`: `true` or `false`.
 //!
 //! A row of the kind `run`, `then` or `program` has no bytes of its own. The lines below it tell what goes
-//! in and what has to come out. `world` tells the parts of the classes that its files give. `run` is over a new session, `then` over the one of the row above.
+//! in and what has to come out. `run` is over a new session, `then` over the one of the row above.
 //!
 //!     < TEXT           a line of the input; << PARTS the bytes of PARTS
 //!     > TEXT           a line of the output that is wanted; >> PARTS bytes of it
 //!     ! TEXT           a line of standard error that is wanted; !! PARTS bytes of it
 //!     source PARTS     the source's next answer: bytes; source unread, source no-memory
 //!     sources N PARTS  the same bytes N times
-//!     holds PATH PARTS of a world a file; after a run the session holds these bytes at the path
+//!     holds PATH PARTS after the run the session holds these bytes at the path
 //!     file NAME PARTS  a file that lies in the working folder while the program runs
 //!     files no-memory  no file can be opened for want of memory
 //!     input fails      the input fails behind its bytes
@@ -60,6 +60,7 @@
 //!     dependants NAME -> NAMES     the classes that depend on a name
 //!     holders PLACE -> N           how many classes require the row at a place of the required ones
 //!     classes N FRONT              adds so many files, each with a class of its own: FRONT and a number
+//!     copies N FRONT PARTS         adds so many files with the same bytes, at FRONT and a number
 #![tactic(auto)]
 
 mod assembler;
@@ -71,13 +72,12 @@ mod doubles;
 mod edits;
 mod file_answers;
 mod judge;
-mod listing_answers;
 mod outcome;
 mod parts;
+mod prefix_answers;
 mod row;
 mod text_answers;
 mod tokens;
-mod world_answers;
 
 use anyhow::{Context, Result};
 use judge::judge_file;

@@ -4,114 +4,57 @@ use crate::tokens::Token;
 use anyhow::{Context, Result, bail, ensure};
 use jc_base::ByteMap;
 use std::alloc::{AllocError, Global};
-use std::mem;
 
 /// Bytes by the names that a file gives them.
 pub(crate) type Names = ByteMap<Vec<u8>>;
 
-/// Bytes, and the places in them at which the number of the time is still to come.
+/// Bytes one after another, where those of the open brackets begin, and where the last part does.
 #[derive(Drop)]
-struct Part {
+struct Parts {
     bytes: Vec<u8>,
-    rounds: Vec<usize>,
+    open: Vec<usize>,
+    last: usize,
 }
 
-impl Part {
-    fn new(alloc: Global) -> Part {
-        Part {
-            bytes: Vec::new(alloc),
-            rounds: Vec::new(alloc),
+impl Parts {
+    fn add(&mut self, alloc: Global, names: &Names, token: Token) -> Result<()> {
+        match token {
+            Token::Quoted(text) => self.push(text.as_bytes())?,
+            Token::Word(word) => self.push_word(alloc, names, word)?,
+            Token::Times(times) => self.repeat(alloc, times)?,
+            Token::Open => self.open.push(self.bytes.len())?,
+            Token::Close => self.last = self.open.pop().context("a bracket too many")?,
+            _ => bail!("a mark is no part"),
         }
-    }
-
-    fn append(&mut self, other: &Part) -> Result<(), AllocError> {
-        let place = self.bytes.len();
-        for round in &other.rounds {
-            self.rounds.push(place.saturating_add(*round))?;
-        }
-        self.bytes.extend_from_slice(&other.bytes)
-    }
-
-    /// Appends the bytes with a number at each place that waits for it.
-    fn append_round(&mut self, other: &Part, digits: &str) -> Result<(), AllocError> {
-        let mut from = 0;
-        for round in &other.rounds {
-            self.bytes
-                .extend_from_slice(between(&other.bytes, from, *round))?;
-            self.bytes.extend_from_slice(digits.as_bytes())?;
-            from = *round;
-        }
-        self.bytes
-            .extend_from_slice(between(&other.bytes, from, other.bytes.len()))
-    }
-
-    fn repeated(&self, alloc: Global, times: usize) -> Result<Part, AllocError> {
-        let mut all = Part::new(alloc);
-        for time in 0..times {
-            if self.rounds.is_empty() {
-                all.append(self)?;
-            } else {
-                let digits = format!(in alloc; "{}", time.saturating_add(1))?;
-                all.append_round(self, &digits)?;
-            }
-        }
-        Ok(all)
-    }
-}
-
-fn between(bytes: &[u8], from: usize, to: usize) -> &[u8] {
-    bytes.get(from..to).unwrap_or(&[])
-}
-
-/// What stands in a pair of brackets so far. A star behind it repeats the last part.
-#[derive(Drop)]
-struct Group {
-    done: Part,
-    last: Part,
-}
-
-impl Group {
-    fn new(alloc: Global) -> Group {
-        Group {
-            done: Part::new(alloc),
-            last: Part::new(alloc),
-        }
-    }
-
-    fn push(&mut self, part: Part) -> Result<(), AllocError> {
-        self.done.append(&self.last)?;
-        self.last = part;
         Ok(())
     }
 
-    fn into_part(self) -> Result<Part, AllocError> {
-        let mut whole = self.done;
-        whole.append(&self.last)?;
-        Ok(whole)
+    fn push(&mut self, part: &[u8]) -> Result<(), AllocError> {
+        self.last = self.bytes.len();
+        self.bytes.extend_from_slice(part)
     }
-}
 
-/// The part that a token is by itself.
-fn part_of(alloc: Global, names: &Names, token: Token) -> Result<Part> {
-    let mut part = Part::new(alloc);
-    match token {
-        Token::Quoted(text) => part.bytes.extend_from_slice(text.as_bytes())?,
-        Token::Word(word) => part.bytes = bytes_of_word(alloc, names, word)?,
-        Token::Round => part.rounds.push(0)?,
-        _ => bail!("a mark is no part"),
+    /// Adds the bytes of hexadecimal digits or of a name.
+    fn push_word(&mut self, alloc: Global, names: &Names, word: &str) -> Result<()> {
+        if is_hexadecimal(word) {
+            let bytes = hex::decode(alloc, word).context(word)?;
+            return Ok(self.push(&bytes)?);
+        }
+        let Some(bytes) = names.get(word.as_bytes()) else {
+            bail!("nothing has the name {word}");
+        };
+        Ok(self.push(bytes)?)
     }
-    Ok(part)
-}
 
-/// The bytes of hexadecimal digits or of a name.
-fn bytes_of_word(alloc: Global, names: &Names, word: &str) -> Result<Vec<u8>> {
-    if is_hexadecimal(word) {
-        return hex::decode(alloc, word).context(word);
+    /// Has the last part stand so many times.
+    fn repeat(&mut self, alloc: Global, times: usize) -> Result<(), AllocError> {
+        let part = Vec::from_slice(alloc, self.bytes.get(self.last..).unwrap_or(&[]))?;
+        self.bytes.truncate(self.last);
+        for _ in 0..times {
+            self.bytes.extend_from_slice(&part)?;
+        }
+        Ok(())
     }
-    let Some(bytes) = names.get(word.as_bytes()) else {
-        bail!("nothing has the name {word}");
-    };
-    Ok(Vec::from_slice(alloc, bytes)?)
 }
 
 fn is_hexadecimal(word: &str) -> bool {
@@ -123,52 +66,16 @@ fn is_hexadecimal(word: &str) -> bool {
     true
 }
 
-/// The brackets that are open, and what stands in the innermost of them so far.
-#[derive(Drop)]
-struct Groups {
-    outer: Vec<Group>,
-    group: Group,
-}
-
-impl Groups {
-    fn add(&mut self, alloc: Global, names: &Names, token: Token) -> Result<()> {
-        match token {
-            Token::Open => self.open(alloc)?,
-            Token::Close => self.close()?,
-            Token::Times(times) => self.group.last = self.group.last.repeated(alloc, times)?,
-            _ => self.group.push(part_of(alloc, names, token)?)?,
-        }
-        Ok(())
-    }
-
-    fn open(&mut self, alloc: Global) -> Result<(), AllocError> {
-        let group = mem::replace(&mut self.group, Group::new(alloc));
-        Ok(self.outer.push(group)?)
-    }
-
-    fn close(&mut self) -> Result<()> {
-        let Some(above) = self.outer.pop() else {
-            bail!("a bracket closes that was not opened");
-        };
-        let part = mem::replace(&mut self.group, above).into_part()?;
-        Ok(self.group.push(part)?)
-    }
-}
-
 /// The bytes that the tokens are.
 pub(crate) fn bytes_of(alloc: Global, names: &Names, tokens: &[Token]) -> Result<Vec<u8>> {
-    let mut groups = Groups {
-        outer: Vec::new(alloc),
-        group: Group::new(alloc),
+    let mut parts = Parts {
+        bytes: Vec::new(alloc),
+        open: Vec::new(alloc),
+        last: 0,
     };
     for token in tokens {
-        groups.add(alloc, names, *token)?;
+        parts.add(alloc, names, *token)?;
     }
-    ensure!(groups.outer.is_empty(), "a bracket is not closed");
-    let whole = groups.group.into_part()?;
-    ensure!(
-        whole.rounds.is_empty(),
-        "@ stands in nothing that is repeated"
-    );
-    Ok(whole.bytes)
+    ensure!(parts.open.is_empty(), "a bracket is not closed");
+    Ok(parts.bytes)
 }

@@ -13,22 +13,19 @@ pub(crate) enum Token<'a> {
     Close,
     /// `*N`: the part in front of it stands so many times.
     Times(usize),
-    /// `@`: the number of the time.
-    Round,
     Equals,
     Arrow,
 }
 
-const MARKS: [(&str, Token); 5] = [
+const MARKS: [(&str, Token); 4] = [
     ("(", Token::Open),
     (")", Token::Close),
-    ("@", Token::Round),
     ("=", Token::Equals),
     ("->", Token::Arrow),
 ];
 
 fn ends_a_word(letter: char) -> bool {
-    letter.is_ascii_whitespace() || matches!(letter, '"' | '(' | ')' | '*' | '@' | '=' | '#')
+    letter.is_ascii_whitespace() || matches!(letter, '"' | '(' | ')' | '*' | '=' | '#')
 }
 
 fn split_word(text: &str) -> (&str, &str) {

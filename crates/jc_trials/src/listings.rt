@@ -3,25 +3,23 @@
 use crate::frames::Frames;
 use jc_base::{DeviceFault, Output, write_all};
 use jc_file::parse;
-use jc_list::{ListError, list_class};
+use jc_list::{ListError, write_listing};
 use std::alloc::Global;
 
-/// Writes the listing of each frame, or that it has none, and a line `end` behind it. Tells how many
-/// have a fault.
+/// Writes the listing of each frame, or that it has none, and a line `end` behind it.
 pub(crate) fn write_listings<W: Output>(
     alloc: Global,
     out: &mut W,
     input: &[u8],
-) -> Result<u64, ListError> {
-    let mut faulty = 0u64;
+) -> Result<(), ListError> {
     for frame in Frames::new(input) {
         match parse(alloc, frame) {
-            Ok(view) => faulty = faulty.wrapping_add(u64::from(list_class(alloc, &view, out)?)),
+            Ok(view) => write_listing(alloc, &view, out)?,
             Err(_) => write_line(out, b"refused\n")?,
         }
         write_line(out, b"end\n")?;
     }
-    Ok(faulty)
+    Ok(())
 }
 
 fn write_line<W: Output>(out: &mut W, line: &[u8]) -> Result<(), ListError> {

@@ -5,8 +5,7 @@
 //! - `texts`: `yes` or `no` for each: whether it is a text of the kind that its first byte tells.
 //! - `faults`: a line for each: its format faults, or the refusal.
 //! - `code-faults`: a line for each: its code faults, each with its method and place, or the refusal.
-//! - `listings`: the listing of each, or `refused`, and a line `end` behind it; last, in a line, how
-//!   many have a fault.
+//! - `listings`: the listing of each, or `refused`, and a line `end` behind it.
 //! - `links`: each frame is a world, frames of a path and of a file's bytes by turns in the order of the
 //!   paths: the parts of its classes, the circular ones, and a line `end`.
 //! - `link NAME`: the input is one such world: the part of the class, and how many names its reach has.
@@ -119,7 +118,7 @@ fn print_kinds(rt: &(impl Print + AllocGlobal), input: &[u8]) -> io::Result<()> 
 fn print_listings(rt: &(impl Print + AllocGlobal), input: &[u8]) -> io::Result<()> {
     let mut out = StdOutput::new(io::writer(rt));
     match write_listings(rt.alloc(), &mut out, input) {
-        Ok(faulty) => println!(rt; "{faulty}"),
+        Ok(()) => Ok(()),
         Err(_) => Err(io::Error::from(io::ErrorKind::Other)),
     }
 }
