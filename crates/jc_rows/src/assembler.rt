@@ -1,9 +1,114 @@
 //! A class file from the lines of a `class` row.
 
 use crate::tokens::{Token, tokens_of};
-use anyhow::{Context, Result, bail};
+use anyhow::{Context, Result, bail, ensure};
 use jc_base::ByteMap;
 use std::alloc::Global;
+
+/// Bytes in the making. Where memory is refused they are cut, and nothing is told before the end.
+#[derive(Drop)]
+struct Bytes {
+    bytes: Vec<u8>,
+    are_cut: bool,
+}
+
+impl Bytes {
+    fn new(alloc: Global) -> Bytes {
+        Bytes {
+            bytes: Vec::new(alloc),
+            are_cut: false,
+        }
+    }
+
+    fn add(&mut self, bytes: &[u8]) {
+        self.are_cut |= self.bytes.extend_from_slice(bytes).is_err();
+    }
+
+    fn add_numbers(&mut self, numbers: &[u16]) {
+        for number in numbers {
+            self.add(&number.to_be_bytes());
+        }
+    }
+
+    fn add_table(&mut self, table: &Table) {
+        self.add_numbers(&[table.count]);
+        self.add(&table.rows.bytes);
+    }
+}
+
+/// A table behind its count.
+#[derive(Drop)]
+struct Table {
+    count: u16,
+    rows: Bytes,
+}
+
+impl Table {
+    fn new(alloc: Global) -> Table {
+        Table {
+            count: 0,
+            rows: Bytes::new(alloc),
+        }
+    }
+
+    fn add(&mut self, numbers: &[u16], rest: &[u8]) {
+        self.count = self.count.wrapping_add(1);
+        self.rows.add_numbers(numbers);
+        self.rows.add(rest);
+    }
+}
+
+/// Constants, each once.
+#[derive(Drop)]
+struct Pool {
+    alloc: Global,
+    indexes: ByteMap<u16>,
+    constants: Bytes,
+}
+
+impl Pool {
+    /// The index of a constant, which is added where it is new.
+    fn entry(&mut self, tag: u8, numbers: &[u16], text: &[u8]) -> u16 {
+        let mut constant = Bytes::new(self.alloc);
+        constant.add(&[tag]);
+        constant.add_numbers(numbers);
+        constant.add(text);
+        if let Some(index) = self.indexes.get(&constant.bytes) {
+            return *index;
+        }
+        let index = self.count();
+        self.constants.add(&constant.bytes);
+        self.constants.are_cut |= self.indexes.insert(constant.bytes, index).is_err();
+        index
+    }
+
+    /// One more than the greatest index.
+    fn count(&self) -> u16 {
+        low_bytes(self.indexes.len().wrapping_add(1))
+    }
+
+    fn utf8(&mut self, text: &str) -> u16 {
+        self.entry(1, &[low_bytes(text.len())], text.as_bytes())
+    }
+
+    fn class(&mut self, name: &str) -> u16 {
+        let name = self.utf8(name);
+        self.entry(7, &[name], &[])
+    }
+
+    fn member(&mut self, tag: u8, class: &str, name: &str, descriptor: &str) -> u16 {
+        let class = self.class(class);
+        let name = self.utf8(name);
+        let descriptor = self.utf8(descriptor);
+        let entry = self.entry(12, &[name, descriptor], &[]);
+        self.entry(tag, &[class, entry], &[])
+    }
+}
+
+/// The lowest two bytes of a number.
+fn low_bytes(number: usize) -> u16 {
+    (number % (1 << 16)) as u16
+}
 
 /// A class file in the making.
 #[derive(Drop)]
@@ -16,98 +121,6 @@ struct Assembler {
     interfaces: Table,
     fields: Table,
     methods: Table,
-}
-
-/// Constants, each once.
-#[derive(Drop)]
-struct Pool {
-    indexes: ByteMap<u16>,
-    bytes: Vec<u8>,
-}
-
-/// A table behind its count.
-#[derive(Drop)]
-struct Table {
-    count: u16,
-    bytes: Vec<u8>,
-}
-
-impl Table {
-    fn new(alloc: Global) -> Table {
-        Table {
-            count: 0,
-            bytes: Vec::new(alloc),
-        }
-    }
-
-    fn add(&mut self, numbers: &[u16], rest: &[u8]) -> Result<()> {
-        self.count = self.count.wrapping_add(1);
-        push_numbers(&mut self.bytes, numbers)?;
-        self.bytes.extend_from_slice(rest)?;
-        Ok(())
-    }
-
-    fn append_to(&self, file: &mut Vec<u8>) -> Result<()> {
-        push_numbers(file, &[self.count])?;
-        file.extend_from_slice(&self.bytes)?;
-        Ok(())
-    }
-}
-
-fn push_numbers(bytes: &mut Vec<u8>, numbers: &[u16]) -> Result<()> {
-    for number in numbers {
-        bytes.extend_from_slice(&number.to_be_bytes())?;
-    }
-    Ok(())
-}
-
-impl Pool {
-    /// The index of a constant, which is added where it is new.
-    fn entry(&mut self, alloc: Global, tag: u8, numbers: &[u16], text: &[u8]) -> Result<u16> {
-        let mut constant = Vec::new(alloc);
-        constant.push(tag)?;
-        push_numbers(&mut constant, numbers)?;
-        constant.extend_from_slice(text)?;
-        if let Some(index) = self.indexes.get(&constant) {
-            return Ok(*index);
-        }
-        let index = self.count()?;
-        self.bytes.extend_from_slice(&constant)?;
-        match self.indexes.insert(constant, index) {
-            Ok(_) => Ok(index),
-            Err(_) => bail!("no memory"),
-        }
-    }
-
-    /// One more than the greatest index.
-    fn count(&self) -> Result<u16> {
-        u16::try_from(self.indexes.len().wrapping_add(1)).context("too many constants")
-    }
-
-    fn utf8(&mut self, alloc: Global, text: &str) -> Result<u16> {
-        let length = u16::try_from(text.len()).context("a text too long")?;
-        self.entry(alloc, 1, &[length], text.as_bytes())
-    }
-
-    fn class(&mut self, alloc: Global, name: &str) -> Result<u16> {
-        let name = self.utf8(alloc, name)?;
-        self.entry(alloc, 7, &[name], &[])
-    }
-
-    fn member(
-        &mut self,
-        alloc: Global,
-        tag: u8,
-        class: &str,
-        name: &str,
-        descriptor: &str,
-    ) -> Result<u16> {
-        let class = self.class(alloc, class)?;
-        let name = self.utf8(alloc, name)?;
-        let descriptor = self.utf8(alloc, descriptor)?;
-        let entry = self.entry(alloc, 12, &[name, descriptor], &[])?;
-        self.entry(alloc, tag, &[class, entry], &[])
-    }
 }
 
 /// The one word of a line.
@@ -126,14 +139,15 @@ fn hexadecimal(word: &str) -> Result<u16> {
 const WITHOUT_CODE: u16 = 0x0500;
 
 impl Assembler {
-    fn new(alloc: Global, name: &str) -> Result<Assembler> {
+    fn new(alloc: Global, name: &str) -> Assembler {
         let mut pool = Pool {
+            alloc,
             indexes: ByteMap::new(alloc),
-            bytes: Vec::new(alloc),
+            constants: Bytes::new(alloc),
         };
-        let this_class = pool.class(alloc, name)?;
-        let super_class = pool.class(alloc, "java/lang/Object")?;
-        Ok(Assembler {
+        let this_class = pool.class(name);
+        let super_class = pool.class("java/lang/Object");
+        Assembler {
             pool,
             major: 52,
             flags: 0x0021,
@@ -142,72 +156,53 @@ impl Assembler {
             interfaces: Table::new(alloc),
             fields: Table::new(alloc),
             methods: Table::new(alloc),
-        })
+        }
     }
 
-    /// Takes a line.
-    fn take(&mut self, alloc: Global, line: &str) -> Result<()> {
-        let (tokens, _) = tokens_of(alloc, line)?;
-        let [Token::Word(word), rest @ ..] = tokens.as_slice() else {
-            bail!("no line of a class");
-        };
-        match *word {
-            "version" => self.major = word_of(rest)?.parse::<u16>()?,
-            "flags" => self.flags = hexadecimal(word_of(rest)?)?,
-            "super" => self.set_super(alloc, rest)?,
-            "implements" => self.implement(alloc, rest)?,
-            "refers" => self.refer(alloc, rest)?,
-            kind => self.declare(alloc, kind, rest)?,
+    /// Takes the words of a line.
+    fn take(&mut self, tokens: &[Token]) -> Result<()> {
+        match tokens {
+            [Token::Word("version"), rest @ ..] => self.major = word_of(rest)?.parse::<u16>()?,
+            [Token::Word("flags"), rest @ ..] => self.flags = hexadecimal(word_of(rest)?)?,
+            [Token::Word("super"), Token::Word("none")] => self.super_class = 0,
+            [Token::Word("super"), Token::Quoted(name)] => {
+                self.super_class = self.pool.class(name);
+            }
+            [Token::Word("implements"), Token::Quoted(name)] => {
+                self.interfaces.add(&[self.pool.class(name)], &[]);
+            }
+            [Token::Word("refers"), rest @ ..] => self.refer(rest)?,
+            [
+                Token::Word(kind),
+                Token::Word(flags),
+                Token::Quoted(name),
+                Token::Quoted(descriptor),
+            ] => self.declare(kind, hexadecimal(flags)?, name, descriptor),
+            _ => bail!("no line of a class"),
         }
         Ok(())
-    }
-
-    fn set_super(&mut self, alloc: Global, tokens: &[Token]) -> Result<()> {
-        self.super_class = match tokens {
-            [Token::Word("none")] => 0,
-            [Token::Quoted(name)] => self.pool.class(alloc, name)?,
-            _ => bail!("no superclass"),
-        };
-        Ok(())
-    }
-
-    fn implement(&mut self, alloc: Global, tokens: &[Token]) -> Result<()> {
-        let [Token::Quoted(name)] = tokens else {
-            bail!("an interface without its name");
-        };
-        let interface = self.pool.class(alloc, name)?;
-        self.interfaces.add(&[interface], &[])
     }
 
     /// A field or a method, with the code `return` where it has one.
-    fn declare(&mut self, alloc: Global, kind: &str, tokens: &[Token]) -> Result<()> {
-        let [
-            Token::Word(flags),
-            Token::Quoted(name),
-            Token::Quoted(descriptor),
-        ] = tokens
-        else {
-            bail!("no line of a class");
-        };
-        let flags = hexadecimal(flags)?;
-        let name = self.pool.utf8(alloc, name)?;
-        let descriptor = self.pool.utf8(alloc, descriptor)?;
+    fn declare(&mut self, kind: &str, flags: u16, name: &str, descriptor: &str) {
+        let name = self.pool.utf8(name);
+        let descriptor = self.pool.utf8(descriptor);
         if kind == "field" {
-            return self.fields.add(&[flags, name, descriptor, 0], &[]);
+            self.fields.add(&[flags, name, descriptor, 0], &[]);
+        } else if flags & WITHOUT_CODE != 0 {
+            self.methods.add(&[flags, name, descriptor, 0], &[]);
+        } else {
+            let code = self.pool.utf8("Code");
+            let numbers = [flags, name, descriptor, 1, code, 0, 13, 2, 9, 0, 1];
+            self.methods.add(&numbers, &[0xb1, 0, 0, 0, 0]);
         }
-        if flags & WITHOUT_CODE != 0 {
-            return self.methods.add(&[flags, name, descriptor, 0], &[]);
-        }
-        let code = self.pool.utf8(alloc, "Code")?;
-        let numbers = [flags, name, descriptor, 1, code, 0, 13, 2, 9, 0, 1];
-        self.methods.add(&numbers, &[0xb1, 0, 0, 0, 0])
     }
 
     /// A constant that names a class or a member.
-    fn refer(&mut self, alloc: Global, tokens: &[Token]) -> Result<()> {
+    fn refer(&mut self, tokens: &[Token]) -> Result<()> {
         match tokens {
             [Token::Word("class"), Token::Quoted(name)] => {
-                self.pool.class(alloc, name)?;
+                self.pool.class(name);
             }
             [
                 Token::Word(kind),
@@ -215,25 +210,31 @@ impl Assembler {
                 Token::Quoted(name),
                 Token::Quoted(descriptor),
             ] => {
-                self.pool
-                    .member(alloc, tag_of(kind)?, class, name, descriptor)?;
+                self.pool.member(tag_of(kind)?, class, name, descriptor);
             }
             _ => bail!("no reference"),
         }
         Ok(())
     }
 
-    fn file(&self, alloc: Global) -> Result<Vec<u8>> {
-        let mut file = Vec::new(alloc);
-        let count = self.pool.count()?;
-        push_numbers(&mut file, &[0xcafe, 0xbabe, 0, self.major, count])?;
-        file.extend_from_slice(&self.pool.bytes)?;
-        push_numbers(&mut file, &[self.flags, self.this_class, self.super_class])?;
-        self.interfaces.append_to(&mut file)?;
-        self.fields.append_to(&mut file)?;
-        self.methods.append_to(&mut file)?;
-        push_numbers(&mut file, &[0])?;
-        Ok(file)
+    fn file(&self, alloc: Global) -> Bytes {
+        let mut file = Bytes::new(alloc);
+        file.add_numbers(&[0xcafe, 0xbabe, 0, self.major, self.pool.count()]);
+        file.add(&self.pool.constants.bytes);
+        file.add_numbers(&[self.flags, self.this_class, self.super_class]);
+        file.add_table(&self.interfaces);
+        file.add_table(&self.fields);
+        file.add_table(&self.methods);
+        file.add_numbers(&[0]);
+        file.are_cut |= self.are_cut();
+        file
+    }
+
+    fn are_cut(&self) -> bool {
+        self.pool.constants.are_cut
+            || self.interfaces.rows.are_cut
+            || self.fields.rows.are_cut
+            || self.methods.rows.are_cut
     }
 }
 
@@ -248,9 +249,12 @@ fn tag_of(kind: &str) -> Result<u8> {
 
 /// The class file of a name and of the lines below it.
 pub(crate) fn assemble(alloc: Global, name: &str, lines: &[&str]) -> Result<Vec<u8>> {
-    let mut assembler = Assembler::new(alloc, name)?;
+    let mut assembler = Assembler::new(alloc, name);
     for line in lines {
-        assembler.take(alloc, line)?;
+        let (tokens, _) = tokens_of(alloc, line)?;
+        assembler.take(&tokens)?;
     }
-    assembler.file(alloc)
+    let file = assembler.file(alloc);
+    ensure!(!file.are_cut, "no memory");
+    Ok(file.bytes)
 }

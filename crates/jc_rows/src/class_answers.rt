@@ -1,53 +1,73 @@
 //! What `parse` and `format_faults` answer.
 
-use crate::compare::shown;
+use jc_base::Output;
 use jc_file::{Fault, ParseError, format_faults, parse};
-use std::alloc::{AllocError, Global};
+use jc_report::write_refusal;
+use jc_text::TextWriter;
+use std::alloc::Global;
 
 /// The class's name, or the refusal.
-pub(crate) fn parse_answer(alloc: Global, bytes: &[u8]) -> Result<String, AllocError> {
+pub(crate) fn write_parsed<W: Output>(alloc: Global, out: &mut TextWriter<'_, W>, bytes: &[u8]) {
     match parse(alloc, bytes) {
-        Ok(view) => format!(in alloc; "class {}", shown(alloc, view.name())?),
-        Err(error) => refusal(alloc, &error),
+        Ok(view) => {
+            out.text(b"class ");
+            out.path(view.name());
+        }
+        Err(refusal) => write_refusal(out, refusal),
     }
 }
 
-fn refusal(alloc: Global, error: &ParseError) -> Result<String, AllocError> {
-    format!(in alloc; "{} {error:?}", error.code())
-}
-
-/// The answer to each proper beginning of the bytes, where it is the same, and how many there are.
-pub(crate) fn fronts_answer(alloc: Global, bytes: &[u8]) -> Result<String, AllocError> {
-    let wanted = parse_answer(alloc, &[])?;
+/// How many proper beginnings the bytes have, where all are too short, or the length of the first that is not.
+pub(crate) fn write_fronts<W: Output>(alloc: Global, out: &mut TextWriter<'_, W>, bytes: &[u8]) {
     for length in 0..bytes.len() {
-        let found = parse_answer(alloc, &bytes[..length])?;
-        if found != wanted {
-            return format!(in alloc; "{length} bytes {found}");
+        if !is_short(alloc, &bytes[..length]) {
+            out.text(b"another answer after ");
+            return out.decimal(length);
         }
     }
-    format!(in alloc; "{} times {wanted}", bytes.len())
+    out.decimal(bytes.len());
+    out.text(b" times ");
+    write_refusal(out, ParseError::Short);
+}
+
+fn is_short(alloc: Global, bytes: &[u8]) -> bool {
+    matches!(parse(alloc, bytes), Err(ParseError::Short))
 }
 
 /// The faults in their order.
-pub(crate) fn faults_answer(alloc: Global, bytes: &[u8]) -> Result<String, AllocError> {
+pub(crate) fn write_faults<W: Output>(alloc: Global, out: &mut TextWriter<'_, W>, bytes: &[u8]) {
     let view = match parse(alloc, bytes) {
         Ok(view) => view,
-        Err(error) => return refusal(alloc, &error),
+        Err(refusal) => return write_refusal(out, refusal),
     };
-    let Ok(faults) = format_faults(alloc, &view) else {
-        return String::from_str(alloc, "no memory");
-    };
-    listed(alloc, &faults)
+    match format_faults(alloc, &view) {
+        Ok(faults) => write_each(out, &faults),
+        Err(_) => out.text(b"no memory"),
+    }
 }
 
-fn listed(alloc: Global, faults: &[Fault]) -> Result<String, AllocError> {
-    let mut text = String::new(alloc);
-    for fault in faults {
-        let comma = if text.is_empty() { "" } else { ", " };
-        write!(text, "{comma}{:?} {}", fault.rule, fault.place)?;
+fn write_each<W: Output>(out: &mut TextWriter<'_, W>, faults: &[Fault]) {
+    if faults.is_empty() {
+        out.text(b"none");
     }
-    if text.is_empty() {
-        text.push_str("none")?;
+    for (number, fault) in faults.iter().enumerate() {
+        write_fault(out, number > 0, b"F", fault.rule.number(), fault.place);
     }
-    Ok(text)
+}
+
+/// A fault, behind a comma where it is not the first.
+pub(crate) fn write_fault<W: Output>(
+    out: &mut TextWriter<'_, W>,
+    is_next: bool,
+    letter: &[u8],
+    rule: u8,
+    place: usize,
+) {
+    if is_next {
+        out.text(b", ");
+    }
+    out.text(letter);
+    out.decimal(rule);
+    out.text(b" ");
+    out.decimal(place);
 }

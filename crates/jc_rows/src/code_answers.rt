@@ -1,95 +1,125 @@
 //! What `Insns` and `code_faults` answer.
 
-use jc_code::{Insn, Insns, LookupSwitch, TableSwitch, code_faults};
+use crate::class_answers::write_fault;
+use jc_base::Output;
+use jc_code::{CodeFault, Insn, Insns, LookupSwitch, TableSwitch, code_faults};
 use jc_file::parse;
-use std::alloc::{AllocError, Global};
+use jc_text::TextWriter;
+use std::alloc::Global;
 
 /// The instructions of a code, and the offset where they end.
-pub(crate) fn instructions_answer(alloc: Global, code: &[u8]) -> Result<String, AllocError> {
-    let mut text = String::new(alloc);
+pub(crate) fn write_instructions<W: Output>(out: &mut TextWriter<'_, W>, code: &[u8]) {
     if code.len() >= 1 << 16 {
-        return Ok(text);
+        return out.text(b"too long");
     }
     let mut insns = Insns::new(code);
     while let Some((place, insn)) = insns.next() {
-        write!(text, "{place} {}", insn.mnemonic())?;
-        add_operands(&mut text, &insn)?;
-        text.push_str(", ")?;
+        out.decimal(place);
+        out.text(b" ");
+        out.text(insn.mnemonic().as_bytes());
+        write_operands(out, &insn);
+        out.text(b", ");
     }
-    write!(text, "rest {}", insns.rest())?;
-    Ok(text)
+    out.text(b"rest ");
+    out.decimal(insns.rest());
 }
 
-fn add_operands(text: &mut String, insn: &Insn) -> Result<(), AllocError> {
+fn write_operands<W: Output>(out: &mut TextWriter<'_, W>, insn: &Insn) {
     match insn {
-        Insn::Plain { .. } => Ok(()),
-        Insn::Push { value, .. } => write!(text, " {value}"),
-        Insn::Local { index, wide, .. } => write!(text, " {index}{}", wide_word(*wide)),
+        Insn::Plain { .. } => {}
+        Insn::Push { value, .. } => write_number(out, i64::from(*value)),
+        Insn::Local { index, wide, .. } => {
+            write_number(out, i64::from(*index));
+            write_wide(out, *wide);
+        }
         Insn::Increment {
             index,
             amount,
             wide,
-        } => write!(text, " {index} {amount}{}", wide_word(*wide)),
-        Insn::Branch { target, .. } => write!(text, " {target}"),
-        Insn::TableSwitch(switch) => add_table(text, switch),
-        Insn::LookupSwitch(switch) => add_cases(text, switch),
+        } => {
+            write_number(out, i64::from(*index));
+            write_number(out, i64::from(*amount));
+            write_wide(out, *wide);
+        }
+        Insn::Branch { target, .. } => write_number(out, *target),
+        Insn::TableSwitch(switch) => write_table(out, switch),
+        Insn::LookupSwitch(switch) => write_cases(out, switch),
         Insn::Load { index, .. }
         | Insn::Field { index, .. }
         | Insn::Invoke { index, .. }
-        | Insn::Type { index, .. } => write!(text, " {}", index.0),
+        | Insn::Type { index, .. } => write_number(out, i64::from(index.0)),
         Insn::InvokeInterface { index, count, last } => {
-            write!(text, " {} {count} {last}", index.0)
+            write_number(out, i64::from(index.0));
+            write_number(out, i64::from(*count));
+            write_number(out, i64::from(*last));
         }
-        Insn::InvokeDynamic { index, last } => write!(text, " {} {last}", index.0),
-        Insn::NewArray { element } => write!(text, " {element}"),
-        Insn::MultiNewArray { index, dimensions } => write!(text, " {} {dimensions}", index.0),
+        Insn::InvokeDynamic { index, last } => {
+            write_number(out, i64::from(index.0));
+            write_number(out, i64::from(*last));
+        }
+        Insn::NewArray { element } => write_number(out, i64::from(*element)),
+        Insn::MultiNewArray { index, dimensions } => {
+            write_number(out, i64::from(index.0));
+            write_number(out, i64::from(*dimensions));
+        }
     }
 }
 
-fn wide_word(wide: bool) -> &'static str {
-    if wide { " wide" } else { "" }
+fn write_number<W: Output>(out: &mut TextWriter<'_, W>, number: i64) {
+    out.text(b" ");
+    out.decimal(number);
 }
 
-fn add_table(text: &mut String, switch: &TableSwitch) -> Result<(), AllocError> {
-    write!(
-        text,
-        " {} {} default {}:",
-        switch.low, switch.high, switch.default
-    )?;
+fn write_wide<W: Output>(out: &mut TextWriter<'_, W>, wide: bool) {
+    if wide {
+        out.text(b" wide");
+    }
+}
+
+fn write_default<W: Output>(out: &mut TextWriter<'_, W>, target: i64) {
+    out.text(b" default");
+    write_number(out, target);
+    out.text(b":");
+}
+
+fn write_table<W: Output>(out: &mut TextWriter<'_, W>, switch: &TableSwitch) {
+    write_number(out, i64::from(switch.low));
+    write_number(out, i64::from(switch.high));
+    write_default(out, switch.default);
     for target in switch.targets() {
-        write!(text, " {target}")?;
+        write_number(out, target);
     }
-    Ok(())
 }
 
-fn add_cases(text: &mut String, switch: &LookupSwitch) -> Result<(), AllocError> {
-    write!(
-        text,
-        " {} default {}:",
-        switch.cases().len(),
-        switch.default
-    )?;
+fn write_cases<W: Output>(out: &mut TextWriter<'_, W>, switch: &LookupSwitch) {
+    write_number(out, i64::from(switch.cases().len()));
+    write_default(out, switch.default);
     for case in switch.cases() {
-        write!(text, " {} {}", case.value, case.target)?;
+        write_number(out, i64::from(case.value));
+        write_number(out, case.target);
     }
-    Ok(())
 }
 
 /// The code faults of the first method, in their order.
-pub(crate) fn code_faults_answer(alloc: Global, bytes: &[u8]) -> Result<String, AllocError> {
+pub(crate) fn write_code_faults<W: Output>(
+    alloc: Global,
+    out: &mut TextWriter<'_, W>,
+    bytes: &[u8],
+) {
     let Ok(view) = parse(alloc, bytes) else {
-        return String::from_str(alloc, "refused");
+        return out.text(b"refused");
     };
-    let Ok(faults) = code_faults(alloc, &view, 0) else {
-        return String::from_str(alloc, "no memory");
-    };
-    let mut text = String::new(alloc);
-    for fault in &faults {
-        let comma = if text.is_empty() { "" } else { ", " };
-        write!(text, "{comma}{:?} {}", fault.rule, fault.place)?;
+    match code_faults(alloc, &view, 0) {
+        Ok(faults) => write_each(out, &faults),
+        Err(_) => out.text(b"no memory"),
     }
-    if text.is_empty() {
-        text.push_str("none")?;
+}
+
+fn write_each<W: Output>(out: &mut TextWriter<'_, W>, faults: &[CodeFault]) {
+    if faults.is_empty() {
+        out.text(b"none");
     }
-    Ok(text)
+    for (number, fault) in faults.iter().enumerate() {
+        write_fault(out, number > 0, b"S", fault.rule.number(), fault.place);
+    }
 }

@@ -1,12 +1,15 @@
 //! Edits of a session: what each makes and asks for, and which classes depend on a name.
 
 use crate::assembler::assemble;
-use crate::compare::{difference, shown};
+use crate::compare::difference;
+use crate::outcome::output_for;
 use crate::parts::{Names, bytes_of};
 use crate::row::without_comment;
 use crate::tokens::{Token, tokens_of};
 use anyhow::{Context, Result, bail};
+use jc_base::Output;
 use jc_session::{Done, Edit, EditError, Session};
+use jc_text::TextWriter;
 use std::alloc::{AllocError, Global};
 
 /// What the calls of these lines answer otherwise than they have to, if one does.
@@ -32,52 +35,67 @@ fn told_of_line(
     line: &str,
 ) -> Result<Option<String>> {
     let (tokens, wanted) = tokens_of(alloc, line)?;
-    let wanted = without_comment(wanted.unwrap_or(""));
-    told_of_call(alloc, names, session, line, tokens.as_slice(), wanted)
+    let (wanted, bound) = split_bound(without_comment(wanted.unwrap_or("")))?;
+    let mut output = output_for(alloc, None, wanted.as_bytes())?;
+    let mut out = TextWriter::new(&mut output);
+    let asks = call(alloc, names, session, &tokens, &mut out)?;
+    let _ = out.finish();
+    told_of_answer(
+        alloc,
+        line,
+        wanted.as_bytes(),
+        output.bytes(),
+        asks <= bound,
+    )
 }
 
-/// What the call of these words answers otherwise than it has to.
-fn told_of_call(
+/// What has to be answered, and how often an edit may ask where that is told.
+fn split_bound(wanted: &str) -> Result<(&str, u64)> {
+    match wanted.split_once(", asks at most ") {
+        Some((wanted, bound)) => Ok((wanted, bound.parse::<u64>()?)),
+        None => Ok((wanted, u64::MAX)),
+    }
+}
+
+fn told_of_answer(
+    alloc: Global,
+    line: &str,
+    wanted: &[u8],
+    found: &[u8],
+    is_bounded: bool,
+) -> Result<Option<String>> {
+    if wanted != found {
+        return Ok(Some(difference(alloc, line, wanted, found)?));
+    }
+    if !is_bounded {
+        return Ok(Some(format!(in alloc; "{line}: it asks more often")?));
+    }
+    Ok(None)
+}
+
+/// Makes the call of these words, writes what it answers, and tells how often it asked.
+fn call<W: Output>(
     alloc: Global,
     names: &Names,
     session: &mut Session,
-    line: &str,
     words: &[Token<'_>],
-    wanted: &str,
-) -> Result<Option<String>> {
+    out: &mut TextWriter<'_, W>,
+) -> Result<u64> {
     let [Token::Word(word), Token::Word(argument), rest @ ..] = words else {
         bail!("no such call");
     };
     match *word {
-        "classes" => add_classes(alloc, session, argument.parse::<u32>()?, rest),
-        "copies" => add_copies(alloc, names, session, argument.parse::<u32>()?, rest),
-        "dependants" => {
-            let found = dependants(alloc, session, argument)?;
-            Ok(unlike(alloc, line, wanted, &found)?)
-        }
-        "holders" => {
-            let found = session.holders(argument.parse::<usize>()?);
-            Ok(unlike(alloc, line, wanted, &format!(in alloc; "{found}")?)?)
-        }
+        "classes" => add_classes(alloc, session, argument.parse::<u32>()?, rest)?,
+        "copies" => add_copies(alloc, names, session, argument.parse::<u32>()?, rest)?,
+        "dependants" => write_dependants(out, session, argument),
+        "holders" => out.decimal(session.holders(argument.parse::<usize>()?)),
         _ => {
             let bytes = bytes_of(alloc, names, rest)?;
             let done = session.edit(edit_of(alloc, word, argument, bytes)?);
-            Ok(told_of_edit(alloc, line, wanted, done)?)
+            return Ok(write_done(out, done));
         }
     }
-}
-
-fn unlike(
-    alloc: Global,
-    line: &str,
-    wanted: &str,
-    found: &str,
-) -> Result<Option<String>, AllocError> {
-    if wanted == found {
-        return Ok(None);
-    }
-    let told = difference(alloc, line, wanted.as_bytes(), found.as_bytes())?;
-    Ok(Some(told))
+    Ok(0)
 }
 
 /// Adds files, each with a class below java/lang/Object, whose names are the front and a number from 1.
@@ -86,7 +104,7 @@ fn add_classes(
     session: &mut Session,
     count: u32,
     words: &[Token<'_>],
-) -> Result<Option<String>> {
+) -> Result<()> {
     let [Token::Word(front)] = words else {
         bail!("classes without the front of their names");
     };
@@ -94,7 +112,7 @@ fn add_classes(
         let name = numbered(alloc, front, index)?;
         add_file(session, &name, assemble(alloc, &name, &[])?)?;
     }
-    Ok(None)
+    Ok(())
 }
 
 /// Adds files with the same bytes, whose paths are the front and a number from 1.
@@ -104,7 +122,7 @@ fn add_copies(
     session: &mut Session,
     count: u32,
     words: &[Token<'_>],
-) -> Result<Option<String>> {
+) -> Result<()> {
     let [Token::Word(front), parts @ ..] = words else {
         bail!("copies without the front of their paths");
     };
@@ -112,7 +130,7 @@ fn add_copies(
         let path = numbered(alloc, front, index)?;
         add_file(session, &path, bytes_of(alloc, names, parts)?)?;
     }
-    Ok(None)
+    Ok(())
 }
 
 fn numbered(alloc: Global, front: &str, index: u32) -> Result<String, AllocError> {
@@ -128,15 +146,13 @@ fn add_file(session: &mut Session, path: &str, bytes: Vec<u8>) -> Result<()> {
 }
 
 /// The classes that depend on a name, a blank between them.
-fn dependants(alloc: Global, session: &Session, name: &str) -> Result<String, AllocError> {
-    let mut text = String::new(alloc);
-    for class in session.dependants(name.as_bytes()) {
-        if !text.is_empty() {
-            text.push_str(" ")?;
+fn write_dependants<W: Output>(out: &mut TextWriter<'_, W>, session: &Session, name: &str) {
+    for (number, class) in session.dependants(name.as_bytes()).iter().enumerate() {
+        if number > 0 {
+            out.text(b" ");
         }
-        text.push_str(&shown(alloc, class)?)?;
+        out.path(class);
     }
-    Ok(text)
 }
 
 fn edit_of(alloc: Global, word: &str, path: &str, bytes: Vec<u8>) -> Result<Edit> {
@@ -149,39 +165,20 @@ fn edit_of(alloc: Global, word: &str, path: &str, bytes: Vec<u8>) -> Result<Edit
     }
 }
 
-/// What is told of an edit that goes otherwise. Behind what it has to answer may stand how many classes it
-/// may ask for.
-fn told_of_edit(
-    alloc: Global,
-    line: &str,
-    wanted: &str,
-    done: Result<Done, EditError>,
-) -> Result<Option<String>> {
-    let (wanted, bound) = wanted.split_once(", asks at most ").unwrap_or((wanted, ""));
-    let told = unlike(alloc, line, wanted, &edit_answer(alloc, &done)?)?;
-    if told.is_some() || bound.is_empty() {
-        return Ok(told);
-    }
-    told_of_asks(alloc, line, bound.parse::<u64>()?, done)
-}
-
-fn edit_answer(alloc: Global, done: &Result<Done, EditError>) -> Result<String, AllocError> {
+/// Writes how many parts an edit made, or why it is refused, and tells how often it asked.
+fn write_done<W: Output>(out: &mut TextWriter<'_, W>, done: Result<Done, EditError>) -> u64 {
     match done {
-        Ok(done) => format!(in alloc; "made {}", done.made),
-        Err(error) => format!(in alloc; "refused {} {error:?}", error.code()),
-    }
-}
-
-fn told_of_asks(
-    alloc: Global,
-    line: &str,
-    bound: u64,
-    done: Result<Done, EditError>,
-) -> Result<Option<String>> {
-    match done {
-        Ok(done) if done.asks > bound => {
-            Ok(Some(format!(in alloc; "{line}: asks is {}", done.asks)?))
+        Ok(done) => {
+            out.text(b"made ");
+            out.decimal(done.made);
+            done.asks
         }
-        _ => Ok(None),
+        Err(error) => {
+            out.text(b"refused ");
+            out.decimal(error.code());
+            out.text(b" ");
+            out.text(error.name());
+            0
+        }
     }
 }

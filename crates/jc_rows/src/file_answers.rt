@@ -1,22 +1,41 @@
 //! What a source of files hands over.
 
-use anyhow::Result;
+use jc_base::Output;
 use jc_session::{FileSource, Source, SourceError};
-use std::fs;
+use jc_text::TextWriter;
 use std::rt::Files;
+use std::{fs, io};
+
+/// Where the file lies.
+const PATH: &str = "row";
 
 /// How much a source hands over of a file with these bytes.
-pub(crate) fn read_answer(rt: &(impl Files + AllocGlobal), bytes: &[u8]) -> Result<String> {
-    let path = "row";
-    fs::write(rt, path, bytes)?;
-    let read = length_of_read(rt, path);
-    fs::remove_file(rt, path)?;
-    Ok(match read {
-        Ok(length) => format!(in rt.alloc(); "{length} bytes")?,
-        Err(error) => format!(in rt.alloc(); "{error:?}")?,
-    })
+pub(crate) fn write_read<F: Files + AllocGlobal, W: Output>(
+    rt: &F,
+    out: &mut TextWriter<'_, W>,
+    bytes: &[u8],
+) {
+    match read_back(rt, bytes) {
+        Ok(Ok(length)) => {
+            out.decimal(length);
+            out.text(b" bytes");
+        }
+        Ok(Err(SourceError::Unread)) => out.text(b"Unread"),
+        Ok(Err(SourceError::NoMemory)) => out.text(b"NoMemory"),
+        Err(_) => out.text(b"no file"),
+    }
 }
 
-fn length_of_read(rt: &(impl Files + AllocGlobal), path: &str) -> Result<usize, SourceError> {
-    Ok(FileSource::new(rt).read(path.as_bytes())?.len())
+fn read_back<F: Files + AllocGlobal>(
+    rt: &F,
+    bytes: &[u8],
+) -> io::Result<Result<usize, SourceError>> {
+    fs::write(rt, PATH, bytes)?;
+    let read = length_of_read(rt);
+    fs::remove_file(rt, PATH)?;
+    Ok(read)
+}
+
+fn length_of_read<F: Files + AllocGlobal>(rt: &F) -> Result<usize, SourceError> {
+    Ok(FileSource::new(rt).read(PATH.as_bytes())?.len())
 }

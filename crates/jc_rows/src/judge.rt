@@ -1,24 +1,23 @@
 //! Judging the rows of a file, one by one.
 
 use crate::assembler::assemble;
-use crate::class_answers::{faults_answer, fronts_answer, parse_answer};
-use crate::code_answers::{code_faults_answer, instructions_answer};
+use crate::class_answers::{write_faults, write_fronts, write_parsed};
+use crate::code_answers::{write_code_faults, write_instructions};
 use crate::compare::difference;
 use crate::dialogue::{Dialogue, NamedFile};
 use crate::edits::told_of_edits;
-use crate::file_answers::read_answer;
-use crate::outcome::{outcome_of_program, outcome_of_run};
+use crate::file_answers::write_read;
+use crate::outcome::{output_for, told_of_outcome, told_of_status};
 use crate::parts::{Names, bytes_of};
-use crate::prefix_answers::outside_answer;
+use crate::prefix_answers::write_covered;
 use crate::row::{Row, Statement, head_of, rows_of};
-use crate::text_answers::{
-    field_answer, method_answer, name_answer, signature_answer, units_answer,
-};
+use crate::text_answers::{write_field, write_method, write_names, write_signature, write_units};
 use crate::tokens::Token;
 use anyhow::{Context, Result, bail};
-use jc_base::{ByteMap, SigKind};
+use jc_base::{ByteMap, MemOutput, Output, SigKind};
 use jc_link::Outside;
 use jc_session::Session;
+use jc_text::TextWriter;
 use std::alloc::{AllocError, Global};
 use std::io::ErrorKind;
 use std::rt::Files;
@@ -215,9 +214,9 @@ fn judge_bytes(
 ) -> Result<Found> {
     let statement = row.statement(rt.alloc())?;
     let bytes = row_bytes(rt.alloc(), names, &statement)?;
-    let found = answer(rt, kind, &bytes)?;
     let wanted = statement.answer.context("a row without its answer")?;
-    judged_bytes(rt.alloc(), kind, what, wanted.as_bytes(), found.as_bytes())
+    let found = answered(rt, kind, &bytes, wanted.as_bytes())?;
+    judged_bytes(rt.alloc(), kind, what, wanted.as_bytes(), found.bytes())
 }
 
 fn row_bytes(alloc: Global, names: &Names, statement: &Statement) -> Result<Vec<u8>> {
@@ -240,10 +239,10 @@ fn told_of_run(
     lines: &[&str],
 ) -> Result<Option<String>> {
     let mut dialogue = Dialogue::read(alloc, names, lines)?;
-    let found = outcome_of_run(alloc, session, &mut dialogue)?;
+    let told = told_of_outcome(alloc, session, &mut dialogue)?;
     match unlike(alloc, session, &dialogue.held)? {
-        None => Ok(dialogue.wanted.difference(alloc, &found)?),
-        told => Ok(told),
+        None => Ok(told),
+        unlike => Ok(unlike),
     }
 }
 
@@ -265,9 +264,9 @@ fn unlike(
 /// What is told of a program that does otherwise than its dialogue.
 fn told_of_program(rt: &(impl Files + AllocGlobal), dialogue: &Dialogue) -> Result<Option<String>> {
     write_files(rt, &dialogue.files)?;
-    let found = outcome_of_program(rt, dialogue)?;
+    let told = told_of_status(rt, dialogue)?;
     remove_files(rt, &dialogue.files)?;
-    Ok(dialogue.wanted.difference(rt.alloc(), &found)?)
+    Ok(told)
 }
 
 /// Writes the files, with the folders that they lie in.
@@ -320,29 +319,38 @@ fn judged_bytes(
     judged(alloc, what, Some(difference(alloc, kind, wanted, found)?))
 }
 
-/// What the call of a kind answers to the bytes.
-fn answer(rt: &(impl Files + AllocGlobal), kind: &str, bytes: &[u8]) -> Result<String> {
-    if kind == "read" {
-        return read_answer(rt, bytes);
+/// What the call of a kind answers to the bytes, in room for what is wanted and some more.
+fn answered(
+    rt: &(impl Files + AllocGlobal),
+    kind: &str,
+    bytes: &[u8],
+    wanted: &[u8],
+) -> Result<MemOutput, AllocError> {
+    let mut output = output_for(rt.alloc(), None, wanted)?;
+    let mut out = TextWriter::new(&mut output);
+    match kind {
+        "read" => write_read(rt, &mut out, bytes),
+        _ => write_answer(rt.alloc(), &mut out, kind, bytes),
     }
-    Ok(bytes_answer(rt.alloc(), kind, bytes)?)
+    let _ = out.finish();
+    Ok(output)
 }
 
-fn bytes_answer(alloc: Global, kind: &str, bytes: &[u8]) -> Result<String, AllocError> {
+fn write_answer<W: Output>(alloc: Global, out: &mut TextWriter<'_, W>, kind: &str, bytes: &[u8]) {
     match kind {
-        "parse" => parse_answer(alloc, bytes),
-        "fronts" => fronts_answer(alloc, bytes),
-        "faults" => faults_answer(alloc, bytes),
-        "instructions" => instructions_answer(alloc, bytes),
-        "code-faults" => code_faults_answer(alloc, bytes),
-        "outside" => outside_answer(alloc, bytes),
-        "units" => units_answer(alloc, bytes),
-        "name" => name_answer(alloc, bytes),
-        "field" => field_answer(alloc, bytes),
-        "method" => method_answer(alloc, bytes),
-        "class-signature" => signature_answer(alloc, SigKind::Class, bytes),
-        "method-signature" => signature_answer(alloc, SigKind::Method, bytes),
-        "field-signature" => signature_answer(alloc, SigKind::Field, bytes),
-        _ => String::from_str(alloc, "no such kind of row"),
+        "parse" => write_parsed(alloc, out, bytes),
+        "fronts" => write_fronts(alloc, out, bytes),
+        "faults" => write_faults(alloc, out, bytes),
+        "instructions" => write_instructions(out, bytes),
+        "code-faults" => write_code_faults(alloc, out, bytes),
+        "outside" => write_covered(alloc, out, bytes),
+        "units" => write_units(alloc, out, bytes),
+        "name" => write_names(out, bytes),
+        "field" => write_field(out, bytes),
+        "method" => write_method(out, bytes),
+        "class-signature" => write_signature(alloc, out, SigKind::Class, bytes),
+        "method-signature" => write_signature(alloc, out, SigKind::Method, bytes),
+        "field-signature" => write_signature(alloc, out, SigKind::Field, bytes),
+        _ => out.text(b"no such kind of row"),
     }
 }

@@ -1,4 +1,4 @@
-//! What comes out of a run or a program.
+//! What has to come out of a run or a program, and what does.
 
 use crate::compare::difference;
 use crate::dialogue::Dialogue;
@@ -26,16 +26,18 @@ impl Outcome {
         }
     }
 
-    /// What is told where another outcome is found.
-    pub(crate) fn difference(
+    /// What is told where other texts are found.
+    fn difference(
         &self,
         alloc: Global,
-        found: &Outcome,
+        output: &[u8],
+        told: &[u8],
+        ending: &str,
     ) -> Result<Option<String>, AllocError> {
         for (what, wanted, found) in [
-            ("output", self.output.as_slice(), found.output.as_slice()),
-            ("standard error", &self.told, &found.told),
-            ("ending", self.ending.as_bytes(), found.ending.as_bytes()),
+            ("output", self.output.as_slice(), output),
+            ("standard error", &self.told, told),
+            ("ending", self.ending.as_bytes(), ending.as_bytes()),
         ] {
             if wanted != found {
                 return Ok(Some(difference(alloc, what, wanted, found)?));
@@ -46,7 +48,11 @@ impl Outcome {
 }
 
 /// An output with the room that is asked for, or with more than the wanted bytes take.
-fn output_for(alloc: Global, room: Option<usize>, wanted: &[u8]) -> Result<MemOutput, AllocError> {
+pub(crate) fn output_for(
+    alloc: Global,
+    room: Option<usize>,
+    wanted: &[u8],
+) -> Result<MemOutput, AllocError> {
     let room = room.unwrap_or(wanted.len().saturating_add(100));
     match MemOutput::new(alloc, room) {
         Ok(output) => Ok(output),
@@ -67,59 +73,60 @@ fn ending_of(
     }
 }
 
-/// What a run over the session gives.
-pub(crate) fn outcome_of_run(
+/// What is told of a run over the session that goes otherwise than its dialogue.
+pub(crate) fn told_of_outcome(
     alloc: Global,
     session: &mut Session,
     dialogue: &mut Dialogue,
-) -> Result<Outcome, AllocError> {
+) -> Result<Option<String>, AllocError> {
+    let mut out = output_for(alloc, dialogue.room, &dialogue.wanted.output)?;
+    let ended = run_dialogue(alloc, session, dialogue, &mut out);
+    let ending = ending_of(alloc, ended, session.report().wrong())?;
+    dialogue.wanted.difference(alloc, out.bytes(), &[], &ending)
+}
+
+fn run_dialogue(
+    alloc: Global,
+    session: &mut Session,
+    dialogue: &mut Dialogue,
+    out: &mut MemOutput,
+) -> Result<Ended, RunError> {
     let answers = mem::replace(&mut dialogue.answers, Vec::new(alloc));
     let mut source = MemSource::new(answers);
     let mut input = MemInput::new(&dialogue.input, dialogue.fails);
-    let mut out = output_for(alloc, dialogue.room, &dialogue.wanted.output)?;
-    let ended = if dialogue.takes_bytes {
-        run(alloc, session, &mut source, &mut input, &mut out)
+    if dialogue.takes_bytes {
+        run(alloc, session, &mut source, &mut input, out)
     } else {
         let mut out = StdOutput::new(TakesNothing);
         run(alloc, session, &mut source, &mut input, &mut out)
-    };
-    let ending = ending_of(alloc, ended, session.report().wrong())?;
-    make_outcome(alloc, out.bytes(), &[], ending)
+    }
 }
 
-/// What the program gives.
-pub(crate) fn outcome_of_program(
+/// What is told of a program that does otherwise than its dialogue.
+pub(crate) fn told_of_status(
     rt: &(impl Files + AllocGlobal),
     dialogue: &Dialogue,
-) -> Result<Outcome, AllocError> {
+) -> Result<Option<String>, AllocError> {
     let alloc = rt.alloc();
-    let mut input = MemInput::new(&dialogue.input, dialogue.fails);
-    let mut out = output_for(alloc, dialogue.room, &dialogue.wanted.output)?;
-    let mut err = output_for(alloc, dialogue.error_room, &dialogue.wanted.told)?;
-    let words = dialogue.words.as_slice();
-    let status = if dialogue.has_files {
-        program(rt, words, &mut input, &mut out, &mut err)
-    } else {
-        let files = NoMemoryFiles { rt };
-        program(&files, words, &mut input, &mut out, &mut err)
-    };
-    make_outcome(
-        alloc,
-        out.bytes(),
-        err.bytes(),
-        format!(in alloc; "{status}")?,
-    )
+    let wanted = &dialogue.wanted;
+    let mut out = output_for(alloc, dialogue.room, &wanted.output)?;
+    let mut err = output_for(alloc, dialogue.error_room, &wanted.told)?;
+    let status = status_of(rt, dialogue, &mut out, &mut err);
+    let ending = format!(in alloc; "{status}")?;
+    wanted.difference(alloc, out.bytes(), err.bytes(), &ending)
 }
 
-fn make_outcome(
-    alloc: Global,
-    output: &[u8],
-    told: &[u8],
-    ending: String,
-) -> Result<Outcome, AllocError> {
-    Ok(Outcome {
-        output: Vec::from_slice(alloc, output)?,
-        told: Vec::from_slice(alloc, told)?,
-        ending,
-    })
+fn status_of(
+    rt: &(impl Files + AllocGlobal),
+    dialogue: &Dialogue,
+    out: &mut MemOutput,
+    err: &mut MemOutput,
+) -> u8 {
+    let mut input = MemInput::new(&dialogue.input, dialogue.fails);
+    let words = dialogue.words.as_slice();
+    if dialogue.has_files {
+        program(rt, words, &mut input, out, err)
+    } else {
+        program(&NoMemoryFiles { rt }, words, &mut input, out, err)
+    }
 }

@@ -1,32 +1,31 @@
 //! What the prefixes of names outside cover.
 
+use jc_base::{NoMemory, Output};
 use jc_link::{Outside, OutsideError};
-use std::alloc::{AllocError, Global};
+use jc_text::TextWriter;
+use std::alloc::Global;
 
 /// Whether the prefixes of all lines but the first cover the name in the first, or why they are refused.
-pub(crate) fn outside_answer(alloc: Global, bytes: &[u8]) -> Result<String, AllocError> {
-    let Ok(text) = str::from_utf8(bytes) else {
-        return String::from_str(alloc, "no text");
-    };
-    let mut lines = text.lines();
-    let name = lines.next().unwrap_or("");
-    let mut prefixes: Vec<&[u8]> = Vec::new(alloc);
-    for prefix in lines {
-        prefixes.push(prefix.as_bytes())?;
+pub(crate) fn write_covered<W: Output>(alloc: Global, out: &mut TextWriter<'_, W>, bytes: &[u8]) {
+    match made(alloc, bytes) {
+        Ok(Ok(outside)) if outside.covers(name_of(bytes)) => out.text(b"outside"),
+        Ok(Ok(_)) => out.text(b"not outside"),
+        Ok(Err(OutsideError::BadPrefix)) => out.text(b"1 BadPrefix"),
+        Ok(Err(OutsideError::TooManyPrefixes)) => out.text(b"2 TooManyPrefixes"),
+        _ => out.text(b"no memory"),
     }
-    let answer = match Outside::new(alloc, &prefixes) {
-        Ok(outside) => covered(&outside, name),
-        Err(OutsideError::BadPrefix) => "1 BadPrefix",
-        Err(OutsideError::TooManyPrefixes) => "2 TooManyPrefixes",
-        Err(OutsideError::NoMemory) => "3 NoMemory",
-    };
-    String::from_str(alloc, answer)
 }
 
-fn covered(outside: &Outside, name: &str) -> &'static str {
-    if outside.covers(name.as_bytes()) {
-        "outside"
-    } else {
-        "not outside"
+fn name_of(bytes: &[u8]) -> &[u8] {
+    bytes.split(|byte| *byte == b'\n').next().unwrap_or(bytes)
+}
+
+fn made(alloc: Global, bytes: &[u8]) -> Result<Result<Outside, OutsideError>, NoMemory> {
+    let mut prefixes: Vec<&[u8]> = Vec::new(alloc);
+    for line in bytes.split(|byte| *byte == b'\n').skip(1) {
+        prefixes.push(line)?;
     }
+    // What stands behind the last line's end is no line.
+    let _ = prefixes.pop();
+    Ok(Outside::new(alloc, &prefixes))
 }

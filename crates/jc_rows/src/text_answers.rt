@@ -1,95 +1,93 @@
 //! What the calls over texts answer.
 
-use crate::compare::shown;
 use jc_base::{
-    FieldDesc, MethodDesc, SigKind, UnitsError, check_signature, check_units, is_class_name,
-    is_method_name, is_unqualified, units,
+    FieldDesc, MethodDesc, Output, SigKind, UnitsError, check_signature, check_units,
+    is_class_name, is_method_name, is_unqualified, units,
 };
-use std::alloc::{AllocError, Global};
+use jc_text::TextWriter;
+use std::alloc::Global;
 
 /// The code units, or the place of the first wrong spelling, where both calls agree.
-pub(crate) fn units_answer(alloc: Global, text: &[u8]) -> Result<String, AllocError> {
+pub(crate) fn write_units<W: Output>(alloc: Global, out: &mut TextWriter<'_, W>, text: &[u8]) {
     let checked = check_units(text);
     match units(alloc, text) {
-        Ok(units) if checked == Ok(()) => hexadecimal(alloc, &units),
-        Err(UnitsError::Bad(place)) if checked == Err(place) => format!(in alloc; "bad at {place}"),
-        Err(UnitsError::NoMemory) => String::from_str(alloc, "no memory"),
-        _ => format!(in alloc; "check_units {checked:?}, units otherwise"),
+        Ok(units) if checked == Ok(()) => write_code_units(out, &units),
+        Err(UnitsError::Bad(place)) if checked == Err(place) => {
+            out.text(b"bad at ");
+            out.decimal(place);
+        }
+        Err(UnitsError::NoMemory) => out.text(b"no memory"),
+        _ => out.text(b"two answers"),
     }
 }
 
-fn hexadecimal(alloc: Global, units: &[u16]) -> Result<String, AllocError> {
-    let mut text = String::new(alloc);
-    for unit in units {
-        let blank = if text.is_empty() { "" } else { " " };
-        write!(text, "{blank}{unit:04x}")?;
+fn write_code_units<W: Output>(out: &mut TextWriter<'_, W>, units: &[u16]) {
+    if units.is_empty() {
+        out.text(b"none");
     }
-    if text.is_empty() {
-        text.push_str("none")?;
+    for (place, unit) in units.iter().enumerate() {
+        if place > 0 {
+            out.text(b" ");
+        }
+        out.hexadecimal(&unit.to_be_bytes());
     }
-    Ok(text)
 }
 
 /// What the text is a name of.
-pub(crate) fn name_answer(alloc: Global, text: &[u8]) -> Result<String, AllocError> {
-    let mut answer = String::new(alloc);
-    for (is_name, word) in [
-        (is_unqualified(text), "unqualified"),
-        (is_method_name(text), "method"),
-        (is_class_name(text), "class"),
-    ] {
-        if is_name {
-            let comma = if answer.is_empty() { "" } else { ", " };
-            write!(answer, "{comma}{word}")?;
-        }
+pub(crate) fn write_names<W: Output>(out: &mut TextWriter<'_, W>, text: &[u8]) {
+    let names = [
+        is_unqualified(text),
+        is_method_name(text),
+        is_class_name(text),
+    ];
+    match names {
+        [false, false, false] => out.text(b"none"),
+        [true, false, false] => out.text(b"unqualified"),
+        [false, true, false] => out.text(b"method"),
+        [false, false, true] => out.text(b"class"),
+        [true, true, false] => out.text(b"unqualified, method"),
+        [true, false, true] => out.text(b"unqualified, class"),
+        [false, true, true] => out.text(b"method, class"),
+        [true, true, true] => out.text(b"unqualified, method, class"),
     }
-    if answer.is_empty() {
-        answer.push_str("none")?;
-    }
-    Ok(answer)
 }
 
-pub(crate) fn field_answer(alloc: Global, text: &[u8]) -> Result<String, AllocError> {
+pub(crate) fn write_field<W: Output>(out: &mut TextWriter<'_, W>, text: &[u8]) {
     let Some(field) = FieldDesc::read(text) else {
-        return String::from_str(alloc, "none");
+        return out.text(b"none");
     };
-    let element = shown(alloc, field.element())?;
-    format!(in alloc;
-        "dims {}, element {element}, slots {}",
-        field.dims(),
-        field.slots()
-    )
+    out.text(b"dims ");
+    out.decimal(field.dims());
+    out.text(b", element ");
+    out.path(field.element());
+    out.text(b", slots ");
+    out.decimal(field.slots());
 }
 
-pub(crate) fn method_answer(alloc: Global, text: &[u8]) -> Result<String, AllocError> {
+pub(crate) fn write_method<W: Output>(out: &mut TextWriter<'_, W>, text: &[u8]) {
     let Some(method) = MethodDesc::read(text) else {
-        return String::from_str(alloc, "none");
+        return out.text(b"none");
     };
-    let result = match method.result() {
-        Some(result) => shown(alloc, result)?,
-        None => String::from_str(alloc, "none")?,
-    };
-    let params = shown_params(alloc, &method)?;
-    format!(in alloc; "slots {}, result {result}, params{params}", method.slots())
-}
-
-/// The parameters, each behind a blank.
-fn shown_params(alloc: Global, method: &MethodDesc) -> Result<String, AllocError> {
-    let mut text = String::new(alloc);
+    out.text(b"slots ");
+    out.decimal(method.slots());
+    out.text(b", result ");
+    out.path(method.result().unwrap_or(b"none"));
+    out.text(b", params");
     for param in method.params() {
-        text.push(' ')?;
-        text.push_str(&shown(alloc, param)?)?;
+        out.text(b" ");
+        out.path(param);
     }
-    Ok(text)
 }
 
-pub(crate) fn signature_answer(
+pub(crate) fn write_signature<W: Output>(
     alloc: Global,
+    out: &mut TextWriter<'_, W>,
     kind: SigKind,
     text: &[u8],
-) -> Result<String, AllocError> {
+) {
     match check_signature(alloc, kind, text) {
-        Ok(is_signature) => format!(in alloc; "{is_signature}"),
-        Err(_) => String::from_str(alloc, "no memory"),
+        Ok(true) => out.text(b"true"),
+        Ok(false) => out.text(b"false"),
+        Err(_) => out.text(b"no memory"),
     }
 }
