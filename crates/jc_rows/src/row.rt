@@ -39,8 +39,8 @@ impl<'a> Statement<'a> {
 
     fn go_on(&mut self, alloc: Global, line: &'a str) -> Result<()> {
         if let Some(answer) = &mut self.answer {
-            write!(answer, " {}", without_comment(line))?;
-            return Ok(());
+            answer.push_str(" ")?;
+            return Ok(answer.push_str(without_comment(line))?);
         }
         let (tokens, answer) = tokens_of(alloc, line)?;
         self.tokens.extend_from_slice(&tokens)?;

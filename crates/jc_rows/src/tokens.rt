@@ -24,13 +24,17 @@ const MARKS: [(&str, Token); 4] = [
     ("->", Token::Arrow),
 ];
 
-fn ends_a_word(letter: char) -> bool {
-    letter.is_ascii_whitespace() || matches!(letter, '"' | '(' | ')' | '*' | '=' | '#')
+fn ends_a_word(byte: u8) -> bool {
+    matches!(byte, b' ' | b'\t' | b'"' | b'(' | b')' | b'*' | b'=' | b'#')
 }
 
 fn split_word(text: &str) -> (&str, &str) {
-    let end = text.find(ends_a_word).unwrap_or(text.len());
-    text.split_at_checked(end).unwrap_or((text, ""))
+    for (place, byte) in text.as_bytes().iter().enumerate() {
+        if ends_a_word(*byte) {
+            return text.split_at_checked(place).unwrap_or((text, ""));
+        }
+    }
+    (text, "")
 }
 
 /// The token at the front of a text that begins with no blank, and what is behind it.
