@@ -3,11 +3,12 @@
 
 With --jars also over trees: the class files of versions 51 and 52 in the jars of a folder, a world for each jar.
 
-Usage: run.py [--worlds N] [--seed N] [--jars FOLDER]. It builds the program jc_trials by `rt run`.
+Usage: run.py [--worlds N] [--seed N] [--jars FOLDER]. It wants `./jclink` built.
 """
 import argparse
 import pathlib
 import random
+import subprocess
 import sys
 import zipfile
 from collections import Counter
@@ -21,17 +22,14 @@ import worlds
 STANDARD = (b"java/", b"javax/")
 
 
-def answers(batch):
-    """For each world the lines that the program prints."""
-    frames = [common.framed([piece for file in files for piece in file]) for files in batch]
-    lines, found = [], []
-    for line in common.answer_text("links", frames).splitlines():
-        if line == "end":
-            found.append(lines)
-            lines = []
-        else:
-            lines.append(line)
-    return found
+def answer(files):
+    """What the report of the files says of the parts, and which classes are circular."""
+    with common.Workplace() as folder:
+        for at, (_, data) in enumerate(files):
+            (folder / f"{at:06}.class").write_bytes(data)
+        report = subprocess.run([common.JCLINK, "check", folder], stdout=subprocess.PIPE, check=False).stdout
+    lines = report.decode().splitlines()
+    return lines[lines.index("[parts]") + 1 : lines.index("[provided]")]
 
 
 def sort_of(line):
@@ -58,16 +56,13 @@ def worlds_of(folder):
             yield files
 
 
-def compare(batch, told):
-    different = 0
-    for files, ours in zip(batch, answers(batch), strict=True):
-        wanted = judge.World(files, STANDARD).parts()
-        told.update(sort_of(line) for line in wanted)
-        if ours != wanted:
-            different += 1
-            pairs = [pair for pair in zip(ours, wanted) if pair[0] != pair[1]]
-            print(f"{len(ours)} lines and {len(wanted)}: {pairs[:2]}")
-    return different
+def differs(files, told):
+    ours, wanted = answer(files), judge.World(files, STANDARD).parts()
+    told.update(sort_of(line) for line in wanted)
+    if ours != wanted:
+        pairs = [pair for pair in zip(ours, wanted) if pair[0] != pair[1]]
+        print(f"{len(ours)} lines and {len(wanted)}: {pairs[:2]}")
+    return ours != wanted
 
 
 def main():
@@ -76,14 +71,11 @@ def main():
     parser.add_argument("--seed", type=int, default=1)
     parser.add_argument("--jars")
     options = parser.parse_args()
-    common.build()
-    rng, told, different, count = random.Random(options.seed), Counter(), 0, 0
-    for at in range(0, options.worlds, 100):
-        batch = [worlds.make_world(rng) for _ in range(min(100, options.worlds - at))]
-        different += compare(batch, told)
-        count += len(batch)
+    rng, told, different, count = random.Random(options.seed), Counter(), 0, options.worlds
+    for _ in range(options.worlds):
+        different += differs(worlds.make_world(rng), told)
     for files in worlds_of(options.jars) if options.jars else ():
-        different += compare([files], told)
+        different += differs(files, told)
         count += 1
     print(f"{count} worlds: " + ", ".join(f"{number} {what}" for what, number in sorted(told.items())))
     print(f"{different} worlds differ")

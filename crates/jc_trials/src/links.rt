@@ -1,47 +1,12 @@
-//! The parts of the classes of worlds.
+//! The parts of the classes of a world.
 
 use crate::frames::Frames;
 use jc_base::{NoMemory, Output};
 use jc_file::{ParseError, parse};
 use jc_link::{Facts, Meter, Outside, Part, Table, gather, make_part};
-use jc_report::{write_name, write_part};
+use jc_report::write_part;
 use jc_text::TextWriter;
 use std::alloc::Global;
-
-/// Writes for each frame the parts of its classes by name, which of them are circular, and a line `end`.
-pub(crate) fn write_links<W: Output>(
-    alloc: Global,
-    out: &mut TextWriter<'_, W>,
-    input: &[u8],
-) -> Result<(), NoMemory> {
-    for frame in Frames::new(input) {
-        let (table, mut meter) = table_of(alloc, frame)?;
-        write_world(alloc, out, &table, &mut meter)?;
-        out.text(b"end\n");
-    }
-    Ok(())
-}
-
-fn write_world<W: Output>(
-    alloc: Global,
-    out: &mut TextWriter<'_, W>,
-    table: &Table,
-    meter: &mut Meter,
-) -> Result<(), NoMemory> {
-    let mut circular = Vec::new(alloc);
-    for facts in table.classes() {
-        let part = part_of(alloc, table, facts.name(), meter)?;
-        write_part(out, facts, &part);
-        if part.is_circular() {
-            circular.push(facts.name())?;
-        }
-    }
-    out.text(b"[circular]\n");
-    for name in &circular {
-        write_name(out, name);
-    }
-    Ok(())
-}
 
 /// Writes the part of a class of the world that a frame is, and tells how many names were asked for to
 /// gather its reach.

@@ -6,10 +6,9 @@
 //! - `faults`: a line for each: its format faults, or the refusal.
 //! - `code-faults`: a line for each: its code faults, each with its method and place, or the refusal.
 //! - `listings`: the listing of each, or `refused`, and a line `end` behind it.
-//! - `links`: each frame is a world, frames of a path and of a file's bytes by turns in the order of the
-//!   paths: the parts of its classes, the circular ones, and a line `end`.
-//! - `link NAME`: the input is one such world: the part of the class, and how many names its reach has.
-//! - `count-links`: the input is one such world: how many parts are made, names asked for and answers given.
+//! - `link NAME`: the input is a world, frames of a path and of a file's bytes by turns in the order of the
+//!   paths: the part of the class, and how many names its reach has.
+//! - `count-links`: the input is a world: how many parts are made, names asked for and answers given.
 //! - `edits`: each frame is a list of edits over a session of its own; the answer to each, and the reports and
 //!   dependants that are asked for between them.
 //! - `count-bytes N`, `count-parse N`, `count-faults N`, `count-insns N`, `count-code-faults N`: one number,
@@ -33,7 +32,7 @@ use jc_base::{NoMemory, Output, StdOutput};
 use jc_file::{ClassView, ParseError, parse};
 use jc_report::write_refusal;
 use jc_text::TextWriter;
-use links::{count_links, write_link, write_links};
+use links::{count_links, write_link};
 use listings::write_listings;
 use std::alloc::Global;
 use std::io::{BufWriter, Read};
@@ -127,14 +126,6 @@ fn out_of_memory(_: NoMemory) -> io::Error {
     io::Error::from(io::ErrorKind::OutOfMemory)
 }
 
-/// Prints the parts of the worlds of all frames.
-fn print_links(rt: &(impl Print + AllocGlobal), input: &[u8]) -> io::Result<()> {
-    let mut output = StdOutput::new(io::writer(rt));
-    let mut out = TextWriter::new(&mut output);
-    write_links(rt.alloc(), &mut out, input).map_err(out_of_memory)?;
-    finish(&mut out)
-}
-
 /// Prints what comes of the lists of edits of all frames.
 fn print_lists(rt: &(impl Print + AllocGlobal), input: &[u8]) -> io::Result<()> {
     let mut out = StdOutput::new(BufWriter::new(rt.alloc(), io::writer(rt))?);
@@ -182,7 +173,6 @@ fn main(rt: HostRuntime) -> io::Result<()> {
         "faults" => print_answers(&rt, Asked::Faults, &input),
         "code-faults" => print_answers(&rt, Asked::CodeFaults, &input),
         "listings" => print_listings(&rt, &input),
-        "links" => print_links(&rt, &input),
         "link" => print_link(&rt, rounds.as_ref().map_or("", String::as_str), &input),
         "edits" => print_lists(&rt, &input),
         "count-links" => print_link_counts(&rt, &input),
