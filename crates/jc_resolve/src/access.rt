@@ -84,7 +84,7 @@ fn is_in_package(classes: &Classes, class: usize, hit: Hit) -> bool
     if !(hit.member.has(AccessFlag::Protected) || hit.member.is_package_private()) {
         return false;
     }
-    classes.packages[class] == classes.packages[hit.node]
+    classes.are_together(class, hit.node)
 }
 
 /// Whether a member is PRIVATE and the class's own.

@@ -93,7 +93,7 @@ fn node_answer<'a>(
     requires class { class < length classes.now.standing.now }
     requires node { node < length classes.now.standing.now }
     requires loads { length loads.now ≡ length classes.now.standing.now }
-    ensures { answer_of result ≡ class_answer text.now (name_at (indexed_of classes.now) node) (loading_of (indexed_of classes.now) (load_at loads.now node)) (sees (indexed_of classes.now) classes.now.packages.items class node) }
+    ensures { answer_of result ≡ class_answer text.now (name_at (indexed_of classes.now) node) (loading_of (indexed_of classes.now) (load_at loads.now node)) (sees (indexed_of classes.now) class node) }
 {
     match loads[node] {
         Load::Loaded => {

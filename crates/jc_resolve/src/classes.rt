@@ -4,17 +4,17 @@ ghost use Rattle.std.specs.Prelude.{◌≡◌, ◌<◌, ◌++◌, length, OnOk, 
 ghost use Rattle.std.specs.List.{All};
 ghost use Rattle.jc_classes.specs.Lent.{key_lent, member_lent, stands_of};
 ghost use Rattle.jc_classes.specs.MethodLookup.{declared, of_object};
-ghost use Rattle.jc_classes.specs.Names.{object as java_lang_object};
+ghost use Rattle.jc_classes.specs.Names.{object as java_lang_object, package_of, same_name};
 ghost use Rattle.jc_classes.specs.Worlds.{member, fields_of, methods_of, flags_of};
 ghost use Rattle.jc_graph.specs.Graph.{ups_of};
 ghost use Rattle.jc_graph.specs.Seen.{TellsAbove};
 ghost use Rattle.jc_resolve.specs.inside.Indexed.{filled, name_at, record_at, super_at, supers_before, onward_row, IsGraph};
-ghost use Rattle.jc_resolve.specs.inside.Access.{TellsPackages};
 ghost use Rattle.jc_resolve.specs.inside.Picks.{gives};
 ghost use Rattle.jc_resolve.specs.inside.Settled.{lies_outside};
 
+use crate::packages::package;
 use jc_base::NoMemory;
-use jc_classes::{Key, Member, Standing};
+use jc_classes::{Key, Member, Standing, same};
 use jc_file::AccessFlag;
 use jc_graph::{Seen, mark_above};
 
@@ -25,8 +25,6 @@ pub(crate) struct Classes<'c, 't> {
     pub(crate) names: &'c [Vec<u8>],
     pub(crate) standing: &'c [Standing<'t>],
     pub(crate) ups: &'c [Vec<usize>],
-    /// The number of the package of each.
-    pub(crate) packages: Vec<usize>,
     /// The number of `java/lang/Object`.
     pub(crate) object: usize,
     /// Its place in an order of loading.
@@ -35,8 +33,6 @@ pub(crate) struct Classes<'c, 't> {
     pub(crate) good: Vec<bool>,
     ghost names_size: { length names.now ≡ length standing.now },
     ghost rows_size: { length ups.now ≡ length standing.now },
-    ghost packages_size: { length packages.items ≡ length standing.now },
-    ghost numbered: { TellsPackages (filled names.now standing.now ups.now rank.items good.items) (length standing.now) packages.items },
     ghost object_within: { object < length standing.now },
     ghost object_name: { name_at (filled names.now standing.now ups.now rank.items good.items) object ≡ java_lang_object },
     ghost graph: { IsGraph (length standing.now) (filled names.now standing.now ups.now rank.items good.items) },
@@ -77,6 +73,13 @@ impl<'c, 't> Classes<'c, 't> {
             Some(name) => name.as_slice(),
             None => &[],
         }
+    }
+
+    /// Whether two nodes are of one package.
+    pub(crate) fn are_together(&self, node: usize, other: usize) -> bool
+        ensures { result ≡ same_name (package_of (name_at (indexed_of self.now) node)) (package_of (name_at (indexed_of self.now) other)) }
+    {
+        same(package(self.name(node)), package(self.name(other)))
     }
 
     /// What stands at a node.

@@ -10,7 +10,6 @@ ghost use Rattle.jc_resolve.specs.inside.Loaded.{IsLoaded};
 
 use crate::classes::Classes;
 use crate::loads::{Load, good_all, load_all, rank_all};
-use crate::packages::package_all;
 use jc_base::NoMemory;
 use jc_classes::Standing;
 use jc_graph::sort_nodes;
@@ -53,7 +52,6 @@ pub(crate) fn load_classes<'c, 't>(
         names,
         standing,
         ups,
-        packages: package_all(alloc, names)?,
         object,
         rank: Vec::new(alloc),
         good: unset(alloc, standing.len())?,
@@ -62,12 +60,10 @@ pub(crate) fn load_classes<'c, 't>(
     let loads = load_all(alloc, &unloaded, &sorted)?;
     let rank = rank_all(alloc, sorted.order.as_slice(), standing.len())?;
     let good = good_all(alloc, loads.as_slice())?;
-    let Classes { packages, .. } = unloaded;
     let classes = Classes {
         names,
         standing,
         ups,
-        packages,
         object,
         rank,
         good,

@@ -30,11 +30,9 @@ pub(crate) enum Load {
 pub(crate) fn can_see(classes: &Classes, node: usize, other: usize) -> bool
     requires node { node < length classes.now.standing.now }
     requires other { other < length classes.now.standing.now }
-    ensures sees { result ≡ sees (indexed_of classes.now) classes.now.packages.items node other }
-    ensures named { result ≡ can_see (name_at (indexed_of classes.now) node) (name_at (indexed_of classes.now) other) (record_at (indexed_of classes.now) other) }
+    ensures { result ≡ can_see (name_at (indexed_of classes.now) node) (name_at (indexed_of classes.now) other) (record_at (indexed_of classes.now) other) }
 {
-    AccessFlag::Public.is_in(classes.flags(other))
-        || classes.packages[node] == classes.packages[other]
+    AccessFlag::Public.is_in(classes.flags(other)) || classes.are_together(node, other)
 }
 
 /// Whether a supertype is an interface just where a class is wanted, or a class where an interface is.
@@ -56,7 +54,7 @@ fn judge(
     requires node { node < length classes.now.standing.now }
     requires other { other < length classes.now.standing.now }
     requires loads { length loads.now ≡ length classes.now.standing.now }
-    ensures { result ≡ judged (load_at loads.now other) (sees (indexed_of classes.now) classes.now.packages.items node other) (same_bool (is_interface (record_at (indexed_of classes.now) other)) is_class) other }
+    ensures { result ≡ judged (load_at loads.now other) (sees (indexed_of classes.now) node other) (same_bool (is_interface (record_at (indexed_of classes.now) other)) is_class) other }
 {
     match loads[other] {
         Load::Outside => None,
@@ -84,7 +82,7 @@ fn judge_each(
     requires node { node < length classes.now.standing.now }
     requires supers { All (λ s. s < length classes.now.standing.now) supers.now }
     requires loads { length loads.now ≡ length classes.now.standing.now }
-    ensures { result ≡ judged_each (indexed_of classes.now) classes.now.packages.items loads.now node has_super supers.now }
+    ensures { result ≡ judged_each (indexed_of classes.now) loads.now node has_super supers.now }
 {
     let mut is_class = has_super;
     for other in supers {
@@ -101,7 +99,7 @@ fn load_one(classes: &Classes, circular: &[bool], loads: &[Load], node: usize) -
     requires node { node < length classes.now.standing.now }
     requires circular { length circular.now ≡ length classes.now.standing.now }
     requires loads { length loads.now ≡ length classes.now.standing.now }
-    ensures { result ≡ load_of (indexed_of classes.now) classes.now.packages.items circular.now loads.now node }
+    ensures { result ≡ load_of (indexed_of classes.now) circular.now loads.now node }
 {
     match classes.at(node) {
         Standing::Nothing => Load::Fails(LinkageError::NoClass, node),

@@ -10,26 +10,25 @@ use Rattle.jc_resolve.specs.declared.loads.Load.{Load}
 use Rattle.jc_resolve.specs.declared.resolve.NamedNode.{NamedNode}
 use Rattle.jc_resolve.specs.declared.resolve.NamedNode.TheVariants as by
 use Rattle.jc_resolve.specs.inside.Indexed.{Indexed, name_at, IsGraph, IsIndexed}
-use Rattle.jc_resolve.specs.inside.Access.{TellsPackages}
 use Rattle.jc_resolve.specs.inside.Resolved.{load_at, loading_of, named_of, TellsLoads}
 use Rattle.jc_resolve.specs.inside.Loading.{sees}
 use Rattle.jc_resolve.proofs.loading.Loadings.{sees_same}
 
-module _ (m : World) (count : ℕ) (x : Indexed) (graph : IsGraph count x) (packages : List ℕ) (packs : TellsPackages x count packages) (index : IsIndexed m x) (loads : List Load) (told : TellsLoads m x count loads) where
+module _ (m : World) (count : ℕ) (x : Indexed) (graph : IsGraph count x) (index : IsIndexed m x) (loads : List Load) (told : TellsLoads m x count loads) where
   pub class_made : (d node : ℕ) (text : Name) (r : NamedNode) (a : Answer) → d < count → node < count → r ≡ by.Class node → text_of (named_of x r text) ≡ text
-      → a ≡ class_answer text (name_at x node) (loading_of x (load_at loads node)) (sees x packages d node) → ResolvesClass m (name_at x d) (named_of x r text) a
+      → a ≡ class_answer text (name_at x node) (loading_of x (load_at loads node)) (sees x d node) → ResolvesClass m (name_at x d) (named_of x r text) a
   class_made d node text r a k l is same e =
       let n = name_at x node in
       let t : n ≡ text = subst (λ z. text_of (named_of x z text) ≡ text) is same in
       subst (λ z. ResolvesClass m (name_at x d) (named_of x z text) a) (sym is)
-      (rclass.class (told node l) (e ∙ ap (λ z. class_answer z n (loading_of x (load_at loads node)) (sees x packages d node)) (sym t) ∙ ap (class_answer n n (loading_of x (load_at loads node))) (sees_same m count x graph packages packs index d node k l)))
+      (rclass.class (told node l) (e ∙ ap (λ z. class_answer z n (loading_of x (load_at loads node)) (sees x d node)) (sym t) ∙ ap (class_answer n n (loading_of x (load_at loads node))) (sees_same m count x graph index d node l)))
 
   pub array_made : (d node : ℕ) (text : Name) (r : NamedNode) (o : Option ℕ) (a : Answer) → d < count → node < count → r ≡ by.Array o → o ≡ Some node
-      → a ≡ class_answer text (name_at x node) (loading_of x (load_at loads node)) (sees x packages d node) → ResolvesClass m (name_at x d) (named_of x r text) a
+      → a ≡ class_answer text (name_at x node) (loading_of x (load_at loads node)) (sees x d node) → ResolvesClass m (name_at x d) (named_of x r text) a
   array_made d node text r o a k l is some e =
       let n = name_at x node in
       subst (λ z. ResolvesClass m (name_at x d) (named_of x z text) a) (sym (is ∙ ap by.Array some))
-      (rclass.array (told node l) (e ∙ ap (class_answer text n (loading_of x (load_at loads node))) (sees_same m count x graph packages packs index d node k l)))
+      (rclass.array (told node l) (e ∙ ap (class_answer text n (loading_of x (load_at loads node))) (sees_same m count x graph index d node l)))
 
 pub primitive_made : (m : World) (x : Indexed) (d : ℕ) (text : Name) (r : NamedNode) (o : Option ℕ) (a : Answer) → r ≡ by.Array o → o ≡ None → a ≡ ToClass text → ResolvesClass m (name_at x d) (named_of x r text) a
 primitive_made m x d text r o a is none e =

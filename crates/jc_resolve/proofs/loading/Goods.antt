@@ -18,7 +18,6 @@ use Rattle.jc_graph.specs.Graph.{TellsCircular, IsOrder}
 use Rattle.jc_resolve.specs.declared.loads.Load.{Load}
 use Rattle.jc_resolve.specs.declared.loads.Load.TheVariants.{Loaded, Outside, Fails}
 use Rattle.jc_resolve.specs.inside.Indexed.{Indexed, name_at, IsGraph, IsIndexed}
-use Rattle.jc_resolve.specs.inside.Access.{TellsPackages}
 use Rattle.jc_resolve.specs.inside.Resolved.{load_at, loading_of, TellsLoads}
 use Rattle.jc_resolve.proofs.lookups.Bridge.{map_in, above_named}
 use Rattle.jc_resolve.specs.inside.Loading.{is_good, rank_in, TellsRank}
@@ -94,7 +93,7 @@ load_good x Loaded e = refl
 load_good x Outside e = refl
 load_good x (Fails f v) e = ⊎_elim (λ q. absurd cc) (λ q. absurd cc) e
 
-module _ (m : World) (count : ℕ) (x : Indexed) (graph : IsGraph count x) (packages : List ℕ) (packs : TellsPackages x count packages) (index : IsIndexed m x)
+module _ (m : World) (count : ℕ) (x : Indexed) (graph : IsGraph count x) (index : IsIndexed m x)
     (flags : List Bool) (order ranks : List ℕ) (tells : TellsCircular x.up count flags) (ordered : IsOrder x.up count flags order) (ranked : TellsRank count order ranks)
     (loads : List Load) (told : TellsLoads m x count loads) where
   named : {v : ℕ} → v < count → v < length x.names

@@ -5,10 +5,9 @@ use Rattle.std.proofs.lemmas.List.Elements.{Contains-append_right}
 use Rattle.std.specs.Bool.{Decides}
 use Rattle.std.specs.List.{Contains}
 use Rattle.std.specs.Option.{option_to_list, option_map_or}
-use Rattle.jc_classes.specs.Names.{package_of, Name, same_name}
-use Rattle.jc_file.specs.AccessFlags.{has, public}
+use Rattle.jc_classes.specs.Names.{Name}
 use Rattle.jc_classes.specs.Facts.{Facts, is_faulty}
-use Rattle.jc_classes.specs.Worlds.{World, Stands, Above, super_of, supers_of, flags_of, is_interface}
+use Rattle.jc_classes.specs.Worlds.{World, Stands, Above, super_of, supers_of, is_interface}
 use Rattle.jc_classes.specs.Worlds.{Stands as stands}
 use Rattle.jc_classes.specs.Loading.{Parent, parents, Loading, LoadEach, can_see, same_bool, judged_parent}
 use Rattle.jc_classes.specs.Loading as defs
@@ -18,7 +17,6 @@ use Rattle.jc_resolve.specs.declared.loads.Load.{Load}
 use Rattle.jc_resolve.specs.declared.loads.Load.TheVariants.{Loaded, Outside, Fails}
 use Rattle.jc_graph.specs.Graph.{Above as AboveNode, TellsCircular, IsOrder}
 use Rattle.jc_resolve.specs.inside.Indexed.{Indexed, name_at, record_at, IsGraph, IsIndexed}
-use Rattle.jc_resolve.specs.inside.Access.{TellsPackages}
 use Rattle.jc_resolve.specs.inside.Resolved.{load_at, loading_of}
 use Rattle.jc_resolve.proofs.lookups.Bridge.{above_named, above_numbered, same_node, node_in}
 use Rattle.jc_resolve.specs.inside.Loading.{sees, judged, judged_each, or_else, load_by, load_of, has_super, IsTold, rank_in}
@@ -65,38 +63,38 @@ contains_head s ss = (zero, omega arith, refl)
 contains_later : (s : ℕ) (ss : List ℕ) (x : ℕ) → Contains ss x → Contains (s ∷ ss) x
 contains_later s ss x h = Contains-append_right (s ∷ []) ss x h
 
-module _ (m : World) (count : ℕ) (x : Indexed) (graph : IsGraph count x) (packages : List ℕ) (tells : TellsPackages x count packages) (index : IsIndexed m x) where
+module _ (m : World) (count : ℕ) (x : Indexed) (graph : IsGraph count x) (index : IsIndexed m x) where
   named : {v : ℕ} → v < count → v < length x.names
   named l = omega (arith, graph.names, l)
 
   record_same : (v : ℕ) → v < count → m (name_at x v) ≡ record_at x v
   record_same v l = index.records v (named l)
 
-  pub sees_same : (v s : ℕ) → v < count → s < count → sees x packages v s ≡ can_see (name_at x v) (name_at x s) (m (name_at x s))
-  sees_same v s k l = ap (λ b. has (flags_of (record_at x s)) public || b) (tells v s k l) ∙ ap (λ r. has (flags_of r) public || same_name (package_of (name_at x v)) (package_of (name_at x s))) (sym (record_same s l))
+  pub sees_same : (v s : ℕ) → s < count → sees x v s ≡ can_see (name_at x v) (name_at x s) (m (name_at x s))
+  sees_same v s l = ap (can_see (name_at x v) (name_at x s)) (sym (record_same s l))
 
   each_named : (loads : List Load) (v : ℕ) (is_class : Bool) (row : List ℕ) → v < count → ((s : ℕ) → Contains row s → (s < count) × defs.Load m (name_at x s) (loading_of x (load_at loads s)))
-      → LoadEach m (name_at x v) (parents_of x is_class row) (loading_of x (judged_each x packages loads v is_class row))
+      → LoadEach m (name_at x v) (parents_of x is_class row) (loading_of x (judged_each x loads v is_class row))
   unfolding parents_of
   each_named loads v is_class [] k h = each.none
   each_named loads v is_class (s ∷ more) k h =
       let q = h s (contains_head s more) in
-      let see = sees x packages v s in
+      let see = sees x v s in
       let wrong = same_bool (is_interface (record_at x s)) is_class in
       let e : option_map (loading_of x) (judged (load_at loads s) see wrong s) ≡ judged_parent m (name_at x v) (record { is_class = is_class; name = name_at x s }) (loading_of x (load_at loads s)) =
       named_judged x (load_at loads s) see wrong s
-      ∙ ap (λ b. defs.judged (loading_of x (load_at loads s)) b wrong (name_at x s)) (sees_same v s k q.0)
+      ∙ ap (λ b. defs.judged (loading_of x (load_at loads s)) b wrong (name_at x s)) (sees_same v s q.0)
       ∙ ap (λ r. defs.judged (loading_of x (load_at loads s)) (can_see (name_at x v) (name_at x s) (m (name_at x s))) (same_bool (is_interface r) is_class) (name_at x s)) (sym (record_same s q.0)) in
       by (judged (load_at loads s) see wrong s) refl e q.1 (each_named loads v false more k (λ z c. h z (contains_later s more z c)))
     where
-      by : (o : Option Load) → judged (load_at loads s) (sees x packages v s) (same_bool (is_interface (record_at x s)) is_class) s ≡ o
-          → option_map (loading_of x) (judged (load_at loads s) (sees x packages v s) (same_bool (is_interface (record_at x s)) is_class) s) ≡ judged_parent m (name_at x v) (record { is_class = is_class; name = name_at x s }) (loading_of x (load_at loads s))
+      by : (o : Option Load) → judged (load_at loads s) (sees x v s) (same_bool (is_interface (record_at x s)) is_class) s ≡ o
+          → option_map (loading_of x) (judged (load_at loads s) (sees x v s) (same_bool (is_interface (record_at x s)) is_class) s) ≡ judged_parent m (name_at x v) (record { is_class = is_class; name = name_at x s }) (loading_of x (load_at loads s))
           → defs.Load m (name_at x s) (loading_of x (load_at loads s))
-          → LoadEach m (name_at x v) (parents_of x false more) (loading_of x (judged_each x packages loads v false more))
-          → LoadEach m (name_at x v) ((record { is_class = is_class; name = name_at x s }) ∷ parents_of x false more) (loading_of x (or_else (judged (load_at loads s) (sees x packages v s) (same_bool (is_interface (record_at x s)) is_class) s) (judged_each x packages loads v false more)))
-      by None i e l rest = subst (λ o. LoadEach m (name_at x v) ((record { is_class = is_class; name = name_at x s }) ∷ parents_of x false more) (loading_of x (or_else o (judged_each x packages loads v false more)))) (sym i)
+          → LoadEach m (name_at x v) (parents_of x false more) (loading_of x (judged_each x loads v false more))
+          → LoadEach m (name_at x v) ((record { is_class = is_class; name = name_at x s }) ∷ parents_of x false more) (loading_of x (or_else (judged (load_at loads s) (sees x v s) (same_bool (is_interface (record_at x s)) is_class) s) (judged_each x loads v false more)))
+      by None i e l rest = subst (λ o. LoadEach m (name_at x v) ((record { is_class = is_class; name = name_at x s }) ∷ parents_of x false more) (loading_of x (or_else o (judged_each x loads v false more)))) (sym i)
           (each.passes l (sym e ∙ ap (option_map (loading_of x)) i) rest)
-      by (Some a) i e l rest = subst (λ o. LoadEach m (name_at x v) ((record { is_class = is_class; name = name_at x s }) ∷ parents_of x false more) (loading_of x (or_else o (judged_each x packages loads v false more)))) (sym i)
+      by (Some a) i e l rest = subst (λ o. LoadEach m (name_at x v) ((record { is_class = is_class; name = name_at x s }) ∷ parents_of x false more) (loading_of x (or_else o (judged_each x loads v false more)))) (sym i)
           (each.stops l (sym e ∙ ap (option_map (loading_of x)) i))
 
   pub circular_same : (v : ℕ) → v < count → AboveNode x.up v v → Above m (name_at x v) (name_at x v)
@@ -110,51 +108,51 @@ module _ (m : World) (count : ℕ) (x : Indexed) (graph : IsGraph count x) (pack
 
   load_named : (loads : List Load) (v : ℕ) (flag : Bool) → v < count → Decides flag (AboveNode x.up v v)
       → (flag ≡ false → (s : ℕ) → Contains (x.up v) s → (s < count) × defs.Load m (name_at x s) (loading_of x (load_at loads s)))
-      → defs.Load m (name_at x v) (loading_of x (load_by (record_at x v) flag v (judged_each x packages loads v (has_super (record_at x v)) (x.up v))))
+      → defs.Load m (name_at x v) (loading_of x (load_by (record_at x v) flag v (judged_each x loads v (has_super (record_at x v)) (x.up v))))
   load_named loads v flag l d h = by (record_at x v) refl
     where
-      each_of : (r : Facts) → record_at x v ≡ stands.Record r → flag ≡ false → LoadEach m (name_at x v) (parents r) (loading_of x (judged_each x packages loads v (has_super (record_at x v)) (x.up v)))
+      each_of : (r : Facts) → record_at x v ≡ stands.Record r → flag ≡ false → LoadEach m (name_at x v) (parents r) (loading_of x (judged_each x loads v (has_super (record_at x v)) (x.up v)))
       each_of r e f =
-          subst (λ ps. LoadEach m (name_at x v) ps (loading_of x (judged_each x packages loads v (has_super (record_at x v)) (x.up v))))
+          subst (λ ps. LoadEach m (name_at x v) ps (loading_of x (judged_each x loads v (has_super (record_at x v)) (x.up v))))
           (ap (λ z. parents_of x (is_some (super_of z)) (x.up v)) e ∙ parents_by x r.superclass r.interfaces (x.up v) (index.rows v (named l) ∙ ap supers_of e))
           (each_named loads v (has_super (record_at x v)) (x.up v) l (h f))
 
       class_of : (r : Facts) → record_at x v ≡ stands.Record r → (b : Bool) → is_faulty r ≡ b → (f : Bool) → flag ≡ f
-          → defs.Load m (name_at x v) (loading_of x (cond b (Fails fault.Format v) (cond f (Fails fault.Circular v) (judged_each x packages loads v (has_super (record_at x v)) (x.up v)))))
+          → defs.Load m (name_at x v) (loading_of x (cond b (Fails fault.Format v) (cond f (Fails fault.Circular v) (judged_each x loads v (has_super (record_at x v)) (x.up v)))))
       class_of r e true o f q = load.faulty (record_same v l ∙ e) o
       class_of r e false o true q = load.round (record_same v l ∙ e) o (circular_same v l (d.0 q))
       class_of r e false o false q = load.through (record_same v l ∙ e) o (λ a. let t : true ≡ false = sym (d.1 (circular_back v l a)) ∙ q in absurd cc) (each_of r e q)
 
-      by : (o : Stands) → record_at x v ≡ o → defs.Load m (name_at x v) (loading_of x (load_by (record_at x v) flag v (judged_each x packages loads v (has_super (record_at x v)) (x.up v))))
-      by stands.Nothing e = subst (λ z. defs.Load m (name_at x v) (loading_of x (load_by z flag v (judged_each x packages loads v (has_super (record_at x v)) (x.up v))))) (sym e) (load.missing (record_same v l ∙ e))
-      by stands.Outside e = subst (λ z. defs.Load m (name_at x v) (loading_of x (load_by z flag v (judged_each x packages loads v (has_super (record_at x v)) (x.up v))))) (sym e) (load.outside (record_same v l ∙ e))
-      by (stands.Record r) e = subst (λ z. defs.Load m (name_at x v) (loading_of x (load_by z flag v (judged_each x packages loads v (has_super (record_at x v)) (x.up v))))) (sym e) (class_of r e (is_faulty r) refl flag refl)
+      by : (o : Stands) → record_at x v ≡ o → defs.Load m (name_at x v) (loading_of x (load_by (record_at x v) flag v (judged_each x loads v (has_super (record_at x v)) (x.up v))))
+      by stands.Nothing e = subst (λ z. defs.Load m (name_at x v) (loading_of x (load_by z flag v (judged_each x loads v (has_super (record_at x v)) (x.up v))))) (sym e) (load.missing (record_same v l ∙ e))
+      by stands.Outside e = subst (λ z. defs.Load m (name_at x v) (loading_of x (load_by z flag v (judged_each x loads v (has_super (record_at x v)) (x.up v))))) (sym e) (load.outside (record_same v l ∙ e))
+      by (stands.Record r) e = subst (λ z. defs.Load m (name_at x v) (loading_of x (load_by z flag v (judged_each x loads v (has_super (record_at x v)) (x.up v))))) (sym e) (class_of r e (is_faulty r) refl flag refl)
 
 same_or_not : (a b : ℕ) → (a ≡ b) ⊎ (a ≡ b → ⊥)
 same_or_not a b = grind arith
 
-module _ (count : ℕ) (x : Indexed) (graph : IsGraph count x) (packages : List ℕ) (flags : List Bool) (order : List ℕ) (tells : TellsCircular x.up count flags) (ordered : IsOrder x.up count flags order) where
+module _ (count : ℕ) (x : Indexed) (graph : IsGraph count x) (flags : List Bool) (order : List ℕ) (tells : TellsCircular x.up count flags) (ordered : IsOrder x.up count flags order) where
   -- the next node of the order, where those before it are told
-  pub next_told : (loads : List Load) (at : ℕ) → at < length order → ((k : ℕ) → k < at → IsTold x count packages (rank_in order k) (load_at loads (rank_in order k)))
-      → IsTold x count packages (rank_in order at) (load_of x packages flags loads (rank_in order at))
-  next_told loads at l h = λ m p i.
+  pub next_told : (loads : List Load) (at : ℕ) → at < length order → ((k : ℕ) → k < at → IsTold x (rank_in order k) (load_at loads (rank_in order k)))
+      → IsTold x (rank_in order at) (load_of x flags loads (rank_in order at))
+  next_told loads at l h = λ m i.
       let v = rank_in order at in
       let k = ordered.nodes at 0 l in
-      load_named m count x graph packages p i loads v _ k (tells.tells v k)
-      (λ f s c. let b = ordered.before at s l f c in (graph.nodes v s c, subst (λ z. defs.Load m (name_at x z) (loading_of x (load_at loads z))) b.2 (h b.0 b.1 m p i)))
+      load_named m count x graph i loads v _ k (tells.tells v k)
+      (λ f s c. let b = ordered.before at s l f c in (graph.nodes v s c, subst (λ z. defs.Load m (name_at x z) (loading_of x (load_at loads z))) b.2 (h b.0 b.1 m i)))
 
-  pub more_told : (loads : List Load) (at : ℕ) (a : Load) → at < length order → length loads ≡ count → IsTold x count packages (rank_in order at) a
-      → ((k : ℕ) → k < at → IsTold x count packages (rank_in order k) (load_at loads (rank_in order k))) → (k : ℕ) → k < at + 1 → IsTold x count packages (rank_in order k) (load_at (set loads (rank_in order at) a) (rank_in order k))
+  pub more_told : (loads : List Load) (at : ℕ) (a : Load) → at < length order → length loads ≡ count → IsTold x (rank_in order at) a
+      → ((k : ℕ) → k < at → IsTold x (rank_in order k) (load_at loads (rank_in order k))) → (k : ℕ) → k < at + 1 → IsTold x (rank_in order k) (load_at (set loads (rank_in order at) a) (rank_in order k))
   more_told loads at a l size new h k m = ⊎_elim
       (λ (e : rank_in order k ≡ rank_in order at).
       let in' : rank_in order at < length loads = omega (arith, size, ordered.nodes at 0 l) in
-      subst (λ z. IsTold x count packages z (load_at (set loads (rank_in order at) a) z)) (sym e) (subst (IsTold x count packages (rank_in order at)) (sym (get_or-set_same loads (rank_in order at) a (Fails fault.NoClass 0) in')) new))
+      subst (λ z. IsTold x z (load_at (set loads (rank_in order at) a) z)) (sym e) (subst (IsTold x (rank_in order at)) (sym (get_or-set_same loads (rank_in order at) a (Fails fault.NoClass 0) in')) new))
       (λ (n : rank_in order k ≡ rank_in order at → ⊥).
       let not : k ≡ at → ⊥ = λ i. n (ap (rank_in order) i) in
-      subst (IsTold x count packages (rank_in order k)) (sym (get_or-set_other loads (rank_in order at) (rank_in order k) a (Fails fault.NoClass 0) n)) (h k (omega arith)))
+      subst (IsTold x (rank_in order k)) (sym (get_or-set_other loads (rank_in order at) (rank_in order k) a (Fails fault.NoClass 0) n)) (h k (omega arith)))
       (same_or_not (rank_in order k) (rank_in order at))
 
-  pub all_told : (loads : List Load) → ((k : ℕ) → k < length order → IsTold x count packages (rank_in order k) (load_at loads (rank_in order k))) → (v : ℕ) → v < count → IsTold x count packages v (load_at loads v)
+  pub all_told : (loads : List Load) → ((k : ℕ) → k < length order → IsTold x (rank_in order k) (load_at loads (rank_in order k))) → (v : ℕ) → v < count → IsTold x v (load_at loads v)
   all_told loads h v l =
       let c = ordered.listed v l in
-      subst (λ z. IsTold x count packages z (load_at loads z)) (get_or_default order c.0 0 v c.1 ∙ c.2) (h c.0 c.1)
+      subst (λ z. IsTold x z (load_at loads z)) (get_or_default order c.0 0 v c.1 ∙ c.2) (h c.0 c.1)

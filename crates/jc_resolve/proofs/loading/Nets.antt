@@ -20,7 +20,6 @@ use Rattle.jc_resolve.specs.declared.loads.Load.{Load}
 use Rattle.jc_graph.specs.Graph.{TellsCircular, IsOrder}
 use Rattle.jc_graph.specs.Seen.{flag_at}
 use Rattle.jc_resolve.specs.inside.Indexed.{Indexed, name_at, record_at, rank_at, good_at, supers_before, IsGraph, IsIndexed}
-use Rattle.jc_resolve.specs.inside.Access.{TellsPackages}
 use Rattle.jc_resolve.specs.inside.Resolved.{load_at, TellsLoads}
 use Rattle.jc_resolve.specs.inside.Loading.{is_good, TellsRank}
 use Rattle.jc_resolve.specs.inside.Net.{IsNet}
@@ -109,19 +108,19 @@ good_is (a ∷ loads) (suc v) l = good_is loads v (omega arith)
 pub graph_first : (count : ℕ) (x : Indexed) → IsNet count x → length x.good ≡ count → ((v : ℕ) → good_at x v ≡ false) → IsGraph count x
 graph_first count x net size none = graph_of count x net size (λ a b l g c. absurd (false≢true (sym (none a) ∙ g))) (λ a b l g c. absurd (false≢true (sym (none a) ∙ g)))
 
-pub graph_last : (count : ℕ) (x y : Indexed) → IsNet count x → IsGraph count x → (packages : List ℕ) → TellsPackages x count packages
+pub graph_last : (count : ℕ) (x y : Indexed) → IsNet count x → IsGraph count x
     → (flags : List Bool) (order : List ℕ) → TellsCircular x.up count flags → IsOrder x.up count flags order → (loads : List Load) → length loads ≡ count
     → ((m : World) → IsIndexed m x → TellsLoads m x count loads) → IsNet count y → y.up ≡ x.up → y.good ≡ map is_good loads → TellsRank count order y.rank → IsGraph count y
-graph_last count x y net graph packages packs flags order tells ordered loads size told net2 ups good ranked =
+graph_last count x y net graph flags order tells ordered loads size told net2 ups good ranked =
     let m = map_of x in
     let index = indexed_map count x net in
     let t = told m index in
     let is : (v : ℕ) → v < count → good_at y v ≡ is_good (load_at loads v) = λ v l. ap (λ f. flag_at f v) good ∙ good_is loads v (omega arith) in
     graph_of count y net2 (ap length good ∙ length-map loads is_good ∙ size)
-    (λ a b l g c. falls m count x graph packages packs index flags order y.rank tells ordered ranked loads t a b l (sym (is a l) ∙ g) (subst (λ u. Contains (u a) b) ups c))
+    (λ a b l g c. falls m count x graph index flags order y.rank tells ordered ranked loads t a b l (sym (is a l) ∙ g) (subst (λ u. Contains (u a) b) ups c))
     (λ a b l g c.
     let d : Contains (x.up a) b = subst (λ u. Contains (u a) b) ups c in
-    is b (graph.nodes a b d) ∙ stays m count x graph packages packs index flags order y.rank tells ordered ranked loads t a b l (sym (is a l) ∙ g) d)
+    is b (graph.nodes a b d) ∙ stays m count x graph index flags order y.rank tells ordered ranked loads t a b l (sym (is a l) ∙ g) d)
 
 -- ---- answers
 

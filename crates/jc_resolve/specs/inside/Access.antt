@@ -1,5 +1,5 @@
 -- Access, by numbers.
-use Rattle.std.specs.Prelude.{◌≡◌, ◌⊎◌, ℕ, ◌<◌, ◌==◌, ◌||◌, Bool, true, List, Option, slice_index_or}
+use Rattle.std.specs.Prelude.{◌≡◌, ◌⊎◌, ℕ, ◌<◌, ◌||◌, Bool, true, Option}
 use Rattle.jc_classes.specs.Names.{package_of, Name, same_name}
 use Rattle.jc_file.specs.AccessFlags.{has, public, protected, private, static}
 use Rattle.jc_classes.specs.Worlds.{World, Found, is_array}
@@ -18,13 +18,6 @@ named_at x target.Array text e = Array text e
 abbrev pub IsTarget : ℕ → Indexed → Target → Type 0
 IsTarget count x (target.Class t) = (t < count) × (good_at x t ≡ true)
 IsTarget count x target.Array = Unit {0}
-
-abbrev pub package_at : List ℕ → ℕ → ℕ
-package_at packages v = slice_index_or packages v 0
-
--- two names have one package exactly if their numbers are the same
-abbrev pub TellsPackages : Indexed → ℕ → List ℕ → Type 0
-TellsPackages x count packages = (i j : ℕ) → i < count → j < count → (package_at packages i == package_at packages j) ≡ same_name (package_of (name_at x i)) (package_of (name_at x j))
 
 -- the first case of access
 abbrev pub is_open_to_all : Named → Found → Bool

@@ -16,7 +16,7 @@ returns-in-Class c =
     let x = indexed_of c.args.classes.now in
     let count = length c.args.classes.now.standing.now in
     let l : c.in-Class.node < count = subst (IsWithinAll count) c.in-Class.is c.requires.reference in
-    let f = λ (a : Answer) (e : answer_of a ≡ class_answer c.args.text.now (name_at x c.in-Class.node) (loading_of x (load_at c.args.loads.now c.in-Class.node)) (sees x c.args.classes.now.packages.items c.args.class c.in-Class.node)) (m : World) (told : TellsLoads m x count c.args.loads.now) (index : IsIndexed m x) (same : text_of (named_of x c.args.reference c.args.text.now) ≡ c.args.text.now). class_made m count x c.args.classes.now.graph c.args.classes.now.packages.items c.args.classes.now.numbered index c.args.loads.now told c.args.class c.in-Class.node c.args.text.now c.args.reference (answer_of a) c.requires.class l c.in-Class.is same e in
+    let f = λ (a : Answer) (e : answer_of a ≡ class_answer c.args.text.now (name_at x c.in-Class.node) (loading_of x (load_at c.args.loads.now c.in-Class.node)) (sees x c.args.class c.in-Class.node)) (m : World) (told : TellsLoads m x count c.args.loads.now) (index : IsIndexed m x) (same : text_of (named_of x c.args.reference c.args.text.now) ≡ c.args.text.now). class_made m count x c.args.classes.now.graph index c.args.loads.now told c.args.class c.in-Class.node c.args.text.now c.args.reference (answer_of a) c.requires.class l c.in-Class.is same e in
     f c.node_answer.result c.node_answer.ensures
 
 pub returns-in-Some : goal.returns-in-Some
@@ -24,7 +24,7 @@ returns-in-Some c =
     let x = indexed_of c.args.classes.now in
     let count = length c.args.classes.now.standing.now in
     let l : c.in-Some.node < count = subst (IsWithinSome count) c.in-Some.is (subst (IsWithinAll count) c.in-Array.is c.requires.reference) in
-    let f = λ (a : Answer) (e : answer_of a ≡ class_answer c.args.text.now (name_at x c.in-Some.node) (loading_of x (load_at c.args.loads.now c.in-Some.node)) (sees x c.args.classes.now.packages.items c.args.class c.in-Some.node)) (m : World) (told : TellsLoads m x count c.args.loads.now) (index : IsIndexed m x) (same : text_of (named_of x c.args.reference c.args.text.now) ≡ c.args.text.now). array_made m count x c.args.classes.now.graph c.args.classes.now.packages.items c.args.classes.now.numbered index c.args.loads.now told c.args.class c.in-Some.node c.args.text.now c.args.reference c.in-Array.element (answer_of a) c.requires.class l c.in-Array.is c.in-Some.is e in
+    let f = λ (a : Answer) (e : answer_of a ≡ class_answer c.args.text.now (name_at x c.in-Some.node) (loading_of x (load_at c.args.loads.now c.in-Some.node)) (sees x c.args.class c.in-Some.node)) (m : World) (told : TellsLoads m x count c.args.loads.now) (index : IsIndexed m x) (same : text_of (named_of x c.args.reference c.args.text.now) ≡ c.args.text.now). array_made m count x c.args.classes.now.graph index c.args.loads.now told c.args.class c.in-Some.node c.args.text.now c.args.reference c.in-Array.element (answer_of a) c.requires.class l c.in-Array.is c.in-Some.is e in
     f c.node_answer-in-Some.result c.node_answer-in-Some.ensures
 
 pub returns-in-None : goal.returns-in-None

@@ -4,7 +4,6 @@ use Rattle.std.specs.declared.vec.Vec.{Vec}
 use Rattle.std.specs.declared.alloc.Global.{Global}
 use Rattle.jc_graph.specs.Graph.{ups_of, TellsCircular, IsOrder}
 use Rattle.jc_graph.specs.Seen.{flag_at}
-use Rattle.jc_resolve.specs.inside.Access.{TellsPackages}
 use Rattle.jc_resolve.specs.inside.Indexed.{Indexed, filled, IsGraph}
 use Rattle.jc_resolve.specs.inside.Loading.{is_good, TellsRank}
 use Rattle.jc_resolve.specs.inside.Net.{IsNet}
@@ -26,8 +25,6 @@ invariant_of-unloaded c =
     record {
       names_size = size;
       rows_size = c.requires.size;
-      packages_size = c.in_ok-package_all.ensures.size ∙ size;
-      numbered = λ i j l k. c.in_ok-package_all.ensures.packages i j (omega (arith, l, names)) (omega (arith, k, names));
       object_within = c.requires.object;
       object_name = c.requires.object_name;
       graph = graph_first (length s) (filled n s u rank good) (net_again n s u [] rank [] good c.requires.net) c.in_ok-unset.ensures.size c.in_ok-unset.ensures.none;
@@ -50,8 +47,6 @@ invariant_of-classes c =
     let graph : IsGraph count x = graph_first count x net c.in_ok-unset.ensures.size c.in_ok-unset.ensures.none in
     let names = c.requires.net.names in
     let size : length n ≡ count = sym (length-map n (λ (v : Vec ℕ Global). v.items)) ∙ names in
-    let packages = c.in_ok-package_all.field-0.items in
-    let packs : TellsPackages x count packages = λ i j l k. c.in_ok-package_all.ensures.packages i j (omega (arith, l, names)) (omega (arith, k, names)) in
     let flags = c.in_ok-sorted.sorted.circular.items in
     let order = c.in_ok-sorted.sorted.order.items in
     let rings : TellsCircular x.up count flags = subst (λ k. TellsCircular (ups_of u) k flags) c.requires.size c.in_ok-sorted.ensures.circular in
@@ -62,11 +57,9 @@ invariant_of-classes c =
     record {
       names_size = size;
       rows_size = c.requires.size;
-      packages_size = c.in_ok-package_all.ensures.size ∙ size;
-      numbered = packs;
       object_within = c.requires.object;
       object_name = c.requires.object_name;
-      graph = graph_last count x y net graph packages packs flags order rings ordered loads c.in_ok-loads.ensures.size (λ m i. c.in_ok-loads.ensures.loads m i) net2 refl goods ranked;
+      graph = graph_last count x y net graph flags order rings ordered loads c.in_ok-loads.ensures.size (λ m i. c.in_ok-loads.ensures.loads m i) net2 refl goods ranked;
     }
 
 pub returns-clause-loaded : goal.returns-clause-loaded

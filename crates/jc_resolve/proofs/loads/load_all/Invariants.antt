@@ -7,5 +7,5 @@ use Rattle.jc_resolve.proofs.loads.load_all.Given as goal
 abbrev pub invariant-loop-at : goal.invariant-loop-at
 invariant-loop-at l = record {
   size : length l.loads.items ≡ length l.classes.standing.now;
-  told : (k : ℕ) → k < l.at → IsTold (indexed_of l.classes) (length l.classes.standing.now) l.classes.packages.items (rank_in l.sorted.order.items k) (load_at l.loads.items (rank_in l.sorted.order.items k));
+  told : (k : ℕ) → k < l.at → IsTold (indexed_of l.classes) (rank_in l.sorted.order.items k) (load_at l.loads.items (rank_in l.sorted.order.items k));
 }

@@ -17,13 +17,12 @@ returns c =
     let count = length i.standing.now in
     let class = c.args.class in
     let held = c.self.invariant in
-    let packages = i.packages.items in
     let within : class < length v.names = subst (λ (z : Numbered). class < length z.names) (sym c.self.view_is) c.requires in
     let l : class < count = omega (arith, within, held.net.names) in
     let d = held.rings.tells class l in
     let flag : c.index.result.now ≡ get_or c.self.inside.circular.items class false = c.index.ensures ∙ get_or_default c.self.inside.circular.items class _ false (omega (arith, l, held.rings.size)) in
     subst (λ (z : Numbered). (m : World) → Agrees m z → Decides c.index.result.now (Above m (name_at z.names class) (name_at z.names class))) c.self.view_is
     (λ m agrees. let index = index_held i.names.now i.standing.now i.ups.now m i.rank.items i.good.items held.net agrees in (
-      (λ q. circular_same m count x i.graph packages i.numbered index class l (d.0 (sym flag ∙ q))),
-      (λ a. flag ∙ d.1 (circular_back m count x i.graph packages i.numbered index class l a)),
+      (λ q. circular_same m count x i.graph index class l (d.0 (sym flag ∙ q))),
+      (λ a. flag ∙ d.1 (circular_back m count x i.graph index class l a)),
     ))
