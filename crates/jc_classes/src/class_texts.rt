@@ -1,14 +1,18 @@
 //! The texts of a class file that linking asks for.
 
 ghost use Rattle.std.specs.Prelude.{◌≡◌, IfOk, None, map, option_map, slice_index_or};
+ghost use Rattle.std.specs.List.{flat_map};
+ghost use Rattle.std.specs.Option.{option_to_list};
+ghost use Rattle.jc_classes.specs.FactsOf.{interfaces_in, member_of, references_in};
 ghost use Rattle.jc_classes.specs.inside.ClassTexts.{Tells};
 ghost use Rattle.jc_classes.specs.inside.ConstantTexts.{texts_of};
 ghost use Rattle.jc_classes.specs.inside.FactsShown.{member_shown, reference_shown, text_at};
 
 use crate::facts::{MemberEntry, ReferenceEntry};
+use crate::read_facts::{member_entry, name_index, push_some, reference_entry};
 use crate::text_list::TextList;
 use jc_base::NoMemory;
-use jc_view::{ClassView, ConstantIndex};
+use jc_view::{ClassView, ConstantIndex, Members};
 use std::alloc::Global;
 use std::marker::Model;
 
@@ -85,73 +89,85 @@ impl<'c, 'a> ClassTexts<'c, 'a> {
         }
     }
 
-    /// The numbers of the texts of indexes.
-    pub(crate) fn names(&mut self, indexes: Vec<u16>) -> Result<Vec<u16>, NoMemory>
-        ensures { IfOk result (λ numbers. Tells self.old self.new (λ texts. map (text_at texts) numbers.items ≡ map (text_at (texts_of self.old.class)) indexes.items)) }
+    /// The numbers of the names of the direct superinterfaces.
+    pub(crate) fn interfaces(&mut self) -> Result<Vec<u16>, NoMemory>
+        ensures { IfOk result (λ names. Tells self.old self.new (λ texts. map (text_at texts) names.items ≡ interfaces_in self.old.class)) }
     {
-        let mut numbers = Vec::new(self.alloc);
-        for index in &indexes {
-            numbers.push(self.number(*index)?)?;
+        let class = self.class;
+        let mut names = Vec::new(self.alloc);
+        for index in class.interface_indexes() {
+            let name = self.number_of_some(name_index(class, index))?;
+            push_some(&mut names, name)?;
         }
-        numbers.shrink_to_fit();
-        Ok(numbers)
+        names.shrink_to_fit();
+        Ok(names)
     }
 
-    /// Members by the numbers of their texts, from those by indexes.
-    pub(crate) fn members(
-        &mut self,
-        entries: Vec<MemberEntry>,
-    ) -> Result<Vec<MemberEntry>, NoMemory>
-        ensures { IfOk result (λ numbered. Tells self.old self.new (λ texts. map (member_shown texts) numbered.items ≡ map (member_shown (texts_of self.old.class)) entries.items)) }
+    /// Fields or methods, by the numbers of their texts.
+    pub(crate) fn members(&mut self, members: Members) -> Result<Vec<MemberEntry>, NoMemory>
+        requires { members.class ≡ self.old.class }
+        ensures { IfOk result (λ entries. Tells self.old self.new (λ texts. map (member_shown texts) entries.items ≡ flat_map (λ m. option_to_list (member_of self.old.class m.member)) members.entry.left)) }
     {
-        let mut numbered = Vec::new(self.alloc);
-        for entry in &entries {
-            numbered.push(self.member(*entry)?)?;
+        let class = self.class;
+        let mut entries = Vec::new(self.alloc);
+        for member in members {
+            let entry = self.member(member_entry(class, &member))?;
+            push_some(&mut entries, entry)?;
         }
-        numbered.shrink_to_fit();
-        Ok(numbered)
+        entries.shrink_to_fit();
+        Ok(entries)
     }
 
-    fn member(&mut self, entry: MemberEntry) -> Result<MemberEntry, NoMemory>
-        ensures { IfOk result (λ numbered. Tells self.old self.new (λ texts. member_shown texts numbered ≡ member_shown (texts_of self.old.class) entry)) }
+    /// A member by the numbers of its texts, from one by indexes, where there is one.
+    fn member(&mut self, entry: Option<MemberEntry>) -> Result<Option<MemberEntry>, NoMemory>
+        ensures { IfOk result (λ numbered. Tells self.old self.new (λ texts. option_map (member_shown texts) numbered ≡ option_map (member_shown (texts_of self.old.class)) entry)) }
     {
+        let Some(entry) = entry else {
+            return Ok(None);
+        };
         let name = self.number(entry.name)?;
         let descriptor = self.number(entry.descriptor)?;
-        Ok(MemberEntry {
+        Ok(Some(MemberEntry {
             name,
             descriptor,
             flags: entry.flags,
-        })
+        }))
     }
 
-    /// References by the numbers of their texts, from those by indexes.
-    pub(crate) fn references(
-        &mut self,
-        entries: Vec<ReferenceEntry>,
-    ) -> Result<Vec<ReferenceEntry>, NoMemory>
-        ensures { IfOk result (λ numbered. Tells self.old self.new (λ texts. map (reference_shown texts) numbered.items ≡ map (reference_shown (texts_of self.old.class)) entries.items)) }
+    /// The references, by rising index.
+    pub(crate) fn references(&mut self) -> Result<Vec<ReferenceEntry>, NoMemory>
+        ensures { IfOk result (λ entries. Tells self.old self.new (λ texts. map (reference_shown texts) entries.items ≡ references_in self.old.class)) }
     {
-        let mut numbered = Vec::new(self.alloc);
-        for entry in &entries {
-            numbered.push(self.reference(*entry)?)?;
+        let class = self.class;
+        let mut entries = Vec::new(self.alloc);
+        for index in 1..class.constant_count() {
+            let entry = self.reference(reference_entry(class, index))?;
+            push_some(&mut entries, entry)?;
         }
-        numbered.shrink_to_fit();
-        Ok(numbered)
+        entries.shrink_to_fit();
+        Ok(entries)
     }
 
-    fn reference(&mut self, entry: ReferenceEntry) -> Result<ReferenceEntry, NoMemory>
-        ensures { IfOk result (λ numbered. Tells self.old self.new (λ texts. reference_shown texts numbered ≡ reference_shown (texts_of self.old.class) entry)) }
+    /// A reference by the numbers of its texts, from one by indexes, where there is one.
+    fn reference(
+        &mut self,
+        entry: Option<ReferenceEntry>,
+    ) -> Result<Option<ReferenceEntry>, NoMemory>
+        ensures { IfOk result (λ numbered. Tells self.old self.new (λ texts. option_map (reference_shown texts) numbered ≡ option_map (reference_shown (texts_of self.old.class)) entry)) }
     {
+        let Some(entry) = entry else {
+            return Ok(None);
+        };
         let class = self.number(entry.class)?;
         let name = self.number(entry.name)?;
         let descriptor = self.number(entry.descriptor)?;
-        Ok(ReferenceEntry {
+        Ok(Some(ReferenceEntry {
             index: entry.index,
             kind: entry.kind,
             class,
             name,
             descriptor,
-        })
+        }))
     }
 }
 

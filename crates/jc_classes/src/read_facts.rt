@@ -47,14 +47,10 @@ fn sound_facts(alloc: Global, class: &ClassView, path: &[u8]) -> Result<Facts, N
     let mut texts = ClassTexts::new(alloc, class)?;
     let name = texts.number(own_name_index(class))?;
     let superclass = texts.number_of_some(name_index(class, class.super_class()))?;
-    let entries = interface_entries(alloc, class)?;
-    let interfaces = texts.names(entries)?;
-    let entries = member_entries(alloc, class, class.fields())?;
-    let fields = texts.members(entries)?;
-    let entries = member_entries(alloc, class, class.methods())?;
-    let methods = texts.members(entries)?;
-    let entries = reference_entries(alloc, class)?;
-    let references = texts.references(entries)?;
+    let interfaces = texts.interfaces()?;
+    let fields = texts.members(class.fields())?;
+    let methods = texts.members(class.methods())?;
+    let references = texts.references()?;
     let code_faults = all_code_faults(alloc, class)?;
     Ok(Facts {
         path,
@@ -100,7 +96,7 @@ fn faulty_facts(
 }
 
 /// Adds an entry, where there is one.
-fn push_some<T: Drop>(entries: &mut Vec<T>, entry: Option<T>) -> Result<(), NoMemory>
+pub(crate) fn push_some<T: Drop>(entries: &mut Vec<T>, entry: Option<T>) -> Result<(), NoMemory>
     ensures { OnOk result (entries.new.items ≡ entries.old.items ++ option_to_list entry) }
 {
     if let Some(entry) = entry {
@@ -120,7 +116,7 @@ fn own_name_index(class: &ClassView) -> u16
 }
 
 /// The index of the text of a Class constant.
-fn name_index(class: &ClassView, index: ConstantIndex) -> Option<u16>
+pub(crate) fn name_index(class: &ClassView, index: ConstantIndex) -> Option<u16>
     ensures { option_map (text_at (texts_of class.now)) result ≡ class_text_at class.now index }
 {
     let Constant::Class(name) = class.constant(index.0)? else {
@@ -149,35 +145,8 @@ fn name_and_type(class: &ClassView, index: ConstantIndex) -> Option<(u16, u16)>
     Some((name, descriptor))
 }
 
-/// The direct superinterfaces.
-fn interface_entries(alloc: Global, class: &ClassView) -> Result<Vec<u16>, NoMemory>
-    ensures { IfOk result (λ entries. map (text_at (texts_of class.now)) entries.items ≡ interfaces_in class.now) }
-{
-    let mut entries = Vec::new(alloc);
-    for index in class.interface_indexes() {
-        push_some(&mut entries, name_index(class, index))?;
-    }
-    Ok(entries)
-}
-
-/// Fields or methods.
-fn member_entries(
-    alloc: Global,
-    class: &ClassView,
-    members: Members,
-) -> Result<Vec<MemberEntry>, NoMemory>
-    requires { members.class ≡ class.now }
-    ensures { IfOk result (λ entries. map (member_shown (texts_of class.now)) entries.items ≡ flat_map (λ m. option_to_list (member_of class.now m.member)) members.entry.left) }
-{
-    let mut entries = Vec::new(alloc);
-    for member in members {
-        push_some(&mut entries, member_entry(class, &member))?;
-    }
-    Ok(entries)
-}
-
 /// A field or a method, where its name and its descriptor are there.
-fn member_entry(class: &ClassView, member: &Member) -> Option<MemberEntry>
+pub(crate) fn member_entry(class: &ClassView, member: &Member) -> Option<MemberEntry>
     ensures { option_map (member_shown (texts_of class.now)) result ≡ member_of class.now member.now.member.member }
 {
     let name = text_index(class, member.name_index())?;
@@ -189,19 +158,8 @@ fn member_entry(class: &ClassView, member: &Member) -> Option<MemberEntry>
     })
 }
 
-/// The references, by rising index.
-fn reference_entries(alloc: Global, class: &ClassView) -> Result<Vec<ReferenceEntry>, NoMemory>
-    ensures { IfOk result (λ entries. map (reference_shown (texts_of class.now)) entries.items ≡ references_in class.now) }
-{
-    let mut entries = Vec::new(alloc);
-    for index in 1..class.constant_count() {
-        push_some(&mut entries, reference_entry(class, index))?;
-    }
-    Ok(entries)
-}
-
 /// The reference that the constant of an index is.
-fn reference_entry(class: &ClassView, index: u16) -> Option<ReferenceEntry>
+pub(crate) fn reference_entry(class: &ClassView, index: u16) -> Option<ReferenceEntry>
     ensures { option_map (reference_shown (texts_of class.now)) result ≡ reference_at class.now index }
 {
     match class.constant(index)? {

@@ -1,8 +1,9 @@
 -- Texts by number, as one more is asked for.
 use Rattle.std.proofs.Common.{◌≡◌, ◌∙◌, ◌⊎◌, inl, inr, ℕ, zero, suc, ◌+◌, ◌<◌, ◌≤◌, List, [], ◌∷◌, ◌++◌, length, map, Option, None, Some, slice_index_or, slice_set, replicate, refl, sym, ap, subst, arith, ◌^◌}
-use Rattle.std.specs.Option.{option_map_or}
+use Rattle.std.specs.Prelude.{option_map}
+use Rattle.std.specs.Option.{option_map_or, option_to_list}
 use Rattle.std.proofs.lemmas.Bool.{cases_lt}
-use Rattle.std.proofs.lemmas.List.{append-nil, append_assoc, get_or-replicate, get_or_past, length-append, length-replicate, length-set, map-append}
+use Rattle.std.proofs.lemmas.List.{append-nil, append_assoc, get_or-replicate, get_or_past, length-append, length-replicate, length-set}
 use Rattle.std.proofs.lemmas.List.FromFn.{get_or-map-range_with_len}
 use Rattle.std.proofs.Math.ListN.{get_or-append}
 use Rattle.std.proofs.Math.Seq.{get_or-append_seam}
@@ -12,6 +13,7 @@ use Rattle.jc_classes.specs.inside.ClassTexts.{AreNumbered, IsFront, KeptTexts, 
 use Rattle.jc_classes.specs.inside.ConstantTexts.{text_or_empty, texts_of}
 use Rattle.jc_classes.specs.inside.FactsShown.{text_at}
 use Rattle.jc_classes.proofs.texts.ConstantTexts.{length_texts_of, text_there, text_within}
+use Rattle.jc_classes.proofs.texts.Entries.{shown_some}
 
 -- ---- texts in front of others
 
@@ -153,11 +155,14 @@ so p g = record { class = p.class; front = p.front; holds = λ ts f. g ts (p.hol
 pub at_once : (a : KeptTexts) {P : List (List ℕ) → Type 0} → ((ts : List (List ℕ)) → P ts) → Tells a a P
 at_once a g = record { class = refl; front = front_refl a.texts; holds = λ ts f. g ts }
 
--- one more of a list
-pub one_more : {X Y : Type 0} (shown : List (List ℕ) → X → Y) {a b d : KeptTexts} (before after made new : List X) (x y : X)
-    → Tells a b (λ ts. map (shown ts) made ≡ map (shown (texts_of a.class)) before) → Tells b d (λ ts. shown ts y ≡ shown (texts_of b.class) x)
-    → new ≡ made ++ y ∷ [] → after ≡ before ++ x ∷ [] → Tells a d (λ ts. map (shown ts) new ≡ map (shown (texts_of a.class)) after)
-one_more shown {a} {b} before after made new x y p q n t = so (both p q) (λ ts h.
-    ap (map (shown ts)) n ∙ map-append (shown ts) made (y ∷ []) ∙ ap (λ xs. xs ++ shown ts y ∷ []) h.0
-    ∙ ap (λ z. map (shown (texts_of a.class)) before ++ z ∷ []) (h.1 ∙ ap (λ k. shown (texts_of k) x) p.class)
-    ∙ sym (ap (map (shown (texts_of a.class))) t ∙ map-append (shown (texts_of a.class)) before (x ∷ [])))
+-- one more of a list, where there is one: before what is left, and behind what is done
+module _ {X Y : Type 0} (shown : List (List ℕ) → X → Y) {a b d : KeptTexts} (made new : List X) (x y : Option X) (o : Option Y) (is : option_map (shown (texts_of a.class)) x ≡ o)
+    (told : Tells b d (λ ts. option_map (shown ts) y ≡ option_map (shown (texts_of b.class)) x)) (n : new ≡ made ++ option_to_list y) where
+  pub one_more_left : (left next all : List Y) → Tells a b (λ ts. map (shown ts) made ++ left ≡ all) → left ≡ option_to_list o ++ next → Tells a d (λ ts. map (shown ts) new ++ next ≡ all)
+  one_more_left left next all p l = so (both p told) (λ ts h.
+      ap (λ ys. ys ++ next) (shown_some (shown ts) new made y o n (h.1 ∙ ap (λ k. option_map (shown (texts_of k)) x) p.class ∙ is))
+      ∙ append_assoc (map (shown ts) made) (option_to_list o) next ∙ ap (λ ys. map (shown ts) made ++ ys) (sym l) ∙ h.0)
+
+  pub one_more_done : (done grown : List Y) → Tells a b (λ ts. map (shown ts) made ≡ done) → grown ≡ done ++ option_to_list o → Tells a d (λ ts. map (shown ts) new ≡ grown)
+  one_more_done done grown p g = so (both p told) (λ ts h.
+      shown_some (shown ts) new made y o n (h.1 ∙ ap (λ k. option_map (shown (texts_of k)) x) p.class ∙ is) ∙ ap (λ ys. ys ++ option_to_list o) h.0 ∙ sym g)
