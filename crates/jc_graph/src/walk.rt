@@ -60,12 +60,12 @@ impl Walk {
         ensures order { IfOk result (λ w. w.order.items ≡ []) }
     {
         Ok(Walk {
-            path: Vec::new(alloc),
-            segments: Vec::new(alloc),
+            path: Vec::with_capacity(alloc, count)?,
+            segments: Vec::with_capacity(alloc, count)?,
             steps: Vec::new(alloc),
             place: vec![in alloc; Place::Unseen; count]?,
             circular: vec![in alloc; false; count]?,
-            order: Vec::new(alloc),
+            order: Vec::with_capacity(alloc, count)?,
         })
     }
 

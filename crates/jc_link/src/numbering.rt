@@ -114,8 +114,9 @@ fn number_references_of(
     requires { IsOnce numbers.old }
     ensures { IfOk result (λ nodes. Nodes numbers.old [] numbers.new nodes.items facts.now.references) }
 {
-    let mut nodes = Vec::new(alloc);
-    for number in 0..facts.reference_count() {
+    let count = facts.reference_count();
+    let mut nodes = Vec::with_capacity(alloc, count)?;
+    for number in 0..count {
         let node = number_reference(alloc, numbers, facts, number)?;
         nodes.push(node)?;
     }

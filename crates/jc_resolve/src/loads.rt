@@ -171,7 +171,7 @@ fn is_good(load: Load) -> bool
 pub(crate) fn good_all(alloc: Global, loads: &[Load]) -> Result<Vec<bool>, NoMemory>
     ensures { IfOk result (λ r. r.items ≡ map is_good loads.now) }
 {
-    let mut good = Vec::new(alloc);
+    let mut good = Vec::with_capacity(alloc, loads.len())?;
     for load in loads {
         good.push(is_good(*load))?;
     }

@@ -13,7 +13,7 @@ abbrev no_reference : Reference
 no_reference = record { index = 0; kind = kind.Class; named = Class []; key = record { name = []; descriptor = [] } }
 
 pub loop-number-init : goal.loop-number-init
-loop-number-init c = subst (λ z. Nodes c.args.numbers.now [] c.args.numbers.now z []) (sym c.new-nodes.ensures.items) (refs_start c.args.numbers.now c.requires)
+loop-number-init c = subst (λ z. Nodes c.args.numbers.now [] c.args.numbers.now z []) (sym c.in_ok-nodes.ensures.items) (refs_start c.args.numbers.now c.requires)
 
 pub number_reference-requires : goal.number_reference-requires
 number_reference-requires c = c.loop-number.invariant.grows.once
@@ -25,7 +25,7 @@ loop-number-preserved c =
     let d = c.number_reference.new.numbers in
     let references = c.args.facts.now.references in
     let at = c.loop-number.number in
-    let less : at < length references = omega (arith, c.loop-number-test.true, c.reference_count-number-end.ensures) in
+    let less : at < length references = omega (arith, c.loop-number-test.true, c.reference_count-count.ensures) in
     let x = get_or references at no_reference in
     let step = c.in_ok-node.ensures x (slice_get-get_or references at no_reference less) in
     subst (λ z. Nodes a [] d z (take (at + 1) references)) (sym c.in_ok-push.ensures.items)
@@ -36,4 +36,4 @@ pub returns : goal.returns
 returns c =
     let references = c.args.facts.now.references in
     subst (Nodes c.args.numbers.now [] c.loop-number.numbers c.loop-number.nodes.items)
-    (take_all c.loop-number.number references (omega (arith, c.loop-number-test.false, c.reference_count-number-end.ensures))) c.loop-number.invariant
+    (take_all c.loop-number.number references (omega (arith, c.loop-number-test.false, c.reference_count-count.ensures))) c.loop-number.invariant
