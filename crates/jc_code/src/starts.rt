@@ -1,6 +1,6 @@
 //! Where the instructions of a code start.
 
-ghost use Rattle.std.specs.Prelude.{◌≡◌, ◌==◌, ◌<◌, ◌≤◌, ◌^◌, ◌-◌, ◌++◌, false, length, replicate, IfOk, OnOk};
+ghost use Rattle.std.specs.Prelude.{◌≡◌, ◌==◌, ◌<◌, ◌^◌, length, IfOk};
 ghost use Rattle.std.specs.List.{list_any};
 ghost use Rattle.jc_code.specs.inside.Marks.{StartsOf};
 
@@ -34,7 +34,7 @@ impl Starts {
         let mut marks = Vec::with_capacity(alloc, code.len())?;
         let mut insns = Insns::new(code);
         while let Some((place, _)) = insns.next() {
-            pass_to(&mut marks, place as usize)?;
+            marks.resize(place as usize, false)?;
             marks.push(true)?;
         }
         Ok((Starts { marks }, insns.rest() as usize))
@@ -49,16 +49,4 @@ impl Starts {
             None => false,
         }
     }
-}
-
-/// Adds unmarked offsets up to a place.
-#[tactic(auto, using(crate::proofs::marks::Marked::one_more, std::proofs::lemmas::Grind::common_steps))]
-fn pass_to(marks: &mut Vec<bool>, place: usize) -> Result<(), NoMemory>
-    requires { length marks.old.items ≤ place }
-    ensures { OnOk result (marks.new.items ≡ marks.old.items ++ replicate (place - length marks.old.items) false) }
-{
-    for _ in marks.len()..place {
-        marks.push(false)?;
-    }
-    Ok(())
 }

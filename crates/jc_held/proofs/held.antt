@@ -1,5 +1,4 @@
 pub mod Holding
-pub mod Rising
 pub mod Places
 pub mod Dependants
 pub mod Classes

@@ -4,3 +4,4 @@ pub mod CircularLines
 pub mod ClassesOfTables
 pub mod GivenRows
 pub mod OneReport
+pub mod RowsByClass

@@ -2,6 +2,8 @@
 
 ghost use Rattle.std.specs.Prelude.{◌≡◌, IfOk, map};
 ghost use Rattle.std.specs.List.{filter, list_any};
+ghost use Rattle.std.specs.List.Sorted.{IsStrictlySortedBy};
+ghost use Rattle.jc_classes.specs.Names.{name_cmp};
 ghost use Rattle.jc_resolve.specs.Answers.{answer_of, loading_of};
 ghost use Rattle.jc_report.specs.ClassRows.{provided_rows, required_rows};
 ghost use Rattle.jc_report.specs.Files.{Files};
@@ -171,15 +173,18 @@ fn classes<'t>(
     Ok(classes)
 }
 
-/// What the classes provide.
+/// What the classes provide, which rise by name: each one's rows are put in order by themselves.
 fn provided<'t>(alloc: Global, classes: &[Class<'t>]) -> Result<Vec<Row<'t>>, NoMemory>
-    ensures { IfOk result (λ provided. AreRows (map row_lent provided.items) (GivesRow provided_rows classes.now)) }
+    ensures { IsStrictlySortedBy name_cmp (map name_of classes.now) → IfOk result (λ provided. AreRows (map row_lent provided.items) (GivesRow provided_rows classes.now)) }
 {
     let mut rows = Vec::new(alloc);
+    let mut own = Vec::new(alloc);
     for class in classes {
-        push_provided(&mut rows, class.facts, &class.part)?;
+        own.clear();
+        push_provided(&mut own, class.facts, &class.part)?;
+        put_in_order(&mut own);
+        rows.extend_from_slice(&own)?;
     }
-    put_in_order(&mut rows);
     Ok(rows)
 }
 

@@ -2,7 +2,7 @@
 use Rattle.std.proofs.Common.{nat_lt, ◌⊎◌, inl, inr, append-nil, length-append, ◌≡◌, ℕ, zero, suc, ◌+◌, ◌-◌, ◌<◌, ◌≤◌, Bool, true, false, cond, ◌||◌, eqb, List, [], ◌∷◌, ◌++◌, length, replicate, refl, sym, ap, ◌∙◌, arith, slice_index_or, append_assoc}
 use Rattle.std.specs.List.{list_any}
 use Rattle.std.proofs.lemmas.Bool.{ne_eqb, eq-eqb, ltb-true, lt-ltb, cases_lt, false≢true}
-use Rattle.std.proofs.lemmas.List.{length-replicate, replicate_more, get_or_default}
+use Rattle.std.proofs.lemmas.List.{length-replicate, get_or_default}
 use Rattle.std.proofs.Math.ListN.{get_or-eq_default}
 use Rattle.jc_code.specs.CodeFaults.{numbers_of}
 use Rattle.jc_code.specs.inside.Marks.{marked}
@@ -57,11 +57,6 @@ is_past m n h (inr more) = more
 
 pub mark_past : (marks : List Bool) (place : ℕ) → false ≡ nat_lt place (length marks) → list_any (is place) (marked marks) ≡ false
 mark_past marks place h = mark_at marks place ∙ get_or-eq_default marks false (is_past place (length marks) h (cases_lt place (length marks)))
-
-pub one_more : (marks : List Bool) (k m : ℕ) → m ≤ k → (marks ++ replicate (k - m) false) ++ false ∷ [] ≡ marks ++ replicate (k + 1 - m) false
-one_more marks k m h =
-    append_assoc marks (replicate (k - m) false) (false ∷ [])
-    ∙ ap (λ more. marks ++ more) (replicate_more (k - m) false ∙ ap (λ n. replicate n false) (omega (arith, h)))
 
 pub record HasMarked (old new : List Bool) (place : ℕ) : Type 0 where
   pub marked_more : marked new ≡ marked old ++ place ∷ []

@@ -1,5 +1,5 @@
 -- What the iterators over switches are seen as, and what the reader of a switch passes on.
-use Rattle.std.specs.Prelude.{◌≡◌, ℕ, ◌-◌, List, [], drop, Some}
+use Rattle.std.specs.Prelude.{◌≡◌, ℕ, List, [], drop, Some}
 use Rattle.jc_view.specs.Reading.{after, after_each, each_value}
 use Rattle.jc_code.specs.declared.decoder.TableHead.{TableHead}
 use Rattle.jc_code.specs.declared.decoder.LookupHead.{LookupHead}

@@ -32,7 +32,8 @@ use Rattle.jc_held.specs.inside.Kept.{AreKeys, IsKeptOf, KeptMap, names_kept, pr
 use Rattle.jc_held.specs.inside.Kept.Relation.{Requires}
 use Rattle.jc_held.specs.inside.Lending.{provided_in}
 use Rattle.jc_held.proofs.held.Places.{kept_by}
-use Rattle.jc_held.proofs.held.Rising.{by_all, rises_append}
+use Rattle.jc_report.proofs.rows.RisingLists.{by_all, rises_append}
+use Rattle.jc_report.proofs.rows.OwnRows.{own_name}
 use Rattle.jc_held.proofs.held.Rows.{row_kept, rows_of_kept}
 
 keys_provided : (a : Linkage) (d : Name) (f : Facts) (k : Kept) → IsKeptOf (world_held a) d k → record_of (world_held a d) ≡ Some f → AreKeys k.provided (provided_rows f k.part)
@@ -40,29 +41,6 @@ keys_provided a d f k of e = subst (λ o. AreKeys k.provided (provided_by o k.pa
 
 pub keys_required : (a : Linkage) (d : Name) (f : Facts) (k : Kept) → IsKeptOf (world_held a) d k → record_of (world_held a d) ≡ Some f → AreKeys k.required (required_rows f k.part)
 keys_required a d f k of e = subst (λ o. AreKeys k.required (required_by o k.part)) e of.required
-
--- ---- each row that a class provides has its name
-
-of_member : (f : Facts) (kind : ReferenceKind) (members : List Member) (row : Row) → Has (map (member_row f.name kind) members) row → row.class ≡ f.name
-of_member f kind members row h = sym (ap (λ (r : Row). r.class) (has-from_map (member_row f.name kind) members row h).2)
-
-of_first : (f : Facts) (row : Row) → Has (class_row f.name ∷ map (member_row f.name kinds.Field) (filter is_open f.fields)) row → row.class ≡ f.name
-of_first f row (inl e) = sym (ap (λ (r : Row). r.class) e)
-of_first f row (inr h) = of_member f kinds.Field (filter is_open f.fields) row h
-
-of_open : (f : Facts) (row : Row) → Has (open_rows f) row → row.class ≡ f.name
-of_open f row h =
-    elim (has-cases (class_row f.name ∷ map (member_row f.name kinds.Field) (filter is_open f.fields)) (map (member_row f.name kinds.Method) (filter is_open_method f.methods)) row h) [
-      | inl first ↦ of_first f row first
-      | inr rest ↦ of_member f kinds.Method (filter is_open_method f.methods) row rest
-    ]
-
-open_or_none : (b : Bool) (f : Facts) (row : Row) → Has (if b then open_rows f else []) row → row.class ≡ f.name
-open_or_none true f row h = of_open f row h
-open_or_none false f row h = absurd h
-
-own_name : (f : Facts) (p : Part) (row : Row) → Has (provided_rows f p) row → row.class ≡ f.name
-own_name f p row h = open_or_none _ f row h
 
 -- ---- the rows that are provided
 

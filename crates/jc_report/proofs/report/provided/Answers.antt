@@ -1,11 +1,35 @@
+use Rattle.std.proofs.Common.{◌≡◌, ◌∙◌, ◌+◌, ◌++◌, List, [], ap, map, subst, sym, take}
+use Rattle.std.specs.List.{Contains}
+use Rattle.std.proofs.lemmas.List.{map-append, take_all}
+use Rattle.jc_base.proofs.Membership.{has_from}
 use Rattle.jc_report.specs.ClassRows.{provided_rows}
-use Rattle.jc_report.proofs.reports.GivenRows.{rows_more, rows_of_all}
+use Rattle.jc_report.specs.Reports.{Class, GivesRow, name_of}
+use Rattle.jc_report.specs.RowView.{row_lent}
+use Rattle.jc_report.specs.Rows.{AreRows, Row}
+use Rattle.jc_report.proofs.reports.RowsByClass.{no_classes, one_class_more}
+use Rattle.jc_report.proofs.rows.OwnRows.{own_name}
 use Rattle.jc_report.proofs.report.provided.Goals as goal
 
+own : (c : Class) (row : Row) → Contains (provided_rows c.facts c.part) row → row.class ≡ name_of c
+own c row h = own_name c.facts c.part row (has_from (provided_rows c.facts c.part) row h)
+
+pub loop-class-init : goal.loop-class-init
+loop-class-init c = λ rises. subst (λ xs. AreRows (map row_lent xs) (GivesRow provided_rows [])) (sym c.new-rows.ensures.items) (no_classes provided_rows own)
+
 pub loop-class-preserved : goal.loop-class-preserved
-loop-class-preserved c =
-    rows_more provided_rows c.args.classes.now c.loop-class.class-index c.class-item.result _ _ _ c.loop-class-test.true c.class-item.is c.class.view_is
-    c.loop-class.invariant c.in_ok-push_provided.ensures
+loop-class-preserved c = λ rises.
+    let classes = c.args.classes.now in
+    let at = c.loop-class.class-index in
+    let rows = c.loop-class.rows.items in
+    let put = c.put_in_order.new.rows.items in
+    let gives = provided_rows c.class.inside.facts.now c.class.inside.part in
+    let pushed : map row_lent c.push_provided.new.rows.items ≡ gives = c.in_ok-push_provided.ensures ∙ ap (λ xs. map row_lent xs ++ gives) c.clear.ensures.items in
+    let mine : AreRows (map row_lent put) (Contains gives) = subst (λ (ys : List Row). AreRows (map row_lent put) (Contains ys)) pushed c.put_in_order.ensures in
+    let all : map row_lent c.extend_from_slice.new.self.items ≡ map row_lent rows ++ map row_lent put =
+    ap (map row_lent) (c.in_ok-extend_from_slice.ensures.items ∙ ap (λ xs. rows ++ xs) c.deref.ensures.value) ∙ map-append row_lent rows put in
+    subst (λ (xs : List Row). AreRows xs (GivesRow provided_rows (take (at + 1) classes))) (sym all)
+    (one_class_more provided_rows own classes at c.class-item.result _ _ _ c.loop-class-test.true c.class-item.is c.class.view_is rises (c.loop-class.invariant rises) mine)
 
 pub returns : goal.returns
-returns c = rows_of_all provided_rows c.args.classes.now c.loop-class.class-index _ _ c.loop-class-test.false c.loop-class.invariant c.put_in_order.ensures
+returns c = λ rises.
+    subst (λ (cs : List Class). AreRows (map row_lent c.loop-class.rows.items) (GivesRow provided_rows cs)) (take_all c.loop-class.class-index c.args.classes.now c.loop-class-test.false) (c.loop-class.invariant rises)

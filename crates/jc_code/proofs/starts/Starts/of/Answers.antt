@@ -1,4 +1,6 @@
-use Rattle.std.proofs.Common.{◌++◌, ◌∷◌, [], ◌∙◌, ap, sym, subst, refl, length, map, append-nil, append_assoc}
+use Rattle.std.proofs.Common.{◌≡◌, ◌++◌, ◌∷◌, ◌-◌, [], ◌∙◌, ap, sym, subst, refl, false, length, map, append-nil, append_assoc, replicate, arith, take}
+use Rattle.std.specs.Prelude.{if◌then◌else◌, is_ok, vec_len}
+use Rattle.std.proofs.lemmas.List.{take_all}
 use Rattle.jc_view.proofs.places.RisingLists.{RisesBy}
 use Rattle.jc_code.specs.Insns.{IsCode}
 use Rattle.jc_code.specs.inside.Marks.{marked}
@@ -19,7 +21,15 @@ loop-place-init c =
 pub loop-place-preserved : goal.loop-place-preserved
 loop-place-preserved c =
     let rises = subst (λ items. RisesBy (λ item. item.0) (length c.loop-place.marks.items) c.new-insns.result.end items) c.in-Some.ensures.steps.1.0 c.loop-place.invariant.rises in
-    let more = has_marked c.loop-place.marks.items c.pass_to.new.marks.items c.push.new.self.items c.in-Some.place rises.0 c.in_ok-pass_to.ensures c.in_ok-push.ensures.items in
+    let marks = c.loop-place.marks in
+    let place = c.in-Some.place in
+    let sized : vec_len marks ≡ length marks.items = omega (arith, marks.ok.0) in
+    let filled : c.resize.new.self.items ≡ marks.items ++ replicate (place - length marks.items) false =
+    c.resize.ensures.items
+    ∙ ap (λ r. if is_ok r then take place marks.items ++ replicate (place - vec_len marks) false else marks.items) c.in_ok-resize.was
+    ∙ ap (λ front. front ++ replicate (place - vec_len marks) false) (take_all place marks.items rises.0)
+    ∙ ap (λ n. marks.items ++ replicate (place - n) false) sized in
+    let more = has_marked c.loop-place.marks.items c.resize.new.self.items c.push.new.self.items c.in-Some.place rises.0 filled c.in_ok-push.ensures.items in
     record {
       end = c.in-Some.ensures.steps.0 ∙ c.loop-place.invariant.end;
       all =
