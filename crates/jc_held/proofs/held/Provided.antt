@@ -1,25 +1,21 @@
 -- The rows that the held classes provide and require.
-use Rattle.std.proofs.Common.{◌≡◌, ◌∙◌, true, false, List, [], ◌∷◌, Some, None, Option, is_some, map, inl, inr, refl, sym, ap, subst}
+use Rattle.std.proofs.Common.{◌≡◌, ◌∙◌, true, List, [], ◌∷◌, Some, None, Option, is_some, map, inl, inr, refl, sym, ap, subst}
 use Rattle.std.proofs.lemmas.Bool.{false≢true}
-use Rattle.std.specs.Prelude.{if◌then◌else◌, Bool, unwrap_or}
+use Rattle.std.specs.Prelude.{unwrap_or}
 use Rattle.std.specs.declared.cmp.Ordering.TheVariants.{Less}
 use Rattle.std.specs.Ordering.{nat_cmp, ordering_then}
 use Rattle.std.specs.FinMap as fin
-use Rattle.std.specs.List.{filter}
 use Rattle.std.specs.List.Sorted.{IsStrictlySortedBy}
 use Rattle.std.specs.Map.{keys_of}
-use Rattle.jc_base.proofs.Membership.{Has, from_has, has_from, has-cases, has-flat_map, has-from_flat_map, has-from_map, has-map}
+use Rattle.jc_base.proofs.Membership.{Has, from_has, has_from, has-flat_map, has-from_flat_map, has-map}
 use Rattle.jc_base.proofs.maps.FiniteMaps.{entry_from_get, get_from_entry, keys_rise}
-use Rattle.jc_classes.specs.Facts.{Facts, Member}
+use Rattle.jc_classes.specs.Facts.{Facts}
 use Rattle.jc_classes.specs.NameLists.{has, Lists}
 use Rattle.jc_classes.specs.Names.{Name, name_cmp}
-use Rattle.jc_classes.specs.Parts.{Part}
-use Rattle.jc_classes.specs.declared.reference_kind.ReferenceKind.{ReferenceKind}
-use Rattle.jc_classes.specs.declared.reference_kind.ReferenceKind.TheVariants as kinds
 use Rattle.jc_classes.proofs.numbering.Rising.{contains_of, has_of}
 use Rattle.jc_index.specs.Indexes.{UserLists, is_key, users_of}
 use Rattle.jc_link.specs.Closures.{record_of}
-use Rattle.jc_report.specs.ClassRows.{class_row, is_open, is_open_method, member_row, open_rows, provided_rows, required_rows}
+use Rattle.jc_report.specs.ClassRows.{provided_rows, required_rows}
 use Rattle.jc_report.specs.Reports.{Class, GivesRow}
 use Rattle.jc_report.specs.RowKeys.{IsPlain, row_key, row_of}
 use Rattle.jc_report.specs.Rows.{AreRows, Row, kind_number}
