@@ -2,3 +2,4 @@ pub mod Entries
 pub mod Decoding
 pub mod Marks
 pub mod Clean
+pub mod FirstPass

@@ -1,37 +1,35 @@
-//! One look at each instruction and each handler: whether all rules are kept.
+//! Whether all rules are kept, told from one look at each instruction and each handler.
 
 ghost use Rattle.std.specs.Prelude.{◌≡◌, ℕ, List, IsTrue};
-ghost use Rattle.std.specs.List.{AllByRecursion};
+ghost use Rattle.std.specs.List.{AllByRecursion, list_all};
 ghost use Rattle.jc_code.specs.declared.insn.Insn.{Insn};
-ghost use Rattle.jc_code.specs.Insns.{IsCode};
-ghost use Rattle.jc_code.specs.inside.Clean.{AreKept, IsKept, IsKeptBy, keeps_rules};
+ghost use Rattle.jc_code.specs.inside.Clean.{AreKept, IsKeptBy, jumps_of, keeps_rules, others_keep, without_starts};
 
 use crate::insn::Insn;
-use crate::insns::Insns;
-use crate::laws::instructions_are_apart;
 use crate::rules::constants::{
-    breaks_s6, breaks_s7, breaks_s8, breaks_s9, breaks_s10, breaks_s11, breaks_s12, breaks_s13,
-    breaks_s14, breaks_s15, breaks_s16, breaks_s17, breaks_s18, breaks_s19, breaks_s20, breaks_s21,
+    breaks_s6, breaks_s7, breaks_s8, breaks_s11, breaks_s14, breaks_s15, breaks_s17, breaks_s18,
+    breaks_s19, breaks_s20, breaks_s21, is_bad_special, is_other_count, is_right_entry,
+    names_special,
 };
 use crate::rules::handlers::{breaks_s23, breaks_s24};
 use crate::rules::locals::breaks_s22;
 use crate::rules::targets::{breaks_s2, breaks_s3, breaks_s4, breaks_s5};
 use crate::scope::Scope;
-use jc_view::{Code, ExceptionHandler, Handlers};
+use jc_view::{ExceptionHandler, Handlers};
 
-/// Whether a code keeps all rules, but for S1. It may say no of one that does.
-pub(crate) fn is_clean(scope: &Scope, code: &Code) -> bool
-    ensures { IsTrue result → (items : List (ℕ × Insn)) (end : ℕ) → IsCode code.now.code.code items end → AreKept scope.now items code.now.code.handlers }
+/// Whether instructions and handlers keep all rules, but for S1: the instructions with targets, and the
+/// others, which one look has judged. It may say no where they do.
+pub(crate) fn is_clean(scope: &Scope, is_kept: bool, jumps: &[Insn], handlers: Handlers) -> bool
+    ensures { IsTrue result → (items : List (ℕ × Insn)) → is_kept ≡ others_keep (without_starts scope.now) items → jumps.now ≡ jumps_of items → AreKept scope.now items handlers.entry }
 {
-    instructions_are_apart();
-    keeps_insns(scope, Insns::new(code.bytes())) && keeps_handlers(scope, code.handlers())
+    is_kept && keep_rules(scope, jumps) && keeps_handlers(scope, handlers)
 }
 
-fn keeps_insns(scope: &Scope, insns: Insns) -> bool
-    ensures { IsTrue result → AllByRecursion (IsKept scope.now) insns.entry.left }
+fn keep_rules(scope: &Scope, insns: &[Insn]) -> bool
+    ensures { result ≡ list_all (keeps_rules scope.now) insns.now }
 {
-    for (_, insn) in insns {
-        if !keeps_rules(scope, &insn) {
+    for insn in insns {
+        if !keeps_rules(scope, insn) {
             return false;
         }
     }
@@ -49,8 +47,9 @@ fn keeps_handlers(scope: &Scope, handlers: Handlers) -> bool
     true
 }
 
-/// Whether an instruction keeps all rules: those over instructions of its sort are asked.
-fn keeps_rules(scope: &Scope, insn: &Insn) -> bool
+/// Whether an instruction keeps all rules: those over instructions of its sort are asked. Only of one
+/// with targets they ask where instructions start.
+pub(crate) fn keeps_rules(scope: &Scope, insn: &Insn) -> bool
     ensures { result ≡ keeps_rules scope.now insn.now }
 {
     match insn {
@@ -63,14 +62,14 @@ fn keeps_rules(scope: &Scope, insn: &Insn) -> bool
         Insn::LookupSwitch(_) => !breaks_s4(scope, insn) && !breaks_s5(scope, insn),
         Insn::Load { .. } => !breaks_s6(scope, insn) && !breaks_s7(scope, insn),
         Insn::Field { .. } => !breaks_s8(scope, insn),
-        Insn::Invoke { .. } => {
-            !breaks_s9(scope, insn) && !breaks_s10(scope, insn) && !breaks_s16(scope, insn)
+        Insn::Invoke { opcode, index } => {
+            is_right_entry(scope, *opcode, *index) && !is_bad_special(scope, *opcode, *index)
         }
-        Insn::InvokeInterface { .. } => {
+        Insn::InvokeInterface { index, count, last } => {
             !breaks_s11(scope, insn)
-                && !breaks_s12(scope, insn)
-                && !breaks_s13(scope, insn)
-                && !breaks_s16(scope, insn)
+                && !is_other_count(scope, *index, *count)
+                && *last == 0
+                && !names_special(scope, *index)
         }
         Insn::InvokeDynamic { .. } => !breaks_s14(scope, insn) && !breaks_s15(scope, insn),
         Insn::Type { .. } => {

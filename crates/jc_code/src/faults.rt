@@ -16,6 +16,7 @@ ghost use Rattle.jc_code.specs.CodeViolations.{BreaksCode, ViolatesCode};
 
 use crate::clean::is_clean;
 use crate::code_fault::{CodeFault, CodeRule};
+use crate::first_pass::{FirstPass, first_pass};
 use crate::insn::Insn;
 use crate::insns::Insns;
 use crate::laws::{codes_are_read, instructions_are_apart};
@@ -118,23 +119,37 @@ fn list_faults(alloc: Global, class: &ClassView, code: &Code) -> Result<Vec<Code
     ensures { IfOk result (λ found. AreFaultsOf class.now code.now.code found.items) }
 {
     let bytes = code.bytes();
-    let (starts, end) = Starts::of(alloc, bytes)?;
-    let scope = Scope {
-        class,
-        max_locals: code.max_locals(),
-        size: bytes.len(),
+    let size = bytes.len();
+    let found = first_pass(alloc, &scope_with(class, code, Starts::none(alloc)), bytes)?;
+    let FirstPass {
         starts,
-    };
+        end,
+        jumps,
+        is_kept,
+    } = found;
+    let scope = scope_with(class, code, starts);
     let mut faults = Vec::new(alloc);
-    if end < scope.size {
+    if end < size {
         faults.push(CodeFault {
             rule: CodeRule::S1,
             place: end,
         })?;
-    } else if !is_clean(&scope, code) {
+    } else if !is_clean(&scope, is_kept, &jumps, code.handlers()) {
         add_all_faults(&mut faults, &scope, code)?;
     }
     Ok(faults)
+}
+
+/// What the rules look at in a code, with these starts of instructions.
+fn scope_with<'c, 'a>(class: &'c ClassView<'a>, code: &Code, starts: Starts) -> Scope<'c, 'a>
+    ensures { result ≡ record { class = class.now; max_locals = code.now.code.max_locals; size = length code.now.code.code; starts = starts } }
+{
+    Scope {
+        class,
+        max_locals: code.max_locals(),
+        size: code.bytes().len(),
+        starts,
+    }
 }
 
 /// Adds the faults against all rules, in the order of the rules.

@@ -7,6 +7,7 @@ mod code_fault;
 mod decoder;
 mod fault_laws;
 mod faults;
+mod first_pass;
 mod insn;
 mod insns;
 mod laws;

@@ -1,18 +1,15 @@
 //! Where the instructions of a code start.
 
-ghost use Rattle.std.specs.Prelude.{◌≡◌, ◌==◌, ◌<◌, ◌^◌, length, IfOk};
+ghost use Rattle.std.specs.Prelude.{◌≡◌, ◌==◌, []};
 ghost use Rattle.std.specs.List.{list_any};
-ghost use Rattle.jc_code.specs.inside.Marks.{StartsOf};
 
-use crate::insns::Insns;
-use jc_base::NoMemory;
 use std::alloc::Global;
 use std::marker::Model;
 
 /// Starts of instructions, as a mark for each offset. Seen as the offsets that are marked.
 #[derive(Drop)]
 pub(crate) struct Starts {
-    marks: Vec<bool>,
+    pub(crate) marks: Vec<bool>,
 }
 
 impl Model for Starts {
@@ -26,18 +23,13 @@ impl Model for Starts {
 }
 
 impl Starts {
-    /// The starts of the instructions of a code, and the offset at which these end.
-    pub(crate) fn of(alloc: Global, code: &[u8]) -> Result<(Starts, usize), NoMemory>
-        requires { length code.now < 2 ^ 16 }
-        ensures { IfOk result (λ found. StartsOf code.now found.0 found.1) }
+    /// None, which takes no memory.
+    pub(crate) fn none(alloc: Global) -> Starts
+        ensures { result ≡ [] }
     {
-        let mut marks = Vec::with_capacity(alloc, code.len())?;
-        let mut insns = Insns::new(code);
-        while let Some((place, _)) = insns.next() {
-            marks.resize(place as usize, false)?;
-            marks.push(true)?;
+        Starts {
+            marks: Vec::new(alloc),
         }
-        Ok((Starts { marks }, insns.rest() as usize))
     }
 
     /// Whether an instruction starts at a place.

@@ -17,7 +17,6 @@ use Rattle.jc_code.specs.CodeFaults.{AreFaultsOf, AreFaultsOfMethod, code_of_met
 use Rattle.jc_code.specs.CodeFaultOrder.{fault_cmp}
 use Rattle.jc_code.specs.CodeViolations.{BreaksCode, ViolatesCode, ViolatesIn}
 use Rattle.jc_code.specs.inside.Clean.{AreKept, IsKept, IsKeptBy}
-use Rattle.jc_code.specs.inside.Marks.{StartsOf}
 use Rattle.jc_code.proofs.orders.InsnPlaces.{items_end}
 use Rattle.jc_code.proofs.orders.CodeFaultOrder.{cut, whole, faults_sorted, listed_violates, violating_listed}
 
@@ -89,28 +88,28 @@ same_scope : {c d : ClassFile} {m n size most : ℕ} {xs ys : List ℕ} → c �
     → ◌≡◌ {A = Scope} (record { class = c; max_locals = m; size = size; starts = xs }) (record { class = d; max_locals = n; size = most; starts = ys })
 same_scope e f g h i = record { class = e i; max_locals = f i; size = g i; starts = h i }
 
-module _ (c : ClassFile) (k : Code) (starts : List ℕ) (end : ℕ) (of : StartsOf k.code starts end) where
+module _ (c : ClassFile) (k : Code) (items : List (ℕ × Insn)) (end : ℕ) (is_code : IsCode k.code items end) where
   pub listed_cut : (found : List CodeFault) → end < length k.code → found ≡ fault_at rules.S1 end ∷ [] → AreFaultsOf c k found
   listed_cut found lt e = record {
-    items = of.items;
+    items = items;
     end = end;
-    is_code = of.is_code;
-    listed = e ∙ sym (cut c k of.items end (λ same. omega (arith, lt, same)));
+    is_code = is_code;
+    listed = e ∙ sym (cut c k items end (λ same. omega (arith, lt, same)));
   }
 
   ends : length k.code ≤ end → end ≡ length k.code
-  ends le = let most = items_end k.code 0 end of.items (omega arith) of.is_code in omega (arith, le, most)
+  ends le = let most = items_end k.code 0 end items (omega arith) is_code in omega (arith, le, most)
 
-  scope_is : (s : Scope) → s.class ≡ c → s.max_locals ≡ k.max_locals → s.size ≡ length k.code → s.starts ≡ starts → s ≡ scope_of c k of.items
-  scope_is s class max_locals size same = same_scope class max_locals size (same ∙ of.are_starts)
+  scope_is : (s : Scope) → s.class ≡ c → s.max_locals ≡ k.max_locals → s.size ≡ length k.code → s.starts ≡ map (λ item. item.0) items → s ≡ scope_of c k items
+  scope_is s class max_locals size same = same_scope class max_locals size same
 
-  pub listed_whole : (s : Scope) (found : List CodeFault) → length k.code ≤ end → s.class ≡ c → s.max_locals ≡ k.max_locals → s.size ≡ length k.code → s.starts ≡ starts
-      → found ≡ flat_map (faults_against s of.items k.handlers) ALL → AreFaultsOf c k found
+  pub listed_whole : (s : Scope) (found : List CodeFault) → length k.code ≤ end → s.class ≡ c → s.max_locals ≡ k.max_locals → s.size ≡ length k.code → s.starts ≡ map (λ item. item.0) items
+      → found ≡ flat_map (faults_against s items k.handlers) ALL → AreFaultsOf c k found
   listed_whole s found le class max_locals size same e = record {
-    items = of.items;
+    items = items;
     end = end;
-    is_code = of.is_code;
-    listed = e ∙ ap (λ t. flat_map (faults_against t of.items k.handlers) ALL) (scope_is s class max_locals size same) ∙ sym (whole c k of.items end (ends le));
+    is_code = is_code;
+    listed = e ∙ ap (λ t. flat_map (faults_against t items k.handlers) ALL) (scope_is s class max_locals size same) ∙ sym (whole c k items end (ends le));
   }
 
 -- ---- where all rules are kept

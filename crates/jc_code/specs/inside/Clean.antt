@@ -1,6 +1,6 @@
 -- What keeps all rules.
-use Rattle.std.specs.Prelude.{◌≡◌, ℕ, List, Bool, true, false, not, ◌&&◌}
-use Rattle.std.specs.List.{AllByRecursion}
+use Rattle.std.specs.Prelude.{◌≡◌, ℕ, List, [], Bool, true, false, not, ◌&&◌, ◌||◌, filter, map}
+use Rattle.std.specs.List.{AllByRecursion, list_all}
 use Rattle.jc_view.specs.Attributes.{Handler}
 use Rattle.jc_code.specs.declared.code_fault.CodeRule.{CodeRule}
 use Rattle.jc_code.specs.declared.insn.Insn.{Insn}
@@ -38,3 +38,24 @@ IsKeptBy s h = (rule : CodeRule) → handler_breaks rule s h ≡ false
 pub record AreKept (s : Scope) (items : List (ℕ × Insn)) (handlers : List Handler) : Type 0 where
   pub by_insns : AllByRecursion (IsKept s) items
   pub by_handlers : AllByRecursion (IsKeptBy s) handlers
+
+-- ---- in one pass, while starts are still being found
+
+-- an instruction whose rules ask where instructions start
+abbrev pub has_targets : Insn → Bool
+has_targets (insns.Branch opcode target) = true
+has_targets (insns.TableSwitch switch) = true
+has_targets (insns.LookupSwitch switch) = true
+has_targets insn = false
+
+-- the instructions that wait until all starts are known
+abbrev pub jumps_of : List (ℕ × Insn) → List Insn
+jumps_of items = filter has_targets (map (λ item. item.1) items)
+
+-- the others keep their rules
+abbrev pub others_keep : Scope → List (ℕ × Insn) → Bool
+others_keep s items = list_all (λ item. has_targets item.1 || keeps_rules s item.1) items
+
+-- what is looked at before a start is known
+abbrev pub without_starts : Scope → Scope
+without_starts s = record { class = s.class; max_locals = s.max_locals; size = s.size; starts = [] }

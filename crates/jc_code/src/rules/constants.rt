@@ -99,7 +99,7 @@ pub(crate) fn breaks_s12(scope: &Scope, insn: &Insn) -> bool
 }
 
 /// Whether the method takes another number of slots, with the receiver.
-fn is_other_count(scope: &Scope, index: ConstantIndex, count: u8) -> bool
+pub(crate) fn is_other_count(scope: &Scope, index: ConstantIndex, count: u8) -> bool
     ensures { result ≡ fails (λ slots. count == slots + 1) (slots_at scope.now.class index) }
 {
     match slots_at(scope.class, index) {
@@ -155,7 +155,7 @@ pub(crate) fn breaks_s16(scope: &Scope, insn: &Insn) -> bool
 }
 
 /// Whether an invocation names an entry that it may name.
-fn is_right_entry(scope: &Scope, opcode: Opcode, index: ConstantIndex) -> bool
+pub(crate) fn is_right_entry(scope: &Scope, opcode: Opcode, index: ConstantIndex) -> bool
     ensures { result ≡ not (breaks_s9 scope.now (insns.Invoke opcode index)) && not (breaks_s10 scope.now (insns.Invoke opcode index)) }
 {
     if opcode == Opcode::INVOKEVIRTUAL {
@@ -166,7 +166,7 @@ fn is_right_entry(scope: &Scope, opcode: Opcode, index: ConstantIndex) -> bool
 }
 
 /// Whether it names a special method that it may not invoke.
-fn is_bad_special(scope: &Scope, opcode: Opcode, index: ConstantIndex) -> bool
+pub(crate) fn is_bad_special(scope: &Scope, opcode: Opcode, index: ConstantIndex) -> bool
     ensures { result ≡ passes (λ name. is_special name && not (opcode == invokespecial && is_init name)) (referred_name scope.now.class index) }
 {
     match referred_name(scope.class, index) {
@@ -175,7 +175,7 @@ fn is_bad_special(scope: &Scope, opcode: Opcode, index: ConstantIndex) -> bool
     }
 }
 
-fn names_special(scope: &Scope, index: ConstantIndex) -> bool
+pub(crate) fn names_special(scope: &Scope, index: ConstantIndex) -> bool
     ensures { result ≡ passes is_special (referred_name scope.now.class index) }
 {
     match referred_name(scope.class, index) {

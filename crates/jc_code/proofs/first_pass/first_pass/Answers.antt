@@ -1,0 +1,75 @@
+use Rattle.std.proofs.Common.{◌≡◌, ◌++◌, ◌∷◌, ◌-◌, [], ◌∙◌, ◌&&◌, ap, sym, subst, refl, false, length, map, append-nil, append_assoc, replicate, arith, take}
+use Rattle.std.specs.Prelude.{if◌then◌else◌, is_ok, vec_len}
+use Rattle.std.proofs.lemmas.List.{take_all}
+use Rattle.jc_view.proofs.places.RisingLists.{RisesBy}
+use Rattle.jc_code.specs.Insns.{IsCode}
+use Rattle.jc_code.specs.inside.Clean.{has_targets, jumps_of, others_keep}
+use Rattle.jc_code.specs.inside.Marks.{marked}
+use Rattle.jc_code.proofs.clean_code.Passed.{and_true, jumps_more, keep_more}
+use Rattle.jc_code.proofs.marks.Marked.{has_marked}
+use Rattle.jc_code.proofs.orders.InsnPlaces.{items_rise}
+use Rattle.jc_code.proofs.first_pass.first_pass.Goals as goal
+
+pub loop-place-init : goal.loop-place-init
+loop-place-init c =
+    let none = c.in_ok-marks.ensures.items in
+    let no_jumps = c.new-jumps.ensures.items in
+    rw (none, no_jumps)
+    (record {
+      end = refl;
+      all = refl;
+      rises = items_rise c.args.code.now 0 c.new-insns.result.end c.new-insns.result.left c.new-insns.ensures.code;
+      jumps = refl;
+      keep = refl;
+    })
+
+pub loop-place-preserved : goal.loop-place-preserved
+loop-place-preserved c =
+    let rises = subst (λ items. RisesBy (λ item. item.0) (length c.loop-place.marks.items) c.new-insns.result.end items) c.in-Some.ensures.steps.1.0 c.loop-place.invariant.rises in
+    let marks = c.loop-place.marks in
+    let place = c.in-Some.place in
+    let sized : vec_len marks ≡ length marks.items = omega (arith, marks.ok.0) in
+    let filled : c.resize.new.self.items ≡ marks.items ++ replicate (place - length marks.items) false =
+    c.resize.ensures.items
+    ∙ ap (λ r. if is_ok r then take place marks.items ++ replicate (place - vec_len marks) false else marks.items) c.in_ok-resize.was
+    ∙ ap (λ front. front ++ replicate (place - vec_len marks) false) (take_all place marks.items rises.0)
+    ∙ ap (λ n. marks.items ++ replicate (place - n) false) sized in
+    let more = has_marked c.loop-place.marks.items c.resize.new.self.items c.push.new.self.items c.in-Some.place rises.0 filled c.in_ok-push.ensures.items in
+    let left = c.next.new.self.left in
+    let insn = c.in-Some.insn in
+    record {
+      end = c.in-Some.ensures.steps.0 ∙ c.loop-place.invariant.end;
+      all =
+          ap (λ starts. starts ++ map (λ item. item.0) left) more.marked_more
+          ∙ append_assoc (marked c.loop-place.marks.items) (c.in-Some.place ∷ []) (map (λ item. item.0) left)
+          ∙ ap (λ items. marked c.loop-place.marks.items ++ map (λ item. item.0) items) (sym c.in-Some.ensures.steps.1.0)
+          ∙ c.loop-place.invariant.all;
+      rises = subst (λ n. RisesBy (λ item. item.0) n c.new-insns.result.end left) (sym more.long) rises.1;
+      jumps =
+          ap (λ jumps. jumps ++ jumps_of left) c.in_ok-keeps.ensures.jumps
+          ∙ jumps_more c.loop-place.jumps.items (jumps_of left) insn (has_targets insn)
+          ∙ ap (λ items. c.loop-place.jumps.items ++ jumps_of items) (sym c.in-Some.ensures.steps.1.0)
+          ∙ c.loop-place.invariant.jumps;
+      keep =
+          keep_more c.loop-place.is_kept c.in_ok-keeps.keeps (others_keep c.args.scope.now left)
+          ∙ ap (λ b. c.loop-place.is_kept && (b && others_keep c.args.scope.now left)) c.in_ok-keeps.ensures.keeps
+          ∙ ap (λ items. c.loop-place.is_kept && others_keep c.args.scope.now items) (sym c.in-Some.ensures.steps.1.0)
+          ∙ c.loop-place.invariant.keep;
+    }
+
+pub returns : goal.returns
+returns c =
+    let none = c.in_default.ensures.steps.1.0 in
+    record {
+      items = c.new-insns.result.left;
+      is_code = subst (λ end. IsCode c.args.code.now c.new-insns.result.left end) (sym (c.rest.ensures.ended c.in_default.ensures.steps.1.1 ∙ c.in_default.ensures.steps.0 ∙ c.loop-place.invariant.end)) c.new-insns.ensures.code;
+      are_starts =
+          sym (append-nil (marked c.loop-place.marks.items))
+          ∙ ap (λ items. marked c.loop-place.marks.items ++ map (λ item. item.0) items) (sym none)
+          ∙ c.loop-place.invariant.all;
+      are_jumps =
+          sym (append-nil c.loop-place.jumps.items)
+          ∙ ap (λ items. c.loop-place.jumps.items ++ jumps_of items) (sym none)
+          ∙ c.loop-place.invariant.jumps;
+      is_kept = sym (and_true c.loop-place.is_kept) ∙ ap (λ items. c.loop-place.is_kept && others_keep c.args.scope.now items) (sym none) ∙ c.loop-place.invariant.keep;
+    }
