@@ -45,8 +45,9 @@ impl<'c, 'a> ClassTexts<'c, 'a> {
     ) -> Result<ClassTexts<'c, 'a>, NoMemory>
         ensures { IfOk result (λ texts. texts.class ≡ class.now) }
     {
-        let numbers = vec![in alloc; None; class.constant_count() as usize]?;
-        let mut texts = TextList::new(alloc);
+        let count = class.constant_count() as usize;
+        let numbers = vec![in alloc; None; count]?;
+        let mut texts = TextList::with_room(alloc, count, class.bytes().len() / 3)?;
         texts.push(&[])?;
         Ok(ClassTexts {
             alloc,
@@ -139,7 +140,8 @@ impl<'c, 'a> ClassTexts<'c, 'a> {
         ensures { IfOk result (λ entries. Tells self.old self.new (λ texts. map (reference_shown texts) entries.items ≡ references_in self.old.class)) }
     {
         let class = self.class;
-        let mut entries = Vec::new(self.alloc);
+        let room = class.constant_count() as usize / 2;
+        let mut entries = Vec::with_capacity(self.alloc, room)?;
         for index in 1..class.constant_count() {
             let entry = self.reference(reference_entry(class, index))?;
             push_some(&mut entries, entry)?;

@@ -1,6 +1,6 @@
 //! Many texts in one buffer.
 
-ghost use Rattle.std.specs.Prelude.{◌≡◌, ◌<◌, ◌≤◌, ◌-◌, ◌++◌, [], ◌∷◌, drop, length, slice_index_or, take, OnErr, OnOk};
+ghost use Rattle.std.specs.Prelude.{◌≡◌, ◌<◌, ◌≤◌, ◌-◌, ◌++◌, [], ◌∷◌, drop, length, slice_index_or, take, IfOk, OnErr, OnOk};
 ghost use Rattle.jc_classes.specs.inside.TextList.{start_at};
 
 use jc_base::NoMemory;
@@ -35,6 +35,15 @@ impl TextList {
             bytes: Vec::new(alloc),
             ends: Vec::new(alloc),
         }
+    }
+
+    /// A list without a text, with room for so many texts of so many bytes together.
+    pub fn with_room(alloc: Global, texts: usize, bytes: usize) -> Result<TextList, NoMemory>
+        ensures { IfOk result (λ list. list ≡ []) }
+    {
+        let bytes = Vec::with_capacity(alloc, bytes)?;
+        let ends = Vec::with_capacity(alloc, texts)?;
+        Ok(TextList { bytes, ends })
     }
 
     /// Puts a text behind the others.

@@ -30,13 +30,14 @@ pub fn gather<'t>(
     ensures made { meter.new.made ≡ meter.old.made }
 {
     let mut numbers = Numbers::new(alloc);
-    let mut standing = Vec::new(alloc);
-    let mut supertypes = Vec::new(alloc);
     let own = stand_at(table, outside, name, meter);
     numbers.number(alloc, name)?;
     let object = numbers.number(alloc, b"java/lang/Object")?;
     let references = number_references(alloc, &mut numbers, own)?;
     let row = number_supertypes(alloc, &mut numbers, own)?;
+    let room = numbers.len();
+    let mut standing = Vec::with_capacity(alloc, room)?;
+    let mut supertypes = Vec::with_capacity(alloc, room)?;
     standing.push(own)?;
     supertypes.push(row)?;
     while standing.len() < numbers.len() {

@@ -116,19 +116,22 @@ fn number_references_of(
 {
     let count = facts.reference_count();
     let mut nodes = Vec::with_capacity(alloc, count)?;
+    let mut last = None;
     for number in 0..count {
-        let node = number_reference(alloc, numbers, facts, number)?;
-        nodes.push(node)?;
+        last = number_reference(alloc, numbers, facts, number, last)?;
+        nodes.push(last)?;
     }
     Ok(nodes)
 }
 
-/// The number of the class that a reference names, or of an array the innermost one, if there is one.
+/// The number of the class that a reference names, or of an array the innermost one, if there is one. It
+/// is often that of the reference before.
 fn number_reference(
     alloc: Global,
     numbers: &mut Numbers,
     facts: &Facts,
     number: usize,
+    last: Option<usize>,
 ) -> Result<Option<usize>, NoMemory>
     requires { IsOnce numbers.old }
     ensures { IfOk result (λ node. (r : Reference) → slice_get facts.now.references number ≡ Some r → Nodes numbers.old [] numbers.new (node ∷ []) (r ∷ [])) }
@@ -138,7 +141,7 @@ fn number_reference(
     };
     match reference.class_name() {
         Some(name) => {
-            let node = numbers.number(alloc, name)?;
+            let node = numbers.number_near(alloc, last, name)?;
             Ok(Some(node))
         }
         None => Ok(None),

@@ -46,11 +46,9 @@ impl Answers {
     pub(crate) fn new(alloc: Global, count: usize) -> Result<Answers, NoMemory>
         ensures { IfOk result (λ answers. answers ≡ []) }
     {
+        let texts = TextList::with_room(alloc, count.saturating_mul(2), count.saturating_mul(40))?;
         let entries = Vec::with_capacity(alloc, count)?;
-        Ok(Answers {
-            texts: TextList::new(alloc),
-            entries,
-        })
+        Ok(Answers { texts, entries })
     }
 
     /// Puts an answer behind the others.

@@ -138,7 +138,9 @@ impl<R: Files + AllocGlobal> Source for FolderSource<'_, R> {
 
 /// The path of what stands at a path below a folder.
 pub(crate) fn path_below(alloc: Global, folder: &str, path: &str) -> Result<String, AllocError> {
-    let mut whole = String::from_str(alloc, folder)?;
+    let length = folder.len().saturating_add(path.len()).saturating_add(1);
+    let mut whole = String::with_capacity(alloc, length)?;
+    whole.push_str(folder)?;
     if !path.is_empty() {
         whole.push('/')?;
         whole.push_str(path)?;

@@ -266,7 +266,8 @@ pub(crate) fn skip_pool(
     requires { 0 < count }
     ensures { Takes (λ offsets. offsets.items) (pool_at count) cursor.old result cursor.new }
 {
-    let mut offsets = Vec::new(alloc);
+    let room = usize::min(count as usize, cursor.rest().len());
+    let mut offsets = Vec::with_capacity(alloc, room)?;
     offsets.push(None)?;
     let mut is_second = false;
     for index in 1..count {

@@ -1,5 +1,5 @@
 -- What the code computes of a node is how its name loads.
-use Rattle.std.proofs.Common.{◌≡◌, ℕ, ◌+◌, ◌<◌, ◌||◌, Bool, true, false, cond, is_some, zero, List, [], ◌∷◌, ◌++◌, map, option_map, length, set, Option, Some, None, refl, sym, ap, subst, ◌∙◌, arith, ◌⊎◌, ⊎_elim, get_or-set_same, get_or-set_other}
+use Rattle.std.proofs.Common.{◌≡◌, ℕ, ◌+◌, ◌<◌, Bool, true, false, cond, is_some, zero, List, [], ◌∷◌, ◌++◌, map, option_map, length, set, Option, Some, None, refl, sym, ap, subst, ◌∙◌, arith, ◌⊎◌, ⊎_elim, get_or-set_same, get_or-set_other}
 use Rattle.std.proofs.lemmas.List.{get_or_default}
 use Rattle.std.proofs.lemmas.List.Elements.{Contains-append_right}
 use Rattle.std.specs.Bool.{Decides}
@@ -9,9 +9,9 @@ use Rattle.jc_classes.specs.Names.{Name}
 use Rattle.jc_classes.specs.Facts.{Facts, is_faulty}
 use Rattle.jc_classes.specs.Worlds.{World, Stands, Above, super_of, supers_of, is_interface}
 use Rattle.jc_classes.specs.Worlds.{Stands as stands}
-use Rattle.jc_classes.specs.Loading.{Parent, parents, Loading, LoadEach, can_see, same_bool, judged_parent}
+use Rattle.jc_classes.specs.Loading.{Parent, parents, LoadEach, can_see, same_bool, judged_parent}
 use Rattle.jc_classes.specs.Loading as defs
-use Rattle.jc_classes.specs.Loading.{Load as load, LoadEach as each, Loading as loading}
+use Rattle.jc_classes.specs.Loading.{Load as load, LoadEach as each}
 use Rattle.jc_classes.specs.declared.linkage_error.LinkageError.TheVariants as fault
 use Rattle.jc_resolve.specs.declared.loads.Load.{Load}
 use Rattle.jc_resolve.specs.declared.loads.Load.TheVariants.{Loaded, Outside, Fails}

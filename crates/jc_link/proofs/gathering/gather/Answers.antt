@@ -36,8 +36,8 @@ loop-numbers-init c =
     let is : own ≡ m (name_at n3 0) = found ∙ ap m (sym first.first.1) in
     let longer = more.grows.longer in
     let longer2 = c.in_ok-row.ensures.grows.longer in
-    let st : c.push.new.self.items ≡ c.stand_at-own.result ∷ [] = c.in_ok-push.ensures.items ∙ ap (λ z. z ++ c.stand_at-own.result ∷ []) c.new-standing.ensures.items in
-    let rs : c.push-2.new.self.items ≡ c.in_ok-row.row ∷ [] = c.in_ok-push-2.ensures.items ∙ ap (λ z. z ++ c.in_ok-row.row ∷ []) c.new-supertypes.ensures.items in
+    let st : c.push.new.self.items ≡ c.stand_at-own.result ∷ [] = c.in_ok-push.ensures.items ∙ ap (λ z. z ++ c.stand_at-own.result ∷ []) c.in_ok-standing.ensures.items in
+    let rs : c.push-2.new.self.items ≡ c.in_ok-row.row ∷ [] = c.in_ok-push-2.ensures.items ∙ ap (λ z. z ++ c.in_ok-row.row ∷ []) c.in_ok-supertypes.ensures.items in
     record {
       gathering = gathering_as m d n4 (own ∷ []) _ (c.in_ok-row.row.items ∷ []) _ nodes (ap stands_in st) (ap rows_in rs)
           (gathering_add m d n3 n4 [] [] nodes own c.in_ok-row.row.items first first.first.0 is c.in_ok-row.ensures);

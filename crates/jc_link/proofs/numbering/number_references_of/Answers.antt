@@ -27,10 +27,10 @@ loop-number-preserved c =
     let at = c.loop-number.number in
     let less : at < length references = omega (arith, c.loop-number-test.true, c.reference_count-count.ensures) in
     let x = get_or references at no_reference in
-    let step = c.in_ok-node.ensures x (slice_get-get_or references at no_reference less) in
+    let step = c.in_ok-last.ensures x (slice_get-get_or references at no_reference less) in
     subst (λ z. Nodes a [] d z (take (at + 1) references)) (sym c.in_ok-push.ensures.items)
-    (subst (λ z. Nodes a [] d (c.loop-number.nodes.items ++ c.in_ok-node.node ∷ []) z) (sym (take_more references at no_reference less))
-    (refs_more a b d [] c.loop-number.nodes.items c.in_ok-node.node (take at references) x c.loop-number.invariant step))
+    (subst (λ z. Nodes a [] d (c.loop-number.nodes.items ++ c.in_ok-last.last ∷ []) z) (sym (take_more references at no_reference less))
+    (refs_more a b d [] c.loop-number.nodes.items c.in_ok-last.last (take at references) x c.loop-number.invariant step))
 
 pub returns : goal.returns
 returns c =

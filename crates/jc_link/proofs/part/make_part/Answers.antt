@@ -1,4 +1,4 @@
-use Rattle.std.proofs.Common.{◌≡◌, ◌∙◌, Some, sym, ap, subst, length, map, refl, arith}
+use Rattle.std.proofs.Common.{◌≡◌, ◌∙◌, Some, sym, ap, subst, length, refl, arith}
 use Rattle.std.specs.List.{Contains}
 use Rattle.jc_classes.specs.Names.{names_of}
 use Rattle.jc_classes.specs.Worlds.{format_faults_of, code_faults_of}
