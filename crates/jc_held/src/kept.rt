@@ -68,9 +68,8 @@ pub(crate) fn make_one(
 {
     let closure = gather(alloc, table, outside, name, meter)?;
     let part = make_part(alloc, &closure, meter)?;
-    let provided = provided_by(alloc, closure.record(), &part)?;
-    let required = required_by(alloc, closure.record(), &part)?;
     let name = Vec::from_slice(alloc, name)?;
+    let (provided, required) = keys_of(alloc, closure.record(), &part)?;
     let kept = Kept {
         part,
         reach: closure.into_names(),
@@ -78,6 +77,20 @@ pub(crate) fn make_one(
         required,
     };
     Ok(Fresh { name, kept })
+}
+
+/// The keys of the rows that a class provides, and of those that it requires.
+fn keys_of(
+    alloc: Global,
+    own: Option<&Facts>,
+    part: &Part,
+) -> Result<(NameList, NameList), NoMemory>
+    ensures provided { IfOk result (λ keys. AreKeys keys.0 (provided_by (option_copied own.entry) part.now)) }
+    ensures required { IfOk result (λ keys. AreKeys keys.1 (required_by (option_copied own.entry) part.now)) }
+{
+    let provided = provided_by(alloc, own, part)?;
+    let required = required_by(alloc, own, part)?;
+    Ok((provided, required))
 }
 
 /// The keys of the rows that a class provides by its record; none where it has none.

@@ -93,13 +93,22 @@ impl Tree {
         ensures err { (f : Files) → IsTree f self → IfErr result (λ e. map.contains_key f path.now ≡ is_there e) }
     {
         let mut tree = self;
-        if tree.contains(path) {
+        tree.take_in(path, bytes)?;
+        Ok(tree)
+    }
+
+    /// Takes a file in. After an error nothing is said of the tree.
+    fn take_in(&mut self, path: &[u8], bytes: &[u8]) -> Result<(), AddError>
+        ensures ok { (f : Files) → IsTree f self.old → OnOk result ((map.contains_key f path.now ≡ false) × IsTree (map.insert f path.now bytes.now) self.new) }
+        ensures err { (f : Files) → IsTree f self.old → IfErr result (λ e. map.contains_key f path.now ≡ is_there e) }
+    {
+        if self.contains(path) {
             return Err(AddError::AlreadyThere);
         }
-        let outcome = tree.read(path, bytes)?;
-        let path = Vec::from_slice(tree.alloc, path)?;
-        tree.outcomes.insert(path, outcome)?;
-        Ok(tree)
+        let outcome = self.read(path, bytes)?;
+        let path = Vec::from_slice(self.alloc, path)?;
+        self.outcomes.insert(path, outcome)?;
+        Ok(())
     }
 
     /// Reads a file, and keeps its class where no lesser path gives it.

@@ -123,14 +123,6 @@ struct Assembler {
     methods: Table,
 }
 
-/// The one word of a line.
-fn word_of<'a>(tokens: &[Token<'a>]) -> Result<&'a str> {
-    match tokens {
-        [Token::Word(word)] => Ok(*word),
-        _ => bail!("one word is wanted"),
-    }
-}
-
 fn hexadecimal(word: &str) -> Result<u16> {
     u16::from_str_radix(word, 16).context("flags in hexadecimal")
 }
@@ -162,22 +154,29 @@ impl Assembler {
     /// Takes the words of a line.
     fn take(&mut self, tokens: &[Token]) -> Result<()> {
         match tokens {
-            [Token::Word("version"), rest @ ..] => self.major = word_of(rest)?.parse::<u16>()?,
-            [Token::Word("flags"), rest @ ..] => self.flags = hexadecimal(word_of(rest)?)?,
-            [Token::Word("super"), Token::Word("none")] => self.super_class = 0,
-            [Token::Word("super"), Token::Quoted(name)] => {
-                self.super_class = self.pool.class(name);
-            }
-            [Token::Word("implements"), Token::Quoted(name)] => {
-                self.interfaces.add(&[self.pool.class(name)], &[]);
-            }
             [Token::Word("refers"), rest @ ..] => self.refer(rest)?,
+            [Token::Word(word), value] => self.set(word, value)?,
             [
                 Token::Word(kind),
                 Token::Word(flags),
                 Token::Quoted(name),
                 Token::Quoted(descriptor),
             ] => self.declare(kind, hexadecimal(flags)?, name, descriptor),
+            _ => bail!("no line of a class"),
+        }
+        Ok(())
+    }
+
+    /// Takes a line of two words.
+    fn set(&mut self, word: &str, value: &Token) -> Result<()> {
+        match (word, value) {
+            ("version", Token::Word(major)) => self.major = major.parse::<u16>()?,
+            ("flags", Token::Word(flags)) => self.flags = hexadecimal(flags)?,
+            ("super", Token::Word("none")) => self.super_class = 0,
+            ("super", Token::Quoted(name)) => self.super_class = self.pool.class(name),
+            ("implements", Token::Quoted(name)) => {
+                self.interfaces.add(&[self.pool.class(name)], &[]);
+            }
             _ => bail!("no line of a class"),
         }
         Ok(())

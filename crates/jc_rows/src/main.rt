@@ -1,5 +1,6 @@
 //! Judges files of rows by the libraries' public calls. The words are the names of the files; a line is
-//! printed for each file and for each row that is wrong, and the status is 1 if one is.
+//! printed for each file and for each row that is wrong, and the status is 1 if one is. With the words
+//! `frames WHAT` the program answers what trials ask (`src/trials.rt`).
 //!
 //! A file of rows is text. `#` begins a comment, and a line that begins with a blank goes on with the
 //! row above it.
@@ -78,12 +79,24 @@ mod prefix_answers;
 mod row;
 mod text_answers;
 mod tokens;
+mod trials;
 
 use anyhow::{Context, Result};
 use judge::judge_file;
+use std::env::Env;
 use std::process::ExitCode;
 use std::rt::Files;
-use std::{env, fs};
+use std::{env, fs, io};
+use trials::answer_frames;
+
+/// The words after the program's name.
+fn words(rt: &(impl Env + AllocGlobal)) -> io::Result<Vec<String>> {
+    let mut words = Vec::new(rt.alloc());
+    for word in env::args(rt)?.skip(1) {
+        words.push(word)?;
+    }
+    Ok(words)
+}
 
 /// Judges the rows of a file, and says whether none of them is wrong.
 fn judge_path(rt: &(impl Files + AllocGlobal + Print), path: &str) -> Result<bool> {
@@ -93,12 +106,35 @@ fn judge_path(rt: &(impl Files + AllocGlobal + Print), path: &str) -> Result<boo
     Ok(tally.wrong == 0)
 }
 
-fn main(rt: HostRuntime) -> Result<ExitCode> {
+/// Judges the rows of files, and says whether none of them is wrong.
+fn judge_paths(rt: &(impl Files + AllocGlobal + Print), paths: &[String]) -> Result<bool> {
     let mut are_right = true;
-    for path in env::args(&rt)?.skip(1) {
-        are_right &= judge_path(&rt, &path)?;
+    for path in paths {
+        are_right &= judge_path(rt, path)?;
     }
-    Ok(if are_right {
+    Ok(are_right)
+}
+
+/// The word at a place, empty where there is none.
+fn word_at(words: &[String], place: usize) -> &str {
+    match words.get(place) {
+        Some(word) => word.as_str(),
+        None => "",
+    }
+}
+
+/// Does what the words ask for, and says whether no row is wrong.
+fn run_words(rt: &HostRuntime, words: &[String]) -> Result<bool> {
+    if word_at(words, 0) != "frames" {
+        return judge_paths(rt, words);
+    }
+    answer_frames(rt, word_at(words, 1), word_at(words, 2))?;
+    Ok(true)
+}
+
+fn main(rt: HostRuntime) -> Result<ExitCode> {
+    let words = words(&rt)?;
+    Ok(if run_words(&rt, &words)? {
         ExitCode::SUCCESS
     } else {
         ExitCode::FAILURE

@@ -1,10 +1,11 @@
 //! A tree of files is checked: each is read once, and the report of all is written.
 
-ghost use Rattle.std.specs.Prelude.{◌≡◌, List, Ok};
+ghost use Rattle.std.specs.Prelude.{◌≡◌, List, Ok, ℕ};
 ghost use Rattle.std.specs.FinMap as map;
 ghost use Rattle.jc_classes.specs.Names.{names_of};
-ghost use Rattle.jc_session.specs.Checks.{Answer, ChecksAs, CountsCheck, GivesAnswers, added};
+ghost use Rattle.jc_session.specs.Checks.{All, Answer, ChecksAs, CountsCheck, GivesAnswers, added};
 ghost use Rattle.jc_report.specs.Files.{Files};
+ghost use Rattle.jc_report.specs.Reports.{IsReport};
 ghost use Rattle.jc_report.specs.Trees.{IsTree};
 ghost use Rattle.jc_session.specs.declared.checking.CheckError.TheVariants as errors;
 ghost use Rattle.jc_session.specs.Edits as edits;
@@ -51,7 +52,16 @@ pub fn check<'p, S: Source, W: Output>(
 {
     let (tree, mut meter) = read_tree(alloc, paths, source)?;
     let report = Report::make(alloc, &tree, outside, &mut meter)?;
-    match write_report(&report, out) {
+    write_and_judge(&report, out)
+}
+
+/// Writes the report of a tree, and says whether it is wrong.
+fn write_and_judge<'p, W: Output>(report: &Report<'_>, out: &mut W) -> Result<bool, CheckError<'p>>
+    ensures { ((f : Files) (prefixes : List (List ℕ)) → IsReport f prefixes report.now
+        → ChecksAs prefixes (All f) (check_lent result) (W.written out.old) (W.written out.new))
+        × CountsCheck (check_lent result) (W.failures out.old) (W.failures out.new) }
+{
+    match write_report(report, out) {
         Ok(()) => Ok(report.wrong()),
         Err(_) => Err(CheckError::Write),
     }

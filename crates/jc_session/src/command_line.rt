@@ -1,6 +1,6 @@
 //! The program, apart from the standard streams: words and devices in, a status out.
 
-ghost use Rattle.std.specs.Prelude.{◌≡◌, Bool, List, Option, Result, Some, ℕ};
+ghost use Rattle.std.specs.Prelude.{◌≡◌, [], Bool, List, Option, Result, Some, ℕ};
 ghost use Rattle.std.specs.FinMap as map;
 ghost use Rattle.jc_classes.specs.Names.{names_of};
 ghost use Rattle.jc_session.specs.declared.source.SourceError.{SourceError};
@@ -201,7 +201,39 @@ fn perform<S: Source, R: Input, W: Output>(
         × RunsByAnswers outside ending files (R.remaining input.old) (R.remaining input.new) (W.written out.old) (W.written out.new) }
 {
     let mut session = Session::new(alloc, outside)?;
-    match run(alloc, &mut session, source, input, out) {
+    run_through(alloc, &mut session, source, input, out)
+}
+
+/// Runs a session to its end, and says whether the report held then is wrong.
+fn run_through<S: Source, R: Input, W: Output>(
+    alloc: Global,
+    session: &mut Session,
+    source: &mut S,
+    input: &mut R,
+    out: &mut W,
+) -> Result<bool, Fault<'static>>
+    ensures { (ending : Result Ended RunError)
+        × IsOutcome session.old.prefixes ending session.new.files (outcome_lent result)
+        × CountsInput (outcome_lent result) (R.failures input.old) (R.failures input.new)
+        × CountsOutput (outcome_lent result) (W.failures out.old) (W.failures out.new)
+        × ((bytes : List ℕ) (s : SourceAnswers) → R.remaining input.old ≡ Some bytes → S.answers source.old ≡ Some s
+        → RunsAs session.old.prefixes session.old.files s bytes ending (record {
+          files = session.new.files;
+          source = S.answers source.new;
+          coming = R.remaining input.new;
+          before = W.written out.old;
+          now = W.written out.new;
+        }))
+        × ((bytes : List ℕ) → R.remaining input.old ≡ Some bytes → (s : SourceAnswers)
+        × RunsAs session.old.prefixes session.old.files s bytes ending (record {
+          files = session.new.files;
+          source = Some [];
+          coming = R.remaining input.new;
+          before = W.written out.old;
+          now = W.written out.new;
+        })) }
+{
+    match run(alloc, session, source, input, out) {
         Ok(_) => Ok(session.report().wrong()),
         Err(error) => Err(Fault::from(error)),
     }

@@ -29,6 +29,13 @@ pub(crate) fn asked<'w>(alloc: Global, words: &'w [&'w str]) -> Result<Request<'
         Ok(matches) => matches,
         Err(error) => return Err(words_fault(&error)),
     };
+    request_of(alloc, &matches)
+}
+
+/// What the words that were taken ask for.
+fn request_of<'w>(alloc: Global, matches: &ArgMatches<'w>) -> Result<Request<'w>, Fault<'w>>
+    ensures { IfErr result (λ fault. (fault_lent fault ≡ Usage) ⊎ (fault_lent fault ≡ NoMemory)) }
+{
     match matches.subcommand() {
         Some(("list", matches)) => match matches.get_str("FILE") {
             Some(path) => Ok(Request::List(path)),
@@ -89,12 +96,20 @@ fn words_fault(error: &clap::Error) -> Fault<'static>
 }
 
 fn jclink_command<'a>(alloc: Global) -> Result<Command<'a>, AllocError> {
-    Command::new(alloc, "jclink")
+    let command = Command::new(alloc, "jclink")
         .no_binary_name(true)
-        .subcommand_required(true)
-        .subcommand(session_command(alloc)?)?
-        .subcommand(list_command(alloc)?)?
-        .subcommand(check_command(alloc)?)
+        .subcommand_required(true);
+    let command = with_subcommand(command, session_command(alloc))?;
+    let command = with_subcommand(command, list_command(alloc))?;
+    with_subcommand(command, check_command(alloc))
+}
+
+/// The command with a subcommand more, where there is memory for both.
+fn with_subcommand<'a>(
+    command: Command<'a>,
+    subcommand: Result<Command<'a>, AllocError>,
+) -> Result<Command<'a>, AllocError> {
+    command.subcommand(subcommand?)
 }
 
 fn session_command<'a>(alloc: Global) -> Result<Command<'a>, AllocError> {

@@ -14,6 +14,6 @@ returns-clause-kept c =
     record {
       part = c.in_ok-part.ensures.part m d closed;
       reach = subst (λ names. Lists names (Reach m d)) (sym c.into_names.ensures) closed.names;
-      provided = subst (λ own. AreKeys c.in_ok-provided.provided (provided_by own part)) (c.record.ensures m d closed) c.in_ok-provided.ensures;
-      required = subst (λ own. AreKeys c.in_ok-required.required (required_by own part)) (c.record-2.ensures m d closed) c.in_ok-required.ensures;
+      provided = subst (λ own. AreKeys c.in_ok-provided.provided (provided_by own part)) (c.record.ensures m d closed) c.in_ok-provided.ensures.provided;
+      required = subst (λ own. AreKeys c.in_ok-provided.required (required_by own part)) (c.record.ensures m d closed) c.in_ok-provided.ensures.required;
     }

@@ -1,5 +1,5 @@
-//! Answers frames of standard input, each a length of four bytes (big-endian) and so many bytes. The
-//! first argument says what is asked of them:
+//! What trials ask of the libraries. The frames of standard input, each a length of four bytes
+//! (big-endian) and so many bytes, are answered; a word says what is asked of them:
 //!
 //! - `parse`: a line for each: `ok` and the class's name in hexadecimal, or the refusal.
 //! - `texts`: `yes` or `no` for each: whether it is a text of the kind that its first byte tells.
@@ -14,7 +14,6 @@
 //! - `count-bytes N`, `count-parse N`, `count-faults N`, `count-insns N`, `count-code-faults N`: one number,
 //!   summed over N rounds: the bytes, how many are readable, how many faults they have, how many
 //!   instructions, or how many code faults.
-#![tactic(auto)]
 
 mod counts;
 mod edits;
@@ -35,8 +34,7 @@ use jc_text::TextWriter;
 use links::{count_links, write_link};
 use listings::write_listings;
 use std::alloc::Global;
-use std::io::{BufWriter, Read};
-use std::{env, io};
+use std::io::{self, BufWriter, Read};
 use texts::kind_answer;
 
 /// What is told of each frame.
@@ -151,36 +149,41 @@ fn print_link_counts(rt: &(impl Print + AllocGlobal), input: &[u8]) -> io::Resul
 fn print_sum(
     rt: &(impl Print + AllocGlobal),
     counted: Counted,
-    rounds: Option<String>,
+    rounds: &str,
     input: &[u8],
 ) -> io::Result<()> {
-    let rounds = rounds
-        .and_then(|text| text.parse::<u32>().ok())
-        .unwrap_or(1);
+    let rounds = rounds.parse::<u32>().unwrap_or(1);
     let sum = sum_of_rounds(rt.alloc(), counted, rounds, input);
     println!(rt; "{sum}")
 }
 
-fn main(rt: HostRuntime) -> io::Result<()> {
+/// Answers the frames of standard input, by a word that says what is asked and one that says more.
+pub(crate) fn answer_frames(rt: &HostRuntime, asked: &str, more: &str) -> io::Result<()> {
     let mut input = Vec::new(rt.alloc());
     rt.reader().read_to_end(&mut input)?;
-    let mut arguments = env::args(&rt)?.skip(1);
-    let asked = arguments.next().unwrap_or(String::new(rt.alloc()));
-    let rounds = arguments.next();
-    match asked.as_str() {
-        "parse" => print_answers(&rt, Asked::Parse, &input),
-        "texts" => print_kinds(&rt, &input),
-        "faults" => print_answers(&rt, Asked::Faults, &input),
-        "code-faults" => print_answers(&rt, Asked::CodeFaults, &input),
-        "listings" => print_listings(&rt, &input),
-        "link" => print_link(&rt, rounds.as_ref().map_or("", String::as_str), &input),
-        "edits" => print_lists(&rt, &input),
-        "count-links" => print_link_counts(&rt, &input),
-        "count-bytes" => print_sum(&rt, Counted::Bytes, rounds, &input),
-        "count-parse" => print_sum(&rt, Counted::Readable, rounds, &input),
-        "count-faults" => print_sum(&rt, Counted::Faults, rounds, &input),
-        "count-insns" => print_sum(&rt, Counted::Instructions, rounds, &input),
-        "count-code-faults" => print_sum(&rt, Counted::CodeFaults, rounds, &input),
+    answer_input(rt, asked, more, &input)
+}
+
+fn answer_input(
+    rt: &(impl Print + AllocGlobal),
+    asked: &str,
+    more: &str,
+    input: &[u8],
+) -> io::Result<()> {
+    match asked {
+        "parse" => print_answers(rt, Asked::Parse, input),
+        "texts" => print_kinds(rt, input),
+        "faults" => print_answers(rt, Asked::Faults, input),
+        "code-faults" => print_answers(rt, Asked::CodeFaults, input),
+        "listings" => print_listings(rt, input),
+        "link" => print_link(rt, more, input),
+        "edits" => print_lists(rt, input),
+        "count-links" => print_link_counts(rt, input),
+        "count-bytes" => print_sum(rt, Counted::Bytes, more, input),
+        "count-parse" => print_sum(rt, Counted::Readable, more, input),
+        "count-faults" => print_sum(rt, Counted::Faults, more, input),
+        "count-insns" => print_sum(rt, Counted::Instructions, more, input),
+        "count-code-faults" => print_sum(rt, Counted::CodeFaults, more, input),
         _ => Err(io::Error::from(io::ErrorKind::InvalidInput)),
     }
 }

@@ -1,6 +1,6 @@
 //! The parts of the classes of a world.
 
-use crate::frames::Frames;
+use crate::trials::frames::Frames;
 use jc_base::{NoMemory, Output};
 use jc_file::{ParseError, parse};
 use jc_link::{Facts, Meter, Outside, Part, Table, gather, make_part};

@@ -1,6 +1,6 @@
 //! Rounds over frames that give a number alone, to be measured.
 
-use crate::frames::Frames;
+use crate::trials::frames::Frames;
 use jc_code::{Insns, faults_in, method_code};
 use jc_file::{Code, format_faults, parse};
 use std::alloc::Global;

@@ -1,6 +1,6 @@
 //! Lists of edits of a session, and what is said of it between them.
 
-use crate::frames::Frames;
+use crate::trials::frames::Frames;
 use jc_base::{NoMemory, Output};
 use jc_link::Outside;
 use jc_session::{Done, Edit, EditError, Session, write_report};
@@ -55,9 +55,18 @@ fn write_line<W: Output>(out: &mut W, line: &[u8]) {
 fn write_list<W: Output>(alloc: Global, out: &mut W, frame: &[u8]) -> Result<(), NoMemory> {
     let mut frames = Frames::new(frame);
     let mut session = Session::new(alloc, outside(alloc, &mut frames)?)?;
+    do_steps(alloc, out, &mut session, &mut frames)
+}
+
+fn do_steps<W: Output>(
+    alloc: Global,
+    out: &mut W,
+    session: &mut Session,
+    frames: &mut Frames<'_>,
+) -> Result<(), NoMemory> {
     while let (Some(word), Some(bytes)) = (frames.next(), frames.next()) {
         if let Some(asked) = Asked::of(word) {
-            do_step(alloc, out, &mut session, asked, bytes)?;
+            do_step(alloc, out, session, asked, bytes)?;
         }
     }
     Ok(())

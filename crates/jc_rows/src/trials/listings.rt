@@ -1,6 +1,6 @@
 //! The listings of frames.
 
-use crate::frames::Frames;
+use crate::trials::frames::Frames;
 use jc_base::{DeviceFault, Output, write_all};
 use jc_file::parse;
 use jc_list::{ListError, write_listing};

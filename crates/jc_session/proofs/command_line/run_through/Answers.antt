@@ -1,0 +1,31 @@
+use Rattle.std.proofs.Common.{◌∙◌, List, Ok, Err, ap, subst}
+use Rattle.jc_classes.specs.Names.{Name}
+use Rattle.jc_report.specs.Files.{Files}
+use Rattle.jc_report.specs.Reports.{IsReport}
+use Rattle.jc_session.proofs.runs.FailuresCounted.{input_counts, output_counts}
+use Rattle.jc_session.proofs.command_line.run_through.Goals as goal
+
+pub returns-in-Ok : goal.returns-in-Ok
+returns-in-Ok g c =
+    let f = c.run.new.session.files in
+    let wrong = c.wrong.ensures in
+    let is : IsReport f c.args.session.now.prefixes wrong.0 =
+    subst (λ (p : List Name). IsReport f p wrong.0) (c.report.ensures.prefixes ∙ c.in-Ok.ensures.prefixes)
+    (subst (λ (x : Files). IsReport x c.report.result.now.prefixes wrong.0) c.report.ensures.files wrong.1) in (
+      Ok c.in-Ok.field-0,
+      (wrong.0, is, ap Ok wrong.2),
+      c.in-Ok.ensures.reads,
+      c.in-Ok.ensures.writes,
+      c.in-Ok.ensures.runs,
+      c.in-Ok.ensures.by_answers,
+    )
+
+pub returns-in-Err : goal.returns-in-Err
+returns-in-Err g c = (
+  Err c.in-Err.error,
+  ap Err c.from.ensures,
+  rw c.from.ensures (input_counts c.in-Err.error _ _ c.in-Err.ensures.reads),
+  rw c.from.ensures (output_counts c.in-Err.error _ _ c.in-Err.ensures.writes),
+  c.in-Err.ensures.runs,
+  c.in-Err.ensures.by_answers,
+)
