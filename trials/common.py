@@ -1,7 +1,7 @@
 """What the trials share: the programs that they run, class files from javac, and memory that is refused.
 
-A trial is run from anywhere by its path, as trials/parse/run.py. The program jc_trials answers frames of
-its input; its first word says what is asked of them.
+A trial is run from anywhere by its path, as trials/parse/run.py. The program jc_rows, with the word frames,
+answers frames of its input; its next word says what is asked of them.
 """
 import argparse
 import importlib.util
@@ -16,8 +16,10 @@ import zipfile
 
 TOP = pathlib.Path(__file__).resolve().parent.parent
 TRIALS = TOP / "trials"
-CRATE = TOP / "crates" / "jc_trials"
-PROGRAM = CRATE / "out" / "jc_trials"
+CRATE = TOP / "crates" / "jc_rows"
+PROGRAM = CRATE / "out" / "jc_rows"
+# The command that answers frames, but for what is asked of them.
+ANSWERS = [PROGRAM, "frames"]
 # The environment may name another program.
 JCLINK = pathlib.Path(os.environ.get("JCLINK", TOP / "crates" / "jclink" / "out" / "jclink"))
 
@@ -50,9 +52,8 @@ def load(path):
 
 
 def build():
-    """Proves and builds jc_trials, where that is still to do."""
-    with open(CRATE / "stdin", "rb") as frames:
-        done = subprocess.run(["rt", "run", "--", "faults"], cwd=CRATE, stdin=frames, capture_output=True, check=False)
+    """Proves and builds jc_rows, where that is still to do."""
+    done = subprocess.run(["rt", "run", "--", "frames", "faults"], cwd=CRATE, stdin=subprocess.DEVNULL, capture_output=True, check=False)
     if done.returncode != 0 or not PROGRAM.exists():
         sys.exit("the program was not built:\n" + done.stderr.decode())
 
@@ -66,7 +67,7 @@ def framed(frames):
 
 
 def answer_text(word, frames):
-    return subprocess.run([PROGRAM, word], input=framed(frames), stdout=subprocess.PIPE, check=True).stdout.decode()
+    return subprocess.run([*ANSWERS, word], input=framed(frames), stdout=subprocess.PIPE, check=True).stdout.decode()
 
 
 def ask(word, frames):

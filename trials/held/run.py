@@ -6,7 +6,7 @@ The judge (trials/check, trials/link) makes the whole report afresh from the fil
 the library. An edit has to make just the parts of the classes behind it whose reach held a name that it touched, or
 that it brought, and may ask for their reaches' names, and two more.
 
-Usage: run.py [SEED [COUNT]], seed 1 and 2,000 lists where none is given, once jc_trials is built.
+Usage: run.py [SEED [COUNT]], seed 1 and 2,000 lists where none is given, once jc_rows is built.
 """
 import argparse
 import collections
@@ -153,7 +153,7 @@ def main():
     for start in range(0, options.count, BATCH):
         numbers = range(start, min(start + BATCH, options.count))
         scripts = [script_of(*random_steps(random.Random(f"{options.seed}.{number}"))) for number in numbers]
-        done = subprocess.run([common.PROGRAM, "edits"], input=b"".join(frames for frames, _ in scripts), capture_output=True)
+        done = subprocess.run([*common.ANSWERS, "edits"], input=b"".join(frames for frames, _ in scripts), capture_output=True)
         lines = done.stdout.decode("ascii").split("\n")[:-1]
         for number, (_, owed) in zip(numbers, scripts):
             differ += not compare(number, lines[:len(owed)], owed, told)

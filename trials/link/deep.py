@@ -2,7 +2,7 @@
 """The part of the last of many classes that reach one another: in a chain, in a ring, and in other shapes.
 
 Usage: deep.py [COUNT]. COUNT is the greatest number of classes, 65,535 where none is given; each shape is made
-with that many, and with a half, a quarter and an eighth of them. It builds the program jc_trials by `rt run`, and
+with that many, and with a half, a quarter and an eighth of them. It builds the program jc_rows by `rt run`, and
 tells asks and seconds of a processor, less those of as many classes that reach only themselves.
 """
 import pathlib
@@ -46,7 +46,7 @@ def told(last, frames):
     least = None
     for _ in range(3):
         before = resource.getrusage(resource.RUSAGE_CHILDREN)
-        done = subprocess.run([common.PROGRAM, "link", last], input=frames, stdout=subprocess.PIPE, check=True)
+        done = subprocess.run([*common.ANSWERS, "link", last], input=frames, stdout=subprocess.PIPE, check=True)
         after = resource.getrusage(resource.RUSAGE_CHILDREN)
         took = after.ru_utime + after.ru_stime - before.ru_utime - before.ru_stime
         least = took if least is None else min(least, took)

@@ -5,7 +5,7 @@ Both read the same class files from a file and write their text to one; the prog
 file too, and the plain one judges nothing. The times are seconds of a processor, the least of several runs.
 
 Usage: plain.py [--jars FOLDER] [--seed N]. Without --jars it lists what it compiles from trials/sources. It
-builds jc_trials by `rt run`, and needs javac and rustc.
+builds jc_rows by `rt run`, and needs javac and rustc.
 """
 import pathlib
 import resource
@@ -49,7 +49,7 @@ def main():
         files, _ = common.files_of_trees(work, options)
         frames, ours, theirs = work / "frames", work / "ours", work / "theirs"
         frames.write_bytes(common.framed([path.read_bytes() for path in files]))
-        mine = list_all([common.PROGRAM, "listings"], frames, ours)
+        mine = list_all([*common.ANSWERS, "listings"], frames, ours)
         plain = list_all([build_plain(work)], frames, theirs)
         listed, expected = (text.read_bytes().split(b"\nend\n")[:-1] for text in (ours, theirs))
         unlike = [path for path, one, other in zip(files, listed, expected) if one != other]

@@ -1,7 +1,7 @@
 //! A plain program that prints listings: it trusts each file, judges nothing, and proves nothing.
 //!
 //! It reads frames from its standard input, a length of four bytes and so many bytes each, and writes
-//! the listing of each and a line `end`, as `jc_trials listings` does. Of a class file with no fault the
+//! the listing of each and a line `end`, as `jc_rows frames listings` does. Of a class file with no fault the
 //! two texts are the same. A file that is none makes it panic.
 
 use std::io::{stdin, stdout, Read, Stdout, Write};

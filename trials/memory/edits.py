@@ -1,7 +1,7 @@
 #!/usr/bin/env python3
 """Refuses each request for memory of edits in turn, and compares what the session says before and after.
 
-Usage: edits.py, once jc_trials is built. It needs a C compiler.
+Usage: edits.py, once jc_rows is built. It needs a C compiler.
 Each edit of a few lists is asked for twice, with the report and the dependants of the lists' names behind each time. An
 edit that is refused for want of memory has to leave both as they were, and the same edit then gives what it would have
 given. Last, how many requests the edit makes that adds one more class to 200, and to 400, that refer to no other.
@@ -83,7 +83,7 @@ def is_owed(pairs, owed):
 def refuse_each(what, steps, folder, shim):
     """Refuses each request in turn, and counts those that an edit felt."""
     def run(number):
-        return common.run_refused([common.PROGRAM, "edits"], frames_of(steps), folder, shim, number)
+        return common.run_refused([*common.ANSWERS, "edits"], frames_of(steps), folder, shim, number)
 
     status, text, _, count = run(0)
     owed, felt, beside = told_of(text), 0, 0
@@ -104,10 +104,10 @@ def requests_of_the_last(classes, folder, shim):
     """How many requests the edit makes that adds one more class to so many."""
     names = [b"C%d" % number for number in range(classes + 1)]
     frames = common.framed([common.framed([b""] + [frame for name in names for frame in (b"a" + name, named(name))])])
-    _, _, _, number = common.run_refused([common.PROGRAM, "edits"], frames, folder, shim, 0)
+    _, _, _, number = common.run_refused([*common.ANSWERS, "edits"], frames, folder, shim, 0)
     refused = otherwise = 0
     while otherwise < 40:
-        _, text, _, _ = common.run_refused([common.PROGRAM, "edits"], frames, folder, shim, number)
+        _, text, _, _ = common.run_refused([*common.ANSWERS, "edits"], frames, folder, shim, number)
         is_last = text.decode().splitlines()[-2:-1] == [NO_MEMORY]
         refused, otherwise = refused + is_last, 0 if is_last else otherwise + 1
         number -= 1

@@ -1,5 +1,5 @@
 #!/usr/bin/env python3
-"""Refuses each request for memory of jc_trials in turn while it looks for format faults.
+"""Refuses each request for memory of jc_rows in turn while it looks for format faults.
 
 Usage: faults.py. It builds the program by `rt run`, and needs a C compiler. The line of the file that is being judged is then a refusal for want of memory, and the line of any other
 file is as it is with ample memory; or the program ends with an error before it answers.
@@ -11,12 +11,12 @@ sys.dont_write_bytecode = True
 sys.path.insert(0, str(pathlib.Path(__file__).resolve().parent.parent))
 import common
 
-FRAMES = (common.CRATE / "stdin").read_bytes()
+FRAMES = (common.TRIALS / "memory" / "frames").read_bytes()
 LACKS = ("no memory", "refused 9 NoMemory")
 
 
 def run(folder, shim, number):
-    status, out, _, count = common.run_refused([common.PROGRAM, "faults"], FRAMES, folder, shim, number)
+    status, out, _, count = common.run_refused([*common.ANSWERS, "faults"], FRAMES, folder, shim, number)
     return status, out.decode().splitlines(), count
 
 

@@ -1,9 +1,9 @@
 #!/usr/bin/env python3
 """Measures what edits cost on a standing tree: all its files added one by one, then edits of classes with few and many
 dependants. Milliseconds from a line of `jclink session` to its answer, the reading of the file with them; parts and
-names asked for as jc_trials tells them of the same edits.
+names asked for as jc_rows tells them of the same edits.
 
-Usage: edits.py TREE, once jclink and jc_trials are built. What depends on a class is found by this script's own
+Usage: edits.py TREE, once jclink and jc_rows are built. What depends on a class is found by this script's own
 reading of the class files. Each edit of the second table is made three times, and the least time told.
 """
 import collections
@@ -141,7 +141,7 @@ def counts_told(folder, lines):
         word, path = line.split(b" ", 1)
         data = b"" if word == b"remove" else (folder / os.fsdecode(path)).read_bytes()
         frames += [letters[word] + path, data]
-    done = subprocess.run([common.PROGRAM, "edits"], input=common.framed([common.framed(frames)]), capture_output=True, check=True)
+    done = subprocess.run([*common.ANSWERS, "edits"], input=common.framed([common.framed(frames)]), capture_output=True, check=True)
     return [tuple(map(int, line.split()[1:])) for line in done.stdout.splitlines() if line.startswith(b"ok ")]
 
 

@@ -1,4 +1,4 @@
-"""Measuring jc_trials: the processor time of N rounds over frames in memory, less that of none."""
+"""Measuring jc_rows: the processor time of N rounds over frames in memory, less that of none."""
 import os
 import subprocess
 import sys
@@ -11,7 +11,7 @@ RUNS = 9
 def processor_seconds(frames, word, rounds):
     """The processor time of the program over the file of frames, and the number that it prints."""
     with open(frames, "rb") as text:
-        process = subprocess.Popen([common.PROGRAM, word, str(rounds)], stdin=text, stdout=subprocess.PIPE)
+        process = subprocess.Popen([*common.ANSWERS, word, str(rounds)], stdin=text, stdout=subprocess.PIPE)
         line = process.stdout.read()
         _, status, usage = os.wait4(process.pid, 0)
         process.returncode = os.waitstatus_to_exitcode(status)
