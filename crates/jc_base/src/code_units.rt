@@ -9,7 +9,7 @@ use std::marker::Model;
 
 /// The UTF-16 code units that a text of modified UTF-8 spells (JVMS 4.4.7), without memory. In other
 /// bytes it ends before the first that spell no unit.
-#[derive(Debug, Drop)]
+#[derive(Drop)]
 pub struct Units<'a> {
     rest: &'a [u8],
 }

@@ -10,7 +10,7 @@ use std::marker::Model;
 /// A place in bytes, from which numbers and slices are read.
 ///
 /// A read that wants more bytes than are left answers `None` and changes nothing.
-#[derive(Debug, Drop)]
+#[derive(Drop)]
 pub struct Cursor<'a> {
     place: usize,
     rest: &'a [u8],

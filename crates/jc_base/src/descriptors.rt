@@ -16,7 +16,7 @@ use std::marker::Model;
 const MOST_DIMS: usize = 255;
 
 /// A field descriptor, read: the type of a field, a local variable or a parameter (JVMS 4.3.2).
-#[derive(Debug, Drop)]
+#[derive(Drop)]
 pub struct FieldDesc<'a> {
     dims: u8,
     element: &'a [u8],
@@ -79,7 +79,7 @@ impl<'a> FieldDesc<'a> {
 }
 
 /// A method descriptor, read: the types of a method's parameters and of its result (JVMS 4.3.3).
-#[derive(Debug, Drop)]
+#[derive(Drop)]
 pub struct MethodDesc<'a> {
     params: &'a [u8],
     result: Option<&'a [u8]>,
@@ -149,7 +149,7 @@ impl<'a> MethodDesc<'a> {
 }
 
 /// The parameters of a method descriptor, each a field descriptor.
-#[derive(Clone, Copy, Debug)]
+#[derive(Clone, Copy)]
 pub struct Params<'a> {
     rest: &'a [u8],
     // Each takes a slot at least.

@@ -16,7 +16,7 @@ use crate::no_memory::NoMemory;
 use std::alloc::Global;
 
 /// What a signature is of.
-#[derive(Clone, Copy, Debug, PartialEq, Eq)]
+#[derive(Clone, Copy)]
 pub enum SigKind {
     /// A class or an interface.
     Class,

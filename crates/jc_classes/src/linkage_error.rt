@@ -4,7 +4,7 @@ ghost use Rattle.std.specs.Prelude.{◌≡◌};
 ghost use Rattle.jc_classes.specs.LinkageErrors.{error_code, error_name};
 
 /// Why a class does not load, or a reference has no class, field or method.
-#[derive(Clone, Copy, Debug, PartialEq, Eq)]
+#[derive(Clone, Copy)]
 pub enum LinkageError {
     /// No class has the name (`NoClassDefFoundError`, JVMS 5.3.5).
     NoClass,

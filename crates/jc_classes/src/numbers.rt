@@ -89,7 +89,8 @@ impl Numbers {
         Err(NoMemory)
     }
 
-    /// The same of a name that is likely the one of a number near at hand, which is compared first.
+    /// The number of a name, as `number` gives it. `near` is a number that the name is likely to have: it is
+    /// looked at first.
     pub fn number_near(
         &mut self,
         alloc: Global,
@@ -119,23 +120,6 @@ impl Numbers {
     {
         let node = self.number(alloc, name)?;
         row.push(node)?;
-        Ok(())
-    }
-
-    /// Adds the numbers of names to a row.
-    pub fn number_all(
-        &mut self,
-        alloc: Global,
-        row: &mut Vec<usize>,
-        names: &[Vec<u8>],
-    ) -> Result<(), NoMemory>
-        requires once { IsOnce self.old }
-        requires row { All (λ v. v < length self.old) row.old.items }
-        ensures { OnOk result (Rows self.old row.old.items self.new row.new.items (names_of names.now)) }
-    {
-        for name in names {
-            self.number_into(alloc, row, name.as_slice())?;
-        }
         Ok(())
     }
 

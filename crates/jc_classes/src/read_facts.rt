@@ -9,6 +9,8 @@ ghost use Rattle.jc_view.specs.Lookups.{utf8_at};
 ghost use Rattle.jc_file.specs.Faults.{faults};
 ghost use Rattle.jc_code.specs.MethodFaults.{code_faults, method_faults};
 ghost use Rattle.jc_classes.specs.FactsOf.{class_name, class_reference, facts_of, faulty_facts, interfaces_in, member_of, member_reference, reference_at, references_in, sound_facts};
+ghost use Rattle.jc_classes.specs.inside.ClassTexts.{Tells};
+ghost use Rattle.jc_classes.specs.inside.Entries.{AreEntries};
 ghost use Rattle.jc_classes.specs.inside.FactsShown.{member_shown, reference_shown, text_at};
 ghost use Rattle.jc_classes.specs.inside.ConstantTexts.{key_at, key_shown, texts_of};
 
@@ -38,6 +40,17 @@ impl Facts {
     }
 }
 
+/// What linking asks for of a class file, by the numbers of its texts.
+#[derive(Drop)]
+struct Entries {
+    name: u16,
+    superclass: Option<u16>,
+    interfaces: Vec<u16>,
+    fields: Vec<MemberEntry>,
+    methods: Vec<MemberEntry>,
+    references: Vec<ReferenceEntry>,
+}
+
 /// The facts of a class file without a format fault. Entries are read by the indexes of their texts, which are
 /// then numbered, so that no text is kept that linking does not ask for.
 fn sound_facts(alloc: Global, class: &ClassView, path: &[u8]) -> Result<Facts, NoMemory>
@@ -45,25 +58,41 @@ fn sound_facts(alloc: Global, class: &ClassView, path: &[u8]) -> Result<Facts, N
 {
     let path = Vec::from_slice(alloc, path)?;
     let mut texts = ClassTexts::new(alloc, class)?;
+    let entries = read_entries(&mut texts, class)?;
+    let code_faults = all_code_faults(alloc, class)?;
+    Ok(Facts {
+        path,
+        texts: texts.into_list(),
+        name: entries.name,
+        flags: class.flags(),
+        superclass: entries.superclass,
+        interfaces: entries.interfaces,
+        fields: entries.fields,
+        methods: entries.methods,
+        references: entries.references,
+        format_faults: Vec::new(alloc),
+        code_faults,
+    })
+}
+
+/// Reads the entries of a class file, and numbers their texts.
+fn read_entries(texts: &mut ClassTexts, class: &ClassView) -> Result<Entries, NoMemory>
+    requires { texts.old.class ≡ class.now }
+    ensures { IfOk result (λ entries. Tells texts.old texts.new (λ numbered. AreEntries class.now numbered entries)) }
+{
     let name = texts.number(own_name_index(class))?;
     let superclass = texts.number_of_some(name_index(class, class.super_class()))?;
     let interfaces = texts.interfaces()?;
     let fields = texts.members(class.fields())?;
     let methods = texts.members(class.methods())?;
     let references = texts.references()?;
-    let code_faults = all_code_faults(alloc, class)?;
-    Ok(Facts {
-        path,
-        texts: texts.into_list(),
+    Ok(Entries {
         name,
-        flags: class.flags(),
         superclass,
         interfaces,
         fields,
         methods,
         references,
-        format_faults: Vec::new(alloc),
-        code_faults,
     })
 }
 

@@ -22,10 +22,10 @@ use jc_view::{ExceptionHandler, Handlers};
 pub(crate) fn is_clean(scope: &Scope, is_kept: bool, jumps: &[Insn], handlers: Handlers) -> bool
     ensures { IsTrue result → (items : List (ℕ × Insn)) → is_kept ≡ others_keep (without_starts scope.now) items → jumps.now ≡ jumps_of items → AreKept scope.now items handlers.entry }
 {
-    is_kept && keep_rules(scope, jumps) && keeps_handlers(scope, handlers)
+    is_kept && all_keep_rules(scope, jumps) && keeps_handlers(scope, handlers)
 }
 
-fn keep_rules(scope: &Scope, insns: &[Insn]) -> bool
+fn all_keep_rules(scope: &Scope, insns: &[Insn]) -> bool
     ensures { result ≡ list_all (keeps_rules scope.now) insns.now }
 {
     for insn in insns {

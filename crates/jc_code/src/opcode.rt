@@ -7,7 +7,7 @@ ghost use Rattle.jc_code.specs.inside.Entries.{entry_of};
 use std::marker::Model;
 
 /// What stands behind an opcode.
-#[derive(Clone, Copy, Debug, PartialEq, Eq)]
+#[derive(Clone, Copy)]
 pub enum Operands {
     /// Nothing.
     Empty,
@@ -52,7 +52,7 @@ pub enum Operands {
 }
 
 /// An opcode of the instruction set: a number from 0 to 201.
-#[derive(Clone, Copy, Debug, PartialEq, Eq)]
+#[derive(Clone, Copy, PartialEq, Eq)]
 pub struct Opcode {
     number: u8,
 }

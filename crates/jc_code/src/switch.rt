@@ -113,7 +113,7 @@ impl<'a> LookupSwitch<'a> {
 }
 
 /// A value of a `lookupswitch`, and its target.
-#[derive(Clone, Copy, Debug, PartialEq, Eq)]
+#[derive(Clone, Copy)]
 pub struct Case {
     pub value: i32,
     pub target: i64,

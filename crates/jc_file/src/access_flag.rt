@@ -10,7 +10,7 @@ use crate::rules::access_flags::{
 };
 
 /// An access flag. Some share a bit, and mean one thing on a class, another on a field or a method.
-#[derive(Clone, Copy, Debug, PartialEq, Eq)]
+#[derive(Clone, Copy)]
 pub enum AccessFlag {
     Public,
     Private,

@@ -1,11 +1,12 @@
 //! The parts that an edit needs are made and linked before anything is taken away.
 
-ghost use Rattle.std.specs.Prelude.{◌≡◌, ◌||◌, IfOk, None, OnErr, Some};
+ghost use Rattle.std.specs.Prelude.{◌≡◌, ◌||◌, ◌&&◌, IfOk, None, OnErr, OnOk, Some};
 ghost use Rattle.std.specs.FinMap as map;
 ghost use Rattle.std.specs.Option.{option_copied};
-ghost use Rattle.jc_classes.specs.Names.{Name, names_of};
+ghost use Rattle.jc_classes.specs.NameLists.{has};
+ghost use Rattle.jc_classes.specs.Names.{Name, names_of, same_name};
 ghost use Rattle.jc_link.specs.Tables.{world};
-ghost use Rattle.jc_held.specs.inside.Kept.{AreLinked, Relation, fresh_has, held_in, linked};
+ghost use Rattle.jc_held.specs.inside.Kept.{AreLinked, Relation, fresh_has, held_in, linked, names_by};
 ghost use Rattle.jc_held.specs.inside.Readying.{IsReady};
 
 use crate::kept::{Fresh, Kept, make_fresh, make_one};
@@ -59,32 +60,68 @@ fn prepare_with(
     ensures linked { IfOk result (λ fresh. (r : Relation) (n d : Name) → linked r links.new n d ≡ (held_in r kept.new d n || fresh_has r fresh.items d n)) }
 {
     let fresh = make_fresh(alloc, table, outside, names, meter)?;
+    let newcomer = make_one(alloc, table, outside, name, meter)?;
+    link_and_keep(kept, links, &fresh, newcomer)?;
+    Ok(fresh)
+}
+
+/// Links parts and that of a newcomer, which is kept. At want of memory the links and what is kept are as
+/// before.
+fn link_and_keep(
+    kept: &mut ByteMap<Kept>,
+    links: &mut Links,
+    fresh: &[Fresh],
+    newcomer: Fresh,
+) -> Result<(), NoMemory>
+    requires linked { AreLinked kept.old links.old }
+    requires absent { map.get kept.old newcomer.name.items ≡ None }
+    ensures kept_err { OnErr result (kept.new ≡ kept.old) }
+    ensures linked_err { OnErr result (AreLinked kept.old links.new) }
+    ensures kept_ok { OnOk result (kept.new ≡ map.insert kept.old newcomer.name.items newcomer.kept) }
+    ensures linked { OnOk result ((r : Relation) (n d : Name) → linked r links.new n d ≡ (held_in r kept.new d n || fresh_has r fresh.now d n)) }
+{
     let Fresh {
-        name: key,
+        name,
         kept: newcomer,
-    } = make_one(alloc, table, outside, name, meter)?;
-    match link_fresh(links, kept, &fresh) {
-        Ok(()) => {}
-        Err(_) => {
-            undo_links(links, kept, &fresh, name, &newcomer);
-            return Err(NoMemory);
-        }
-    }
-    match links.link(name, &newcomer) {
-        Ok(()) => {}
-        Err(_) => {
-            undo_links(links, kept, &fresh, name, &newcomer);
-            return Err(NoMemory);
-        }
-    }
-    match kept.insert(key, newcomer) {
-        Ok(_) => Ok(fresh),
+    } = newcomer;
+    link_with(links, kept, fresh, &name, &newcomer)?;
+    match kept.insert(name, newcomer) {
+        Ok(_) => Ok(()),
         Err(
             AllocFailed {
-                value: (_, newcomer),
+                value: (name, newcomer),
             },
         ) => {
-            undo_links(links, kept, &fresh, name, &newcomer);
+            undo_links(links, kept, fresh, &name, &newcomer);
+            Err(NoMemory)
+        }
+    }
+}
+
+/// Links parts and that of a newcomer. At want of memory the links are as before.
+fn link_with(
+    links: &mut Links,
+    kept: &ByteMap<Kept>,
+    fresh: &[Fresh],
+    name: &[u8],
+    newcomer: &Kept,
+) -> Result<(), NoMemory>
+    requires linked { AreLinked kept.now links.old }
+    requires absent { map.get kept.now name.now ≡ None }
+    ensures ok { OnOk result ((r : Relation) (n d : Name) → linked r links.new n d ≡ ((held_in r kept.now d n || fresh_has r fresh.now d n) || (same_name d name.now && has (names_by r newcomer.now) n))) }
+    ensures err { OnErr result (AreLinked kept.now links.new) }
+{
+    match link_fresh(links, kept, fresh) {
+        Ok(()) => {}
+        Err(_) => {
+            undo_links(links, kept, fresh, name, newcomer);
+            return Err(NoMemory);
+        }
+    }
+    match links.link(name, newcomer) {
+        Ok(()) => Ok(()),
+        Err(_) => {
+            undo_links(links, kept, fresh, name, newcomer);
             Err(NoMemory)
         }
     }

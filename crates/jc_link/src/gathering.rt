@@ -1,10 +1,12 @@
 //! A class's reach is gathered from a table.
 
-ghost use Rattle.std.specs.Prelude.{◌≡◌, IfOk, length};
+ghost use Rattle.std.specs.Prelude.{◌≡◌, [], IfOk, OnOk, length};
 ghost use Rattle.jc_classes.specs.Lent.{stands_of};
+ghost use Rattle.jc_classes.specs.Numbers.{IsOnce};
 ghost use Rattle.jc_link.specs.Closures.{IsClosure};
 ghost use Rattle.jc_link.specs.Meters.{counted};
 ghost use Rattle.jc_link.specs.Tables.{world};
+ghost use Rattle.jc_link.specs.inside.Gathering.{IsReached, rows_in, stands_in};
 
 use crate::closure::Closure;
 use crate::meter::Meter;
@@ -34,27 +36,57 @@ pub fn gather<'t>(
     numbers.number(alloc, name)?;
     let object = numbers.number(alloc, b"java/lang/Object")?;
     let references = number_references(alloc, &mut numbers, own)?;
-    let row = number_supertypes(alloc, &mut numbers, own)?;
-    let room = numbers.len();
-    let mut standing = Vec::with_capacity(alloc, room)?;
-    let mut supertypes = Vec::with_capacity(alloc, room)?;
-    standing.push(own)?;
-    supertypes.push(row)?;
-    while standing.len() < numbers.len() {
-        let next = stand_at(table, outside, numbers.name(standing.len()), meter);
-        let row = number_supertypes(alloc, &mut numbers, next)?;
-        standing.push(next)?;
-        supertypes.push(row)?;
+    let mut reached = Reached::with_room(alloc, numbers.len())?;
+    reached.push(alloc, &mut numbers, own)?;
+    while reached.standing.len() < numbers.len() {
+        let next = stand_at(table, outside, numbers.name(reached.standing.len()), meter);
+        reached.push(alloc, &mut numbers, next)?;
     }
     let (found, names) = numbers.into_lists(alloc)?;
     Ok(Closure {
         names: NameList::of(names),
         found,
-        standing,
-        supertypes,
+        standing: reached.standing,
+        supertypes: reached.supertypes,
         references,
         object,
     })
+}
+
+/// What stands at the first of the names, and the numbers of their supertypes.
+#[derive(Drop)]
+struct Reached<'t> {
+    standing: Vec<Standing<'t>>,
+    supertypes: Vec<Vec<usize>>,
+}
+
+impl<'t> Reached<'t> {
+    /// Nothing yet, with room for so many names.
+    fn with_room(alloc: Global, room: usize) -> Result<Self, NoMemory>
+        ensures standing { IfOk result (λ r. stands_in r.standing.items ≡ []) }
+        ensures supertypes { IfOk result (λ r. rows_in r.supertypes.items ≡ []) }
+    {
+        Ok(Reached {
+            standing: Vec::with_capacity(alloc, room)?,
+            supertypes: Vec::with_capacity(alloc, room)?,
+        })
+    }
+
+    /// Adds what stands at the next name, and numbers its supertypes.
+    fn push(
+        &mut self,
+        alloc: Global,
+        numbers: &mut Numbers,
+        next: Standing<'t>,
+    ) -> Result<(), NoMemory>
+        requires { IsOnce numbers.old }
+        ensures { OnOk result (IsReached numbers.old (stands_in self.old.standing.items) (rows_in self.old.supertypes.items) (stands_of next.entry) numbers.new (stands_in self.new.standing.items) (rows_in self.new.supertypes.items)) }
+    {
+        let row = number_supertypes(alloc, numbers, next)?;
+        self.standing.push(next)?;
+        self.supertypes.push(row)?;
+        Ok(())
+    }
 }
 
 /// What stands at a name.

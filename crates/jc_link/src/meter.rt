@@ -5,7 +5,7 @@ ghost use Rattle.jc_link.specs.Meters.{counted};
 
 /// How many classes a table was asked for, and how many parts were made. A count stays at its greatest
 /// value. Each table comes with one, and nothing else makes one.
-#[derive(Debug, Drop)]
+#[derive(Drop)]
 pub struct Meter {
     asks: u64,
     made: u64,

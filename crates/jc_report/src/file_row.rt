@@ -3,14 +3,14 @@
 use jc_view::ParseError;
 
 /// The row of a file.
-#[derive(Clone, Copy, Debug)]
+#[derive(Clone, Copy)]
 pub struct FileRow<'a> {
     pub path: &'a [u8],
     pub state: FileState<'a>,
 }
 
 /// What a file is. Names are texts of modified UTF-8, paths are bytes.
-#[derive(Clone, Copy, Debug)]
+#[derive(Clone, Copy)]
 pub enum FileState<'a> {
     /// The file gives the class of this name.
     Class(&'a [u8]),

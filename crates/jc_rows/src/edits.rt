@@ -91,19 +91,11 @@ fn call<W: Output>(
         "holders" => out.decimal(session.holders(argument.parse::<usize>()?)),
         _ => {
             let bytes = bytes_of(alloc, names, rest)?;
-            return make_edit(session, edit_of(alloc, word, argument, bytes)?, out);
+            let edit = edit_of(alloc, word, argument, bytes)?;
+            return Ok(write_done(out, session.edit(edit)));
         }
     }
     Ok(0)
-}
-
-/// Makes an edit, writes what it answers, and tells how often it asked.
-fn make_edit<W: Output>(
-    session: &mut Session,
-    edit: Edit,
-    out: &mut TextWriter<'_, W>,
-) -> Result<u64> {
-    Ok(write_done(out, session.edit(edit)))
 }
 
 /// Adds files, each with a class below java/lang/Object, whose names are the front and a number from 1.

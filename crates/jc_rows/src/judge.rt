@@ -138,18 +138,12 @@ impl Judge {
     ) -> Result<Found> {
         match kind {
             "run" | "edits" => {
-                self.begin(rt.alloc())?;
+                self.session = new_session(rt.alloc())?;
                 self.judge_session(rt.alloc(), kind, what, row)
             }
             "then" | "then-edits" => self.judge_session(rt.alloc(), kind, what, row),
             _ => judge_named(rt, &mut self.names, kind, what, row),
         }
-    }
-
-    /// Begins a session anew.
-    fn begin(&mut self, alloc: Global) -> Result<(), AllocError> {
-        self.session = new_session(alloc)?;
-        Ok(())
     }
 
     /// Judges a row over the session as it stands.

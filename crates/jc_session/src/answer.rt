@@ -21,14 +21,14 @@ use jc_base::Output;
 use jc_list::ListError;
 
 /// What comes after an answer.
-#[derive(Clone, Copy, Debug)]
+#[derive(Clone, Copy)]
 pub(crate) enum Next {
     Line,
     Nothing,
 }
 
 /// Where the bytes of the source go: into a new file, or in the place of a file's bytes.
-#[derive(Clone, Copy, Debug)]
+#[derive(Clone, Copy)]
 pub(crate) enum Placing {
     New,
     Other,

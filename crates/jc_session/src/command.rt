@@ -7,7 +7,7 @@ ghost use Rattle.jc_session.specs.inside.Replies.{command_lent};
 const LONGEST_LINE: usize = 8192;
 
 /// What a line asks for. Paths and names are borrowed from the line.
-#[derive(Clone, Copy, Debug)]
+#[derive(Clone, Copy)]
 pub(crate) enum Command<'a> {
     Add(&'a [u8]),
     Replace(&'a [u8]),

@@ -11,7 +11,7 @@ use std::alloc::{AllocError, AllocFailed};
 use thiserror::Error;
 
 /// An edit of the files, by paths. Paths and bytes are owned; a refusal drops them.
-#[derive(Debug, Drop)]
+#[derive(Drop)]
 pub enum Edit {
     /// A new file at a path, with its bytes.
     Add(Vec<u8>, Vec<u8>),
@@ -50,7 +50,7 @@ impl LentEdit<'_> {
 }
 
 /// What an accepted edit cost: class parts made, and classes asked for.
-#[derive(Clone, Copy, Debug, PartialEq, Eq)]
+#[derive(Clone, Copy)]
 pub struct Done {
     pub made: u64,
     pub asks: u64,

@@ -16,7 +16,7 @@ use jc_text::TextWriter;
 use std::alloc::AllocError;
 
 /// Why the program ends with a line on standard error.
-#[derive(Clone, Copy, Debug)]
+#[derive(Clone, Copy)]
 pub(crate) enum Fault<'w> {
     Usage,
     Input,

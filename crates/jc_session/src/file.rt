@@ -66,13 +66,6 @@ impl File {
         }
     }
 
-    /// Whether the bytes name a class.
-    pub(crate) fn is_readable(&self) -> bool
-        ensures { result ≡ is_ok (class_named self.now) }
-    {
-        self.class.is_ok()
-    }
-
     /// Whether the bytes name the class of this name.
     pub(crate) fn names(&self, name: &[u8]) -> bool
         ensures { result ≡ names self.now name.now }

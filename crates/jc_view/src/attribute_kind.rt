@@ -4,7 +4,7 @@ ghost use Rattle.std.specs.Prelude.{◌≡◌};
 ghost use Rattle.jc_view.specs.Attributes.{attribute_name, belongs_to};
 
 /// What an attribute belongs to.
-#[derive(Clone, Copy, Debug, PartialEq, Eq)]
+#[derive(Clone, Copy)]
 pub enum Holder {
     Class,
     Field,
@@ -14,7 +14,7 @@ pub enum Holder {
 }
 
 /// The attributes that are recognised, each where the standard defines it (JVMS 4.7, table 4.7-C).
-#[derive(Clone, Copy, Debug, PartialEq, Eq)]
+#[derive(Clone, Copy)]
 pub enum AttributeKind {
     ConstantValue,
     Code,

@@ -114,7 +114,7 @@ impl<'v, 'a> Code<'v, 'a> {
 
 /// An exception handler: it stands at `handler_pc`, for the instructions from `start_pc` on and before
 /// `end_pc`, and catches the class of `catch_type`, or anything where that is 0.
-#[derive(Clone, Copy, Debug, PartialEq, Eq)]
+#[derive(Clone, Copy)]
 pub struct ExceptionHandler {
     pub start_pc: u16,
     pub end_pc: u16,

@@ -4,11 +4,11 @@ ghost use Rattle.std.specs.Prelude.{◌≡◌};
 ghost use Rattle.jc_view.specs.ConstantPool.{kind_name, kind_of_tag, is_wide, tag_of};
 
 /// An index into the constant pool.
-#[derive(Clone, Copy, Debug, PartialEq, Eq, PartialOrd, Ord, Hash)]
+#[derive(Clone, Copy, PartialEq, Eq, Hash)]
 pub struct ConstantIndex(pub u16);
 
 /// The kinds of constants (JVMS 4.4, table 4.4-A).
-#[derive(Clone, Copy, Debug, PartialEq, Eq)]
+#[derive(Clone, Copy)]
 pub enum ConstantKind {
     Utf8,
     Integer,
@@ -27,7 +27,7 @@ pub enum ConstantKind {
 }
 
 /// A constant, whose text is a slice of the file (JVMS 4.4). Numbers are the bits that stand there.
-#[derive(Clone, Copy, Debug)]
+#[derive(Clone, Copy)]
 pub enum Constant<'a> {
     Utf8(&'a [u8]),
     Integer(u32),

@@ -5,7 +5,7 @@ ghost use Rattle.std.specs.Prelude.{◌≡◌, ◌<◌, ◌^◌};
 use jc_base::Cursor;
 
 /// What is left of a table: so many entries, the first of which begins at the cursor.
-#[derive(Debug, Drop)]
+#[derive(Drop)]
 pub(crate) struct Table<'a> {
     pub(crate) left: u16,
     pub(crate) cursor: Cursor<'a>,

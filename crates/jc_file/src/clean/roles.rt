@@ -10,7 +10,7 @@ use std::alloc::Global;
 use std::marker::Model;
 
 /// What a constant serves as.
-#[derive(Clone, Copy, Debug, PartialEq, Eq)]
+#[derive(Clone, Copy)]
 pub(crate) enum Role {
     /// A `Class` whose text is the name of a class or interface, or the descriptor of an array.
     Class,
@@ -33,7 +33,7 @@ pub(crate) enum Role {
 }
 
 /// Roles in which a constant serves.
-#[derive(Clone, Copy, Debug)]
+#[derive(Clone, Copy)]
 struct RoleSet {
     class: bool,
     class_or_array: bool,

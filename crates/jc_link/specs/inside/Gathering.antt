@@ -1,12 +1,12 @@
 -- A reach while it is gathered, by numbers.
-use Rattle.std.specs.Prelude.{◌≡◌, ◌++◌, ◌<◌, ℕ, List, [], map, length, Option, option_map, Some, slice_index_or}
+use Rattle.std.specs.Prelude.{◌≡◌, ◌++◌, ◌∷◌, ◌<◌, ℕ, List, [], map, length, Option, option_map, Some, slice_index_or}
 use Rattle.std.specs.List.{Contains}
 use Rattle.std.specs.declared.vec.Vec.{Vec}
 use Rattle.std.specs.declared.alloc.Global.{Global}
 use Rattle.jc_classes.specs.Facts.{Reference}
 use Rattle.jc_classes.specs.Lent.{stands_of}
 use Rattle.jc_classes.specs.Names.{Name, object}
-use Rattle.jc_classes.specs.Numbers.{name_at, IsOnce, Grows}
+use Rattle.jc_classes.specs.Numbers.{name_at, IsOnce, Grows, Rows}
 use Rattle.jc_classes.specs.Parts.{Reach, class_of, names_in}
 use Rattle.jc_classes.specs.Worlds.{Stands, World, supers_of, references_of}
 use Rattle.jc_classes.specs.Worlds.Stands.{Nothing}
@@ -33,6 +33,13 @@ pub record Nodes (old : List Name) (nodes : List (Option ℕ)) (new : List Name)
   pub grows : Grows old new (names_in added)
   pub within : (v : ℕ) → Contains nodes2 (Some v) → v < length new
   pub named : map (option_map (name_at new)) nodes2 ≡ map (option_map (name_at old)) nodes ++ map (λ (r : Reference). class_of r.named) added
+
+-- what stands at the next name was added, with the row of its supertypes, which were numbered
+pub record IsReached (old : List Name) (stands : List Stands) (rows : List (List ℕ)) (next : Stands) (new : List Name) (stands2 : List Stands) (rows2 : List (List ℕ)) : Type 0 where
+  pub row : List ℕ
+  pub numbered : Rows old [] new row (supers_of next)
+  pub stands_more : stands2 ≡ stands ++ next ∷ []
+  pub rows_more : rows2 ≡ rows ++ row ∷ []
 
 -- what stands at the first names, the rows of their supertypes, and names of the reach that wait
 pub record Gathering (m : World) (d : Name) (names : List Name) (stands : List Stands) (rows : List (List ℕ)) (nodes : List (Option ℕ)) : Type 0 where

@@ -1,7 +1,5 @@
-use Rattle.std.proofs.Common.{◌≡◌, ◌<◌, ◌≤◌, ◌+◌, ℕ, ◌++◌, ◌∷◌, [], length, sym, ap, subst, ◌∙◌, arith, length-append}
-use Rattle.std.proofs.lemmas.List.{map-append, length-map}
-use Rattle.std.specs.declared.vec.Vec.{Vec}
-use Rattle.std.specs.declared.alloc.Global.{Global}
+use Rattle.std.proofs.Common.{◌≡◌, ◌<◌, ◌≤◌, ◌+◌, ◌++◌, ◌∷◌, [], length, sym, ap, subst, ◌∙◌, arith, length-append}
+use Rattle.std.proofs.lemmas.List.{length-map}
 use Rattle.jc_classes.specs.Worlds.{supers_of, references_of}
 use Rattle.jc_classes.specs.Names.{names_of}
 use Rattle.jc_classes.specs.Lent.{stands_of}
@@ -24,24 +22,23 @@ loop-numbers-init c =
     let n1 = c.number.new.self in
     let n2 = c.number-2.new.self in
     let n3 = c.number_references.new.numbers in
-    let n4 = c.number_supertypes.new.numbers in
+    let n4 = c.push.new.numbers in
     let nodes = c.in_ok-references.references.items in
     let own = stands_of c.stand_at-own.result in
     let found = c.stand_at-own.ensures.stands in
     let a = c.in_ok-number.ensures in
     let b = c.in_ok-object.ensures in
+    let e = c.in_ok-push.ensures in
     let g1 : Grows [] n1 (d ∷ []) = subst (λ z. Grows z n1 (d ∷ [])) c.new-numbers.ensures a.grows in
     let more : Nodes n2 [] n3 nodes (references_of (m d)) = subst (λ z. Nodes n2 [] n3 nodes (references_of z)) found c.in_ok-references.ensures in
     let first = gathering_first m d n1 n2 n3 c.in_ok-number.field-0 c.in_ok-object.object nodes g1 a.node.0 a.node.1 b.grows b.node.0 b.node.1 more in
     let is : own ≡ m (name_at n3 0) = found ∙ ap m (sym first.first.1) in
     let longer = more.grows.longer in
-    let longer2 = c.in_ok-row.ensures.grows.longer in
-    let st : c.push.new.self.items ≡ c.stand_at-own.result ∷ [] = c.in_ok-push.ensures.items ∙ ap (λ z. z ++ c.stand_at-own.result ∷ []) c.in_ok-standing.ensures.items in
-    let rs : c.push-2.new.self.items ≡ c.in_ok-row.row ∷ [] = c.in_ok-push-2.ensures.items ∙ ap (λ z. z ++ c.in_ok-row.row ∷ []) c.in_ok-supertypes.ensures.items in
+    let st : stands_in c.push.new.self.standing.items ≡ own ∷ [] = e.stands_more ∙ ap (λ z. z ++ own ∷ []) c.in_ok-reached.ensures.standing in
+    let rs : rows_in c.push.new.self.supertypes.items ≡ e.row ∷ [] = e.rows_more ∙ ap (λ z. z ++ e.row ∷ []) c.in_ok-reached.ensures.supertypes in
     record {
-      gathering = gathering_as m d n4 (own ∷ []) _ (c.in_ok-row.row.items ∷ []) _ nodes (ap stands_in st) (ap rows_in rs)
-          (gathering_add m d n3 n4 [] [] nodes own c.in_ok-row.row.items first first.first.0 is c.in_ok-row.ensures);
-      object = (omega (arith, b.node.0), c.in_ok-row.ensures.grows.same _ (omega (arith, b.node.0)) ∙ more.grows.same _ b.node.0 ∙ b.node.1);
+      gathering = gathering_as m d n4 (own ∷ []) _ (e.row ∷ []) _ nodes st rs (gathering_add m d n3 n4 [] [] nodes own e.row first first.first.0 is e.numbered);
+      object = (omega (arith, b.node.0, e.numbered.grows.longer), e.numbered.grows.same _ (omega (arith, b.node.0)) ∙ more.grows.same _ b.node.0 ∙ b.node.1);
       asks = c.stand_at-own.ensures.asks ∙ ap (counted c.args.meter.now.asks) (sym (ap length st));
       made = c.stand_at-own.ensures.made;
     }
@@ -51,26 +48,23 @@ loop-numbers-preserved c =
     let d = c.args.name.now in
     let m = world c.args.table.now c.args.outside.now in
     let ns = c.loop-numbers.numbers in
-    let ns2 = c.number_supertypes-in-loop-numbers.new.numbers in
-    let st = c.loop-numbers.standing.items in
-    let rs = c.loop-numbers.supertypes.items in
-    let o = c.stand_at-next.result in
-    let size = length-map st stands_of in
-    let at : c.len-in-loop-numbers-2.result ≡ length (stands_in st) = omega (arith, c.len-in-loop-numbers-2.ensures, c.loop-numbers.standing.ok.0) in
-    let less : length (stands_in st) < length ns = omega (arith, c.loop-numbers-test.true, c.len.ensures, c.len-in-loop-numbers.ensures, c.loop-numbers.standing.ok.0) in
-    let is : stands_of o ≡ m (name_at ns (length (stands_in st))) = c.stand_at-next.ensures.stands ∙ ap m (c.name.ensures ∙ ap (name_at ns) at) in
-    let row = c.in_ok-row-2.row in
-    let e = c.in_ok-push-3.ensures.items in
+    let ns2 = c.push-in-loop-numbers.new.numbers in
+    let st = stands_in c.loop-numbers.reached.standing.items in
+    let rs = rows_in c.loop-numbers.reached.supertypes.items in
+    let o = stands_of c.stand_at-next.result in
+    let size = length-map c.loop-numbers.reached.standing.items stands_of in
+    let at : c.len-in-loop-numbers-3.result ≡ length st = omega (arith, c.len-in-loop-numbers-3.ensures, c.loop-numbers.reached.standing.ok.0) in
+    let less : length st < length ns = omega (arith, c.loop-numbers-test.true, c.len-in-loop-numbers.ensures, c.len-in-loop-numbers-2.ensures, c.loop-numbers.reached.standing.ok.0) in
+    let is : o ≡ m (name_at ns (length st)) = c.stand_at-next.ensures.stands ∙ ap m (c.name.ensures ∙ ap (name_at ns) at) in
+    let e = c.in_ok-push-2.ensures in
     let object = c.loop-numbers.invariant.object in
-    let grows = c.in_ok-row-2.ensures.grows in
+    let grows = e.numbered.grows in
     let longer = grows.longer in
     record {
-      gathering = gathering_as m d ns2 _ _ _ _ c.in_ok-references.references.items
-          (ap stands_in e ∙ map-append stands_of st (o ∷ []))
-          (ap rows_in c.in_ok-push-4.ensures.items ∙ map-append (λ (v : Vec ℕ Global). v.items) rs (row ∷ []))
-          (gathering_add m d ns ns2 (stands_in st) (rows_in rs) c.in_ok-references.references.items (stands_of o) row.items c.loop-numbers.invariant.gathering less is c.in_ok-row-2.ensures);
+      gathering = gathering_as m d ns2 _ _ _ _ c.in_ok-references.references.items e.stands_more e.rows_more
+          (gathering_add m d ns ns2 st rs c.in_ok-references.references.items o e.row c.loop-numbers.invariant.gathering less is e.numbered);
       object = (omega (arith, object.0), grows.same _ object.0 ∙ object.1);
-      asks = c.stand_at-next.ensures.asks ∙ ap (λ a. counted a 1) c.loop-numbers.invariant.asks ∙ counted_more c.args.meter.now.asks (length st) ∙ ap (counted c.args.meter.now.asks) (sym (ap length e ∙ length-append st (o ∷ [])));
+      asks = c.stand_at-next.ensures.asks ∙ ap (λ a. counted a 1) c.loop-numbers.invariant.asks ∙ counted_more c.args.meter.now.asks (length st) ∙ ap (counted c.args.meter.now.asks) (sym (ap length e.stands_more ∙ length-append st (o ∷ [])));
       made = c.stand_at-next.ensures.made ∙ c.loop-numbers.invariant.made;
     }
 
@@ -80,14 +74,16 @@ loop-numbers-smaller c =
     let ps = c.args.outside.now in
     let m = world t ps in
     let ns = c.loop-numbers.numbers in
-    let ns2 = c.number_supertypes-in-loop-numbers.new.numbers in
-    let st = c.loop-numbers.standing.items in
-    let o = c.stand_at-next.result in
-    let at : c.len-in-loop-numbers-2.result ≡ length st = omega (arith, c.len-in-loop-numbers-2.ensures, c.loop-numbers.standing.ok.0) in
-    let less : length st < length ns = omega (arith, c.loop-numbers-test.true, c.len.ensures, c.len-in-loop-numbers.ensures, c.loop-numbers.standing.ok.0) in
-    let is : stands_of o ≡ m (name_at ns (length st)) = c.stand_at-next.ensures.stands ∙ ap m (c.name.ensures ∙ ap (name_at ns) at) in
-    let next : length c.push-in-loop-numbers.new.self.items ≡ length st + 1 = ap length c.in_ok-push-3.ensures.items ∙ length-append st (o ∷ []) in
-    let grows = c.in_ok-row-2.ensures.grows in
+    let ns2 = c.push-in-loop-numbers.new.numbers in
+    let st = stands_in c.loop-numbers.reached.standing.items in
+    let o = stands_of c.stand_at-next.result in
+    let size = length-map c.loop-numbers.reached.standing.items stands_of in
+    let at : c.len-in-loop-numbers-3.result ≡ length st = omega (arith, c.len-in-loop-numbers-3.ensures, c.loop-numbers.reached.standing.ok.0) in
+    let less : length st < length ns = omega (arith, c.loop-numbers-test.true, c.len-in-loop-numbers.ensures, c.len-in-loop-numbers-2.ensures, c.loop-numbers.reached.standing.ok.0) in
+    let is : o ≡ m (name_at ns (length st)) = c.stand_at-next.ensures.stands ∙ ap m (c.name.ensures ∙ ap (name_at ns) at) in
+    let e = c.in_ok-push-2.ensures in
+    let next : length (stands_in c.push-in-loop-numbers.new.self.standing.items) ≡ length st + 1 = ap length e.stands_more ∙ length-append st (o ∷ []) in
+    let grows = e.numbered.grows in
     let few : length ns2 ≤ length ns + length (supers_of (m (name_at ns (length st)))) = subst (λ z. length ns2 ≤ length ns + length (supers_of z)) is grows.few in
     left_less t ps ns ns2 (length st) _ c.loop-numbers.invariant.gathering.once less next grows.longer grows.same few
 
@@ -97,14 +93,14 @@ invariant_of-result c =
     let d = c.args.name.now in
     let e = c.in_ok-found.ensures.numbered in
     let ns = names_of c.in_ok-found.found.items in
-    let st = c.loop-numbers.standing.items in
-    let rs = rows_in c.loop-numbers.supertypes.items in
+    let st = stands_in c.loop-numbers.reached.standing.items in
+    let rs = rows_in c.loop-numbers.reached.supertypes.items in
     let nodes = c.in_ok-references.references.items in
-    let g : Gathering m d ns (stands_in st) rs nodes = subst (λ z. Gathering m d z (stands_in st) rs nodes) (sym e) c.loop-numbers.invariant.gathering in
-    let over : length ns ≤ length (stands_in st) = omega (arith, c.loop-numbers-test.false, c.len.ensures, c.len-in-loop-numbers.ensures, c.loop-numbers.standing.ok.0, length-map st stands_of, ap length e) in
+    let g : Gathering m d ns st rs nodes = subst (λ z. Gathering m d z st rs nodes) (sym e) c.loop-numbers.invariant.gathering in
+    let over : length ns ≤ length st = omega (arith, c.loop-numbers-test.false, c.len-in-loop-numbers.ensures, c.len-in-loop-numbers-2.ensures, c.loop-numbers.reached.standing.ok.0, length-map c.loop-numbers.reached.standing.items stands_of, ap length e) in
     let rising : IsRisingOf c.of.result ns = rising_list (names_of c.in_ok-found.names.items) c.of.result ns _ c.of.ensures.kept (sym e) c.in_ok-found.ensures.rising in
     let object = subst (λ z. (c.in_ok-object.object < length z) × (name_at z c.in_ok-object.object ≡ java_lang_object)) (sym e) c.loop-numbers.invariant.object in
-    record { net = net_of m d ns (stands_in st) rs nodes g over c.in_ok-object.object object; rising = rising }
+    record { net = net_of m d ns st rs nodes g over c.in_ok-object.object object; rising = rising }
 
 pub returns-clause-closure : goal.returns-clause-closure
 returns-clause-closure c =
@@ -112,13 +108,13 @@ returns-clause-closure c =
     let d = c.args.name.now in
     let e = c.in_ok-found.ensures.numbered in
     let ns = names_of c.in_ok-found.found.items in
-    let st = c.loop-numbers.standing.items in
-    let rs = rows_in c.loop-numbers.supertypes.items in
+    let st = stands_in c.loop-numbers.reached.standing.items in
+    let rs = rows_in c.loop-numbers.reached.supertypes.items in
     let nodes = c.in_ok-references.references.items in
-    let g : Gathering m d ns (stands_in st) rs nodes = subst (λ z. Gathering m d z (stands_in st) rs nodes) (sym e) c.loop-numbers.invariant.gathering in
-    let over : length ns ≤ length (stands_in st) = omega (arith, c.loop-numbers-test.false, c.len.ensures, c.len-in-loop-numbers.ensures, c.loop-numbers.standing.ok.0, length-map st stands_of, ap length e) in
+    let g : Gathering m d ns st rs nodes = subst (λ z. Gathering m d z st rs nodes) (sym e) c.loop-numbers.invariant.gathering in
+    let over : length ns ≤ length st = omega (arith, c.loop-numbers-test.false, c.len-in-loop-numbers.ensures, c.len-in-loop-numbers-2.ensures, c.loop-numbers.reached.standing.ok.0, length-map c.loop-numbers.reached.standing.items stands_of, ap length e) in
     let rising : IsRisingOf c.of.result ns = rising_list (names_of c.in_ok-found.names.items) c.of.result ns _ c.of.ensures.kept (sym e) c.in_ok-found.ensures.rising in
-    closure_of m d ns (stands_in st) rs nodes g over c.of.result rising
+    closure_of m d ns st rs nodes g over c.of.result rising
 
 pub returns-clause-asks : goal.returns-clause-asks
 returns-clause-asks c =
@@ -126,11 +122,11 @@ returns-clause-asks c =
     let d = c.args.name.now in
     let e = c.in_ok-found.ensures.numbered in
     let ns = names_of c.in_ok-found.found.items in
-    let st = c.loop-numbers.standing.items in
-    let rs = rows_in c.loop-numbers.supertypes.items in
+    let st = stands_in c.loop-numbers.reached.standing.items in
+    let rs = rows_in c.loop-numbers.reached.supertypes.items in
     let nodes = c.in_ok-references.references.items in
-    let g : Gathering m d ns (stands_in st) rs nodes = subst (λ z. Gathering m d z (stands_in st) rs nodes) (sym e) c.loop-numbers.invariant.gathering in
-    let over : length ns ≤ length (stands_in st) = omega (arith, c.loop-numbers-test.false, c.len.ensures, c.len-in-loop-numbers.ensures, c.loop-numbers.standing.ok.0, length-map st stands_of, ap length e) in
+    let g : Gathering m d ns st rs nodes = subst (λ z. Gathering m d z st rs nodes) (sym e) c.loop-numbers.invariant.gathering in
+    let over : length ns ≤ length st = omega (arith, c.loop-numbers-test.false, c.len-in-loop-numbers.ensures, c.len-in-loop-numbers-2.ensures, c.loop-numbers.reached.standing.ok.0, length-map c.loop-numbers.reached.standing.items stands_of, ap length e) in
     let rising : IsRisingOf c.of.result ns = rising_list (names_of c.in_ok-found.names.items) c.of.result ns _ c.of.ensures.kept (sym e) c.in_ok-found.ensures.rising in
-    let size = all_asked m d ns (stands_in st) rs nodes g over in
-    c.loop-numbers.invariant.asks ∙ ap (counted c.args.meter.now.asks) (omega (arith, size, length-map st stands_of, rising.count))
+    let size = all_asked m d ns st rs nodes g over in
+    c.loop-numbers.invariant.asks ∙ ap (counted c.args.meter.now.asks) (omega (arith, size, rising.count))

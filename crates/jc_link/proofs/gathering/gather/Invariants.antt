@@ -9,11 +9,11 @@ use Rattle.jc_link.proofs.gathering.gather.Given as goal
 
 abbrev pub invariant-loop-numbers : goal.invariant-loop-numbers
 invariant-loop-numbers l = record {
-  gathering : Gathering (world l.table l.outside) l.name l.numbers (stands_in l.standing.items) (rows_in l.supertypes.items) l.references.items;
+  gathering : Gathering (world l.table l.outside) l.name l.numbers (stands_in l.reached.standing.items) (rows_in l.reached.supertypes.items) l.references.items;
   object : (l.object < length l.numbers) × (name_at l.numbers l.object ≡ object);
-  asks : l.meter.asks ≡ counted l.fn.meter.asks (length l.standing.items);
+  asks : l.meter.asks ≡ counted l.fn.meter.asks (length (stands_in l.reached.standing.items));
   made : l.meter.made ≡ l.fn.meter.made;
 }
 
 abbrev pub decreases-loop-numbers : goal.decreases-loop-numbers
-decreases-loop-numbers l = left l.table l.numbers (length l.standing.items)
+decreases-loop-numbers l = left l.table l.numbers (length (stands_in l.reached.standing.items))
