@@ -1,7 +1,6 @@
 //! A file as a session holds it.
 
 ghost use Rattle.std.specs.Prelude.{◌≡◌, [], IfOk};
-ghost use Rattle.std.specs.Result.{is_ok};
 ghost use Rattle.jc_view.specs.Outcome.{class_named};
 ghost use Rattle.jc_session.specs.inside.HeldFile.{class_held, class_lent};
 ghost use Rattle.jc_report.specs.FileRows.{names};
