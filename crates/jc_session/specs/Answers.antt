@@ -1,18 +1,15 @@
 -- What a list of lines owes.
 use Rattle.std.specs.Prelude.{◌≡◌, ℕ, List, [], ◌∷◌, ◌++◌, drop, Option, Some, None, Result, Ok, Err, codes}
-use Rattle.jc_session.specs.declared.edit.EditError.{EditError}
+use Rattle.jc_edits.specs.declared.edit.EditError.{EditError}
 use Rattle.jc_session.specs.declared.source.SourceError.{SourceError}
 use Rattle.jc_session.specs.declared.source.SourceError.TheVariants as sources
 use Rattle.jc_report.specs.Files.{Files}
-use Rattle.jc_session.specs.Edits.{Change, Adds, Replaces, Removes, judge, after}
-use Rattle.jc_classes.specs.Facts.{Facts}
+use Rattle.jc_edits.specs.Edits.{Change, Adds, Replaces, Removes, judge, after}
 use Rattle.jc_classes.specs.Names.{Name}
-use Rattle.jc_classes.specs.Parts as parts
-use Rattle.jc_classes.specs.Parts.{IsPart}
-use Rattle.jc_report.specs.PartText.{part_text}
 use Rattle.jc_report.specs.ReportText.{report_text}
 use Rattle.jc_report.specs.Reports as reports
-use Rattle.jc_report.specs.Reports.{IsReport, facts_at, world_of}
+use Rattle.jc_report.specs.Reports.{IsReport}
+use Rattle.jc_edits.specs.SaidPart.{SaysPart}
 use Rattle.jc_session.specs.AnswerText.{refused_text, unread_text}
 use Rattle.jc_session.specs.ListedText.{listed_text}
 use Rattle.jc_session.specs.Lines.{Command, Add, Replace, Remove, Report, Part, Listing, End, Bad, command_of}
@@ -50,14 +47,6 @@ sourced_reply f s path change = told_reply f (drop 1 s) path change (next_answer
 -- the report of the files
 abbrev pub SaysReport : List Name → Files → List ℕ → Type 0
 SaysReport prefixes f text = (r : reports.Report) × IsReport f prefixes r × (text ≡ report_text r)
-
-abbrev pub SaysPartBy : List Name → Files → Name → Option Facts → List ℕ → Type 0
-SaysPartBy prefixes f name None text = text ≡ codes "none\n"
-SaysPartBy prefixes f name (Some facts) text = (p : parts.Part) × IsPart (world_of f prefixes) name p × (text ≡ part_text facts p)
-
--- the part of a class, or that no file gives it
-abbrev pub SaysPart : List Name → Files → Name → List ℕ → Type 0
-SaysPart prefixes f name text = SaysPartBy prefixes f name (facts_at f name) text
 
 -- a reply that a line is owed
 abbrev pub Replies : List Name → Files → SourceAnswers → Command → Reply → Type 0

@@ -11,7 +11,7 @@ use Rattle.jc_session.specs.declared.source.SourceError.{SourceError}
 use Rattle.jc_session.specs.declared.source.SourceError.TheVariants as sources
 use Rattle.jc_classes.specs.Names.{Name}
 use Rattle.jc_report.specs.Files.{Files}
-use Rattle.jc_session.specs.Edits.{Change, Adds, Replaces, Removes, judge}
+use Rattle.jc_edits.specs.Edits.{Change, Adds, Replaces, Removes, judge}
 use Rattle.jc_report.specs.FileRows.{winner}
 use Rattle.jc_session.specs.Lines.{Command, Add, Replace, Remove, Report, Part, Listing, End, Bad, command_of, lines_of, whole_lines}
 use Rattle.jc_session.specs.Sources.{SourceAnswers, next_answer}

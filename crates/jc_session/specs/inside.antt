@@ -1,11 +1,5 @@
 pub mod Adding
-pub mod Changing
-pub mod Claims
 pub mod EditText
-pub mod Growth
-pub mod HeldFile
 pub mod LentFaults
 pub mod Reading
 pub mod Replies
-pub mod Reporting
-pub mod StateCode

@@ -1,24 +1,23 @@
 //! The answer to one line.
 ghost use Rattle.std.specs.Prelude.{◌≡◌, ◌≢◌, IfErr, IsSome, None, Some};
 ghost use Rattle.jc_session.specs.declared.run_error.RunError.TheVariants.{NoMemory, Read};
-ghost use Rattle.jc_session.specs.Edits.{judge};
+ghost use Rattle.jc_edits.specs.Edits.{change_lent, judge};
 ghost use Rattle.jc_session.specs.Sources.{SourceAnswers, next_answer};
 ghost use Rattle.jc_session.specs.Answers.{Lists, edit_reply, sourced_reply};
 ghost use Rattle.jc_session.specs.ListedText.{listed_text};
 ghost use Rattle.jc_report.specs.FileRows.{winner};
 ghost use Rattle.jc_session.specs.Runs.{CountsWrites, LineMayLack, MayLack};
-ghost use Rattle.jc_session.specs.inside.Growth.{change_lent};
 ghost use Rattle.jc_session.specs.inside.Replies.{Gives, GivesByAnswers, GivesByReply, GivesOwed, command_lent, placed, said_by};
 
 use crate::answer_text::{write_bad_line, write_edit_answer, write_unread};
 use crate::command::Command;
-use crate::edit::{EditError, LentEdit};
-use crate::report_text::{write_part_of, write_report};
+use crate::file_listing::list_winner;
 use crate::run_error::RunError;
-use crate::session::Session;
 use crate::source::{Source, SourceError};
 use jc_base::Output;
+use jc_edits::{EditError, LentEdit, Session, write_part_of, write_report};
 use jc_list::ListError;
+use std::alloc::Global;
 
 /// What comes after an answer.
 #[derive(Clone, Copy)]
@@ -47,6 +46,7 @@ impl Placing {
 
 /// Does what a line asks for, and writes its answer once that is done.
 pub(crate) fn answer<S: Source, W: Output>(
+    alloc: Global,
     session: &mut Session,
     source: &mut S,
     command: Command<'_>,
@@ -66,7 +66,7 @@ pub(crate) fn answer<S: Source, W: Output>(
         Command::Remove(path) => answer_edit(session, LentEdit::Remove(path), out),
         Command::Report => said(write_report(session.report(), out)),
         Command::Part(name) => said(write_part_of(session.report(), name, out)),
-        Command::List(name) => answer_listing(session, name, out),
+        Command::List(name) => answer_listing(alloc, session, name, out),
         Command::Bad => said(write_bad_line(out)),
         Command::End => Ok(Next::Nothing),
     }
@@ -116,14 +116,19 @@ fn answer_edit<W: Output>(
 }
 
 /// Lists the file that a class is taken from.
-fn answer_listing<W: Output>(session: &Session, name: &[u8], out: &mut W) -> Result<Next, RunError>
+fn answer_listing<W: Output>(
+    alloc: Global,
+    session: &Session,
+    name: &[u8],
+    out: &mut W,
+) -> Result<Next, RunError>
     ensures gives { (s : SourceAnswers) → Gives session.now.files s (Lists (listed_text session.now.files name.now))
         result session.now.files (Some s) (W.written out.old) (W.written out.new) }
     ensures lacks { result ≡ Err NoMemory → IsSome (winner session.now.files name.now) }
     ensures failures { CountsWrites result (W.failures out.old) (W.failures out.new) }
     ensures err { IfErr result (λ e. e ≢ Read) }
 {
-    match session.list(name, out) {
+    match list_winner(alloc, session, name, out) {
         Ok(()) => Ok(Next::Line),
         Err(ListError::Write) => Err(RunError::Write),
         Err(ListError::NoMemory) => Err(RunError::NoMemory),

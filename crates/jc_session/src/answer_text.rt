@@ -7,8 +7,8 @@ ghost use Rattle.jc_text.specs.Sends.{Sends};
 ghost use Rattle.jc_session.specs.AnswerText.{refused_text, unread_text};
 ghost use Rattle.jc_session.specs.inside.EditText.{edit_text};
 
-use crate::edit::{Done, EditError};
 use jc_base::{DeviceFault, Output};
+use jc_edits::{Done, EditError};
 use jc_text::TextWriter;
 
 /// Writes what an edit is answered: `ok`, or why it is refused.

@@ -14,16 +14,14 @@ ghost use Rattle.jc_session.specs.Statuses.{Checks, CountsInput, CountsOutput, L
 ghost use Rattle.jc_session.specs.inside.LentFaults.{outcome_lent};
 
 use crate::checking::check;
-use crate::edit::EditError;
 use crate::fault::{Fault, tell};
 use crate::file_listing::list_file;
-use crate::judge::LARGEST_FILE;
 use crate::running::run;
-use crate::session::Session;
 use crate::source::{FileSource, FolderSource, Source, SourceError};
 use crate::walk::{WalkFault, class_files};
 use crate::words::{Request, asked};
 use jc_base::{Input, Output};
+use jc_edits::{EditError, LARGEST_FILE, Session};
 use jc_link::Outside;
 use std::alloc::Global;
 use std::rt::Files;

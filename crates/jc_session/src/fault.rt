@@ -8,9 +8,9 @@ ghost use Rattle.jc_session.specs.LentChecks.{check_fault_lent};
 ghost use Rattle.jc_session.specs.inside.LentFaults.{fault_lent, fault_of_listing};
 
 use crate::checking::CheckError;
-use crate::edit::EditError;
 use crate::run_error::RunError;
 use jc_base::{NoMemory as NoMemoryLeft, Output};
+use jc_edits::EditError;
 use jc_list::ListError;
 use jc_text::TextWriter;
 use std::alloc::AllocError;

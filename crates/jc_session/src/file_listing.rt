@@ -1,12 +1,14 @@
-//! The listing of a file.
+//! The listing of a file, and of a class.
 
-ghost use Rattle.std.specs.Prelude.{◌≡◌, ◌++◌, Err, IfErr, IfOk, MatchResult, Ok, codes};
-ghost use Rattle.jc_list.specs.declared.list_error.ListError.TheVariants.{Write};
+ghost use Rattle.std.specs.Prelude.{◌≡◌, ◌++◌, Err, IfErr, IfOk, IsSome, MatchResult, Ok, codes};
+ghost use Rattle.jc_list.specs.declared.list_error.ListError.TheVariants.{NoMemory, Write};
 ghost use Rattle.jc_list.specs.ListErrors.{CountsWrites, WritesListing};
-ghost use Rattle.jc_session.specs.ListedText.{file_text, is_faulty_file};
+ghost use Rattle.jc_session.specs.ListedText.{file_text, is_faulty_file, listed_text};
 ghost use Rattle.jc_report.specs.FileRowText.{refusal_text};
+ghost use Rattle.jc_report.specs.FileRows.{winner};
 
 use jc_base::{DeviceFault, Output};
+use jc_edits::Session;
 use jc_list::{ListError, list_class};
 use jc_report::write_refusal;
 use jc_text::TextWriter;
@@ -46,8 +48,28 @@ fn write_unreadable_line<W: Output>(out: &mut W, refusal: ParseError) -> Result<
     finished(text.finish())
 }
 
+/// Writes the listing of the file that a class is taken from, or `none` where no file names it.
+pub(crate) fn list_winner<W: Output>(
+    alloc: Global,
+    session: &Session,
+    name: &[u8],
+    out: &mut W,
+) -> Result<(), ListError>
+    ensures listing { WritesListing result (W.written out.old) (W.written out.new) (listed_text session.now.files name.now) }
+    ensures memory { result ≡ Err NoMemory → IsSome (winner session.now.files name.now) }
+    ensures failures { CountsWrites result (W.failures out.old) (W.failures out.new) }
+{
+    match session.winning_file(name) {
+        Some(bytes) => {
+            list_file(alloc, bytes, out)?;
+            Ok(())
+        }
+        None => write_none(out),
+    }
+}
+
 /// Writes that no file names a class.
-pub(crate) fn write_none<W: Output>(out: &mut W) -> Result<(), ListError>
+fn write_none<W: Output>(out: &mut W) -> Result<(), ListError>
     ensures listing { WritesListing result (W.written out.old) (W.written out.new) (codes "none\n") }
     ensures failures { CountsWrites result (W.failures out.old) (W.failures out.new) }
     ensures err { IfErr result (λ e. e ≡ Write) }

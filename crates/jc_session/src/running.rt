@@ -10,9 +10,9 @@ use crate::answer::{Next, answer};
 use crate::command::parse_line;
 use crate::lines::{Ahead, Line, read_line};
 use crate::run_error::{Ended, RunError};
-use crate::session::Session;
 use crate::source::Source;
 use jc_base::{Input, Output};
+use jc_edits::Session;
 use std::alloc::Global;
 
 /// Answers the lines of an input one by one: `add PATH`, `replace PATH`, `remove PATH`, `report`,
@@ -48,16 +48,17 @@ pub fn run<S: Source, R: Input, W: Output>(
     let mut line = Line::new(alloc)?;
     let mut ahead = Ahead::new();
     while read_line(&mut line, &mut ahead, input)? {
-        match answer(session, source, parse_line(line.bytes()), out)? {
+        match answer(alloc, session, source, parse_line(line.bytes()), out)? {
             Next::Line => {}
             Next::Nothing => return Ok(Ended::End),
         }
     }
-    answer_last(session, source, line.bytes(), out)
+    answer_last(alloc, session, source, line.bytes(), out)
 }
 
 /// Answers what stands behind the last LF, which is a line if it has a byte.
 fn answer_last<S: Source, W: Output>(
+    alloc: Global,
     session: &mut Session,
     source: &mut S,
     line: &[u8],
@@ -74,7 +75,7 @@ fn answer_last<S: Source, W: Output>(
     if line.is_empty() {
         return Ok(Ended::Eof);
     }
-    match answer(session, source, parse_line(line), out)? {
+    match answer(alloc, session, source, parse_line(line), out)? {
         Next::Line => Ok(Ended::Eof),
         Next::Nothing => Ok(Ended::End),
     }

@@ -5,10 +5,10 @@ use Rattle.jc_report.specs.Files.{Files}
 use Rattle.jc_report.specs.Trees.{IsTree, Tree}
 use Rattle.jc_session.specs.declared.checking.CheckError.{CheckError}
 use Rattle.jc_session.specs.declared.checking.CheckError.TheVariants as errors
-use Rattle.jc_session.specs.declared.edit.EditError.{EditError}
+use Rattle.jc_edits.specs.declared.edit.EditError.{EditError}
 use Rattle.jc_session.specs.declared.source.SourceError.TheVariants as sources
 use Rattle.jc_session.specs.Checks.{Added, All, Answer, GivesAnswers, added, answered_add, judged_add}
-use Rattle.jc_session.specs.Edits.{Adds, after, judge}
+use Rattle.jc_edits.specs.Edits.{Adds, after, judge}
 use Rattle.jc_session.specs.Sources.{SourceAnswers, TakesAnswer}
 use Rattle.jc_session.specs.inside.Adding.{AddsOne, ReadsTree, StopsAs}
 

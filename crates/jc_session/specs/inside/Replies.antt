@@ -15,7 +15,7 @@ use Rattle.jc_session.specs.declared.command.Command.{Command as LentCommand}
 use Rattle.jc_session.specs.declared.command.Command.TheVariants as lent
 use Rattle.jc_classes.specs.Names.{Name}
 use Rattle.jc_report.specs.Files.{Files}
-use Rattle.jc_session.specs.Edits.{Change, Adds, Replaces}
+use Rattle.jc_edits.specs.Edits.{Change, Adds, Replaces}
 use Rattle.jc_session.specs.Lines.{Command, Add, Replace, Remove, Report, Part, Listing, End, Bad, command_of}
 use Rattle.jc_session.specs.Sources.{SourceAnswers}
 use Rattle.jc_session.specs.Runs.{LineMayLack}

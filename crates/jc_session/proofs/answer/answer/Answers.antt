@@ -6,11 +6,12 @@ use Rattle.jc_report.specs.Files.{Files}
 use Rattle.jc_report.specs.Reports.{IsReport}
 use Rattle.jc_report.specs.ReportText.{report_text}
 use Rattle.jc_session.specs.declared.answer.Placing.TheVariants as placings
-use Rattle.jc_session.specs.Edits.{Removes}
+use Rattle.jc_edits.specs.Edits.{Removes}
 use Rattle.jc_session.specs.Lines.{Add, Replace, Report, Part, Bad}
 use Rattle.jc_session.specs.ListedText.{listed_text}
 use Rattle.jc_session.specs.Sources.{next_answer}
-use Rattle.jc_session.specs.Answers.{Ends, Lists, SaysPart, edit_reply, sourced_reply}
+use Rattle.jc_edits.specs.SaidPart.{SaysPart}
+use Rattle.jc_session.specs.Answers.{Ends, Lists, edit_reply, sourced_reply}
 use Rattle.jc_session.specs.Runs.{MayLack}
 use Rattle.jc_session.specs.inside.Replies.{placed}
 use Rattle.jc_session.proofs.runs.ByAnswers.{owed_by_reply, said_by_none, said_owed}

@@ -2,7 +2,7 @@ use Rattle.std.proofs.Common.{◌≡◌, ◌∙◌, ◌++◌, [], ◌∷◌, Non
 use Rattle.std.proofs.KnownBytes.{Keeps-refl}
 use Rattle.jc_session.specs.declared.source.SourceError.TheVariants as sources
 use Rattle.jc_session.specs.AnswerText.{unread_text}
-use Rattle.jc_session.specs.Edits.{judge}
+use Rattle.jc_edits.specs.Edits.{judge}
 use Rattle.jc_session.specs.Sources.{SourceAnswers, by_any_path}
 use Rattle.jc_session.specs.Answers.{Says, edit_reply}
 use Rattle.jc_session.specs.inside.Replies.{Gives}

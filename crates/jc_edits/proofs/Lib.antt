@@ -1,0 +1,3 @@
+pub mod holding
+pub mod placing
+pub mod reporting

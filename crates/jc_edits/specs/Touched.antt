@@ -1,0 +1,31 @@
+-- What an edit of files touches, and how many parts it may make.
+use Rattle.std.specs.Prelude.{ℕ, Bool, false, ◌||◌, List, Option, Some, None, is_some}
+use Rattle.jc_base.specs.Bytes.{same_bytes}
+use Rattle.jc_classes.specs.Names.{Name}
+use Rattle.jc_held.specs.Affected.{IsBounded}
+use Rattle.jc_report.specs.Files.{Files}
+use Rattle.jc_report.specs.FileRows.{winner}
+use Rattle.jc_report.specs.Reports.{facts_at, world_of}
+use Rattle.jc_edits.specs.Edits.{Change, Adds, Replaces, Removes}
+
+abbrev pub path_of : Change → List ℕ
+path_of (Adds path bytes) = path
+path_of (Replaces path bytes) = path
+path_of (Removes path) = path
+
+-- whether files give a class of the name
+abbrev pub gives : Files → Name → Bool
+gives f name = is_some (facts_at f name)
+
+abbrev pub is_path : Option (List ℕ) → List ℕ → Bool
+is_path None path = false
+is_path (Some p) path = same_bytes p path
+
+-- the name's class is taken from the file at the path, before the edit or after it
+abbrev pub is_touched : (old new : Files) (path : List ℕ) → Name → Bool
+is_touched old new path name = is_path (winner old name) path || is_path (winner new name) path
+
+-- the edit made no more parts than there are classes behind it whose reach holds a name that it touched, and asked for no
+-- more classes than their reaches have names, and two
+abbrev pub IsBoundedEdit : (old new : Files) (prefixes : List Name) (path : List ℕ) (made asks : ℕ) → Type 0
+IsBoundedEdit old new prefixes path made asks = IsBounded (gives new) (world_of new prefixes) (is_touched old new path) made asks

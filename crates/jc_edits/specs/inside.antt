@@ -1,0 +1,6 @@
+pub mod Changing
+pub mod Claims
+pub mod Growth
+pub mod HeldFile
+pub mod Reporting
+pub mod StateCode

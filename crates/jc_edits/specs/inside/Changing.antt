@@ -1,0 +1,41 @@
+-- What an edit of files changes of the classes that they give.
+use Rattle.std.specs.Prelude.{◌≡◌, ℕ, Bool, true, List, Option, Some, None, Result, Ok, Err, option_map, option_and_then, if◌then◌else◌}
+use Rattle.std.specs.FinMap as map
+use Rattle.jc_view.specs.ClassFile.{ClassFile}
+use Rattle.jc_view.specs.declared.parse_error.ParseError.{ParseError}
+use Rattle.jc_view.specs.Outcome.{class_named, class_read}
+use Rattle.jc_classes.specs.Facts.{Facts}
+use Rattle.jc_classes.specs.FactsOf.{class_name, facts_of}
+use Rattle.jc_classes.specs.Names.{Name, name_less}
+use Rattle.jc_held.specs.Steps.{class_by, step_name}
+use Rattle.jc_held.specs.declared.step.Step.{Step}
+use Rattle.jc_report.specs.Files.{Files}
+use Rattle.jc_report.specs.FileRows.{winner}
+use Rattle.jc_report.specs.Reports.{facts_at}
+use Rattle.jc_edits.specs.Touched.{is_path}
+
+abbrev pub before : List ℕ → Option (List ℕ) → Bool
+before path None = true
+before path (Some other) = name_less path other
+
+abbrev pub won_by : Files → List ℕ → Result ClassFile ParseError → Option Facts
+won_by others path (Ok c) = if before path (winner others (class_name c)) then Some (facts_of path c) else None
+won_by others path (Err refusal) = None
+
+-- the class that bytes at a path give beside other files
+abbrev pub won : Files → List ℕ → Option (List ℕ) → Option Facts
+won others path bytes = option_and_then (λ b. won_by others path (class_read b)) bytes
+
+abbrev pub lost_by : Files → List ℕ → Result (List ℕ) ParseError → Option Name
+lost_by f path (Ok name) = if is_path (winner f name) path then Some name else None
+lost_by f path (Err refusal) = None
+
+-- the name of the class that the file at a path gives
+abbrev pub lost : Files → List ℕ → Option Name
+lost f path = option_and_then (λ b. lost_by f path (class_named b)) (map.get f path)
+
+-- these bytes, or none, are to stand at the path
+pub record AreChanges (f : Files) (path : List ℕ) (bytes : Option (List ℕ)) (lost_step : Option Step) (won_facts : Option Facts) : Type 0 where
+  pub put : won_facts ≡ won (map.remove f path) path bytes
+  pub name : option_map step_name lost_step ≡ lost f path
+  pub class : (name : Name) → option_map step_name lost_step ≡ Some name → class_by lost_step ≡ facts_at (map.remove f path) name

@@ -1,0 +1,130 @@
+//! What an edit of files changes of the classes that they give.
+
+ghost use Rattle.std.specs.Prelude.{◌≡◌, IfOk, Some, option_map};
+ghost use Rattle.std.specs.FinMap as map;
+ghost use Rattle.std.specs.Option.{option_copied};
+ghost use Rattle.jc_classes.specs.Names.{Name};
+ghost use Rattle.jc_held.specs.Steps.{class_by, step_class, step_name};
+ghost use Rattle.jc_report.specs.Files.{Files};
+ghost use Rattle.jc_report.specs.Reports.{facts_at, facts_there};
+ghost use Rattle.jc_edits.specs.inside.Changing as changing;
+ghost use Rattle.jc_edits.specs.inside.Changing.{AreChanges, before};
+ghost use Rattle.jc_edits.specs.inside.Claims.{AreClaims};
+
+use crate::claims::Claims;
+use crate::held::Held;
+use jc_base::NoMemory;
+use jc_classes::{Facts, less};
+use jc_held::Step;
+use jc_view::{ParseError, outcomes_are_exact, parse};
+use std::alloc::Global;
+
+/// What an edit changes of the classes that files give.
+#[derive(Drop)]
+pub(crate) struct Changes {
+    /// What stands at the name of the class that the file at the path gave, once no file is there.
+    pub(crate) first: Option<Step>,
+    /// The class that the bytes give that are to stand there.
+    pub(crate) put: Option<Facts>,
+}
+
+/// What changes where a file with these bytes, or none, stands at the path from now on.
+pub(crate) fn changes_of(
+    alloc: Global,
+    held: &Held,
+    path: &[u8],
+    bytes: Option<&[u8]>,
+) -> Result<Changes, NoMemory>
+    requires { AreClaims held.now.claims held.now.files }
+    ensures { IfOk result (λ changes. AreChanges held.now.files path.now (option_copied bytes.entry) changes.first changes.put) }
+{
+    let put = won(alloc, &held.claims, path, bytes)?;
+    let first = lost_step(alloc, held, path)?;
+    Ok(Changes { first, put })
+}
+
+/// The facts of the bytes that are to stand at the path, if they give a class there.
+fn won(
+    alloc: Global,
+    claims: &Claims,
+    path: &[u8],
+    bytes: Option<&[u8]>,
+) -> Result<Option<Facts>, NoMemory>
+    ensures { (f : Files) → AreClaims claims.now f → IfOk result (λ facts. facts ≡ changing.won (map.remove f path.now) path.now (option_copied bytes.entry)) }
+{
+    let Some(bytes) = bytes else {
+        return Ok(None);
+    };
+    let Some(facts) = read_facts(alloc, path, bytes)? else {
+        return Ok(None);
+    };
+    if is_before(path, claims.other(facts.name(), path)) {
+        Ok(Some(facts))
+    } else {
+        Ok(None)
+    }
+}
+
+fn is_before(path: &[u8], other: Option<&[u8]>) -> bool
+    ensures { result ≡ before path.now (option_copied other.entry) }
+{
+    match other {
+        Some(other) => less(path, other),
+        None => true,
+    }
+}
+
+/// What stands at the name of the class that the file at the path gives, once it gives it no longer.
+fn lost_step(alloc: Global, held: &Held, path: &[u8]) -> Result<Option<Step>, NoMemory>
+    requires { AreClaims held.now.claims held.now.files }
+    ensures name { IfOk result (λ first. option_map step_name first ≡ changing.lost held.now.files path.now) }
+    ensures class { IfOk result (λ first. (name : Name) → option_map step_name first ≡ Some name → class_by first ≡ facts_at (map.remove held.now.files path.now) name) }
+{
+    let Some(name) = lost(held, path) else {
+        return Ok(None);
+    };
+    Ok(Some(uncovered(alloc, held, path, name)?))
+}
+
+/// The name of the class that the file at the path gives.
+fn lost<'h>(held: &'h Held, path: &[u8]) -> Option<&'h [u8]>
+    requires { AreClaims held.now.claims held.now.files }
+    ensures { option_copied result ≡ changing.lost held.now.files path.now }
+{
+    let Ok(name) = held.files.get(path)?.class() else {
+        return None;
+    };
+    let winner = held.claims.first(name)?;
+    if winner == path { Some(name) } else { None }
+}
+
+/// What stands at the name of a class when the file at the path gives it no longer: the class of the next
+/// file that names it.
+fn uncovered(alloc: Global, held: &Held, path: &[u8], name: &[u8]) -> Result<Step, NoMemory>
+    requires { AreClaims held.now.claims held.now.files }
+    ensures name { IfOk result (λ step. step_name step ≡ name.now) }
+    ensures class { IfOk result (λ step. step_class step ≡ facts_at (map.remove held.now.files path.now) name.now) }
+{
+    let Some(next) = held.claims.other(name, path) else {
+        return Ok(Step::Remove(Vec::from_slice(alloc, name)?));
+    };
+    let Some(file) = held.files.get(next) else {
+        unreachable!();
+    };
+    match read_facts(alloc, next, file.bytes())? {
+        Some(facts) => Ok(Step::Put(facts)),
+        None => unreachable!(),
+    }
+}
+
+/// What linking asks of the class file that bytes at a path are.
+fn read_facts(alloc: Global, path: &[u8], bytes: &[u8]) -> Result<Option<Facts>, NoMemory>
+    ensures { IfOk result (λ facts. facts ≡ facts_there path.now (Some bytes.now)) }
+{
+    outcomes_are_exact();
+    match parse(alloc, bytes) {
+        Ok(view) => Ok(Some(Facts::of(alloc, &view, path)?)),
+        Err(ParseError::NoMemory) => Err(NoMemory),
+        Err(_) => Ok(None),
+    }
+}

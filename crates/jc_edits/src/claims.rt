@@ -1,0 +1,152 @@
+//! Which files name a class.
+
+ghost use Rattle.std.specs.Prelude.{◌≡◌, ◌&&◌, ◌||◌, not, false, ℕ, List, OnOk, OnErr};
+ghost use Rattle.std.specs.Option.{option_map};
+ghost use Rattle.jc_base.specs.Bytes.{same_bytes};
+ghost use Rattle.jc_view.specs.Outcome.{class_named};
+ghost use Rattle.std.specs.FinMap as map;
+ghost use Rattle.jc_edits.specs.inside.Claims.{AreClaims, has_claim, first_claim, claimed_state};
+ghost use Rattle.jc_report.specs.Files.{Files};
+ghost use Rattle.jc_report.specs.FileRowView.{state_lent};
+ghost use Rattle.jc_report.specs.FileRows as rows;
+ghost use Rattle.jc_report.specs.FileRows.{names, winner};
+
+use crate::file::File;
+use jc_base::{ByteMap, NoMemory};
+use jc_report::FileState;
+use std::alloc::Global;
+use std::marker::Model;
+
+/// From the names of classes to the paths of the files that name them.
+#[derive(Drop)]
+pub(crate) struct Claims {
+    alloc: Global,
+    by_name: ByteMap<ByteMap<()>>,
+}
+
+impl Model for Claims {
+    ghost use Rattle.std.specs.Coded.{coded_list, coded_ℕ};
+    ghost use Rattle.std.specs.FinMap as map;
+    ghost use Rattle.std.specs.FinSet as set;
+    ghost use Rattle.jc_edits.specs.inside.Claims.{PathsByName, NoneEmpty};
+
+    ghost Value = { PathsByName };
+
+    ghost coded = { map.code (coded_list coded_ℕ) (set.code (coded_list coded_ℕ)) };
+
+    ghost view = { λ a. a.by_name };
+
+    ghost invariant = { λ a. NoneEmpty a.by_name };
+}
+
+impl Claims {
+    /// No claims.
+    pub(crate) fn new(alloc: Global) -> Claims
+        ensures { (name path : List ℕ) → has_claim result name path ≡ false }
+    {
+        Claims {
+            alloc,
+            by_name: ByteMap::new(alloc),
+        }
+    }
+
+    /// Adds that the file at the path names the class.
+    pub(crate) fn add(&mut self, name: &[u8], path: &[u8]) -> Result<(), NoMemory>
+        ensures ok { OnOk result ((n p : List ℕ) → has_claim self.new n p ≡ ((same_bytes n name.now && same_bytes p path.now) || has_claim self.old n p)) }
+        ensures err { OnErr result (self.new ≡ self.old) }
+    {
+        let path = Vec::from_slice(self.alloc, path)?;
+        if let Some(paths) = self.by_name.get_mut(name) {
+            paths.insert(path, ())?;
+            return Ok(());
+        }
+        let name = Vec::from_slice(self.alloc, name)?;
+        let mut paths = ByteMap::new(self.alloc);
+        paths.insert(path, ())?;
+        self.by_name.insert(name, paths)?;
+        Ok(())
+    }
+
+    /// Takes out that the file at the path names the class.
+    pub(crate) fn remove(&mut self, name: &[u8], path: &[u8])
+        ensures { (n p : List ℕ) → has_claim self.new n p ≡ (not (same_bytes n name.now && same_bytes p path.now) && has_claim self.old n p) }
+    {
+        if let Some(paths) = self.by_name.get_mut(name) {
+            paths.remove(path);
+            if paths.is_empty() {
+                self.by_name.remove(name);
+            }
+        }
+    }
+
+    /// The least of the paths of the files that name the class.
+    pub(crate) fn first(&self, name: &[u8]) -> Option<&[u8]>
+        ensures { option_map (λ path. path.now) result ≡ first_claim self.now name.now }
+    {
+        let paths = self.by_name.get(name)?;
+        paths.keys().next()
+    }
+
+    /// The least of the paths but this one of the files that name the class.
+    pub(crate) fn other(&self, name: &[u8], path: &[u8]) -> Option<&[u8]>
+        ensures { (f : Files) → AreClaims self.now f → option_map (λ other. other.now) result ≡ winner (map.remove f path.now) name.now }
+    {
+        let paths = self.by_name.get(name)?;
+        for other in paths.keys() {
+            if other != path {
+                return Some(other);
+            }
+        }
+        None
+    }
+}
+
+/// Adds the class that the file at the path names, if it names one.
+pub(crate) fn claim(claims: &mut Claims, file: &File, path: &[u8]) -> Result<(), NoMemory>
+    ensures ok { OnOk result ((n p : List ℕ) → has_claim claims.new n p ≡ ((same_bytes p path.now && names file.now n) || has_claim claims.old n p)) }
+    ensures err { OnErr result (claims.new ≡ claims.old) }
+{
+    match file.class() {
+        Ok(name) => claims.add(name, path),
+        Err(_) => Ok(()),
+    }
+}
+
+/// Takes out the class that the file at the path names, if it names one.
+pub(crate) fn withdraw(claims: &mut Claims, file: &File, path: &[u8])
+    ensures { (n p : List ℕ) → has_claim claims.new n p ≡ (not (same_bytes p path.now && names file.now n) && has_claim claims.old n p) }
+{
+    if let Ok(name) = file.class() {
+        claims.remove(name, path);
+    }
+}
+
+/// Takes out the class that the file at the path named before, unless it names it now too.
+pub(crate) fn withdraw_stale(claims: &mut Claims, before: &File, now: &File, path: &[u8])
+    ensures { (n p : List ℕ) → has_claim claims.new n p ≡ (not (same_bytes p path.now && (names before.now n && not (names now.now n))) && has_claim claims.old n p) }
+{
+    if let Ok(name) = before.class()
+        && !now.names(name)
+    {
+        claims.remove(name, path);
+    }
+}
+
+/// What the file at the path is, by the claims of all files.
+pub(crate) fn state<'a>(claims: &'a Claims, file: &'a File, path: &'a [u8]) -> FileState<'a>
+    ensures { state_lent result ≡ claimed_state claims.now path.now (class_named file.now) }
+{
+    match file.class() {
+        Ok(name) => state_by(path, name, claims.first(name)),
+        Err(refusal) => FileState::Unreadable(refusal),
+    }
+}
+
+fn state_by<'a>(path: &'a [u8], name: &'a [u8], winner: Option<&'a [u8]>) -> FileState<'a>
+    ensures { state_lent result ≡ rows.state_by path.now name.now (option_map (λ path. path.now) winner.entry) }
+{
+    match winner {
+        Some(winner) if winner != path => FileState::Shadowed(name, winner),
+        _ => FileState::Class(name),
+    }
+}

@@ -1,0 +1,89 @@
+//! A file as a session holds it.
+
+ghost use Rattle.std.specs.Prelude.{◌≡◌, [], IfOk};
+ghost use Rattle.jc_view.specs.Outcome.{class_named};
+ghost use Rattle.jc_edits.specs.inside.HeldFile.{class_held, class_lent};
+ghost use Rattle.jc_report.specs.FileRows.{names};
+
+use jc_base::NoMemory;
+use jc_view::{ParseError, outcomes_are_exact, parse};
+use std::alloc::Global;
+use std::marker::Model;
+
+/// The bytes of a file, with the name of the class that they name, or why they name none.
+#[derive(Drop)]
+pub(crate) struct File {
+    bytes: Vec<u8>,
+    class: Result<Vec<u8>, ParseError>,
+}
+
+impl Model for File {
+    ghost use Rattle.std.specs.Prelude.{◌≡◌, ℕ, List};
+
+    ghost Value = { List ℕ };
+
+    ghost use Rattle.jc_view.specs.Outcome.{class_named};
+    ghost use Rattle.jc_edits.specs.inside.HeldFile.{class_held};
+
+    ghost view = { λ file. file.bytes.items };
+
+    ghost invariant = { λ file. class_held file.class ≡ class_named file.bytes.items };
+}
+
+impl File {
+    /// The file of no bytes, which takes no memory.
+    pub(crate) fn empty(alloc: Global) -> File
+        ensures { result ≡ [] }
+    {
+        File {
+            bytes: Vec::new(alloc),
+            class: Err(ParseError::Short),
+        }
+    }
+
+    /// The file of these bytes.
+    pub(crate) fn read(alloc: Global, bytes: Vec<u8>) -> Result<File, NoMemory>
+        ensures { IfOk result (λ file. file ≡ bytes.items) }
+    {
+        let class = class_of(alloc, &bytes)?;
+        Ok(File { bytes, class })
+    }
+
+    pub(crate) fn bytes(&self) -> &[u8]
+        ensures { result.now ≡ self.now }
+    {
+        &self.bytes
+    }
+
+    /// The name of the class, or the first refusal that applies.
+    pub(crate) fn class(&self) -> Result<&[u8], ParseError>
+        ensures { class_lent result ≡ class_named self.now }
+    {
+        match &self.class {
+            Ok(name) => Ok(name),
+            Err(refusal) => Err(*refusal),
+        }
+    }
+
+    /// Whether the bytes name the class of this name.
+    pub(crate) fn names(&self, name: &[u8]) -> bool
+        ensures { result ≡ names self.now name.now }
+    {
+        match self.class() {
+            Ok(named) => named == name,
+            Err(_) => false,
+        }
+    }
+}
+
+/// The name of the class that bytes name, or why they name none.
+fn class_of(alloc: Global, bytes: &[u8]) -> Result<Result<Vec<u8>, ParseError>, NoMemory>
+    ensures { IfOk result (λ class. class_held class ≡ class_named bytes.now) }
+{
+    outcomes_are_exact();
+    match parse(alloc, bytes) {
+        Ok(view) => Ok(Ok(Vec::from_slice(alloc, view.name())?)),
+        Err(ParseError::NoMemory) => Err(NoMemory),
+        Err(refusal) => Ok(Err(refusal)),
+    }
+}

@@ -1,0 +1,97 @@
+//! Whether an edit is refused.
+
+ghost use Rattle.std.specs.Prelude.{◌≡◌};
+ghost use Rattle.jc_edits.specs.Edits as files_of;
+ghost use Rattle.jc_edits.specs.Edits.{change_lent};
+
+use crate::edit::{EditError, LentEdit};
+use crate::file::File;
+use jc_base::ByteMap;
+
+const LONGEST_PATH: usize = 4_096;
+
+/// The most bytes that a file may have.
+pub const LARGEST_FILE: usize = 16_777_216;
+
+const MOST_FILES: usize = 65_535;
+
+/// The first refusal of the edit that applies, but for memory.
+pub(crate) fn judge(files: &ByteMap<File>, edit: &LentEdit<'_>) -> Option<EditError>
+    ensures { result ≡ files_of.judge files.now (change_lent edit.now) }
+{
+    match edit {
+        LentEdit::Add(path, bytes) => judge_add(files, path, bytes),
+        LentEdit::Replace(path, bytes) => judge_replace(files, path, bytes),
+        LentEdit::Remove(path) => path_fault(path).or(missing_fault(files, path)),
+    }
+}
+
+fn judge_add(files: &ByteMap<File>, path: &[u8], bytes: &[u8]) -> Option<EditError>
+    ensures { result ≡ files_of.judge files.now (files_of.Adds path.now bytes.now) }
+{
+    path_fault(path)
+        .or(there_fault(files, path))
+        .or(size_fault(bytes))
+        .or(room_fault(files.len()))
+}
+
+fn judge_replace(files: &ByteMap<File>, path: &[u8], bytes: &[u8]) -> Option<EditError>
+    ensures { result ≡ files_of.judge files.now (files_of.Replaces path.now bytes.now) }
+{
+    path_fault(path)
+        .or(missing_fault(files, path))
+        .or(size_fault(bytes))
+}
+
+/// The fault of a path by itself.
+pub fn path_fault(path: &[u8]) -> Option<EditError>
+    ensures { result ≡ files_of.path_fault path.now }
+{
+    if path.is_empty() || path.len() > LONGEST_PATH {
+        Some(EditError::BadPath)
+    } else {
+        None
+    }
+}
+
+fn there_fault(files: &ByteMap<File>, path: &[u8]) -> Option<EditError>
+    ensures { result ≡ files_of.there_fault files.now path.now }
+{
+    if files.contains_key(path) {
+        Some(EditError::AlreadyThere)
+    } else {
+        None
+    }
+}
+
+fn missing_fault(files: &ByteMap<File>, path: &[u8]) -> Option<EditError>
+    ensures { result ≡ files_of.missing_fault files.now path.now }
+{
+    if files.contains_key(path) {
+        None
+    } else {
+        Some(EditError::NoSuchFile)
+    }
+}
+
+/// The fault of a file's bytes by themselves.
+pub fn size_fault(bytes: &[u8]) -> Option<EditError>
+    ensures { result ≡ files_of.size_fault bytes.now }
+{
+    if bytes.len() > LARGEST_FILE {
+        Some(EditError::TooLarge)
+    } else {
+        None
+    }
+}
+
+/// The fault of one more file beside so many.
+pub fn room_fault(count: usize) -> Option<EditError>
+    ensures { result ≡ files_of.room_beside count }
+{
+    if count < MOST_FILES {
+        None
+    } else {
+        Some(EditError::TooMany)
+    }
+}

@@ -1,0 +1,22 @@
+//! Class files under edits: files are added, replaced and removed one by one, and the report held is
+//! that of the files as they stand.
+#![tactic(auto)]
+
+mod changes;
+mod claims;
+mod edit;
+mod file;
+mod held;
+mod judge;
+mod report;
+mod report_text;
+mod rows;
+mod session;
+
+pub use edit::{Done, Edit, EditError, LentEdit};
+pub use jc_report::{FileRow, FileState, winners_are_least};
+pub use judge::{LARGEST_FILE, path_fault, room_fault, size_fault};
+pub use report::Report;
+pub use report_text::{WriteError, write_part_of, write_report};
+pub use rows::Rows;
+pub use session::Session;

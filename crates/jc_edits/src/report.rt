@@ -1,0 +1,173 @@
+//! The report that a session holds.
+
+ghost use Rattle.std.specs.Prelude.{◌≡◌, ◌-◌, IfOk, List, None, OnErr, OnOk, option_and_then, slice_get};
+ghost use Rattle.std.specs.List.{list_any};
+ghost use Rattle.std.specs.Option.{option_map};
+ghost use Rattle.std.specs.FinMap as map;
+ghost use Rattle.jc_held.specs.Holders.{CountsHolders};
+ghost use Rattle.jc_report.specs.FileRows.{is_unreadable, rows, winner};
+ghost use Rattle.jc_report.specs.Reports as reports;
+ghost use Rattle.jc_report.specs.Reports.{IsReport, is_wrong};
+ghost use Rattle.jc_edits.specs.Edits.{after, change_lent, judge};
+ghost use Rattle.jc_edits.specs.Touched.{IsBoundedEdit, path_of};
+
+use crate::changes::{Changes, changes_of};
+use crate::edit::LentEdit;
+use crate::held::{Held, commit, grow, undo};
+use crate::rows::Rows;
+use jc_base::NoMemory;
+use jc_held::{Classes, Linkage, Provided, Required};
+use jc_link::{Meter, Outside};
+use jc_report::{FileState, is_wrong_part, rows_are_plain};
+use std::alloc::Global;
+use std::marker::Model;
+
+/// What is said of the files of a session, seen as these files and the prefixes of outside names: they
+/// have one report.
+#[derive(Drop)]
+pub struct Report {
+    pub(crate) held: Held,
+    pub(crate) linkage: Linkage,
+}
+
+impl Model for Report {
+    ghost use Rattle.jc_edits.specs.SessionState.{HeldFiles};
+    ghost use Rattle.jc_edits.specs.inside.Reporting.{IsWhole};
+    ghost use Rattle.jc_edits.specs.inside.StateCode.{files_code};
+
+    ghost Value = { HeldFiles };
+
+    ghost coded = { files_code };
+
+    ghost view = { λ a. record { files = a.held.files; prefixes = a.linkage.prefixes } };
+
+    ghost invariant = { IsWhole };
+}
+
+impl Report {
+    /// The report of no files, and the meter that counts what its edits cost.
+    pub(crate) fn new(alloc: Global, outside: Outside) -> Result<(Report, Meter), NoMemory>
+        ensures held { IfOk result (λ made. made.0 ≡ record { files = map.empty; prefixes = outside }) }
+        ensures asks { IfOk result (λ made. made.1.asks ≡ 0) }
+        ensures made { IfOk result (λ made. made.1.made ≡ 0) }
+    {
+        let (linkage, meter) = Linkage::new(alloc, outside)?;
+        let held = Held::new(alloc);
+        Ok((Report { held, linkage }, meter))
+    }
+
+    /// Makes an edit that is not refused, or changes nothing for want of memory.
+    pub(crate) fn make(
+        &mut self,
+        alloc: Global,
+        edit: LentEdit<'_>,
+        meter: &mut Meter,
+    ) -> Result<(), NoMemory>
+        requires { judge self.old.files (change_lent edit) ≡ None }
+        ensures ok { OnOk result (self.new.files ≡ after self.old.files (change_lent edit.entry)) }
+        ensures err { OnErr result (self.new.files ≡ self.old.files) }
+        ensures prefixes { self.new.prefixes ≡ self.old.prefixes }
+        ensures bounded { OnOk result (IsBoundedEdit self.old.files self.new.files self.new.prefixes (path_of (change_lent edit.entry)) (meter.new.made - meter.old.made) (meter.new.asks - meter.old.asks)) }
+    {
+        let Changes { first, put } = changes_of(alloc, &self.held, edit.path(), edit.bytes())?;
+        let grown = grow(&mut self.held, alloc, edit)?;
+        match self.linkage.change(first, put, meter) {
+            Ok(()) => {
+                commit(&mut self.held, grown);
+                Ok(())
+            }
+            Err(_) => {
+                undo(&mut self.held, grown);
+                Err(NoMemory)
+            }
+        }
+    }
+
+    /// Whether a file is unreadable, a class has a fault or does not load, or a reference is answered by
+    /// an error.
+    pub fn wrong(&self) -> bool
+        ensures { (r : reports.Report) × IsReport self.now.files self.now.prefixes r × (result ≡ is_wrong r) }
+    {
+        let has_wrong_part = any_wrong(self.classes());
+        any_unreadable(self.files()) || has_wrong_part
+    }
+
+    /// What each file is, in the order of the paths.
+    pub fn files(&self) -> Rows<'_>
+        ensures { result ≡ rows self.now.files }
+    {
+        Rows {
+            files: self.held.files.iter(),
+            claims: &self.held.claims,
+        }
+    }
+
+    /// The classes that files give, in the order of their names, with their parts.
+    pub fn classes(&self) -> Classes<'_>
+        ensures { (r : reports.Report) × IsReport self.now.files self.now.prefixes r × (result ≡ r.classes) }
+    {
+        rows_are_plain();
+        self.linkage.classes()
+    }
+
+    /// What the classes provide, in order.
+    pub fn provided(&self) -> Provided<'_>
+        ensures { (r : reports.Report) → IsReport self.now.files self.now.prefixes r → result ≡ r.provided }
+    {
+        rows_are_plain();
+        self.linkage.provided()
+    }
+
+    /// What the classes require, in order.
+    pub fn required(&self) -> Required<'_>
+        ensures { (r : reports.Report) → IsReport self.now.files self.now.prefixes r → result ≡ r.required }
+    {
+        rows_are_plain();
+        self.linkage.required()
+    }
+
+    /// How many classes require the row at a place of [`Report::required`], from 0; 0 beyond the last. No memory.
+    pub(crate) fn holders(&self, place: usize) -> usize
+        ensures { (r : reports.Report) → IsReport self.now.files self.now.prefixes r → CountsHolders r.classes (slice_get r.required place) result }
+    {
+        rows_are_plain();
+        self.linkage.holders(place)
+    }
+
+    /// The bytes of the file that a class is taken from.
+    pub(crate) fn winning_file(&self, name: &[u8]) -> Option<&[u8]>
+        ensures { option_map (λ bytes. bytes.now) result ≡ option_and_then (map.get self.now.files) (winner self.now.files name.now) }
+    {
+        self.file(self.held.claims.first(name)?)
+    }
+
+    /// The bytes of the file at the path.
+    pub(crate) fn file(&self, path: &[u8]) -> Option<&[u8]>
+        ensures { option_map (λ bytes. bytes.now) result ≡ map.get self.now.files path.now }
+    {
+        let file = self.held.files.get(path)?;
+        Some(file.bytes())
+    }
+}
+
+fn any_unreadable(files: Rows<'_>) -> bool
+    ensures { result ≡ list_any is_unreadable files.entry }
+{
+    for row in files {
+        if let FileState::Unreadable(_) = row.state {
+            return true;
+        }
+    }
+    false
+}
+
+fn any_wrong(classes: Classes<'_>) -> bool
+    ensures { result ≡ list_any (λ c. reports.is_wrong_part c.part) classes.entry }
+{
+    for class in classes {
+        if is_wrong_part(class.part) {
+            return true;
+        }
+    }
+    false
+}

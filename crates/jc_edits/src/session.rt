@@ -1,0 +1,151 @@
+//! A session over class files.
+
+ghost use Rattle.std.specs.Prelude.{◌≡◌, ◌-◌, None, IfOk, IfSome, OnOk, OnErr, MatchResult, is_some, option_and_then, slice_get, true};
+ghost use Rattle.std.specs.Option.{option_map};
+ghost use Rattle.std.specs.FinMap as map;
+ghost use Rattle.jc_classes.specs.NameLists.{Lists};
+ghost use Rattle.jc_classes.specs.Names.{names_of};
+ghost use Rattle.jc_classes.specs.Parts.{IsPart, Reach};
+ghost use Rattle.jc_held.specs.Holders.{CountsHolders};
+ghost use Rattle.jc_report.specs.FileRows.{winner};
+ghost use Rattle.jc_report.specs.Reports as reports;
+ghost use Rattle.jc_report.specs.Reports.{IsReport, world_of};
+ghost use Rattle.jc_edits.specs.Edits.{after, change_lent, change_of, judge};
+ghost use Rattle.jc_edits.specs.Judged.{IsJudged};
+ghost use Rattle.jc_edits.specs.Touched.{IsBoundedEdit, gives, path_of};
+
+use crate::edit::{Done, Edit, EditError, LentEdit};
+use crate::judge::judge;
+use crate::report::Report;
+use jc_base::NoMemory;
+use jc_link::{Meter, Outside, Part};
+use std::alloc::Global;
+use std::marker::Model;
+
+/// Class files by their paths, with the report of them as they stand, seen as a record of the files, the
+/// prefixes of outside names, and how many classes were asked for and parts made.
+#[derive(Drop)]
+pub struct Session {
+    alloc: Global,
+    report: Report,
+    meter: Meter,
+}
+
+impl Model for Session {
+    ghost use Rattle.jc_edits.specs.SessionState.{SessionState};
+    ghost use Rattle.jc_edits.specs.inside.StateCode.{state_code};
+
+    ghost Value = { SessionState };
+
+    ghost coded = { state_code };
+
+    ghost view = { λ a. record { files = a.report.files; prefixes = a.report.prefixes; asks = a.meter.asks; made = a.meter.made } };
+}
+
+impl Session {
+    /// A session with no files. Names with these prefixes that no file gives are outside.
+    pub fn new(alloc: Global, outside: Outside) -> Result<Session, NoMemory>
+        ensures { IfOk result (λ session. session ≡ record { files = map.empty; prefixes = outside; asks = 0; made = 0 }) }
+    {
+        let (report, meter) = Report::new(alloc, outside)?;
+        Ok(Session {
+            alloc,
+            report,
+            meter,
+        })
+    }
+
+    /// Makes an edit, or refuses it and changes no file. Parts are made of those classes alone whose reach
+    /// holds a name that the edit touches.
+    pub fn edit(&mut self, edit: Edit) -> Result<Done, EditError>
+        ensures judged { MatchResult result (λ _. judge self.old.files (change_of edit) ≡ None) (λ e. IsJudged e (judge self.old.files (change_of edit))) }
+        ensures ok { OnOk result (self.new.files ≡ after self.old.files (change_of edit)) }
+        ensures err { OnErr result (self.new.files ≡ self.old.files) }
+        ensures prefixes { self.new.prefixes ≡ self.old.prefixes }
+        ensures made { IfOk result (λ done. done.made ≡ self.new.made - self.old.made) }
+        ensures asks { IfOk result (λ done. done.asks ≡ self.new.asks - self.old.asks) }
+        ensures bounded { IfOk result (λ done. IsBoundedEdit self.old.files self.new.files self.new.prefixes (path_of (change_of edit)) done.made done.asks) }
+    {
+        match edit {
+            Edit::Add(path, bytes) => self.make(LentEdit::Add(&path, bytes)),
+            Edit::Replace(path, bytes) => self.make(LentEdit::Replace(&path, bytes)),
+            Edit::Remove(path) => self.make(LentEdit::Remove(&path)),
+        }
+    }
+
+    /// The same by a borrowed path.
+    pub fn make(&mut self, edit: LentEdit<'_>) -> Result<Done, EditError>
+        ensures judged { MatchResult result (λ _. judge self.old.files (change_lent edit.entry) ≡ None) (λ e. IsJudged e (judge self.old.files (change_lent edit.entry))) }
+        ensures ok { OnOk result (self.new.files ≡ after self.old.files (change_lent edit.entry)) }
+        ensures err { OnErr result (self.new.files ≡ self.old.files) }
+        ensures prefixes { self.new.prefixes ≡ self.old.prefixes }
+        ensures made { IfOk result (λ done. done.made ≡ self.new.made - self.old.made) }
+        ensures asks { IfOk result (λ done. done.asks ≡ self.new.asks - self.old.asks) }
+        ensures bounded { IfOk result (λ done. IsBoundedEdit self.old.files self.new.files self.new.prefixes (path_of (change_lent edit.entry)) done.made done.asks) }
+    {
+        if let Some(fault) = judge(&self.report.held.files, &edit) {
+            return Err(fault);
+        }
+        let made = self.meter.made();
+        let asks = self.meter.asks();
+        self.report.make(self.alloc, edit, &mut self.meter)?;
+        Ok(Done {
+            made: self.meter.made().saturating_sub(made),
+            asks: self.meter.asks().saturating_sub(asks),
+        })
+    }
+
+    /// What is said of the files as they stand. No memory.
+    pub fn report(&self) -> &Report
+        ensures files { result.now.files ≡ self.now.files }
+        ensures prefixes { result.now.prefixes ≡ self.now.prefixes }
+    {
+        &self.report
+    }
+
+    /// The part of a class that files give. No memory.
+    pub fn part(&self, name: &[u8]) -> Option<&Part>
+        ensures given { is_some result ≡ gives self.now.files name.now }
+        ensures part { IfSome result (λ part. IsPart (world_of self.now.files self.now.prefixes) name.now part.now) }
+    {
+        self.report.linkage.part(name)
+    }
+
+    /// The classes that files give whose reach holds a name, rising, also of a name that no file gives.
+    /// No memory.
+    pub fn dependants(&self, name: &[u8]) -> &[Vec<u8>]
+        ensures { Lists (names_of result.now) (λ d. (gives self.now.files d ≡ true) × Reach (world_of self.now.files self.now.prefixes) d name.now) }
+    {
+        self.report.linkage.dependants(name)
+    }
+
+    /// How many classes that files give require the row at a place of [`Report::required`], from 0; 0 beyond the
+    /// last. No memory.
+    pub fn holders(&self, place: usize) -> usize
+        ensures { (r : reports.Report) → IsReport self.now.files self.now.prefixes r → CountsHolders r.classes (slice_get r.required place) result }
+    {
+        self.report.holders(place)
+    }
+
+    /// How often a class was asked for, and how many parts were made. No memory.
+    pub fn meter(&self) -> &Meter
+        ensures asks { result.now.asks ≡ self.now.asks }
+        ensures made { result.now.made ≡ self.now.made }
+    {
+        &self.meter
+    }
+
+    /// The bytes of the file that a class is taken from. No memory.
+    pub fn winning_file(&self, name: &[u8]) -> Option<&[u8]>
+        ensures { option_map (λ bytes. bytes.now) result ≡ option_and_then (map.get self.now.files) (winner self.now.files name.now) }
+    {
+        self.report.winning_file(name)
+    }
+
+    /// The bytes of the file at the path. No memory.
+    pub fn file(&self, path: &[u8]) -> Option<&[u8]>
+        ensures { option_map (λ bytes. bytes.now) result ≡ map.get self.now.files path.now }
+    {
+        self.report.file(path)
+    }
+}
