@@ -50,11 +50,25 @@ pub fn check<'p, S: Source, W: Output>(
         × CountsCheck (check_lent result) (W.failures out.old) (W.failures out.new) }
 {
     let (tree, mut meter) = read_tree(alloc, paths, source)?;
-    let report = Report::make(alloc, &tree, outside, &mut meter)?;
+    check_tree(alloc, outside, &tree, &mut meter, out)
+}
+
+/// Writes the report of the files of a tree, and says whether it is wrong.
+fn check_tree<'p, W: Output>(
+    alloc: Global,
+    outside: &Outside,
+    tree: &Tree,
+    meter: &mut Meter,
+    out: &mut W,
+) -> Result<bool, CheckError<'p>>
+    ensures { ((f : Files) → IsTree f tree.now → ChecksAs outside.now (All f) (check_lent result) (W.written out.old) (W.written out.new))
+        × CountsCheck (check_lent result) (W.failures out.old) (W.failures out.new) }
+{
+    let report = Report::make(alloc, tree, outside, meter)?;
     write_and_judge(&report, out)
 }
 
-/// Writes the report of a tree, and says whether it is wrong.
+/// Writes a report, and says whether it is wrong.
 fn write_and_judge<'p, W: Output>(report: &Report<'_>, out: &mut W) -> Result<bool, CheckError<'p>>
     ensures { ((f : Files) (prefixes : List (List ℕ)) → IsReport f prefixes report.now
         → ChecksAs prefixes (All f) (check_lent result) (W.written out.old) (W.written out.new))

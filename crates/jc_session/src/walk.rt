@@ -31,14 +31,7 @@ pub(crate) fn class_files<'a, F: Files + AllocGlobal>(
         pending: Vec::new(rt.alloc()),
         files: ByteMap::new(rt.alloc()),
     };
-    walk.enter("")?;
-    for _ in 0..u64::MAX {
-        match walk.pending.pop() {
-            Some(Entry::At(path)) => walk.visit(path)?,
-            Some(Entry::Unnamed(folder)) => return Err(walk.unread_at(folder.as_str())),
-            None => break,
-        }
-    }
+    walk.go_through()?;
     Ok(walk.files.into_keys(rt.alloc())?)
 }
 
@@ -62,6 +55,26 @@ struct Walk<'a, F> {
 }
 
 impl<F: Files + AllocGlobal> Walk<'_, F> {
+    /// Visits what stands below the folder, one thing after another.
+    fn go_through(&mut self) -> Result<(), WalkFault> {
+        self.enter("")?;
+        for _ in 0..u64::MAX {
+            match self.pending.pop() {
+                Some(entry) => self.take(entry)?,
+                None => break,
+            }
+        }
+        Ok(())
+    }
+
+    /// Visits what stands at a path, or tells the folder that holds what has no path.
+    fn take(&mut self, entry: Entry) -> Result<(), WalkFault> {
+        match entry {
+            Entry::At(path) => self.visit(path),
+            Entry::Unnamed(folder) => Err(self.unread_at(folder.as_str())),
+        }
+    }
+
     /// Takes what stands at a path: the entries of a folder, or a class file itself.
     fn visit(&mut self, path: String) -> Result<(), WalkFault> {
         let kind = match self.kind(path.as_str()) {
@@ -86,32 +99,28 @@ impl<F: Files + AllocGlobal> Walk<'_, F> {
 
     /// Puts the entries of a folder before what is still to be visited.
     fn enter(&mut self, path: &str) -> Result<(), WalkFault> {
-        let names = match self.names(path) {
-            Ok(names) => names,
-            Err(error) => return Err(self.unread(&error, path)),
-        };
-        let names = sorted(self.rt.alloc(), &names)?;
+        match self.names(path) {
+            Ok(names) => Ok(self.put_before(path, &sorted(self.rt.alloc(), &names)?)?),
+            Err(error) => Err(self.unread(&error, path)),
+        }
+    }
+
+    /// Puts what has these names in a folder before what is still to be visited.
+    fn put_before(&mut self, folder: &str, names: &[Vec<u8>]) -> Result<(), NoMemory> {
         for name in names.iter().rev() {
-            let entry = entry_of(self.rt.alloc(), path, name)?;
+            let entry = entry_of(self.rt.alloc(), folder, name)?;
             self.pending.push(entry)?;
         }
         Ok(())
     }
 
-    /// The names in a folder, each ended by a NUL. No read ends inside a name, so there is room for the longest.
+    /// The names in a folder, each ended by a NUL.
     fn names(&self, path: &str) -> io::Result<Vec<u8>> {
         let mut path = path_below(self.rt.alloc(), self.folder, path)?;
         path.push('/')?;
         let mut folder = self.rt.open_dir(path.as_str())?;
         let mut names = Vec::new(self.rt.alloc());
-        let mut room = [0u8; ROOM];
-        for _ in 0..u64::MAX {
-            let count = folder.read(&mut room)?;
-            if count == 0 {
-                break;
-            }
-            names.extend_from_slice(&room[..count])?;
-        }
+        read_names(&mut folder, &mut names)?;
         Ok(names)
     }
 
@@ -132,15 +141,33 @@ impl<F: Files + AllocGlobal> Walk<'_, F> {
     }
 }
 
+/// Reads the names in a folder. No read ends inside a name, so there is room for the longest.
+fn read_names<R: Read>(folder: &mut R, names: &mut Vec<u8>) -> io::Result<()> {
+    let mut room = [0u8; ROOM];
+    for _ in 0..u64::MAX {
+        let count = folder.read(&mut room)?;
+        if count == 0 {
+            break;
+        }
+        names.extend_from_slice(&room[..count])?;
+    }
+    Ok(())
+}
+
 /// Names that are each ended by a NUL, in the order of their bytes.
 fn sorted(alloc: Global, names: &[u8]) -> Result<Vec<Vec<u8>>, NoMemory> {
     let mut each = ByteMap::new(alloc);
+    sort_into(alloc, &mut each, names)?;
+    each.into_keys(alloc)
+}
+
+fn sort_into(alloc: Global, each: &mut ByteMap<()>, names: &[u8]) -> Result<(), NoMemory> {
     for name in names.split(|byte| *byte == 0) {
         if !name.is_empty() && name != b".".as_slice() && name != b"..".as_slice() {
             each.insert(Vec::from_slice(alloc, name)?, ())?;
         }
     }
-    each.into_keys(alloc)
+    Ok(())
 }
 
 /// The entry of a name in a folder.
