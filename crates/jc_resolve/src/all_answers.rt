@@ -1,6 +1,6 @@
 //! The answers to all references of a class.
 
-ghost use Rattle.std.specs.Prelude.{◌≡◌, ◌<◌, ℕ, length, map, Some, option_map, IfOk};
+ghost use Rattle.std.specs.Prelude.{◌≡◌, ◌<◌, ℕ, length, map, [], Some, option_map, IfOk, OnOk};
 ghost use Rattle.std.specs.List.{Contains};
 ghost use Rattle.jc_classes.specs.Facts.{Reference};
 ghost use Rattle.jc_classes.specs.Loading.Loading.{Loaded};
@@ -21,13 +21,49 @@ use jc_classes::{Facts, Standing};
 use jc_graph::Seen;
 use std::alloc::Global;
 
-/// The answers to the references of a class that loads.
-fn answer_all<'a>(
+/// Answers each reference of a class that loads. `above` and `covered` are room to look in.
+fn answer_each<'a>(
     alloc: Global,
     classes: &'a Classes,
     loads: &[Load],
+    above: &mut Seen,
+    covered: &mut Seen,
     class: usize,
     facts: &'a Facts,
+    nodes: &[Option<usize>],
+    answers: &mut Answers,
+) -> Result<(), NoMemory>
+    requires loads { length loads.now ≡ length classes.now.standing.now }
+    requires good { TellsGood (indexed_of classes.now) loads.now }
+    requires above { length above.old.flags ≡ length classes.now.standing.now }
+    requires covered { length covered.old.flags ≡ length classes.now.standing.now }
+    requires class { class < length classes.now.standing.now }
+    requires loaded { load_at loads.now class ≡ Load.Loaded }
+    requires nodes { map (option_map (name_at (indexed_of classes.now))) nodes.now ≡ map (λ (r : Reference). class_of r.named) facts.now.references }
+    requires within { (v : ℕ) → Contains nodes.now (Some v) → v < length classes.now.standing.now }
+    requires none { answers.old ≡ [] }
+    ensures { OnOk result ((m : World) → TellsLoads m (indexed_of classes.now) (length classes.now.standing.now) loads.now
+        → IsIndexed m (indexed_of classes.now)
+        → AreAnswers m (name_at (indexed_of classes.now) class) Loaded facts.now.references answers.new) }
+{
+    let mut at = 0;
+    while let Some(reference) = facts.reference(at) {
+        let answer = resolve(
+            alloc, classes, loads, above, covered, class, reference, nodes[at],
+        )?;
+        answers.push(answer)?;
+        at += 1;
+    }
+    Ok(())
+}
+
+/// The answers to the references of a class that loads.
+fn answer_all(
+    alloc: Global,
+    classes: &Classes,
+    loads: &[Load],
+    class: usize,
+    facts: &Facts,
     nodes: &[Option<usize>],
 ) -> Result<Answers, NoMemory>
     requires loads { length loads.now ≡ length classes.now.standing.now }
@@ -43,21 +79,17 @@ fn answer_all<'a>(
     let mut above = Seen::new(alloc, classes.len())?;
     let mut covered = Seen::new(alloc, classes.len())?;
     let mut answers = Answers::new(alloc, facts.reference_count())?;
-    let mut at = 0;
-    while let Some(reference) = facts.reference(at) {
-        let answer = resolve(
-            alloc,
-            classes,
-            loads,
-            &mut above,
-            &mut covered,
-            class,
-            reference,
-            nodes[at],
-        )?;
-        answers.push(answer)?;
-        at += 1;
-    }
+    answer_each(
+        alloc,
+        classes,
+        loads,
+        &mut above,
+        &mut covered,
+        class,
+        facts,
+        nodes,
+        &mut answers,
+    )?;
     Ok(answers.fitted())
 }
 

@@ -5,7 +5,7 @@ use Rattle.jc_classes.specs.Parts.{AreAnswers}
 use Rattle.jc_resolve.specs.inside.Indexed.{name_at, IsIndexed}
 use Rattle.jc_resolve.specs.inside.Shown.{indexed_of}
 use Rattle.jc_resolve.specs.inside.Resolved.{TellsLoads}
-use Rattle.jc_resolve.proofs.all_answers.answer_all.Given as goal
+use Rattle.jc_resolve.proofs.all_answers.answer_each.Given as goal
 
 abbrev pub invariant-loop-reference : goal.invariant-loop-reference
 invariant-loop-reference l = record {

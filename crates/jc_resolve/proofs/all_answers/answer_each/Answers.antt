@@ -12,7 +12,7 @@ use Rattle.jc_resolve.specs.inside.Indexed.{name_at}
 use Rattle.jc_resolve.specs.inside.Shown.{indexed_of}
 use Rattle.jc_resolve.specs.Answers.{answer_of}
 use Rattle.jc_resolve.proofs.loading.Nets.{answers_push, node_of_ref, node_within, take_whole}
-use Rattle.jc_resolve.proofs.all_answers.answer_all.Goals as goal
+use Rattle.jc_resolve.proofs.all_answers.answer_each.Goals as goal
 
 pub resolve-requires-clause-node : goal.resolve-requires-clause-node
 resolve-requires-clause-node c =
@@ -63,5 +63,4 @@ returns c = λ m told index.
     let at = c.loop-reference.at in
     let e = past refs at (none_of reference_lent (slice_get refs at) c.reference.result c.reference.ensures c.in_default.not-Some) in
     let d = name_at (indexed_of c.args.classes.now) c.args.class in
-    subst (AreAnswers m d Loaded refs) (sym c.fitted.ensures)
-    (subst (λ z. AreAnswers m d Loaded z c.loop-reference.answers) (take_whole refs at e) (c.loop-reference.invariant.answered m told index))
+    subst (λ z. AreAnswers m d Loaded z c.loop-reference.answers) (take_whole refs at e) (c.loop-reference.invariant.answered m told index)
