@@ -2,7 +2,10 @@
 
 ghost use Rattle.std.specs.Prelude.{◌≡◌, IfOk, OnOk, length, map};
 ghost use Rattle.std.specs.Option.{option_copied};
-ghost use Rattle.jc_classes.specs.Names.{names_of};
+ghost use Rattle.jc_classes.specs.Names.{Name, names_of};
+ghost use Rattle.jc_classes.specs.Parts.{IsPart};
+ghost use Rattle.jc_classes.specs.Worlds.{World};
+ghost use Rattle.jc_link.specs.Closures.{IsClosure, record_of};
 ghost use Rattle.jc_link.specs.Meters.{counted};
 ghost use Rattle.jc_link.specs.Tables.{world};
 ghost use Rattle.jc_held.specs.inside.Kept.{AllFresh, AreKeys, IsKeptOf, fresh_names, provided_by, reach_sum, required_by};
@@ -10,7 +13,7 @@ ghost use Rattle.jc_held.specs.inside.Kept.{AllFresh, AreKeys, IsKeptOf, fresh_n
 use jc_base::NoMemory;
 use jc_classes::Facts;
 use jc_index::NameList;
-use jc_link::{Meter, Outside, Part, Table, gather, make_part};
+use jc_link::{Closure, Meter, Outside, Part, Table, gather, make_part};
 use jc_report::{provided_keys, required_keys};
 use std::alloc::Global;
 
@@ -66,17 +69,36 @@ pub(crate) fn make_one(
     ensures made { OnOk result (meter.new.made ≡ counted meter.old.made 1) }
     ensures asks { IfOk result (λ fresh. meter.new.asks ≡ counted meter.old.asks (length fresh.kept.reach)) }
 {
+    let name_kept = Vec::from_slice(alloc, name)?;
     let closure = gather(alloc, table, outside, name, meter)?;
-    let part = make_part(alloc, &closure, meter)?;
-    let name = Vec::from_slice(alloc, name)?;
-    let (provided, required) = keys_of(alloc, closure.record(), &part)?;
+    let (part, (provided, required)) = part_and_keys(alloc, &closure, meter)?;
     let kept = Kept {
         part,
         reach: closure.into_names(),
         provided,
         required,
     };
-    Ok(Fresh { name, kept })
+    Ok(Fresh {
+        name: name_kept,
+        kept,
+    })
+}
+
+/// The part of the class that a closure was gathered for, and the keys of its rows.
+fn part_and_keys(
+    alloc: Global,
+    closure: &Closure,
+    meter: &mut Meter,
+) -> Result<(Part, (NameList, NameList)), NoMemory>
+    ensures part { (m : World) (d : Name) → IsClosure m d closure.now → IfOk result (λ made. IsPart m d made.0) }
+    ensures provided { (m : World) (d : Name) → IsClosure m d closure.now → IfOk result (λ made. AreKeys made.1.0 (provided_by (record_of (m d)) made.0)) }
+    ensures required { (m : World) (d : Name) → IsClosure m d closure.now → IfOk result (λ made. AreKeys made.1.1 (required_by (record_of (m d)) made.0)) }
+    ensures made { OnOk result (meter.new.made ≡ counted meter.old.made 1) }
+    ensures asks { meter.new.asks ≡ meter.old.asks }
+{
+    let part = make_part(alloc, closure, meter)?;
+    let keys = keys_of(alloc, closure.record(), &part)?;
+    Ok((part, keys))
 }
 
 /// The keys of the rows that a class provides, and of those that it requires.
