@@ -1,7 +1,7 @@
 //! Parts are put in the place of those that are kept: links are added first, which may be refused and is then
 //! undone, and taken out last, which can't fail.
 
-ghost use Rattle.std.specs.Prelude.{◌≡◌, ◌||◌, ◌&&◌, not, true, IsSome, None, OnErr, OnOk};
+ghost use Rattle.std.specs.Prelude.{◌≡◌, ◌||◌, ◌&&◌, not, true, IsSome, None, OnErr, OnOk, Some};
 ghost use Rattle.std.specs.FinMap as map;
 ghost use Rattle.jc_classes.specs.Names.{Name, same_name};
 ghost use Rattle.jc_classes.specs.NameLists.{has};
@@ -99,11 +99,29 @@ fn put_one(kept: &mut ByteMap<Kept>, links: &mut Links, one: Fresh)
     ensures linked { (r : Relation) (n d : Name) → linked r links.new n d ≡ (linked r links.old n d && not (same_name d one.name.items && (held_in r kept.old d n && not (has (names_by r one.kept) n)))) }
 {
     let Fresh { name, kept: now } = one;
-    let Ok(old) = kept.replace(&name, now) else {
-        unreachable!();
-    };
-    if let Some(now) = kept.get(&name) {
-        links.unlink_but(&name, &old, now);
+    let old = exchange(kept, &name, now);
+    take_out(kept, links, &name, &old);
+}
+
+/// Takes a class out at the names that are no longer kept of it. No memory.
+fn take_out(kept: &ByteMap<Kept>, links: &mut Links, name: &[u8], old: &Kept)
+    ensures { (now : Kept) → map.get kept.now name.now ≡ Some now
+        → (r : Relation) (n d : Name) → linked r links.new n d ≡ (linked r links.old n d && not (same_name d name.now && (has (names_by r old.now) n && not (has (names_by r now) n)))) }
+{
+    if let Some(now) = kept.get(name) {
+        links.unlink_but(name, old, now);
+    }
+}
+
+/// Puts what is to be kept of a class in the place of what is, which comes out. No memory.
+fn exchange(kept: &mut ByteMap<Kept>, name: &[u8], now: Kept) -> Kept
+    requires { IsSome (map.get kept.old name.now) }
+    ensures old { map.get kept.old name.now ≡ Some result }
+    ensures new { kept.new ≡ map.insert kept.old name.now now }
+{
+    match kept.replace(name, now) {
+        Ok(old) => old,
+        Err(_) => unreachable!(),
     }
 }
 
