@@ -1,6 +1,6 @@
 //! The parts that an edit needs are made and linked before anything is taken away.
 
-ghost use Rattle.std.specs.Prelude.{◌≡◌, ◌||◌, ◌&&◌, IfOk, None, OnErr, OnOk, Some};
+ghost use Rattle.std.specs.Prelude.{◌≡◌, ◌||◌, ◌&&◌, IfErr, IfOk, None, OnErr, OnOk, Some};
 ghost use Rattle.std.specs.FinMap as map;
 ghost use Rattle.std.specs.Option.{option_copied};
 ghost use Rattle.jc_classes.specs.NameLists.{has};
@@ -61,40 +61,54 @@ fn prepare_with(
 {
     let fresh = make_fresh(alloc, table, outside, names, meter)?;
     let newcomer = make_one(alloc, table, outside, name, meter)?;
-    link_and_keep(kept, links, &fresh, newcomer)?;
-    Ok(fresh)
+    match link_and_keep(kept, links, &fresh, newcomer) {
+        Ok(()) => Ok(fresh),
+        Err(_) => Err(NoMemory),
+    }
 }
 
-/// Links parts and that of a newcomer, which is kept. At want of memory the links and what is kept are as
-/// before.
+/// Links parts and that of a newcomer, which is kept. At want of memory it comes back, and the links and what
+/// is kept are as before.
 fn link_and_keep(
     kept: &mut ByteMap<Kept>,
     links: &mut Links,
     fresh: &[Fresh],
     newcomer: Fresh,
-) -> Result<(), NoMemory>
+) -> Result<(), Fresh>
     requires linked { AreLinked kept.old links.old }
     requires absent { map.get kept.old newcomer.name.items ≡ None }
     ensures kept_err { OnErr result (kept.new ≡ kept.old) }
     ensures linked_err { OnErr result (AreLinked kept.old links.new) }
+    ensures back { IfErr result (λ back. back ≡ newcomer) }
     ensures kept_ok { OnOk result (kept.new ≡ map.insert kept.old newcomer.name.items newcomer.kept) }
     ensures linked { OnOk result ((r : Relation) (n d : Name) → linked r links.new n d ≡ (held_in r kept.new d n || fresh_has r fresh.now d n)) }
 {
-    let Fresh {
-        name,
-        kept: newcomer,
-    } = newcomer;
-    link_with(links, kept, fresh, &name, &newcomer)?;
-    match kept.insert(name, newcomer) {
+    match link_with(links, kept, fresh, &newcomer.name, &newcomer.kept) {
+        Ok(()) => {}
+        Err(_) => return Err(newcomer),
+    }
+    match keep(kept, newcomer) {
+        Ok(()) => Ok(()),
+        Err(newcomer) => {
+            undo_links(links, kept, fresh, &newcomer.name, &newcomer.kept);
+            Err(newcomer)
+        }
+    }
+}
+
+/// Keeps a newcomer. At want of memory it comes back, and what is kept is as before.
+fn keep(kept: &mut ByteMap<Kept>, newcomer: Fresh) -> Result<(), Fresh>
+    ensures ok { OnOk result (kept.new ≡ map.insert kept.old newcomer.name.items newcomer.kept) }
+    ensures err { OnErr result (kept.new ≡ kept.old) }
+    ensures back { IfErr result (λ back. back ≡ newcomer) }
+{
+    match kept.insert(newcomer.name, newcomer.kept) {
         Ok(_) => Ok(()),
         Err(
             AllocFailed {
-                value: (name, newcomer),
+                value: (name, kept),
             },
-        ) => {
-            undo_links(links, kept, fresh, &name, &newcomer);
-            Err(NoMemory)
-        }
+        ) => Err(Fresh { name, kept }),
     }
 }
 
