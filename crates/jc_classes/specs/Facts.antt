@@ -1,6 +1,6 @@
 -- What linking keeps of a class file.
 use Rattle.std.specs.Prelude.{ℕ, Bool, List, Option, length, ◌==◌, not}
-use Rattle.jc_file.specs.declared.fault.Fault.{Fault}
+use Rattle.jc_rules.specs.declared.fault.Fault.{Fault}
 use Rattle.jc_code.specs.declared.code_fault.CodeFault.{CodeFault}
 use Rattle.jc_classes.specs.Names.{Name}
 use Rattle.jc_classes.specs.declared.reference_kind.ReferenceKind.{ReferenceKind}

@@ -6,7 +6,7 @@ ghost use Rattle.std.specs.Option.{option_to_list};
 ghost use Rattle.jc_view.specs.declared.attribute_kind.Holder.TheVariants as holders;
 ghost use Rattle.jc_view.specs.ClassFile.{class_text_at};
 ghost use Rattle.jc_view.specs.Lookups.{utf8_at};
-ghost use Rattle.jc_file.specs.Faults.{faults};
+ghost use Rattle.jc_rules.specs.Faults.{faults};
 ghost use Rattle.jc_code.specs.MethodFaults.{code_faults, method_faults};
 ghost use Rattle.jc_classes.specs.FactsOf.{class_name, class_reference, facts_of, faulty_facts, interfaces_in, member_of, member_reference, reference_at, references_in, sound_facts};
 ghost use Rattle.jc_classes.specs.inside.ClassTexts.{Tells};

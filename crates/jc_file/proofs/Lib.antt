@@ -1,5 +1,1 @@
 pub mod clean_file
-pub mod orders
-pub mod kinds
-pub mod repeats
-pub mod violations

@@ -1,13 +1,1 @@
-pub mod AccessFlags
-pub mod FormatRules
-pub mod Faults
-pub mod FaultOrder
-pub mod Violations
-pub mod Examples
 pub mod inside
-pub use Rattle.jc_base.specs.Bytes
-pub use Rattle.jc_base.specs.Cursor
-pub use Rattle.jc_base.specs.DescriptorTests
-pub use Rattle.jc_base.specs.Descriptors
-pub use Rattle.jc_base.specs.Endian
-pub use Rattle.jc_base.specs.TextTests

@@ -1,9 +1,3 @@
 -- What the private calls and the invariants of types speak of, and no public clause.
-pub mod AttributeFaults
 pub mod Clean
-pub mod Recognised
-pub mod Repeated
 pub mod Roles
-pub mod RuleTests
-pub mod TextKinds
-pub mod TextNumbers

@@ -1,7 +1,7 @@
 //! One look at each constant, member and attribute: whether all rules of the format are kept.
 
 ghost use Rattle.std.specs.Prelude.{◌≡◌, [], true, IfOk};
-ghost use Rattle.jc_file.specs.Faults.{faults};
+ghost use Rattle.jc_rules.specs.Faults.{faults};
 ghost use Rattle.jc_file.specs.inside.Clean.{IsKeptClass};
 
 mod attributes;
@@ -17,9 +17,9 @@ use self::constants::keeps_constant_rules;
 use self::members::{keeps_field_rules, keeps_interface_rules, keeps_method_rules};
 use self::repeats::repeats_members;
 use self::roles::Roles;
-use crate::rules::bootstraps::breaks_f27;
-use crate::rules::class::{breaks_f12, breaks_f13};
 use jc_base::NoMemory;
+use jc_rules::rules::bootstraps::breaks_f27;
+use jc_rules::rules::class::{breaks_f12, breaks_f13};
 use jc_view::ClassView;
 use std::alloc::Global;
 

@@ -1,33 +1,16 @@
 //! The format faults of a class file (JVMS 4.1 to 4.8).
 
-ghost use Rattle.std.specs.Prelude.{◌↔◌, ◌≡◌, ◌++◌, OnOk, IfOk};
+ghost use Rattle.std.specs.Prelude.{◌↔◌, ◌≡◌, IfOk};
 ghost use Rattle.std.specs.List.{Contains};
 ghost use Rattle.std.specs.List.Sorted.{IsStrictlySortedBy};
-ghost use Rattle.jc_file.specs.declared.fault.Fault.{Fault};
-ghost use Rattle.jc_file.specs.FaultOrder.{fault_cmp};
-ghost use Rattle.jc_file.specs.Faults.{faults, faults_against};
-ghost use Rattle.jc_file.specs.Violations.{Violates};
+ghost use Rattle.jc_rules.specs.declared.fault.Fault.{Fault};
+ghost use Rattle.jc_rules.specs.FaultOrder.{fault_cmp};
+ghost use Rattle.jc_rules.specs.Faults.{faults};
+ghost use Rattle.jc_rules.specs.Violations.{Violates};
 
-mod attributes;
-mod class;
-mod constants;
-mod list;
-mod members;
-pub(crate) mod repeated;
-mod text_numbers;
-
-use self::attributes::add_attribute_faults;
-use self::class::{add_class_fault, add_interface_faults};
-use self::constants::{add_constant_faults, add_untold_faults};
-use self::members::{add_field_faults, add_method_faults};
-use self::repeated::{add_repeated_fields, add_repeated_methods};
 use crate::clean::is_clean;
-use crate::fault::{Fault, FormatRule};
-use crate::fault_laws::{faults_are_exact, faults_are_violations};
-use crate::rules::bootstraps::breaks_f27;
-use crate::rules::class::{breaks_f12, breaks_f13};
-use crate::text_table::TextTable;
 use jc_base::NoMemory;
+use jc_rules::{Fault, faults_are_exact, faults_are_violations, faults_by_rule};
 use jc_view::ClassView;
 use std::alloc::Global;
 
@@ -52,61 +35,5 @@ fn find_faults(alloc: Global, class: &ClassView) -> Result<Vec<Fault>, NoMemory>
     if is_clean(alloc, class)? {
         return Ok(Vec::new(alloc));
     }
-    let texts = TextTable::new(alloc, class)?;
-    faults_by_rule(alloc, &texts)
-}
-
-#[tactic(auto, unfolding(crate::specs::Faults::faults))]
-fn faults_by_rule(alloc: Global, texts: &TextTable) -> Result<Vec<Fault>, NoMemory>
-    ensures { IfOk result (λ found. found.items ≡ faults texts.now) }
-{
-    let mut faults = Vec::new(alloc);
-    for rule in FormatRule::ALL {
-        add_faults(alloc, &mut faults, texts, rule)?;
-    }
-    Ok(faults)
-}
-
-/// Adds the faults against a rule.
-#[tactic(auto, unfolding(crate::specs::inside::RuleTests::constant_breaks, crate::specs::inside::RuleTests::field_breaks, crate::specs::inside::RuleTests::method_breaks, crate::specs::inside::RuleTests::attribute_breaks))]
-fn add_faults(
-    alloc: Global,
-    faults: &mut Vec<Fault>,
-    texts: &TextTable,
-    rule: FormatRule,
-) -> Result<(), NoMemory>
-    ensures { OnOk result (faults.new.items ≡ faults.old.items ++ faults_against texts.now rule) }
-{
-    let class = texts.class();
-    match rule {
-        FormatRule::F1
-        | FormatRule::F2
-        | FormatRule::F3
-        | FormatRule::F4
-        | FormatRule::F5
-        | FormatRule::F6
-        | FormatRule::F7
-        | FormatRule::F8
-        | FormatRule::F9
-        | FormatRule::F10 => add_constant_faults(faults, texts, rule),
-        FormatRule::F11 => add_untold_faults(faults, texts, rule),
-        FormatRule::F12 => add_class_fault(faults, breaks_f12(class), rule),
-        FormatRule::F13 => add_class_fault(faults, breaks_f13(class), rule),
-        FormatRule::F14 => add_interface_faults(faults, texts, rule),
-        FormatRule::F15 | FormatRule::F16 | FormatRule::F17 | FormatRule::F25 => {
-            add_field_faults(faults, texts, rule)
-        }
-        FormatRule::F18 => add_repeated_fields(alloc, faults, class, rule),
-        FormatRule::F19
-        | FormatRule::F20
-        | FormatRule::F21
-        | FormatRule::F23
-        | FormatRule::F24
-        | FormatRule::F26 => add_method_faults(faults, texts, rule),
-        FormatRule::F22 => add_repeated_methods(alloc, faults, class, rule),
-        FormatRule::F27 => add_class_fault(faults, breaks_f27(class), rule),
-        FormatRule::F28 | FormatRule::F29 | FormatRule::F30 => {
-            add_attribute_faults(faults, class, rule)
-        }
-    }
+    faults_by_rule(alloc, class)
 }

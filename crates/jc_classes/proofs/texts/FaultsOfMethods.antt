@@ -2,7 +2,7 @@
 use Rattle.std.proofs.Common.{◌≡◌, ◌∙◌, ℕ, ◌+◌, List, ◌∷◌, ◌++◌, map, ap, sym}
 use Rattle.jc_view.specs.ClassFile.{ClassFile}
 use Rattle.jc_view.specs.Places.{PlacedMember}
-use Rattle.jc_file.proofs.kinds.PlacedMembers.{members_of}
+use Rattle.jc_rules.proofs.kinds.PlacedMembers.{members_of}
 use Rattle.jc_code.specs.MethodFaults.{code_faults_from, method_faults}
 
 pub next_method : (c : ClassFile) (count number next : ℕ) (left rest : List PlacedMember) (m : PlacedMember) → left ≡ m ∷ rest → number ≡ count → next ≡ count + 1

@@ -9,7 +9,7 @@ use Rattle.jc_view.specs.declared.constant_pool.ConstantKind.TheVariants as kind
 use Rattle.jc_view.specs.ConstantPool.{Constant, Utf8, NameAndType, utf8_text}
 use Rattle.jc_view.specs.ClassFile.{ClassFile, constant_at}
 use Rattle.jc_view.specs.Lookups.{utf8_at, is_kind, is_entry, name_and_type, passes, fails}
-use Rattle.jc_file.specs.FormatRules.{fails_beside, is_bad_special}
+use Rattle.jc_rules.specs.FormatRules.{fails_beside, is_bad_special}
 use Rattle.jc_file.specs.declared.clean.roles.Role.TheVariants as roles
 use Rattle.jc_file.specs.inside.Clean.{IsKept}
 use Rattle.jc_file.specs.inside.Roles.{fits, serves}

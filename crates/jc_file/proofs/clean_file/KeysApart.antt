@@ -7,10 +7,10 @@ use Rattle.std.proofs.lemmas.List.{length-append}
 use Rattle.jc_view.specs.Lookups.{utf8_at}
 use Rattle.jc_view.specs.Places.{PlacedMember}
 use Rattle.jc_view.specs.Lent.{MembersLeft, LentMember, GivesMember}
-use Rattle.jc_file.specs.Faults.{key_of, same_key, repeated}
-use Rattle.jc_file.specs.inside.Repeated.{key_now, keys_left, repeats}
-use Rattle.jc_file.proofs.repeats.KeysLeft.{keys_next, keys_left-members}
-use Rattle.jc_file.proofs.repeats.RepeatedKeys.{any-append, or_false, repeats_alike, repeats_all}
+use Rattle.jc_rules.specs.Faults.{key_of, same_key, repeated}
+use Rattle.jc_rules.specs.inside.Repeated.{key_now, keys_left, repeats}
+use Rattle.jc_rules.proofs.repeats.KeysLeft.{keys_next, keys_left-members}
+use Rattle.jc_rules.proofs.repeats.RepeatedKeys.{any-append, or_false, repeats_alike, repeats_all}
 
 abbrev pub LentKey : Type 0
 LentKey = Bor (List ℕ) × Bor (List ℕ)

@@ -7,14 +7,14 @@ use Rattle.jc_view.specs.ConstantPool.{Constant}
 use Rattle.jc_view.specs.ClassFile.{ClassFile, all_slots, constant_at}
 use Rattle.jc_view.specs.Places.{PlacedAttribute}
 use Rattle.jc_view.specs.AttributeReading.{all_attributes}
-use Rattle.jc_file.specs.declared.fault.FormatRule.{FormatRule}
-use Rattle.jc_file.specs.declared.fault.FormatRule.TheVariants as rules
-use Rattle.jc_file.specs.declared.fault.TheConstants.FormatRule.{ALL}
-use Rattle.jc_file.specs.Faults.{passing, constants_with, only_if, those_with, attributes_with, places, faults_against, faults}
-use Rattle.jc_file.specs.FormatRules.{breaks_f1, breaks_f2, breaks_f3, breaks_f4, breaks_f5, breaks_f6, breaks_f7, breaks_f8, breaks_f9, breaks_f10, breaks_f11, breaks_f14, breaks_f15, breaks_f16, breaks_f17, breaks_f19, breaks_f20, breaks_f21, breaks_f23, breaks_f24, breaks_f25, breaks_f26, breaks_f28, breaks_f29, breaks_f30}
+use Rattle.jc_rules.specs.declared.fault.FormatRule.{FormatRule}
+use Rattle.jc_rules.specs.declared.fault.FormatRule.TheVariants as rules
+use Rattle.jc_rules.specs.declared.fault.TheConstants.FormatRule.{ALL}
+use Rattle.jc_rules.specs.Faults.{passing, constants_with, only_if, those_with, attributes_with, places, faults_against, faults, fault_at}
+use Rattle.jc_rules.specs.FormatRules.{breaks_f1, breaks_f2, breaks_f3, breaks_f4, breaks_f5, breaks_f6, breaks_f7, breaks_f8, breaks_f9, breaks_f10, breaks_f11, breaks_f14, breaks_f15, breaks_f16, breaks_f17, breaks_f19, breaks_f20, breaks_f21, breaks_f23, breaks_f24, breaks_f25, breaks_f26, breaks_f28, breaks_f29, breaks_f30}
 use Rattle.jc_file.specs.inside.Clean.{AreKept, AreKeptBelow, IsKept, IsKeptAt}
-use Rattle.jc_file.specs.inside.RuleTests.{fault_at, numbered}
-use Rattle.jc_file.proofs.orders.NumberedItems.{those_with-numbered}
+use Rattle.jc_rules.specs.inside.RuleTests.{numbered}
+use Rattle.jc_rules.proofs.orders.NumberedItems.{those_with-numbered}
 
 -- one index more
 pub kept_more : (c : ClassFile) (bound : ℕ) → AreKeptBelow c bound → IsKeptAt c bound → AreKeptBelow c (bound + 1)

@@ -12,11 +12,11 @@ use Rattle.jc_view.specs.Places.{PlacedAttribute, PlacedMember, member_attribute
 use Rattle.jc_view.specs.Attributes.{codes_of, exceptions_of, is_recognised, of_kind}
 use Rattle.jc_view.specs.AttributeReading.{code_in, exceptions_in}
 use Rattle.jc_view.specs.Lookups.{is_entry, lacks}
-use Rattle.jc_file.specs.FormatRules.{is_named_clinit}
-use Rattle.jc_file.specs.AccessFlags.{has, native, abstract}
+use Rattle.jc_rules.specs.FormatRules.{is_named_clinit}
+use Rattle.jc_rules.specs.AccessFlags.{has, native, abstract}
 use Rattle.jc_file.specs.inside.Clean.{IsNoted, KeepsCodeRules, bit, must_have_code}
-use Rattle.jc_file.specs.inside.Recognised.{any_of}
-use Rattle.jc_file.proofs.kinds.AttributesOfKind.{in_place, of_kind_placed}
+use Rattle.jc_rules.specs.inside.Recognised.{any_of}
+use Rattle.jc_rules.proofs.kinds.AttributesOfKind.{in_place, of_kind_placed}
 
 -- how many of a kind are left
 abbrev pub left_of : ClassFile → AttributeKind → List PlacedAttribute → ℕ

@@ -13,7 +13,7 @@ use Rattle.jc_view.specs.declared.constant_pool.ConstantKind.TheVariants as kind
 use Rattle.jc_view.specs.ConstantPool.{Constant, Class, Utf8, class_entry, utf8_text}
 use Rattle.jc_view.specs.ClassFile.{ClassFile, constant_at}
 use Rattle.jc_view.specs.Lookups.{is_entry, is_kind, passes, utf8_at}
-use Rattle.jc_file.specs.FormatRules.{is_array_text}
+use Rattle.jc_rules.specs.FormatRules.{is_array_text}
 use Rattle.jc_file.specs.declared.clean.roles.Role.{Role}
 use Rattle.jc_file.specs.declared.clean.roles.Role.TheVariants as roles
 use Rattle.jc_file.specs.inside.Clean.{IsKept}

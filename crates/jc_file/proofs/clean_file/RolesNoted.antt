@@ -7,7 +7,7 @@ use Rattle.jc_file.specs.declared.clean.roles.Role.{Role}
 use Rattle.jc_file.specs.declared.clean.roles.Role.TheVariants as roles
 use Rattle.jc_file.specs.declared.clean.roles.RoleSet.{RoleSet}
 use Rattle.jc_file.specs.inside.Roles.{AllServe, has_role, serves, with_role}
-use Rattle.jc_file.proofs.repeats.NumberedTexts.{set_cases}
+use Rattle.jc_rules.proofs.repeats.NumberedTexts.{set_cases}
 
 added_or_had : (s : RoleSet) (added role : Role) → has_role (with_role s added) role ≡ true → (role ≡ added) ⊎ (has_role s role ≡ true)
 added_or_had s roles.Class roles.Class h = inl refl

@@ -6,12 +6,12 @@ use Rattle.jc_base.specs.DescriptorTests.{method_type_of}
 use Rattle.jc_view.specs.declared.constant_pool.ConstantIndex.{ConstantIndex}
 use Rattle.jc_view.specs.ClassFile.{ClassFile, Member}
 use Rattle.jc_view.specs.Lookups.{passes, lacks, fails}
-use Rattle.jc_file.specs.AccessFlags.{has, static}
-use Rattle.jc_file.specs.FormatRules.{fits_slots}
+use Rattle.jc_rules.specs.AccessFlags.{has, static}
+use Rattle.jc_rules.specs.FormatRules.{fits_slots}
 use Rattle.jc_file.specs.declared.clean.roles.Role.{Role}
 use Rattle.jc_file.specs.declared.clean.roles.Role.TheVariants as roles
 use Rattle.jc_file.specs.inside.Roles.{fits, serves}
-use Rattle.jc_file.proofs.violations.Decisions.{lacks_is}
+use Rattle.jc_rules.proofs.violations.Decisions.{lacks_is}
 
 pub is_not : (b : Bool) → not b ≡ true → b ≡ false
 is_not true e = absurd (false≢true e)

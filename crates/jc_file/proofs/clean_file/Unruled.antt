@@ -8,7 +8,7 @@ use Rattle.jc_view.specs.ClassFile.{ClassFile}
 use Rattle.jc_view.specs.Lookups.{utf8_at, passes}
 use Rattle.jc_view.specs.Attributes.{attribute_name, belongs_to, is_recognised}
 use Rattle.jc_view.specs.Places.{PlacedAttribute}
-use Rattle.jc_file.specs.FormatRules.{breaks_f29, breaks_f30}
+use Rattle.jc_rules.specs.FormatRules.{breaks_f29, breaks_f30}
 use Rattle.jc_file.specs.inside.Clean.{has_rules}
 
 or_parts : (a b : Bool) → (a || b) ≡ false → (a ≡ false) × (b ≡ false)

@@ -10,9 +10,9 @@ use Rattle.jc_view.specs.ClassFile.{Attribute, ClassFile, Member, all_slots, con
 use Rattle.jc_view.specs.Places.{PlacedAttribute}
 use Rattle.jc_view.specs.Attributes.{attribute_name, is_recognised}
 use Rattle.jc_view.specs.AttributeReading.{all_attributes}
-use Rattle.jc_file.specs.Faults.{repeated}
-use Rattle.jc_file.specs.AccessFlags.{has, native, abstract}
-use Rattle.jc_file.specs.FormatRules.{is_named_clinit, breaks_f1, breaks_f2, breaks_f3, breaks_f4, breaks_f5, breaks_f6, breaks_f7, breaks_f8, breaks_f9, breaks_f10, breaks_f11, breaks_f12, breaks_f13, breaks_f14, breaks_f15, breaks_f16, breaks_f17, breaks_f19, breaks_f20, breaks_f21, breaks_f23, breaks_f24, breaks_f25, breaks_f26, breaks_f27, breaks_f28, breaks_f29, breaks_f30}
+use Rattle.jc_rules.specs.Faults.{repeated}
+use Rattle.jc_rules.specs.AccessFlags.{has, native, abstract}
+use Rattle.jc_rules.specs.FormatRules.{is_named_clinit, breaks_f1, breaks_f2, breaks_f3, breaks_f4, breaks_f5, breaks_f6, breaks_f7, breaks_f8, breaks_f9, breaks_f10, breaks_f11, breaks_f12, breaks_f13, breaks_f14, breaks_f15, breaks_f16, breaks_f17, breaks_f19, breaks_f20, breaks_f21, breaks_f23, breaks_f24, breaks_f25, breaks_f26, breaks_f27, breaks_f28, breaks_f29, breaks_f30}
 
 -- a constant keeps the rules over constants
 pub record IsKept (c : ClassFile) (constant : Constant) : Type 0 where

@@ -10,7 +10,7 @@ use Rattle.jc_file.specs.declared.clean.roles.Role.{Role}
 use Rattle.jc_file.specs.declared.clean.roles.Role.TheVariants as roles
 use Rattle.jc_file.specs.declared.clean.roles.RoleSet.{RoleSet}
 use Rattle.jc_file.specs.declared.clean.roles.Roles.TheInside as known
-use Rattle.jc_file.specs.FormatRules.{is_array_text, is_bad_special}
+use Rattle.jc_rules.specs.FormatRules.{is_array_text, is_bad_special}
 
 -- the text is one of a role
 abbrev pub fits : Role → List ℕ → Bool

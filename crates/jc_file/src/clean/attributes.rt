@@ -6,10 +6,10 @@ ghost use Rattle.jc_base.specs.Bytes.{same_bytes};
 ghost use Rattle.jc_view.specs.Places.{member_attributes};
 ghost use Rattle.jc_view.specs.Attributes.{attribute_name};
 ghost use Rattle.jc_view.specs.AttributeReading.{all_attributes, with_inner};
-ghost use Rattle.jc_file.specs.FormatRules.{breaks_f29, breaks_f30};
+ghost use Rattle.jc_rules.specs.FormatRules.{breaks_f29, breaks_f30};
 ghost use Rattle.jc_file.specs.inside.Clean.{IsKeptAttribute, has_rules};
 
-use crate::rules::attributes::{breaks_f29, breaks_f30};
+use jc_rules::rules::attributes::{breaks_f29, breaks_f30};
 use jc_view::{Attribute, AttributeKind, Attributes, ClassView, Members};
 
 /// Whether all attributes keep the rules over attributes.

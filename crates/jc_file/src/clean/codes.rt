@@ -9,8 +9,8 @@ ghost use Rattle.jc_view.specs.AttributeReading.{code_in, exceptions_in};
 ghost use Rattle.jc_view.specs.Lookups.{is_entry, lacks};
 ghost use Rattle.jc_file.specs.inside.Clean.{IsNoted, KeepsCodeRules, must_have_code};
 
-use crate::rules::access_flags::{ABSTRACT, NATIVE, has};
-use crate::rules::methods::{is_named_clinit, lacks_classes};
+use jc_rules::AccessFlag;
+use jc_rules::rules::methods::{is_named_clinit, lacks_classes};
 use jc_view::{Attribute, AttributeKind, Member};
 
 /// Whether a method has one `Code` where it must and else none, and one `Exceptions` at most, each
@@ -39,7 +39,8 @@ fn must_have_code(method: &Member) -> bool
     ensures { result ≡ must_have_code method.now.class method.now.member.member }
 {
     let flags = method.flags();
-    !((has(flags, NATIVE) || has(flags, ABSTRACT)) && !is_named_clinit(method))
+    !((AccessFlag::Native.is_in(flags) || AccessFlag::Abstract.is_in(flags))
+        && !is_named_clinit(method))
 }
 
 /// Whether there is a `Code` with this attribute; `None` where it is a second one, or one that isn't

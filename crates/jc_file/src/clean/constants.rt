@@ -6,15 +6,14 @@ ghost use Rattle.jc_view.specs.ClassFile.{all_slots, constant_at};
 ghost use Rattle.jc_view.specs.ConstantPool.{MethodHandle};
 ghost use Rattle.jc_view.specs.Lent.{constant_of};
 ghost use Rattle.jc_view.specs.Lookups.{name_of, passes};
-ghost use Rattle.jc_file.specs.FormatRules.{breaks_f8, breaks_f9, is_name_amiss};
+ghost use Rattle.jc_rules.specs.FormatRules.{breaks_f8, breaks_f9, is_name_amiss, told_by};
 ghost use Rattle.jc_file.specs.inside.Clean.{AreKeptBelow, IsKept, IsKeptAt};
-ghost use Rattle.jc_file.specs.inside.Recognised.{told_by};
 
 use crate::clean::roles::{Role, Roles};
 use crate::clean::texts::{is_class, is_field_entry, is_method_entry, is_text};
-use crate::rules::bootstraps::told_methods;
-use crate::rules::constants::{fits_handle, is_name_amiss};
-use crate::texts::is_well_spelled;
+use jc_rules::rules::bootstraps::told_methods;
+use jc_rules::rules::constants::{fits_handle, is_name_amiss};
+use jc_rules::texts::is_well_spelled;
 use jc_view::{ClassView, Constant, ConstantIndex, ConstantKind};
 
 /// Whether the rules over constants are kept.

@@ -8,8 +8,8 @@ ghost use Rattle.jc_file.specs.inside.Clean.{IsKeptField, IsKeptInterface, IsKep
 use crate::clean::codes::keeps_code_rules;
 use crate::clean::roles::{Role, Roles};
 use crate::clean::texts::is_text;
-use crate::rules::fields::{breaks_f17, breaks_f25};
-use crate::rules::methods::breaks_f21;
+use jc_rules::rules::fields::{breaks_f17, breaks_f25};
+use jc_rules::rules::methods::breaks_f21;
 use jc_view::{Constant, ConstantIndex, Member};
 
 /// Whether each interface is a class.

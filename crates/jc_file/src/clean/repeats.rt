@@ -2,13 +2,12 @@
 
 ghost use Rattle.std.specs.Prelude.{◌≡◌, [], true, false, map, IfOk};
 ghost use Rattle.std.specs.List.{list_any};
-ghost use Rattle.jc_file.specs.Faults.{repeated, same_key};
+ghost use Rattle.jc_rules.specs.Faults.{repeated, same_key};
 ghost use Rattle.jc_file.specs.inside.Clean.{AreApart};
-ghost use Rattle.jc_file.specs.inside.Repeated.{key_now};
+ghost use Rattle.jc_rules.specs.inside.Repeated.{key_now};
 
-use crate::fault::FormatRule;
-use crate::faults::repeated::{add_repeated_fields, add_repeated_methods};
 use jc_base::NoMemory;
+use jc_rules::{FormatRule, add_repeated_fields, add_repeated_methods};
 use jc_view::{ClassView, Members};
 use std::alloc::Global;
 

@@ -4,12 +4,12 @@ ghost use Rattle.std.specs.Prelude.{◌≡◌, ◌||◌, true, false};
 ghost use Rattle.jc_base.specs.TextTests.{is_class_text};
 ghost use Rattle.jc_view.specs.declared.constant_pool.ConstantKind.TheVariants as kinds;
 ghost use Rattle.jc_view.specs.Lookups.{is_entry, passes, utf8_at};
-ghost use Rattle.jc_file.specs.FormatRules.{is_array_text, is_bad_special};
+ghost use Rattle.jc_rules.specs.FormatRules.{is_array_text, is_bad_special};
 ghost use Rattle.jc_file.specs.inside.Roles.{fits, serves};
 
 use crate::clean::roles::{Role, Roles};
-use crate::texts::{begins_with, is_init};
 use jc_base::{FieldDesc, MethodDesc, is_class_name, is_method_name, is_unqualified};
+use jc_rules::texts::{begins_with, is_init};
 use jc_view::{Constant, ConstantIndex};
 
 /// Whether the text of an index serves in a role.

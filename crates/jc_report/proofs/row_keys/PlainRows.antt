@@ -3,7 +3,7 @@ use Rattle.std.proofs.Common.{◌≡◌, ◌∙◌, ◌&&◌, ℕ, Bool, true, f
 use Rattle.std.specs.Prelude.{if◌then◌else◌}
 use Rattle.std.specs.List.{Contains, filter}
 use Rattle.jc_base.proofs.Membership.{Has, has_from, has-cases, has-from_map}
-use Rattle.jc_file.specs.AccessFlags.{has, public}
+use Rattle.jc_rules.specs.AccessFlags.{has, public}
 use Rattle.jc_classes.specs.Facts.{Facts, Member, Reference}
 use Rattle.jc_classes.specs.FactsOf.{facts_of}
 use Rattle.jc_classes.specs.Names.{Name}

@@ -12,11 +12,11 @@ use Rattle.jc_view.specs.declared.constant_pool.ConstantIndex.{ConstantIndex}
 use Rattle.jc_view.specs.ConstantPool.{Constant, Utf8, class_entry, utf8_text}
 use Rattle.jc_view.specs.ClassFile.{ClassFile, class_text_at, constant_at}
 use Rattle.jc_view.specs.Lookups.{name_and_type_at, name_at, utf8_at}
-use Rattle.jc_file.specs.declared.fault.Fault.{Fault}
-use Rattle.jc_file.specs.declared.fault.FormatRule.TheVariants as rules
-use Rattle.jc_file.specs.Faults.{constants_with, faults, places}
-use Rattle.jc_file.specs.FormatRules.{breaks_f2}
-use Rattle.jc_file.proofs.violations.Constants.{constants_decided}
+use Rattle.jc_rules.specs.declared.fault.Fault.{Fault}
+use Rattle.jc_rules.specs.declared.fault.FormatRule.TheVariants as rules
+use Rattle.jc_rules.specs.Faults.{constants_with, faults, places}
+use Rattle.jc_rules.specs.FormatRules.{breaks_f2}
+use Rattle.jc_rules.proofs.violations.Constants.{constants_decided}
 use Rattle.jc_report.specs.RowKeys.{has_zero}
 
 -- what the laws of texts and of faults say

@@ -1,7 +1,7 @@
 use Rattle.std.proofs.Common.{◌≡◌, ◌++◌}
 use Rattle.std.specs.Iterator.Adapters.{enumerate_source, enumerate_count}
 use Rattle.jc_view.specs.declared.attribute_kind.Holder.TheVariants as holders
-use Rattle.jc_file.proofs.kinds.PlacedMembers.{members_of, AreOf}
+use Rattle.jc_rules.proofs.kinds.PlacedMembers.{members_of, AreOf}
 use Rattle.jc_code.specs.MethodFaults.{code_faults, code_faults_from}
 use Rattle.jc_classes.proofs.read_facts.all_code_faults.Given as goal
 

@@ -1,7 +1,7 @@
 use Rattle.std.proofs.Common.{ap, codes}
 use Rattle.std.specs.List.{flat_map}
 use Rattle.jc_view.specs.Places.{attributes_in}
-use Rattle.jc_file.specs.Faults.{faults}
+use Rattle.jc_rules.specs.Faults.{faults}
 use Rattle.jc_text.proofs.Sending.{◌⟫◌, sends_equal}
 use Rattle.jc_list.specs.AttributeLines.{attribute_lines}
 use Rattle.jc_list.specs.FaultLines.{code_fault_line, format_line}

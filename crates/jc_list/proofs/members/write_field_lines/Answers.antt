@@ -1,6 +1,6 @@
 use Rattle.std.proofs.Common.{◌≡◌, ◌∙◌, ap, codes}
 use Rattle.jc_view.specs.Places.{fields_in}
-use Rattle.jc_file.specs.AccessFlags.{field_flags}
+use Rattle.jc_rules.specs.AccessFlags.{field_flags}
 use Rattle.jc_text.proofs.Sending.{sends_equal}
 use Rattle.jc_list.specs.MemberLines.{field_lines, member_lines}
 use Rattle.jc_list.proofs.fronts.OneBehindAnother.{all_listed, begins_equal, item_begins, item_listed, lists_front, none_listed}

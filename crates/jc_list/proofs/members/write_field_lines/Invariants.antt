@@ -1,6 +1,6 @@
 use Rattle.std.proofs.Common.{◌≡◌, codes}
 use Rattle.std.specs.List.{flat_map}
-use Rattle.jc_file.specs.AccessFlags.{field_flags}
+use Rattle.jc_rules.specs.AccessFlags.{field_flags}
 use Rattle.jc_text.proofs.Sending.{HasSent}
 use Rattle.jc_list.specs.MemberLines.{field_lines, member_lines}
 use Rattle.jc_list.proofs.members.write_field_lines.Given as goal

@@ -1,6 +1,6 @@
 use Rattle.std.proofs.Common.{◌≡◌, codes}
 use Rattle.std.specs.List.{flat_map}
-use Rattle.jc_file.specs.AccessFlags.{method_flags}
+use Rattle.jc_rules.specs.AccessFlags.{method_flags}
 use Rattle.jc_text.proofs.Sending.{HasSent}
 use Rattle.jc_list.specs.MemberLines.{member_lines, method_lines}
 use Rattle.jc_list.proofs.members.write_method_lines.Given as goal

@@ -8,7 +8,7 @@ use Rattle.jc_view.specs.Attributes.{codes_of, exceptions_of}
 use Rattle.jc_view.specs.Lookups.{is_entry, lacks}
 use Rattle.jc_view.specs.Places.{member_attributes}
 use Rattle.jc_file.specs.inside.Clean.{IsNoted}
-use Rattle.jc_file.proofs.kinds.AnyOfKind.{any_of_member}
+use Rattle.jc_rules.proofs.kinds.AnyOfKind.{any_of_member}
 use Rattle.jc_file.proofs.clean_file.Noted.{count_all, count_done, count_next, kept_codes, none_done, none_next, same_bits}
 use Rattle.jc_file.proofs.clean.codes.keeps_code_rules.Goals as goal
 

@@ -1,7 +1,7 @@
 use Rattle.std.proofs.Common.{◌≡◌}
 use Rattle.jc_view.specs.Attributes.{bootstrap_attributes}
 use Rattle.jc_file.specs.inside.Clean.{AreKeptBelow}
-use Rattle.jc_file.specs.inside.Recognised.{told_by}
+use Rattle.jc_rules.specs.FormatRules.{told_by}
 use Rattle.jc_file.proofs.clean.constants.keeps_constant_rules.Given as goal
 
 -- those so far are kept

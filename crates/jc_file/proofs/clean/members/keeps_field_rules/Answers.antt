@@ -3,7 +3,7 @@ use Rattle.std.specs.List.{AllByRecursion}
 use Rattle.jc_view.specs.declared.attribute_kind.Holder.TheVariants as holders
 use Rattle.jc_view.specs.Places.{fields_in, fields_place}
 use Rattle.jc_file.specs.inside.Clean.{IsKeptField}
-use Rattle.jc_file.proofs.kinds.PlacedMembers.{AreOf, are_of_all, members_of, members_of_all}
+use Rattle.jc_rules.proofs.kinds.PlacedMembers.{AreOf, are_of_all, members_of, members_of_all}
 use Rattle.jc_file.proofs.clean_file.Steps.{one_left}
 use Rattle.jc_file.proofs.clean.members.keeps_field_rules.Goals as goal
 

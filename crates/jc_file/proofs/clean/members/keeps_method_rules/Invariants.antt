@@ -2,7 +2,7 @@ use Rattle.std.proofs.Common.{◌≡◌}
 use Rattle.std.specs.List.{AllByRecursion}
 use Rattle.jc_view.specs.declared.attribute_kind.Holder.TheVariants as holders
 use Rattle.jc_file.specs.inside.Clean.{IsKeptMethod}
-use Rattle.jc_file.proofs.kinds.PlacedMembers.{AreOf, members_of}
+use Rattle.jc_rules.proofs.kinds.PlacedMembers.{AreOf, members_of}
 use Rattle.jc_file.proofs.clean.members.keeps_method_rules.Given as goal
 
 -- what is left decides

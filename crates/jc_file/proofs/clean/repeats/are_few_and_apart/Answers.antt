@@ -1,8 +1,8 @@
 use Rattle.std.proofs.Common.{◌∙◌, ap, sym}
 use Rattle.std.specs.Option.{option_copied}
 use Rattle.std.specs.List.{list_any}
-use Rattle.jc_file.specs.Faults.{same_key}
-use Rattle.jc_file.specs.inside.Repeated.{key_now}
+use Rattle.jc_rules.specs.Faults.{same_key}
+use Rattle.jc_rules.specs.inside.Repeated.{key_now}
 use Rattle.jc_file.proofs.clean_file.KeysApart.{none_passed, one_passed}
 use Rattle.jc_file.proofs.clean.repeats.are_few_and_apart.Goals as goal
 

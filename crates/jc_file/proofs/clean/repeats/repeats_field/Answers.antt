@@ -1,7 +1,7 @@
 use Rattle.std.proofs.Common.{◌+◌, ◌∙◌, sym}
 use Rattle.jc_view.specs.declared.attribute_kind.Holder.TheVariants as holders
 use Rattle.jc_view.specs.Places.{fields_place}
-use Rattle.jc_file.proofs.repeats.KeysLeft.{repeated-members}
+use Rattle.jc_rules.proofs.repeats.KeysLeft.{repeated-members}
 use Rattle.jc_file.proofs.clean.repeats.repeats_field.Goals as goal
 
 pub returns-then-branch : goal.returns-then-branch

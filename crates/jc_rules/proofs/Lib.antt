@@ -1,0 +1,4 @@
+pub mod orders
+pub mod kinds
+pub mod repeats
+pub mod violations

@@ -1,0 +1,48 @@
+//! The faults of the fields and methods, rule by rule.
+
+ghost use Rattle.std.specs.Prelude.{◌≡◌, ◌++◌, map, OnOk};
+ghost use Rattle.jc_rules.specs.Faults.{those_with, fault_at};
+ghost use Rattle.jc_rules.specs.inside.RuleTests.{field_breaks, method_breaks};
+
+use crate::fault::{Fault, FormatRule};
+use crate::faults::list::add_if;
+use crate::rules::fields::field_breaks;
+use crate::rules::methods::method_breaks;
+use crate::text_table::TextTable;
+use jc_base::NoMemory;
+
+/// Adds the faults of the fields against a rule over fields.
+pub(crate) fn add_field_faults(
+    faults: &mut Vec<Fault>,
+    texts: &TextTable,
+    rule: FormatRule,
+) -> Result<(), NoMemory>
+    ensures { OnOk result (faults.new.items ≡ faults.old.items ++ map (fault_at rule) (those_with (field_breaks rule texts.now) texts.now.fields)) }
+{
+    for (place, field) in texts.class().fields().enumerate() {
+        add_if(
+            faults,
+            field_breaks(texts, rule, &field),
+            Fault { rule, place },
+        )?;
+    }
+    Ok(())
+}
+
+/// Adds the faults of the methods against a rule over methods.
+pub(crate) fn add_method_faults(
+    faults: &mut Vec<Fault>,
+    texts: &TextTable,
+    rule: FormatRule,
+) -> Result<(), NoMemory>
+    ensures { OnOk result (faults.new.items ≡ faults.old.items ++ map (fault_at rule) (those_with (method_breaks rule texts.now) texts.now.methods)) }
+{
+    for (place, method) in texts.class().methods().enumerate() {
+        add_if(
+            faults,
+            method_breaks(texts, rule, &method),
+            Fault { rule, place },
+        )?;
+    }
+    Ok(())
+}

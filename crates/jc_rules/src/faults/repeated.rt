@@ -1,0 +1,91 @@
+//! Members whose name and descriptor an earlier one has.
+
+ghost use Rattle.std.specs.Prelude.{◌≡◌, ◌<◌, ◌^◌, ◌++◌, false, map, length, IfOk, OnOk};
+ghost use Rattle.std.specs.List.{list_any};
+ghost use Rattle.std.specs.Option.{option_map_or};
+ghost use Rattle.indexmap.specs.IndexSet.{insert_key};
+ghost use Rattle.jc_rules.specs.Faults.{repeated, fault_at};
+ghost use Rattle.jc_rules.specs.inside.TextNumbers.{same_numbers, AreNumbers, KeepsNumbers, IsNumberedKey};
+
+use crate::fault::{Fault, FormatRule};
+use crate::faults::list::add_if;
+use crate::faults::text_numbers::TextNumbers;
+use indexmap::IndexSet;
+use jc_base::NoMemory;
+use jc_view::{ClassView, ConstantIndex, Member, Members};
+use std::alloc::Global;
+
+/// The numbers of a name and a descriptor.
+type NumberedKey = (ConstantIndex, ConstantIndex);
+
+/// Adds a fault for each field whose name and descriptor an earlier one has.
+pub fn add_repeated_fields(
+    alloc: Global,
+    faults: &mut Vec<Fault>,
+    class: &ClassView,
+    rule: FormatRule,
+) -> Result<(), NoMemory>
+    ensures { OnOk result (faults.new.items ≡ faults.old.items ++ map (fault_at rule) (repeated class.now class.now.fields)) }
+{
+    add_repeated(alloc, faults, class.fields(), rule)
+}
+
+/// Adds a fault for each method whose name and descriptor an earlier one has.
+pub fn add_repeated_methods(
+    alloc: Global,
+    faults: &mut Vec<Fault>,
+    class: &ClassView,
+    rule: FormatRule,
+) -> Result<(), NoMemory>
+    ensures { OnOk result (faults.new.items ≡ faults.old.items ++ map (fault_at rule) (repeated class.now class.now.methods)) }
+{
+    add_repeated(alloc, faults, class.methods(), rule)
+}
+
+/// Adds a fault for each member whose name and descriptor an earlier one has.
+fn add_repeated(
+    alloc: Global,
+    faults: &mut Vec<Fault>,
+    members: Members,
+    rule: FormatRule,
+) -> Result<(), NoMemory>
+    requires { length members.left < 2 ^ 16 }
+    ensures { OnOk result (faults.new.items ≡ faults.old.items ++ map (fault_at rule) (repeated members.entry.class (map (λ m. m.member) members.entry.left))) }
+{
+    let mut texts = TextNumbers::new(alloc, members.class())?;
+    let mut seen = IndexSet::new(alloc);
+    for (place, member) in members.enumerate() {
+        let is_repeated = note(&mut seen, numbered_key(&mut texts, &member)?)?;
+        add_if(faults, is_repeated, Fault { rule, place })?;
+    }
+    Ok(())
+}
+
+/// The numbers of a member's name and descriptor.
+fn numbered_key<'a>(
+    texts: &mut TextNumbers<'a>,
+    member: &Member<'_, 'a>,
+) -> Result<Option<NumberedKey>, NoMemory>
+    requires { AreNumbers member.now.class texts.now }
+    ensures sound { AreNumbers member.now.class texts.new }
+    ensures keeps { KeepsNumbers texts.old texts.new }
+    ensures ok { IfOk result (IsNumberedKey member.now.class texts.new member.now.member.member) }
+{
+    let name = texts.number(member.class(), member.name_index())?;
+    let descriptor = texts.number(member.class(), member.descriptor_index())?;
+    match (name, descriptor) {
+        (Some(name), Some(descriptor)) => Ok(Some((name, descriptor))),
+        _ => Ok(None),
+    }
+}
+
+/// Puts a key in, and tells whether it was there.
+fn note(seen: &mut IndexSet<NumberedKey>, key: Option<NumberedKey>) -> Result<bool, NoMemory>
+    ensures was { IfOk result (λ was. was ≡ option_map_or (λ k. list_any (same_numbers k) seen.old.keys) key false) }
+    ensures ok { OnOk result (seen.new.keys ≡ option_map_or (insert_key same_numbers seen.old.keys) key seen.old.keys) }
+{
+    match key {
+        Some(key) => Ok(!seen.insert(key)?),
+        None => Ok(false),
+    }
+}

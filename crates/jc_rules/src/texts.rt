@@ -1,0 +1,53 @@
+//! What the rules ask of texts.
+
+ghost use Rattle.std.specs.Prelude.{◌≡◌, is_some};
+ghost use Rattle.jc_base.specs.TextTests.{units_of, is_class_text, is_method_name_text, is_unqualified_text};
+ghost use Rattle.jc_base.specs.DescriptorTests.{begins_with, is_field_text, is_method_text};
+ghost use Rattle.jc_rules.specs.FormatRules.{is_array_text, is_init, is_clinit, is_object, returns_value};
+ghost use Rattle.jc_rules.specs.inside.TextKinds.{method_slots_of};
+
+use jc_base::{FieldDesc, MethodDesc, check_units, is_class_name, is_method_name, is_unqualified};
+
+/// Whether the text is modified UTF-8.
+pub fn is_well_spelled(text: &[u8]) -> bool
+    ensures { result ≡ is_some (units_of text.now) }
+{
+    check_units(text).is_ok()
+}
+
+/// Whether the text is the name of a class or interface in its internal form (JVMS 4.2.1).
+pub(crate) fn is_class_text(text: &[u8]) -> bool
+    ensures { result ≡ is_class_text text.now }
+{
+    is_class_name(text)
+}
+
+/// Whether the text begins with `byte`.
+pub fn begins_with(byte: u8, text: &[u8]) -> bool
+    ensures { result ≡ begins_with byte text.now }
+{
+    match text {
+        [first, ..] => *first == byte,
+        [] => false,
+    }
+}
+
+/// Whether the name is that of a constructor.
+pub fn is_init(name: &[u8]) -> bool
+    ensures { result ≡ is_init name.now }
+{
+    name == b"<init>".as_slice()
+}
+
+pub(crate) fn is_clinit(name: &[u8]) -> bool
+    ensures { result ≡ is_clinit name.now }
+{
+    name == b"<clinit>".as_slice()
+}
+
+/// Whether the name is that of the class without a superclass.
+pub(crate) fn is_object(name: &[u8]) -> bool
+    ensures { result ≡ is_object name.now }
+{
+    name == b"java/lang/Object".as_slice()
+}
