@@ -1,12 +1,11 @@
 //! What the rules ask of texts.
 
 ghost use Rattle.std.specs.Prelude.{◌≡◌, is_some};
-ghost use Rattle.jc_base.specs.TextTests.{units_of, is_class_text, is_method_name_text, is_unqualified_text};
-ghost use Rattle.jc_base.specs.DescriptorTests.{begins_with, is_field_text, is_method_text};
-ghost use Rattle.jc_rules.specs.FormatRules.{is_array_text, is_init, is_clinit, is_object, returns_value};
-ghost use Rattle.jc_rules.specs.inside.TextKinds.{method_slots_of};
+ghost use Rattle.jc_base.specs.TextTests.{units_of, is_class_text};
+ghost use Rattle.jc_base.specs.DescriptorTests.{begins_with};
+ghost use Rattle.jc_rules.specs.FormatRules.{is_init, is_clinit, is_object};
 
-use jc_base::{FieldDesc, MethodDesc, check_units, is_class_name, is_method_name, is_unqualified};
+use jc_base::{check_units, is_class_name};
 
 /// Whether the text is modified UTF-8.
 pub fn is_well_spelled(text: &[u8]) -> bool

@@ -1,6 +1,6 @@
 //! The `Code` and the `Exceptions` of a method, in one pass over its attributes.
 
-ghost use Rattle.std.specs.Prelude.{◌≡◌, ◌+◌, true, is_none, IfSome};
+ghost use Rattle.std.specs.Prelude.{◌≡◌, true, is_none, IfSome};
 ghost use Rattle.std.specs.List.{list_all};
 ghost use Rattle.jc_view.specs.declared.attribute_kind.AttributeKind.TheVariants as attributes;
 ghost use Rattle.jc_view.specs.declared.attribute_kind.Holder.TheVariants as holders;

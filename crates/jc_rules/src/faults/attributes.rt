@@ -1,6 +1,6 @@
 //! The faults of the attributes, rule by rule.
 
-ghost use Rattle.std.specs.Prelude.{◌≡◌, ◌++◌, [], ◌∷◌, map, cond, OnOk};
+ghost use Rattle.std.specs.Prelude.{◌≡◌, ◌++◌, [], ◌∷◌, map, OnOk};
 ghost use Rattle.std.specs.List.{flat_map};
 ghost use Rattle.jc_view.specs.Places.{member_attributes};
 ghost use Rattle.jc_view.specs.AttributeReading.{with_inner};

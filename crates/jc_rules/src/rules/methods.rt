@@ -4,12 +4,12 @@ ghost use Rattle.std.specs.Prelude.{◌≡◌, is_none};
 ghost use Rattle.std.specs.List.{list_all, list_any};
 ghost use Rattle.jc_view.specs.declared.attribute_kind.Holder.TheVariants as holders;
 ghost use Rattle.jc_view.specs.declared.constant_pool.ConstantKind.TheVariants as kinds;
-ghost use Rattle.jc_view.specs.AttributeReading.{code_in, exceptions_in};
+ghost use Rattle.jc_view.specs.AttributeReading.{exceptions_in};
 ghost use Rattle.jc_rules.specs.inside.RuleTests.{method_breaks};
 ghost use Rattle.jc_view.specs.Lookups.{is_entry, lacks, passes};
 ghost use Rattle.jc_base.specs.DescriptorTests.{method_type_of};
 ghost use Rattle.jc_rules.specs.FormatRules.{fits_slots, is_named_clinit, is_named_init, has_more_than_abstract, are_bad_interface_flags, has_more_than_constructor, breaks_f19, breaks_f20, breaks_f21, breaks_f23, breaks_f24, breaks_f26};
-ghost use Rattle.jc_view.specs.Attributes.{codes_of, exceptions_of};
+ghost use Rattle.jc_view.specs.Attributes.{exceptions_of};
 
 use crate::fault::FormatRule;
 use crate::rules::access_flags::{
