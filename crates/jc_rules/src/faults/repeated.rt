@@ -18,7 +18,8 @@ use std::alloc::Global;
 /// The numbers of a name and a descriptor.
 type NumberedKey = (ConstantIndex, ConstantIndex);
 
-/// Adds a fault for each field whose name and descriptor an earlier one has.
+/// Adds a fault for each field whose name and descriptor an earlier one has. At want of memory the list may
+/// have some of them.
 pub fn add_repeated_fields(
     alloc: Global,
     faults: &mut Vec<Fault>,
@@ -30,7 +31,8 @@ pub fn add_repeated_fields(
     add_repeated(alloc, faults, class.fields(), rule)
 }
 
-/// Adds a fault for each method whose name and descriptor an earlier one has.
+/// Adds a fault for each method whose name and descriptor an earlier one has. At want of memory the list may
+/// have some of them.
 pub fn add_repeated_methods(
     alloc: Global,
     faults: &mut Vec<Fault>,
