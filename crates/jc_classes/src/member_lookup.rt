@@ -2,7 +2,7 @@
 
 ghost use Rattle.std.specs.Prelude.{◌≡◌, ◌≤◌, length, map, option_map};
 ghost use Rattle.jc_classes.specs.Lent.{key_lent, member_lent};
-ghost use Rattle.jc_classes.specs.MethodLookup.{count_named, declared, first_named, given_by, polymorphic};
+ghost use Rattle.jc_classes.specs.MethodLookup.{count_named, first_named, given_by};
 ghost use Rattle.jc_classes.specs.Worlds.{member};
 ghost use Rattle.jc_classes.specs.Worlds.Stands.{Record};
 ghost use Rattle.jc_classes.specs.inside.FactsShown.{member_shown};
@@ -28,15 +28,18 @@ impl Facts {
         find_member(&self.texts, self.methods.as_slice(), key)
     }
 
-    /// The method that the class of this name itself answers: a signature polymorphic one by its name
-    /// (JVMS 2.9, 5.4.3.3), else the one with the name and the descriptor.
-    pub fn declared(&self, class: &[u8], key: Key) -> Option<Member<'_>>
-        ensures { option_map member_lent result ≡ declared class.now (Record self.now) (key_lent key.entry) }
+    /// How many methods of its own have a name.
+    pub fn count_named(&self, name: &[u8]) -> usize
+        ensures { result ≡ count_named self.now.methods name.now }
     {
-        match find_polymorphic(&self.texts, class, self.methods.as_slice(), key.name) {
-            Some(member) => Some(member),
-            None => find_member(&self.texts, self.methods.as_slice(), key),
-        }
+        count_named(&self.texts, self.methods.as_slice(), name)
+    }
+
+    /// Its own first method with a name, whatever the descriptor.
+    pub fn first_named(&self, name: &[u8]) -> Option<Member<'_>>
+        ensures { option_map member_lent result ≡ first_named self.now.methods name.now }
+    {
+        first_named(&self.texts, self.methods.as_slice(), name)
     }
 
     /// The method that it gives to what is below it, if it is an interface: one that is neither PRIVATE
@@ -84,30 +87,6 @@ fn find_member<'a>(texts: &'a TextList, members: &[MemberEntry], key: Key) -> Op
         }
     }
     None
-}
-
-/// The signature polymorphic method of a name, the only one of its name in its class (JVMS 2.9).
-fn find_polymorphic<'a>(
-    texts: &'a TextList,
-    class: &[u8],
-    methods: &[MemberEntry],
-    name: &[u8],
-) -> Option<Member<'a>>
-    ensures { option_map member_lent result ≡ polymorphic class.now (map (member_shown texts.now) methods.now) name.now }
-{
-    if !same(class, b"java/lang/invoke/MethodHandle") || count_named(texts, methods, name) != 1 {
-        return None;
-    }
-    match first_named(texts, methods, name) {
-        Some(member) => {
-            if member.is_polymorphic() {
-                Some(member)
-            } else {
-                None
-            }
-        }
-        None => None,
-    }
 }
 
 /// How many members have a name.

@@ -13,6 +13,7 @@ ghost use Rattle.jc_resolve.specs.inside.Picks.{gives};
 ghost use Rattle.jc_resolve.specs.inside.Settled.{lies_outside};
 
 use crate::packages::package;
+use crate::polymorphic::declared;
 use jc_base::NoMemory;
 use jc_classes::{Key, Member, Standing, same};
 use jc_file::AccessFlag;
@@ -129,7 +130,7 @@ impl<'c, 't> Classes<'c, 't> {
         ensures { option_map member_lent result ≡ declared (name_at (indexed_of self.now) node) (record_at (indexed_of self.now) node) (key_lent key.entry) }
     {
         match self.at(node) {
-            Standing::Class(facts) => facts.declared(self.names[node].as_slice(), key),
+            Standing::Class(facts) => declared(facts, self.names[node].as_slice(), key),
             _ => None,
         }
     }

@@ -14,6 +14,7 @@ mod loads;
 mod methods;
 mod packages;
 mod picks;
+mod polymorphic;
 mod references;
 mod resolve;
 mod settle;
