@@ -1,4 +1,5 @@
-use Rattle.std.proofs.Common.{◌∙◌, sym, length, ap}
+use Rattle.std.proofs.lemmas.Grind.{common_steps}
+use Rattle.std.proofs.Common.{◌∙◌, sym, length, ap, arith}
 use Rattle.std.proofs.lemmas.Bool.{eqb-false}
 use Rattle.jc_base.proofs.texts.TestsDecide.{same_answer, unqualified_decides}
 use Rattle.jc_base.proofs.names.is_unqualified.Goals as goal
@@ -16,3 +17,9 @@ returns-then-is_ok-clause-name c =
 
 pub returns-then-is_ok-clause-computed : goal.returns-then-is_ok-clause-computed
 returns-then-is_ok-clause-computed c = same_answer _ _ (returns-then-is_ok-clause-name c) (unqualified_decides c.args.text.now)
+
+pub returns-else-is_ok-clause-name : goal.returns-else-is_ok-clause-name
+returns-else-is_ok-clause-name c = grind (arith, common_steps)
+
+pub returns-else-is_ok-clause-computed : goal.returns-else-is_ok-clause-computed
+returns-else-is_ok-clause-computed c = grind (arith, common_steps)

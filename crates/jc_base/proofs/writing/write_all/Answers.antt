@@ -1,3 +1,4 @@
+use Rattle.std.proofs.lemmas.Grind.{common_steps}
 use Rattle.std.proofs.Common.{◌∙◌, take-add, length-drop, arith}
 use Rattle.std.proofs.lemmas.List.{take_rest}
 use Rattle.std.proofs.KnownBytes.{Appends-trans}
@@ -15,3 +16,6 @@ loop-at-preserved g c =
       so_far = rw (take-add at c.in_ok-at.field-0 all) (Appends-trans _ _ _ _ _ so_far.so_far more);
       failures = c.in_ok-at.ensures.failures ∙ so_far.failures;
     }
+
+pub returns-clause-ok : goal.returns-clause-ok
+returns-clause-ok c = grind (arith, common_steps)

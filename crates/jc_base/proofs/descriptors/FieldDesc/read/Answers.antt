@@ -35,3 +35,6 @@ returns-then-is_element-clause-computed c = same_read (IsField c.args.text.now) 
 
 pub returns-else-is_element-clause-computed : goal.returns-else-is_element-clause-computed
 returns-else-is_element-clause-computed c = same_read (IsField c.args.text.now) _ _ (returns-else-is_element-clause-some c) tt (field_decides c.args.text.now)
+
+pub returns-then-is_element-clause-tree : goal.returns-then-is_element-clause-tree
+returns-then-is_element-clause-tree c = search rules
