@@ -1,3 +1,1 @@
-pub mod checks
-pub mod listings
-pub mod runs
+pub mod endings

@@ -1,5 +1,1 @@
-pub mod Adding
-pub mod EditText
 pub mod LentFaults
-pub mod Reading
-pub mod Replies

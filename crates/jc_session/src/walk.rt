@@ -1,6 +1,6 @@
 //! The class files below a folder.
 
-use crate::source::path_below;
+use crate::folder::path_below;
 use jc_base::{ByteMap, NoMemory};
 use std::alloc::{AllocError, AllocFailed, Global};
 use std::fs;

@@ -3,13 +3,13 @@ use Rattle.std.specs.FinMap as map
 use Rattle.std.proofs.KnownBytes.{Keeps-refl}
 use Rattle.std.proofs.lemmas.Result.{err_from_is_err_and}
 use Rattle.jc_classes.specs.Names.{Name}
-use Rattle.jc_session.specs.declared.run_error.RunError.TheVariants as errors
+use Rattle.jc_lines.specs.declared.run_error.RunError.TheVariants as errors
 use Rattle.jc_report.specs.Files.{Files}
-use Rattle.jc_session.specs.Runs.{Left, RunsAs}
-use Rattle.jc_session.specs.Sources.{SourceAnswers}
+use Rattle.jc_lines.specs.Runs.{Left, RunsAs}
+use Rattle.jc_lines.specs.Sources.{SourceAnswers}
 use Rattle.jc_session.specs.Statuses.{IsOutcome}
 use Rattle.jc_session.specs.inside.LentFaults.{outcome_lent}
-use Rattle.jc_session.proofs.runs.ByAnswers.{not_begun}
+use Rattle.jc_lines.proofs.runs.ByAnswers.{not_begun}
 use Rattle.jc_session.proofs.command_line.perform.Goals as goal
 
 pub returns-in_err-session : goal.returns-in_err-session

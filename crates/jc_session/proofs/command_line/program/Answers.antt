@@ -1,6 +1,6 @@
 use Rattle.std.proofs.Common.{Err, inl, inr}
-use Rattle.jc_session.proofs.runs.FailuresCounted.{input_idle, output_idle}
-use Rattle.jc_session.proofs.runs.ByAnswers.{words_perform}
+use Rattle.jc_session.proofs.endings.FailuresCounted.{input_idle, output_idle}
+use Rattle.jc_session.proofs.endings.WordsRefused.{words_perform}
 use Rattle.jc_session.specs.inside.LentFaults.{fault_lent}
 use Rattle.jc_session.proofs.command_line.program.Goals as goal
 

@@ -2,7 +2,7 @@ use Rattle.std.proofs.Common.{◌∙◌, List, Ok, Err, ap, subst}
 use Rattle.jc_classes.specs.Names.{Name}
 use Rattle.jc_report.specs.Files.{Files}
 use Rattle.jc_report.specs.Reports.{IsReport}
-use Rattle.jc_session.proofs.runs.FailuresCounted.{input_counts, output_counts}
+use Rattle.jc_session.proofs.endings.FailuresCounted.{input_counts, output_counts}
 use Rattle.jc_session.proofs.command_line.run_through.Goals as goal
 
 pub returns-in-Ok : goal.returns-in-Ok

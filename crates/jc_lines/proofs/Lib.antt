@@ -1,0 +1,3 @@
+pub mod checks
+pub mod listings
+pub mod runs

@@ -1,0 +1,15 @@
+use Rattle.std.proofs.Common.{◌≡◌, ◌+◌, ◌≤◌, IsSome, length, position}
+use Rattle.jc_lines.specs.inside.Reading.{bytes_left, is_line_feed}
+use Rattle.jc_lines.proofs.runs.LinesCut.{IsReading}
+use Rattle.jc_lines.proofs.lines.read_line.Given as goal
+
+abbrev pub invariant-loop-ahead : goal.invariant-loop-ahead
+invariant-loop-ahead g l = record {
+  reading : IsReading (bytes_left l.fn.ahead (g.R.Input.remaining l.fn.input)) l.line l.ahead (g.R.Input.remaining l.input);
+  spent : g.R.Input.bound l.input + (length l.ahead + length l.line) ≤ g.R.Input.bound l.fn.input + length l.fn.ahead;
+  ahead : IsSome (position is_line_feed l.fn.ahead) → (l.ahead ≡ l.fn.ahead) × (l.input ≡ l.fn.input);
+  failures : g.R.Input.failures l.input ≡ g.R.Input.failures l.fn.input;
+}
+
+abbrev pub decreases-loop-ahead : goal.decreases-loop-ahead
+decreases-loop-ahead g l = g.R.Input.bound l.input

@@ -1,0 +1,19 @@
+use Rattle.std.proofs.Common.{◌≡◌, ◌+◌, List, ℕ, Some, length}
+use Rattle.jc_lines.specs.Sources.{SourceAnswers}
+use Rattle.jc_lines.proofs.runs.RunsSoFar.{IsSoFar}
+use Rattle.jc_lines.proofs.runs.ByAnswers.{IsSoFarByAnswers}
+use Rattle.jc_lines.proofs.running.run.Given as goal
+
+abbrev pub invariant-loop-line : goal.invariant-loop-line
+invariant-loop-line g l = record {
+  so_far : (bytes : List ℕ) (s : SourceAnswers) → g.R.Input.remaining l.fn.input ≡ Some bytes → g.S.Source.answers l.fn.source ≡ Some s
+      → IsSoFar l.fn.session.prefixes l.fn.session.files s bytes l.ahead (g.R.Input.remaining l.input) (g.S.Source.answers l.source) l.session.files (g.W.Output.written l.fn.out) (g.W.Output.written l.out);
+  by_answers : (bytes : List ℕ) → g.R.Input.remaining l.fn.input ≡ Some bytes
+      → IsSoFarByAnswers l.fn.session.prefixes l.fn.session.files bytes l.ahead (g.R.Input.remaining l.input) l.session.files (g.W.Output.written l.fn.out) (g.W.Output.written l.out);
+  prefixes : l.session.prefixes ≡ l.fn.session.prefixes;
+  reads : g.R.Input.failures l.input ≡ g.R.Input.failures l.fn.input;
+  writes : g.W.Output.failures l.out ≡ g.W.Output.failures l.fn.out;
+}
+
+abbrev pub decreases-loop-line : goal.decreases-loop-line
+decreases-loop-line g l = g.R.Input.bound l.input + length l.ahead

@@ -1,0 +1,6 @@
+pub mod LinesCut
+pub mod RunsOverLines
+pub mod LineAnswered
+pub mod RunsSoFar
+pub mod ByAnswers
+pub mod OneRun

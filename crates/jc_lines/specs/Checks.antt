@@ -1,0 +1,75 @@
+-- Checking a tree of files: each is added by its path, and the report of all is written.
+use Rattle.std.specs.Prelude.{◌≡◌, ◌≤◌, ℕ, Bool, List, [], ◌∷◌, Option, Some, None, Result, Ok, Err}
+use Rattle.std.specs.Io.KnownBytes.{Appends, Keeps}
+use Rattle.jc_base.specs.Device.{MoreFaults, WritesFront}
+use Rattle.jc_report.specs.Files.{Files}
+use Rattle.jc_report.specs.ReportText.{report_text}
+use Rattle.jc_report.specs.Reports.{IsReport, Report, is_wrong}
+use Rattle.jc_edits.specs.declared.edit.EditError.{EditError}
+use Rattle.jc_lines.specs.declared.source.SourceError.{SourceError}
+use Rattle.jc_lines.specs.declared.source.SourceError.TheVariants as sources
+use Rattle.jc_edits.specs.Edits.{Adds, after, judge}
+use Rattle.jc_lines.specs.Sources.{SourceAnswers, TakesAnswer}
+
+-- ---- what the source answers
+
+abbrev pub Answer : Type 0
+Answer = Result (List ℕ) SourceError
+
+-- it is asked for the paths in order, and gives these answers to the first of them
+abbrev pub GivesAnswers : Option SourceAnswers → (paths : List (List ℕ)) → List Answer → Option SourceAnswers → Type 0
+GivesAnswers old paths [] new = new ≡ old
+GivesAnswers old [] (answer ∷ answers) new = ⊥
+GivesAnswers old (path ∷ paths) (answer ∷ answers) new = (mid : Option SourceAnswers) × TakesAnswer old path answer mid × GivesAnswers mid paths answers new
+
+-- ---- files that are added one by one
+
+-- what came of adding files
+pub data Added : Type 0 where
+  -- all of them are there
+  All : Files → Added
+  -- no bytes were handed over for this path
+  Unread : (path : List ℕ) → Added
+  Refused : EditError → (path : List ℕ) → Added
+  -- memory ended
+  Lacks : Added
+
+abbrev pub judged_add : Files → (path bytes : List ℕ) → Option EditError → (Files → Added) → Added
+judged_add f path bytes None more = more (after f (Adds path bytes))
+judged_add f path bytes (Some e) more = Refused e path
+
+abbrev pub answered_add : Files → (path : List ℕ) → Answer → (Files → Added) → Added
+answered_add f path (Ok bytes) more = judged_add f path bytes (judge f (Adds path bytes)) more
+answered_add f path (Err sources.Unread) more = Unread path
+answered_add f path (Err sources.NoMemory) more = Lacks
+
+-- as by adding the file at each path in order, up to the first that is not added
+abbrev pub added : Files → (paths : List (List ℕ)) → List Answer → Added
+added f [] answers = All f
+added f (path ∷ paths) [] = Lacks
+added f (path ∷ paths) (answer ∷ answers) = answered_add f path answer (λ g. added g paths answers)
+
+-- ---- checks
+
+-- why no report, or not all of it, is written
+pub data CheckFault : Type 0 where
+  FileUnread : (path : List ℕ) → CheckFault
+  FileRefused : EditError → (path : List ℕ) → CheckFault
+  WriteFailed : CheckFault
+  NoMemory : CheckFault
+
+-- the report of all the files was written, or a proper beginning of it where the output failed, or nothing
+abbrev pub ChecksAs : (prefixes : List (List ℕ)) → Added → Result Bool CheckFault → (before now : Option (List ℕ)) → Type 0
+ChecksAs prefixes files (Ok wrong) before now = (f : Files) × (r : Report) × (files ≡ All f) × IsReport f prefixes r × (wrong ≡ is_wrong r) × Appends before now (report_text r)
+ChecksAs prefixes files (Err WriteFailed) before now = (f : Files) × (r : Report) × (files ≡ All f) × IsReport f prefixes r × WritesFront before now (report_text r)
+ChecksAs prefixes files (Err (FileUnread path)) before now = (files ≡ Unread path) × Keeps before now
+ChecksAs prefixes files (Err (FileRefused e path)) before now = (files ≡ Refused e path) × Keeps before now
+ChecksAs prefixes files (Err NoMemory) before now = Keeps before now
+
+-- the output's count of failures rises with its failure alone
+abbrev pub CountsCheck : Result Bool CheckFault → ℕ → ℕ → Type 0
+CountsCheck (Ok wrong) old new = new ≡ old
+CountsCheck (Err WriteFailed) old new = MoreFaults old new × (old ≤ new)
+CountsCheck (Err (FileUnread path)) old new = new ≡ old
+CountsCheck (Err (FileRefused e path)) old new = new ≡ old
+CountsCheck (Err NoMemory) old new = new ≡ old

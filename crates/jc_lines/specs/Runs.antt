@@ -1,0 +1,154 @@
+-- How a run over the lines of an input ends, and what it has done by then.
+use Rattle.std.specs.Prelude.{◌≡◌, ℕ, ◌<◌, ◌≤◌, ◌⊎◌, ◌↔◌, Bool, true, false, List, ◌∷◌, ◌++◌, length, take, Option, Some, None, Result, Ok, Err, ⊤, IsSome}
+use Rattle.std.specs.List.{list_any}
+use Rattle.std.specs.Io.KnownBytes.{Appends, Keeps}
+use Rattle.jc_base.specs.Device.{MoreFaults}
+use Rattle.jc_lines.specs.declared.run_error.RunError.{RunError}
+use Rattle.jc_lines.specs.declared.run_error.RunError.TheVariants as run_errors
+use Rattle.jc_lines.specs.declared.run_error.Ended.{Ended}
+use Rattle.jc_lines.specs.declared.run_error.Ended.TheVariants as ended
+use Rattle.jc_lines.specs.declared.source.SourceError.{SourceError}
+use Rattle.jc_lines.specs.declared.source.SourceError.TheVariants as sources
+use Rattle.jc_classes.specs.Names.{Name}
+use Rattle.jc_report.specs.Files.{Files}
+use Rattle.jc_edits.specs.Edits.{Change, Adds, Replaces, Removes, judge}
+use Rattle.jc_report.specs.FileRows.{winner}
+use Rattle.jc_lines.specs.Lines.{Command, Add, Replace, Remove, Report, Part, Listing, End, Bad, command_of, lines_of, whole_lines}
+use Rattle.jc_lines.specs.Sources.{SourceAnswers, next_answer}
+use Rattle.jc_lines.specs.Answers.{Reply, Says, Lists, Ends, Lacks, Replies, Run, RunsTo, Ending, AtEnd, AtEof}
+
+-- what a run leaves: the files, the source's answers to come and the input's bytes to come, and what was written before it and is now
+pub record Left : Type 0 where
+  pub files : Files
+  pub source : Option SourceAnswers
+  pub coming : Option (List ℕ)
+  pub before : Option (List ℕ)
+  pub now : Option (List ℕ)
+
+-- the session and the source are left, and the output was written, as by the run over some lines, which ended so
+pub record IsDone (run : Run) (ending : Ending) (left : Left) : Type 0 where
+  pub ends : run.ending ≡ ending
+  pub files : left.files ≡ run.files
+  pub source : left.source ≡ Some run.source
+  pub text : Appends left.before left.now run.text
+
+-- ---- a run that ends
+
+abbrev pub ending_of : Ended → Ending
+ending_of ended.End = AtEnd
+ending_of ended.Eof = AtEof
+
+abbrev pub is_end : Command → Bool
+is_end (Add path) = false
+is_end (Replace path) = false
+is_end (Remove path) = false
+is_end Report = false
+is_end (Part name) = false
+is_end (Listing name) = false
+is_end End = true
+is_end Bad = false
+
+-- one of the lines is `end`
+abbrev pub has_end : List (List ℕ) → Bool
+has_end lines = list_any (λ line. is_end (command_of line)) lines
+
+-- all lines were answered, up to the first that is `end`, and the source answered none of them that it had no memory
+pub record EndsAs (prefixes : List Name) (f : Files) (s : SourceAnswers) (bytes : List ℕ) (how : Ended) (left : Left) : Type 0 where
+  pub run : Run
+  pub runs : RunsTo prefixes f s (lines_of bytes) run
+  pub done : IsDone run (ending_of how) left
+  pub by_end : (how ≡ ended.End) ↔ (has_end (lines_of bytes) ≡ true)
+
+-- ---- a run that stops
+
+-- the whole lines that were handed over were answered, none of them `end`
+abbrev pub StopsAtRead : List Name → Files → SourceAnswers → List ℕ → Left → Type 0
+StopsAtRead prefixes f s bytes left =
+    (front : List ℕ) × (coming : List ℕ) × (run : Run) × (bytes ≡ front ++ coming) × (left.coming ≡ Some coming)
+    × RunsTo prefixes f s (whole_lines front) run × IsDone run AtEof left
+
+-- a proper beginning of an answer was written behind the text of the lines before
+abbrev pub BreaksText : List ℕ → (text : List ℕ) → Left → Type 0
+BreaksText said text left = (n : ℕ) × (n < length said) × Appends left.before left.now (text ++ take n said)
+
+-- behind a run the line was done, and a proper beginning of its answer was written
+abbrev pub BreaksOff : Reply → Run → Left → Type 0
+BreaksOff (Says said files source) run left = (left.files ≡ files) × (left.source ≡ Some source) × BreaksText said run.text left
+BreaksOff (Lists said) run left = (left.files ≡ run.files) × (left.source ≡ Some run.source) × BreaksText said run.text left
+BreaksOff Ends run left = ⊥
+BreaksOff (Lacks source) run left = ⊥
+
+-- the lines before some line were answered, none of them `end`, and it was done but not answered whole
+abbrev pub StopsAtWrite : List Name → Files → SourceAnswers → List ℕ → Left → Type 0
+StopsAtWrite prefixes f s bytes left =
+    (lines : List (List ℕ)) × (line : List ℕ) × (rest : List (List ℕ)) × (run : Run) × (r : Reply) × (lines_of bytes ≡ lines ++ line ∷ rest)
+    × RunsTo prefixes f s lines run × (run.ending ≡ AtEof) × Replies prefixes run.files run.source (command_of line) r × BreaksOff r run left
+
+-- an edit that is not refused may want memory, and so may the source
+abbrev pub MayLack : Files → (List ℕ → Change) → Result (List ℕ) SourceError → Type 0
+MayLack f change (Ok bytes) = judge f (change bytes) ≡ None
+MayLack f change (Err sources.Unread) = ⊥
+MayLack f change (Err sources.NoMemory) = ⊤
+
+-- a listing may too, and no other line
+abbrev pub LineMayLack : Files → SourceAnswers → Command → Type 0
+LineMayLack f s (Add path) = MayLack f (Adds path) (next_answer s path)
+LineMayLack f s (Replace path) = MayLack f (Replaces path) (next_answer s path)
+LineMayLack f s (Remove path) = judge f (Removes path) ≡ None
+LineMayLack f s Report = ⊥
+LineMayLack f s (Part name) = ⊥
+LineMayLack f s (Listing name) = IsSome (winner f name)
+LineMayLack f s End = ⊥
+LineMayLack f s Bad = ⊥
+
+-- nothing was done
+pub record IsNotBegun (f : Files) (s : SourceAnswers) (bytes : List ℕ) (left : Left) : Type 0 where
+  pub files : left.files ≡ f
+  pub source : left.source ≡ Some s
+  pub coming : left.coming ≡ Some bytes
+  pub kept : Keeps left.before left.now
+
+-- behind a run a line was not done: of a listing a beginning may be written, and of an edit nothing is, but the source was asked where it is
+abbrev pub GivesUp : Reply → Run → Left → Type 0
+GivesUp (Says said files source) run left = IsDone (record run { source = source }) AtEof left
+GivesUp (Lists said) run left = (n : ℕ) × (n ≤ length said) × IsDone (record run { text = run.text ++ take n said }) AtEof left
+GivesUp Ends run left = ⊥
+GivesUp (Lacks source) run left = IsDone (record run { source = source }) AtEof left
+
+-- the lines before some line were answered, none of them `end`, and it wanted memory
+abbrev pub StopsForMemory : List Name → Files → SourceAnswers → List ℕ → Left → Type 0
+StopsForMemory prefixes f s bytes left =
+    (lines : List (List ℕ)) × (line : List ℕ) × (rest : List (List ℕ)) × (run : Run) × (r : Reply) × (lines_of bytes ≡ lines ++ line ∷ rest)
+    × RunsTo prefixes f s lines run × Replies prefixes run.files run.source (command_of line) r × GivesUp r run left × LineMayLack run.files run.source (command_of line)
+
+abbrev pub StopsAs : List Name → Files → SourceAnswers → List ℕ → RunError → Left → Type 0
+StopsAs prefixes f s bytes run_errors.Read left = StopsAtRead prefixes f s bytes left
+StopsAs prefixes f s bytes run_errors.Write left = StopsAtWrite prefixes f s bytes left
+StopsAs prefixes f s bytes run_errors.NoMemory left = IsNotBegun f s bytes left ⊎ StopsForMemory prefixes f s bytes left
+
+-- the run over the input ended so, or stopped so
+abbrev pub RunsAs : List Name → Files → SourceAnswers → List ℕ → Result Ended RunError → Left → Type 0
+RunsAs prefixes f s bytes (Ok how) left = EndsAs prefixes f s bytes how left
+RunsAs prefixes f s bytes (Err e) left = StopsAs prefixes f s bytes e left
+
+-- ---- failures
+
+-- a failed read alone raises the input's count of failures
+abbrev pub CountsReads : {T : Type 0} → Result T RunError → ℕ → ℕ → Type 0
+CountsReads (Ok x) old new = new ≡ old
+CountsReads (Err run_errors.Read) old new = MoreFaults old new × (old ≤ new)
+CountsReads (Err run_errors.Write) old new = new ≡ old
+CountsReads (Err run_errors.NoMemory) old new = new ≡ old
+
+-- and a failed write alone the output's
+abbrev pub CountsWrites : {T : Type 0} → Result T RunError → ℕ → ℕ → Type 0
+CountsWrites (Ok x) old new = new ≡ old
+CountsWrites (Err run_errors.Read) old new = new ≡ old
+CountsWrites (Err run_errors.Write) old new = MoreFaults old new × (old ≤ new)
+CountsWrites (Err run_errors.NoMemory) old new = new ≡ old
+
+-- the number of an error
+abbrev pub run_code : RunError → ℕ
+run_code run_errors.Read = 1
+run_code run_errors.Write = 2
+run_code run_errors.NoMemory = 3

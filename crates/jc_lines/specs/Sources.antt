@@ -1,0 +1,29 @@
+-- What a source answers.
+use Rattle.std.specs.Prelude.{◌≡◌, ℕ, List, [], ◌∷◌, drop, Option, Some, None, Result, Ok, Err, ⊤}
+use Rattle.std.specs.declared.vec.Vec.{Vec}
+use Rattle.std.specs.Global.{Global}
+use Rattle.jc_lines.specs.declared.source.SourceError.{SourceError}
+use Rattle.jc_lines.specs.declared.source.SourceError.TheVariants as errors
+
+-- what the calls of a source are answered, in order, each by the path that is asked
+abbrev pub SourceAnswers : Type 0
+SourceAnswers = List (List ℕ → Result (List ℕ) SourceError)
+
+-- with none left it is Unread
+abbrev pub next_answer : SourceAnswers → List ℕ → Result (List ℕ) SourceError
+next_answer [] path = Err errors.Unread
+next_answer (answer ∷ answers) path = answer path
+
+-- the same answer by whatever path
+abbrev pub by_any_path : Result (List ℕ) SourceError → List ℕ → Result (List ℕ) SourceError
+by_any_path answer path = answer
+
+-- an answer, by its bytes
+abbrev pub answer_of : Result (Vec ℕ Global) SourceError → Result (List ℕ) SourceError
+answer_of (Ok bytes) = Ok bytes.items
+answer_of (Err e) = Err e
+
+-- the next of the known answers is given for the path
+abbrev pub TakesAnswer : Option SourceAnswers → (path : List ℕ) → Result (List ℕ) SourceError → Option SourceAnswers → Type 0
+TakesAnswer None path answer new = ⊤
+TakesAnswer (Some answers) path answer new = (answer ≡ next_answer answers path) × (new ≡ Some (drop 1 answers))

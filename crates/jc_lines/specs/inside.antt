@@ -1,0 +1,4 @@
+pub mod Adding
+pub mod EditText
+pub mod Reading
+pub mod Replies

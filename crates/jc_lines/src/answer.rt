@@ -1,0 +1,146 @@
+//! The answer to one line.
+ghost use Rattle.std.specs.Prelude.{◌≡◌, ◌≢◌, IfErr, IsSome, None, Some};
+ghost use Rattle.jc_lines.specs.declared.run_error.RunError.TheVariants.{NoMemory, Read};
+ghost use Rattle.jc_edits.specs.Edits.{change_lent, judge};
+ghost use Rattle.jc_lines.specs.Sources.{SourceAnswers, next_answer};
+ghost use Rattle.jc_lines.specs.Answers.{Lists, edit_reply, sourced_reply};
+ghost use Rattle.jc_lines.specs.ListedText.{listed_text};
+ghost use Rattle.jc_report.specs.FileRows.{winner};
+ghost use Rattle.jc_lines.specs.Runs.{CountsWrites, LineMayLack, MayLack};
+ghost use Rattle.jc_lines.specs.inside.Replies.{Gives, GivesByAnswers, GivesByReply, GivesOwed, command_lent, placed, said_by};
+
+use crate::answer_text::{write_bad_line, write_edit_answer, write_unread};
+use crate::command::Command;
+use crate::file_listing::list_winner;
+use crate::run_error::RunError;
+use crate::source::{Source, SourceError};
+use jc_base::Output;
+use jc_edits::{EditError, LentEdit, Session, write_part_of, write_report};
+use jc_list::ListError;
+use std::alloc::Global;
+
+/// What comes after an answer.
+#[derive(Clone, Copy)]
+pub(crate) enum Next {
+    Line,
+    Nothing,
+}
+
+/// Where the bytes of the source go: into a new file, or in the place of a file's bytes.
+#[derive(Clone, Copy)]
+pub(crate) enum Placing {
+    New,
+    Other,
+}
+
+impl Placing {
+    fn edit(self, path: &[u8], bytes: Vec<u8>) -> LentEdit<'_>
+        ensures { change_lent result ≡ placed self path.now bytes.items }
+    {
+        match self {
+            Placing::New => LentEdit::Add(path, bytes),
+            Placing::Other => LentEdit::Replace(path, bytes),
+        }
+    }
+}
+
+/// Does what a line asks for, and writes its answer once that is done.
+pub(crate) fn answer<S: Source, W: Output>(
+    alloc: Global,
+    session: &mut Session,
+    source: &mut S,
+    command: Command<'_>,
+    out: &mut W,
+) -> Result<Next, RunError>
+    ensures gives { (s : SourceAnswers) → S.answers source.old ≡ Some s → GivesOwed session.old.prefixes session.old.files s (command_lent command.entry)
+        result session.new.files (S.answers source.new) (W.written out.old) (W.written out.new) }
+    ensures lacks { (s : SourceAnswers) → S.answers source.old ≡ Some s → result ≡ Err NoMemory → LineMayLack session.old.files s (command_lent command.entry) }
+    ensures any { GivesByAnswers session.old.prefixes session.old.files (command_lent command.entry) result session.new.files (W.written out.old) (W.written out.new) }
+    ensures prefixes { session.new.prefixes ≡ session.old.prefixes }
+    ensures failures { CountsWrites result (W.failures out.old) (W.failures out.new) }
+    ensures err { IfErr result (λ e. e ≢ Read) }
+{
+    match command {
+        Command::Add(path) => answer_sourced(session, source, path, Placing::New, out),
+        Command::Replace(path) => answer_sourced(session, source, path, Placing::Other, out),
+        Command::Remove(path) => answer_edit(session, LentEdit::Remove(path), out),
+        Command::Report => said(write_report(session.report(), out)),
+        Command::Part(name) => said(write_part_of(session.report(), name, out)),
+        Command::List(name) => answer_listing(alloc, session, name, out),
+        Command::Bad => said(write_bad_line(out)),
+        Command::End => Ok(Next::Nothing),
+    }
+}
+
+/// Asks the source for the bytes at a path, and makes the edit with them.
+fn answer_sourced<S: Source, W: Output>(
+    session: &mut Session,
+    source: &mut S,
+    path: &[u8],
+    placing: Placing,
+    out: &mut W,
+) -> Result<Next, RunError>
+    ensures gives { (s : SourceAnswers) → S.answers source.old ≡ Some s → Gives session.old.files s (sourced_reply session.old.files s path.now (placed placing path.now))
+        result session.new.files (S.answers source.new) (W.written out.old) (W.written out.new) }
+    ensures lacks { (s : SourceAnswers) → S.answers source.old ≡ Some s → result ≡ Err NoMemory → MayLack session.old.files (placed placing path.now) (next_answer s path.now) }
+    ensures any { GivesByReply session.old.files (λ s. sourced_reply session.old.files s path.now (placed placing path.now)) (λ s. MayLack session.old.files (placed placing path.now) (next_answer s path.now))
+        result session.new.files (W.written out.old) (W.written out.new) }
+    ensures prefixes { session.new.prefixes ≡ session.old.prefixes }
+    ensures failures { CountsWrites result (W.failures out.old) (W.failures out.new) }
+    ensures err { IfErr result (λ e. e ≢ Read) }
+{
+    match source.read(path) {
+        Ok(bytes) => answer_edit(session, placing.edit(path, bytes), out),
+        Err(SourceError::Unread) => said(write_unread(out, path)),
+        Err(SourceError::NoMemory) => Err(RunError::NoMemory),
+    }
+}
+
+/// Makes an edit, and then says so, or why it is refused.
+fn answer_edit<W: Output>(
+    session: &mut Session,
+    edit: LentEdit<'_>,
+    out: &mut W,
+) -> Result<Next, RunError>
+    ensures gives { (s t : SourceAnswers) → Gives session.old.files s (edit_reply session.old.files t (change_lent edit.entry))
+        result session.new.files (Some t) (W.written out.old) (W.written out.new) }
+    ensures lacks { result ≡ Err NoMemory → judge session.old.files (change_lent edit.entry) ≡ None }
+    ensures prefixes { session.new.prefixes ≡ session.old.prefixes }
+    ensures failures { CountsWrites result (W.failures out.old) (W.failures out.new) }
+    ensures err { IfErr result (λ e. e ≢ Read) }
+{
+    match session.make(edit) {
+        Err(EditError::NoMemory) => Err(RunError::NoMemory),
+        answer => said(write_edit_answer(out, answer)),
+    }
+}
+
+/// Lists the file that a class is taken from.
+fn answer_listing<W: Output>(
+    alloc: Global,
+    session: &Session,
+    name: &[u8],
+    out: &mut W,
+) -> Result<Next, RunError>
+    ensures gives { (s : SourceAnswers) → Gives session.now.files s (Lists (listed_text session.now.files name.now))
+        result session.now.files (Some s) (W.written out.old) (W.written out.new) }
+    ensures lacks { result ≡ Err NoMemory → IsSome (winner session.now.files name.now) }
+    ensures failures { CountsWrites result (W.failures out.old) (W.failures out.new) }
+    ensures err { IfErr result (λ e. e ≢ Read) }
+{
+    match list_winner(alloc, session, name, out) {
+        Ok(()) => Ok(Next::Line),
+        Err(ListError::Write) => Err(RunError::Write),
+        Err(ListError::NoMemory) => Err(RunError::NoMemory),
+    }
+}
+
+/// What comes after a text that was written, or was not.
+fn said<E: Drop>(written: Result<(), E>) -> Result<Next, RunError>
+    ensures { result ≡ said_by written }
+{
+    match written {
+        Ok(()) => Ok(Next::Line),
+        Err(_) => Err(RunError::Write),
+    }
+}

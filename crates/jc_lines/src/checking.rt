@@ -1,0 +1,152 @@
+//! A tree of files is checked: each is read once, and the report of all is written.
+
+ghost use Rattle.std.specs.Prelude.{◌≡◌, List, Ok, ℕ};
+ghost use Rattle.std.specs.FinMap as map;
+ghost use Rattle.jc_classes.specs.Names.{names_of};
+ghost use Rattle.jc_lines.specs.Checks.{All, Answer, ChecksAs, CountsCheck, GivesAnswers, added};
+ghost use Rattle.jc_report.specs.Files.{Files};
+ghost use Rattle.jc_report.specs.Reports.{IsReport};
+ghost use Rattle.jc_report.specs.Trees.{IsTree};
+ghost use Rattle.jc_lines.specs.declared.checking.CheckError.TheVariants as errors;
+ghost use Rattle.jc_edits.specs.Edits as edits;
+ghost use Rattle.jc_edits.specs.Edits.{Adds, judge};
+ghost use Rattle.jc_lines.specs.Sources.{answer_of};
+ghost use Rattle.jc_lines.specs.inside.Adding.{AddsOne, ReadsTree, tree_of};
+ghost use Rattle.jc_lines.specs.LentChecks.{check_lent};
+
+use crate::source::{Source, SourceError};
+use jc_base::{NoMemory, Output};
+use jc_edits::{EditError, path_fault, room_fault, size_fault};
+use jc_link::{Meter, Outside};
+use jc_report::{AddError, Report, Tree, write_report};
+use std::alloc::Global;
+
+/// Why a tree of files has no report, or why not all of it is written.
+#[derive(Clone, Copy, Debug)]
+pub enum CheckError<'p> {
+    /// The source hands over no bytes for this path.
+    Unread(&'p [u8]),
+    /// The file at this path can't be added.
+    Refused(EditError, &'p [u8]),
+    /// The output failed.
+    Write,
+    /// Memory was refused.
+    NoMemory,
+}
+
+/// Reads the files at the paths, in their order, each as an edit adds it, writes the report of all, and
+/// says whether it is wrong. Nothing is written before all parts are made. Of a file only that is kept
+/// which linking asks.
+pub fn check<'p, S: Source, W: Output>(
+    alloc: Global,
+    outside: &Outside,
+    paths: &'p [Vec<u8>],
+    source: &mut S,
+    out: &mut W,
+) -> Result<bool, CheckError<'p>>
+    ensures { (answers : List Answer)
+        × GivesAnswers (S.answers source.old) (names_of paths.now) answers (S.answers source.new)
+        × ChecksAs outside.now (added map.empty (names_of paths.now) answers) (check_lent result) (W.written out.old) (W.written out.new)
+        × CountsCheck (check_lent result) (W.failures out.old) (W.failures out.new) }
+{
+    let (tree, mut meter) = read_tree(alloc, paths, source)?;
+    check_tree(alloc, outside, &tree, &mut meter, out)
+}
+
+/// Writes the report of the files of a tree, and says whether it is wrong.
+fn check_tree<'p, W: Output>(
+    alloc: Global,
+    outside: &Outside,
+    tree: &Tree,
+    meter: &mut Meter,
+    out: &mut W,
+) -> Result<bool, CheckError<'p>>
+    ensures { ((f : Files) → IsTree f tree.now → ChecksAs outside.now (All f) (check_lent result) (W.written out.old) (W.written out.new))
+        × CountsCheck (check_lent result) (W.failures out.old) (W.failures out.new) }
+{
+    let report = Report::make(alloc, tree, outside, meter)?;
+    write_and_judge(&report, out)
+}
+
+/// Writes a report, and says whether it is wrong.
+fn write_and_judge<'p, W: Output>(report: &Report<'_>, out: &mut W) -> Result<bool, CheckError<'p>>
+    ensures { ((f : Files) (prefixes : List (List ℕ)) → IsReport f prefixes report.now
+        → ChecksAs prefixes (All f) (check_lent result) (W.written out.old) (W.written out.new))
+        × CountsCheck (check_lent result) (W.failures out.old) (W.failures out.new) }
+{
+    match write_report(report, out) {
+        Ok(()) => Ok(report.wrong()),
+        Err(_) => Err(CheckError::Write),
+    }
+}
+
+/// The tree of the files at the paths, added in their order, and the meter of its classes.
+fn read_tree<'p, S: Source>(
+    alloc: Global,
+    paths: &'p [Vec<u8>],
+    source: &mut S,
+) -> Result<(Tree, Meter), CheckError<'p>>
+    ensures { ReadsTree (names_of paths.now) (S.answers source.old) (S.answers source.new) (tree_of result) }
+{
+    let (mut tree, meter) = Tree::new(alloc)?;
+    for path in paths {
+        tree = add(tree, path, source.read(path))?;
+    }
+    Ok((tree, meter))
+}
+
+/// Adds the file at a path, by what the source answers.
+fn add<'p>(
+    tree: Tree,
+    path: &'p [u8],
+    answer: Result<Vec<u8>, SourceError>,
+) -> Result<Tree, CheckError<'p>>
+    ensures { (f : Files) → IsTree f tree → AddsOne f path.now (answer_of answer) result }
+{
+    match answer {
+        Ok(bytes) => add_bytes(tree, path, &bytes),
+        Err(SourceError::Unread) => Err(CheckError::Unread(path)),
+        Err(SourceError::NoMemory) => Err(CheckError::NoMemory),
+    }
+}
+
+fn add_bytes<'p>(tree: Tree, path: &'p [u8], bytes: &[u8]) -> Result<Tree, CheckError<'p>>
+    ensures { (f : Files) → IsTree f tree → AddsOne f path.now (Ok bytes.now) result }
+{
+    if let Some(fault) = add_fault(&tree, path, bytes) {
+        return Err(CheckError::Refused(fault, path));
+    }
+    match tree.add(path, bytes) {
+        Ok(tree) => Ok(tree),
+        Err(AddError::AlreadyThere) => Err(CheckError::Refused(EditError::AlreadyThere, path)),
+        Err(AddError::NoMemory) => Err(CheckError::NoMemory),
+    }
+}
+
+/// The refusal of an add to the files of a tree, but for memory.
+fn add_fault(tree: &Tree, path: &[u8], bytes: &[u8]) -> Option<EditError>
+    ensures { (f : Files) → IsTree f tree.now → result ≡ judge f (Adds path.now bytes.now) }
+{
+    path_fault(path)
+        .or(there_fault(tree, path))
+        .or(size_fault(bytes))
+        .or(room_fault(tree.len()))
+}
+
+fn there_fault(tree: &Tree, path: &[u8]) -> Option<EditError>
+    ensures { (f : Files) → IsTree f tree.now → result ≡ edits.there_fault f path.now }
+{
+    if tree.contains(path) {
+        Some(EditError::AlreadyThere)
+    } else {
+        None
+    }
+}
+
+impl From<NoMemory> for CheckError<'_> {
+    ghost from_gives = { λ _ e. e ≡ errors.NoMemory };
+
+    fn from(_: NoMemory) -> Self {
+        CheckError::NoMemory
+    }
+}

@@ -1,0 +1,58 @@
+//! What a line asks for.
+ghost use Rattle.std.specs.Prelude.{◌≡◌, MatchOption, drop, false, length, true};
+ghost use Rattle.jc_lines.specs.Lines.{begins_with_word, command_of};
+ghost use Rattle.jc_lines.specs.inside.Replies.{command_lent};
+
+/// The most bytes that a line may have, its LF aside.
+const LONGEST_LINE: usize = 8192;
+
+/// What a line asks for. Paths and names are borrowed from the line.
+#[derive(Clone, Copy)]
+pub(crate) enum Command<'a> {
+    Add(&'a [u8]),
+    Replace(&'a [u8]),
+    Remove(&'a [u8]),
+    Report,
+    Part(&'a [u8]),
+    List(&'a [u8]),
+    End,
+    Bad,
+}
+
+/// What a line without its LF asks for.
+pub(crate) fn parse_line(line: &[u8]) -> Command<'_>
+    ensures { command_lent result ≡ command_of line.now }
+{
+    if line.len() > LONGEST_LINE {
+        Command::Bad
+    } else if let Some(path) = after(line, b"add ") {
+        Command::Add(path)
+    } else if let Some(path) = after(line, b"replace ") {
+        Command::Replace(path)
+    } else if let Some(path) = after(line, b"remove ") {
+        Command::Remove(path)
+    } else if line == b"report".as_slice() {
+        Command::Report
+    } else if let Some(name) = after(line, b"part ") {
+        Command::Part(name)
+    } else if let Some(name) = after(line, b"list ") {
+        Command::List(name)
+    } else if line == b"end".as_slice() {
+        Command::End
+    } else {
+        Command::Bad
+    }
+}
+
+/// What follows the word at the front of a line that begins with it.
+fn after<'a>(line: &'a [u8], word: &[u8]) -> Option<&'a [u8]>
+    ensures { MatchOption result
+        (begins_with_word word.now line.now ≡ false)
+        (λ rest. (begins_with_word word.now line.now ≡ true) × (rest.now ≡ drop (length word.now) line.now)) }
+{
+    if line.starts_with(word) {
+        Some(&line[word.len()..])
+    } else {
+        None
+    }
+}

@@ -1,0 +1,196 @@
+//! An input, line by line.
+ghost use Rattle.std.specs.Prelude.{◌≡◌, ◌+◌, ◌<◌, ◌≤◌, ◌++◌, [], IfErr, IfOk, IsSome, IsTrue, OnErr, OnOk, drop, is_some, length, position, take};
+ghost use Rattle.std.specs.List.{after_first, before_first};
+ghost use Rattle.std.specs.Io.KnownBytes.{Consumes, IsAtEnd, Keeps};
+ghost use Rattle.jc_base.specs.Device.{CountsFault};
+ghost use Rattle.jc_lines.specs.declared.run_error.RunError.TheVariants.{Read};
+ghost use Rattle.jc_lines.specs.Runs.{CountsReads};
+ghost use Rattle.jc_lines.specs.inside.Reading.{LosesPart, TakesLine, bytes_left, is_line_feed};
+
+use crate::run_error::RunError;
+use jc_base::{DeviceFault, Input, NoMemory};
+use std::alloc::Global;
+use std::marker::Model;
+
+/// So many bytes of a line are kept: one more than a line may have.
+const KEPT: usize = 8193;
+
+/// So many bytes are asked for at a time.
+const CHUNK: usize = 4096;
+
+/// The bytes of one line so far, without its LF: all of them, or the first 8,193.
+#[derive(Drop)]
+pub(crate) struct Line {
+    bytes: Vec<u8>,
+}
+
+/// The bytes that were read and are part of no line yet.
+#[derive(Drop)]
+pub(crate) struct Ahead {
+    chunk: [u8; CHUNK],
+    start: usize,
+    end: usize,
+}
+
+impl Model for Line {
+    ghost use Rattle.std.specs.Prelude.{◌≤◌, List, ℕ, length, vec_capacity};
+
+    ghost Value = { List ℕ };
+
+    ghost view = { λ a. a.bytes.items };
+
+    ghost invariant = { λ a. (length a.bytes.items ≤ 8193) × (8193 ≤ vec_capacity a.bytes) };
+}
+
+impl Line {
+    /// An empty line. It takes all the memory that lines need.
+    pub(crate) fn new(alloc: Global) -> Result<Line, NoMemory>
+        ensures { IfOk result (λ line. line ≡ []) }
+    {
+        Ok(Line {
+            bytes: Vec::with_capacity(alloc, KEPT)?,
+        })
+    }
+
+    /// The bytes that are kept.
+    pub(crate) fn bytes(&self) -> &[u8]
+        ensures { result.now ≡ self.now }
+    {
+        self.bytes.as_slice()
+    }
+
+    /// Drops all bytes.
+    fn clear(&mut self)
+        ensures { self.new ≡ [] }
+    {
+        self.bytes.clear();
+    }
+
+    /// Adds bytes, and drops those past the first 8,193.
+    fn keep(&mut self, bytes: &[u8])
+        ensures { self.new ≡ take 8193 (self.old ++ bytes.now) }
+    {
+        let count = bytes.len().min(KEPT - self.bytes.len());
+        self.bytes.extend_from_slice(&bytes[..count]).unwrap();
+    }
+}
+
+impl Model for Ahead {
+    ghost use Rattle.std.specs.Prelude.{◌≤◌, List, ℕ, drop, take};
+
+    ghost Value = { List ℕ };
+
+    ghost view = { λ a. drop a.start (take a.end a.chunk) };
+
+    ghost invariant = { λ a. (a.start ≤ a.end) × (a.end ≤ 4096) };
+}
+
+impl Ahead {
+    /// Nothing is read yet.
+    pub(crate) fn new() -> Ahead
+        ensures { result ≡ [] }
+    {
+        Ahead {
+            chunk: [0; CHUNK],
+            start: 0,
+            end: 0,
+        }
+    }
+
+    /// The bytes ahead.
+    fn bytes(&self) -> &[u8]
+        ensures { result.now ≡ self.now }
+    {
+        &self.chunk[self.start..self.end]
+    }
+
+    /// Leaves out the first bytes.
+    fn consume(&mut self, count: usize)
+        requires { count ≤ length self.old }
+        ensures { self.new ≡ drop count self.old }
+    {
+        self.start += count;
+    }
+
+    /// Reads what is there, and tells how many bytes came.
+    fn refill<R: Input>(&mut self, input: &mut R) -> Result<usize, DeviceFault>
+        requires { self.old ≡ [] }
+        ensures count { IfOk result (λ count. length self.new ≡ count) }
+        ensures bytes { OnOk result (Consumes (R.remaining input.old) (R.remaining input.new) self.new) }
+        ensures end { IfOk result (λ count. count ≡ 0 → IsAtEnd (R.remaining input.new)) }
+        ensures bound { IfOk result (λ count. R.bound input.new + count ≤ R.bound input.old) }
+        ensures failures { CountsFault result (R.failures input.old) (R.failures input.new) }
+        ensures err { OnErr result (self.new ≡ []) }
+        ensures kept { OnErr result (Keeps (R.remaining input.old) (R.remaining input.new)) }
+    {
+        self.start = 0;
+        self.end = 0;
+        self.end = input.read(&mut self.chunk)?;
+        Ok(self.end)
+    }
+}
+
+/// Reads the next line, and tells whether an LF ended it: else it is what stands behind the last LF.
+/// What a read hands over stays ahead past the end of the line, and nothing is read while a whole line
+/// is ahead. After an error the front of the line that was not whole is lost.
+pub(crate) fn read_line<R: Input>(
+    line: &mut Line,
+    ahead: &mut Ahead,
+    input: &mut R,
+) -> Result<bool, RunError>
+    ensures takes { IfOk result (λ is_whole. TakesLine
+        (bytes_left ahead.old (R.remaining input.old))
+        is_whole
+        line.new
+        (bytes_left ahead.new (R.remaining input.new))) }
+    ensures loses { OnErr result (LosesPart
+        (bytes_left ahead.old (R.remaining input.old))
+        (R.remaining input.new)) }
+    ensures nearer { IfOk result (λ is_whole. IsTrue is_whole →
+        R.bound input.new + length ahead.new < R.bound input.old + length ahead.old) }
+    ensures failures { CountsReads result (R.failures input.old) (R.failures input.new) }
+    ensures err { IfErr result (λ e. e ≡ Read) }
+
+    // A line that is ahead is handed over with no read.
+    ensures ahead { IsSome (position is_line_feed ahead.old) → input.new ≡ input.old }
+{
+    line.clear();
+    while !take_front(line, ahead) {
+        match ahead.refill(input) {
+            Ok(0) => return Ok(false),
+            Ok(_) => {}
+            Err(_) => return Err(RunError::Read),
+        }
+    }
+    Ok(true)
+}
+
+/// Moves what is ahead up to the first LF, or all of it, to the line, and tells whether an LF ended
+/// it. The LF is dropped.
+fn take_front(line: &mut Line, ahead: &mut Ahead) -> bool
+    ensures found { result ≡ is_some (position is_line_feed ahead.old) }
+    ensures line { line.new ≡ take 8193 (line.old ++ before_first is_line_feed ahead.old) }
+    ensures rest { ahead.new ≡ after_first is_line_feed ahead.old }
+{
+    let bytes = ahead.bytes();
+    match line_feed(bytes) {
+        Some(count) => {
+            line.keep(&bytes[..count]);
+            ahead.consume(count + 1);
+            true
+        }
+        None => {
+            line.keep(bytes);
+            let count = bytes.len();
+            ahead.consume(count);
+            false
+        }
+    }
+}
+
+/// Where the first LF is.
+fn line_feed(bytes: &[u8]) -> Option<usize>
+    ensures { result ≡ position is_line_feed bytes.now }
+{
+    bytes.iter().position(|byte| *byte == b'\n')
+}

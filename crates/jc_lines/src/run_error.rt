@@ -1,0 +1,51 @@
+//! How a run ends.
+ghost use Rattle.std.specs.Prelude.{◌≡◌};
+ghost use Rattle.jc_lines.specs.declared.run_error.RunError.TheVariants as errors;
+ghost use Rattle.jc_lines.specs.Runs.{run_code};
+
+use jc_base::NoMemory;
+use thiserror::Error;
+
+/// How a run ends that has answered all that it was asked.
+#[derive(Clone, Copy, Debug, PartialEq, Eq)]
+pub enum Ended {
+    /// By the line `end`.
+    End,
+    /// By the end of the input.
+    Eof,
+}
+
+/// Why a run stops before its end.
+#[derive(Clone, Copy, Debug, PartialEq, Eq, Error)]
+pub enum RunError {
+    /// The input failed.
+    #[error("the input failed")]
+    Read,
+    /// The output failed.
+    #[error("the output failed")]
+    Write,
+    /// Memory was refused, for a line or to the source.
+    #[error("memory was refused")]
+    NoMemory,
+}
+
+impl RunError {
+    /// The number of the error: 1, 2 or 3.
+    pub fn code(&self) -> u8
+        ensures { result ≡ run_code self.now }
+    {
+        match self {
+            RunError::Read => 1,
+            RunError::Write => 2,
+            RunError::NoMemory => 3,
+        }
+    }
+}
+
+impl From<NoMemory> for RunError {
+    ghost from_gives = { λ _ e. e ≡ errors.NoMemory };
+
+    fn from(_: NoMemory) -> RunError {
+        RunError::NoMemory
+    }
+}

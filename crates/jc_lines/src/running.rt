@@ -1,0 +1,82 @@
+//! A run over lines.
+ghost use Rattle.std.specs.Prelude.{◌≡◌, ◌≢◌, [], IfErr, List, Some, ℕ};
+ghost use Rattle.jc_lines.specs.declared.run_error.RunError.TheVariants.{NoMemory, Read};
+ghost use Rattle.jc_lines.specs.Lines.{command_of};
+ghost use Rattle.jc_lines.specs.Sources.{SourceAnswers};
+ghost use Rattle.jc_lines.specs.Runs.{CountsReads, CountsWrites, LineMayLack, RunsAs};
+ghost use Rattle.jc_lines.specs.inside.Replies.{GivesLast, GivesLastByAnswers};
+
+use crate::answer::{Next, answer};
+use crate::command::parse_line;
+use crate::lines::{Ahead, Line, read_line};
+use crate::run_error::{Ended, RunError};
+use crate::source::Source;
+use jc_base::{Input, Output};
+use jc_edits::Session;
+use std::alloc::Global;
+
+/// Answers the lines of an input one by one: `add PATH`, `replace PATH`, `remove PATH`, `report`,
+/// `part NAME`, `list NAME` and `end`. A line's answer is written before more of the input is read, and
+/// nothing is read behind the end of the input. An edit is made before it is answered.
+pub fn run<S: Source, R: Input, W: Output>(
+    alloc: Global,
+    session: &mut Session,
+    source: &mut S,
+    input: &mut R,
+    out: &mut W,
+) -> Result<Ended, RunError>
+    ensures runs { (bytes : List ℕ) (s : SourceAnswers) → R.remaining input.old ≡ Some bytes → S.answers source.old ≡ Some s
+        → RunsAs session.old.prefixes session.old.files s bytes result (record {
+          files = session.new.files;
+          source = S.answers source.new;
+          coming = R.remaining input.new;
+          before = W.written out.old;
+          now = W.written out.new;
+        }) }
+    // Of any source: by the answers that it gave.
+    ensures by_answers { (bytes : List ℕ) → R.remaining input.old ≡ Some bytes → (s : SourceAnswers) × RunsAs session.old.prefixes session.old.files s bytes result (record {
+      files = session.new.files;
+      source = Some [];
+      coming = R.remaining input.new;
+      before = W.written out.old;
+      now = W.written out.new;
+    }) }
+    ensures prefixes { session.new.prefixes ≡ session.old.prefixes }
+    ensures reads { CountsReads result (R.failures input.old) (R.failures input.new) }
+    ensures writes { CountsWrites result (W.failures out.old) (W.failures out.new) }
+{
+    let mut line = Line::new(alloc)?;
+    let mut ahead = Ahead::new();
+    while read_line(&mut line, &mut ahead, input)? {
+        match answer(alloc, session, source, parse_line(line.bytes()), out)? {
+            Next::Line => {}
+            Next::Nothing => return Ok(Ended::End),
+        }
+    }
+    answer_last(alloc, session, source, line.bytes(), out)
+}
+
+/// Answers what stands behind the last LF, which is a line if it has a byte.
+fn answer_last<S: Source, W: Output>(
+    alloc: Global,
+    session: &mut Session,
+    source: &mut S,
+    line: &[u8],
+    out: &mut W,
+) -> Result<Ended, RunError>
+    ensures gives { (s : SourceAnswers) → S.answers source.old ≡ Some s → GivesLast session.old.prefixes session.old.files s line.now
+        result session.new.files (S.answers source.new) (W.written out.old) (W.written out.new) }
+    ensures lacks { (s : SourceAnswers) → S.answers source.old ≡ Some s → result ≡ Err NoMemory → LineMayLack session.old.files s (command_of line.now) }
+    ensures any { GivesLastByAnswers session.old.prefixes session.old.files line.now result session.new.files (W.written out.old) (W.written out.new) }
+    ensures prefixes { session.new.prefixes ≡ session.old.prefixes }
+    ensures failures { CountsWrites result (W.failures out.old) (W.failures out.new) }
+    ensures err { IfErr result (λ e. e ≢ Read) }
+{
+    if line.is_empty() {
+        return Ok(Ended::Eof);
+    }
+    match answer(alloc, session, source, parse_line(line), out)? {
+        Next::Line => Ok(Ended::Eof),
+        Next::Nothing => Ok(Ended::End),
+    }
+}

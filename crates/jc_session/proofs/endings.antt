@@ -1,0 +1,2 @@
+pub mod FailuresCounted
+pub mod WordsRefused

@@ -1,5 +1,0 @@
-use Rattle.jc_session.proofs.runs.OneRun.{one_run}
-use Rattle.jc_session.proofs.laws.one_run.Goals as goal
-
-pub returns : goal.returns
-returns c = λ prefixes f s lines q r a b. one_run prefixes a b

@@ -1,7 +1,0 @@
-pub mod LinesCut
-pub mod RunsOverLines
-pub mod LineAnswered
-pub mod RunsSoFar
-pub mod ByAnswers
-pub mod FailuresCounted
-pub mod OneRun

@@ -1,0 +1,48 @@
+//! The files below a folder, by their paths there.
+
+ghost use Rattle.std.specs.declared.option.Option.TheVariants.{None};
+
+use jc_lines::{FileSource, Source, SourceError};
+use std::alloc::{AllocError, Global};
+use std::rt::Files;
+
+/// A source that reads the files below a folder. Nothing is known of what it answers.
+#[derive(Drop)]
+pub(crate) struct FolderSource<'a, R> {
+    rt: &'a R,
+    folder: &'a str,
+}
+
+impl<'a, R: Files + AllocGlobal> FolderSource<'a, R> {
+    /// A source over the files of a runtime, by their paths below a folder.
+    pub(crate) fn new(rt: &'a R, folder: &'a str) -> FolderSource<'a, R> {
+        FolderSource { rt, folder }
+    }
+}
+
+impl<R: Files + AllocGlobal> Source for FolderSource<'_, R> {
+    ghost answers = { λ _. None };
+
+    /// The bytes of the file, or the first 16,777,217 of them. A path that is not UTF-8 is `Unread`.
+    fn read(&mut self, path: &[u8]) -> Result<Vec<u8>, SourceError> {
+        let Ok(path) = str::from_utf8(path) else {
+            return Err(SourceError::Unread);
+        };
+        match path_below(self.rt.alloc(), self.folder, path) {
+            Ok(path) => FileSource::new(self.rt).read(path.as_bytes()),
+            Err(_) => Err(SourceError::NoMemory),
+        }
+    }
+}
+
+/// The path of what stands at a path below a folder.
+pub(crate) fn path_below(alloc: Global, folder: &str, path: &str) -> Result<String, AllocError> {
+    let length = folder.len().saturating_add(path.len()).saturating_add(1);
+    let mut whole = String::with_capacity(alloc, length)?;
+    whole.push_str(folder)?;
+    if !path.is_empty() {
+        whole.push('/')?;
+        whole.push_str(path)?;
+    }
+    Ok(whole)
+}
