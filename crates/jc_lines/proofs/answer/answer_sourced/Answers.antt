@@ -1,4 +1,4 @@
-use Rattle.std.proofs.Common.{◌≡◌, ◌∙◌, ◌++◌, [], ◌∷◌, None, Some, Ok, Err, refl, sym, subst}
+use Rattle.std.proofs.Common.{◌≡◌, ◌∙◌, ◌++◌, [], ◌∷◌, None, Some, Ok, Err, refl, sym, subst, rules}
 use Rattle.std.proofs.KnownBytes.{Keeps-refl}
 use Rattle.jc_lines.specs.declared.source.SourceError.TheVariants as sources
 use Rattle.jc_lines.specs.AnswerText.{unread_text}
@@ -40,3 +40,6 @@ pub returns-in-Err-NoMemory-clause-any : goal.returns-in-Err-NoMemory-clause-any
 returns-in-Err-NoMemory-clause-any g c =
     let given : SourceAnswers = by_any_path (Err sources.NoMemory) ∷ [] in
     (given, λ later. ((refl, refl, Keeps-refl (g.W.Output.written c.args.out.now)), λ e. tt))
+
+pub returns-in-Err-Unread-clause-gives : goal.returns-in-Err-Unread-clause-gives
+returns-in-Err-Unread-clause-gives c = search rules

@@ -1,0 +1,5 @@
+use Rattle.std.proofs.Common.{rules}
+use Rattle.jc_list.proofs.listing.write_listing.Goals as goal
+
+pub returns-clause-failures : goal.returns-clause-failures
+returns-clause-failures c = search rules
