@@ -1,4 +1,4 @@
-use Rattle.std.proofs.Common.{◌∙◌, [], ◌∷◌, length, ap, sym, subst}
+use Rattle.std.proofs.Common.{◌∙◌, [], ◌∷◌, length, ap, sym, subst, rules}
 use Rattle.std.specs.FinMap as map
 use Rattle.jc_link.specs.Meters.{counted}
 use Rattle.jc_link.specs.Tables.{world}
@@ -30,3 +30,9 @@ returns-in-Ok-clause-ready c =
           ∙ counted_add c.args.meter.now.asks (reach_sum fresh) (length x.kept.reach)
           ∙ ap (counted c.args.meter.now.asks) (sym (reach_sum_push fresh x));
     }
+
+pub returns-in_err-newcomer-clause-linked_err : goal.returns-in_err-newcomer-clause-linked_err
+returns-in_err-newcomer-clause-linked_err c = search rules
+
+pub link_and_keep-requires-clause-linked : goal.link_and_keep-requires-clause-linked
+link_and_keep-requires-clause-linked c = search rules
