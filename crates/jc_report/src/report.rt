@@ -1,9 +1,11 @@
 //! The report of a tree of class files.
 
-ghost use Rattle.std.specs.Prelude.{◌≡◌, IfOk, map};
+ghost use Rattle.std.specs.Prelude.{◌≡◌, [], IfOk, OnOk, map};
 ghost use Rattle.std.specs.List.{filter, list_any};
 ghost use Rattle.std.specs.List.Sorted.{IsStrictlySortedBy};
 ghost use Rattle.jc_classes.specs.Names.{name_cmp};
+ghost use Rattle.jc_classes.specs.Parts.{IsPart};
+ghost use Rattle.jc_link.specs.Tables.{world};
 ghost use Rattle.jc_resolve.specs.Answers.{answer_of, loading_of};
 ghost use Rattle.jc_report.specs.ClassRows.{provided_rows, required_rows};
 ghost use Rattle.jc_report.specs.Files.{Files};
@@ -22,7 +24,7 @@ use crate::row_set::put_in_order;
 use crate::tree::Tree;
 use jc_base::NoMemory;
 use jc_classes::Facts;
-use jc_link::{Meter, Outside, Part, gather, make_part};
+use jc_link::{Meter, Outside, Part, Table, gather, make_part};
 use jc_resolve::{Answer, Answers, Loading};
 use std::alloc::Global;
 use std::marker::Model;
@@ -88,16 +90,44 @@ impl<'t> Report<'t> {
     ) -> Result<Report<'t>, NoMemory>
         ensures { (f : Files) → IsTree f tree.now → IfOk result (λ r. IsReport f outside.now r) }
     {
-        let files = file_rows(alloc, tree, meter)?;
-        let classes = classes(alloc, tree, outside, meter)?;
-        let provided = provided(alloc, classes.as_slice())?;
-        let required = required(alloc, classes.as_slice())?;
-        Ok(Report {
-            files,
-            classes,
-            provided,
-            required,
-        })
+        let mut report = Report::empty(alloc);
+        report.fill(alloc, tree, outside, meter)?;
+        Ok(report)
+    }
+
+    /// A report of nothing.
+    fn empty(alloc: Global) -> Report<'t>
+        ensures files { result.files ≡ [] }
+        ensures classes { result.classes ≡ [] }
+        ensures provided { result.provided ≡ [] }
+        ensures required { result.required ≡ [] }
+    {
+        Report {
+            files: Vec::new(alloc),
+            classes: Vec::new(alloc),
+            provided: Vec::new(alloc),
+            required: Vec::new(alloc),
+        }
+    }
+
+    /// Fills an empty report. After an error nothing is said of it.
+    fn fill(
+        &mut self,
+        alloc: Global,
+        tree: &'t Tree,
+        outside: &Outside,
+        meter: &mut Meter,
+    ) -> Result<(), NoMemory>
+        requires files { self.old.files ≡ [] }
+        requires classes { self.old.classes ≡ [] }
+        requires provided { self.old.provided ≡ [] }
+        requires required { self.old.required ≡ [] }
+        ensures { (f : Files) → IsTree f tree.now → OnOk result (IsReport f outside.now self.new) }
+    {
+        fill_files(&mut self.files, tree, meter)?;
+        fill_classes(&mut self.classes, alloc, tree, outside, meter)?;
+        fill_provided(&mut self.provided, alloc, &self.classes)?;
+        fill_required(&mut self.required, &self.classes)
     }
 
     /// Whether a file is unreadable, a class has a fault or does not load, or a reference is answered by
@@ -139,45 +169,62 @@ impl<'t> Report<'t> {
 }
 
 /// What each file of a tree is, by path.
-fn file_rows<'t>(
-    alloc: Global,
+fn fill_files<'t>(
+    files: &mut Vec<FileRow<'t>>,
     tree: &'t Tree,
     meter: &mut Meter,
-) -> Result<Vec<FileRow<'t>>, NoMemory>
-    ensures rows { (f : Files) → IsTree f tree.now → IfOk result (λ files. map lent.row_lent files.items ≡ rows f) }
-    ensures made { meter.new.made ≡ meter.old.made }
+) -> Result<(), NoMemory>
+    requires { files.old.items ≡ [] }
+    ensures { (f : Files) → IsTree f tree.now → OnOk result (map lent.row_lent files.new.items ≡ rows f) }
 {
-    let mut rows = Vec::new(alloc);
     for (path, outcome) in &tree.outcomes {
         let state = tree.state(path, outcome, meter);
-        rows.push(FileRow { path, state })?;
+        files.push(FileRow { path, state })?;
     }
-    Ok(rows)
+    Ok(())
 }
 
 /// The classes that the files of a tree give, by name, each with its part.
-fn classes<'t>(
+fn fill_classes<'t>(
+    classes: &mut Vec<Class<'t>>,
     alloc: Global,
     tree: &'t Tree,
     outside: &Outside,
     meter: &mut Meter,
-) -> Result<Vec<Class<'t>>, NoMemory>
-    ensures { (f : Files) → IsTree f tree.now → IfOk result (λ classes. AreClasses f outside.now classes.items) }
+) -> Result<(), NoMemory>
+    requires { classes.old.items ≡ [] }
+    ensures { (f : Files) → IsTree f tree.now → OnOk result (AreClasses f outside.now classes.new.items) }
 {
-    let mut classes = Vec::new(alloc);
     for facts in tree.table.classes() {
-        let closure = gather(alloc, &tree.table, outside, facts.name(), meter)?;
-        let part = make_part(alloc, &closure, meter)?;
+        let part = part_of(alloc, &tree.table, outside, facts.name(), meter)?;
         classes.push(Class { facts, part })?;
     }
-    Ok(classes)
+    Ok(())
+}
+
+/// The part of the class of a name.
+fn part_of(
+    alloc: Global,
+    table: &Table,
+    outside: &Outside,
+    name: &[u8],
+    meter: &mut Meter,
+) -> Result<Part, NoMemory>
+    ensures { IfOk result (λ part. IsPart (world table.now outside.now) name.now part) }
+{
+    let closure = gather(alloc, table, outside, name, meter)?;
+    make_part(alloc, &closure, meter)
 }
 
 /// What the classes provide, which rise by name: each one's rows are put in order by themselves.
-fn provided<'t>(alloc: Global, classes: &[Class<'t>]) -> Result<Vec<Row<'t>>, NoMemory>
-    ensures { IsStrictlySortedBy name_cmp (map name_of classes.now) → IfOk result (λ provided. AreRows (map row_lent provided.items) (GivesRow provided_rows classes.now)) }
+fn fill_provided<'t>(
+    rows: &mut Vec<Row<'t>>,
+    alloc: Global,
+    classes: &[Class<'t>],
+) -> Result<(), NoMemory>
+    requires { rows.old.items ≡ [] }
+    ensures { IsStrictlySortedBy name_cmp (map name_of classes.now) → OnOk result (AreRows (map row_lent rows.new.items) (GivesRow provided_rows classes.now)) }
 {
-    let mut rows = Vec::new(alloc);
     let mut own = Vec::new(alloc);
     for class in classes {
         own.clear();
@@ -185,19 +232,19 @@ fn provided<'t>(alloc: Global, classes: &[Class<'t>]) -> Result<Vec<Row<'t>>, No
         put_in_order(&mut own);
         rows.extend_from_slice(&own)?;
     }
-    Ok(rows)
+    Ok(())
 }
 
 /// What the classes require.
-fn required<'t>(alloc: Global, classes: &[Class<'t>]) -> Result<Vec<Row<'t>>, NoMemory>
-    ensures { IfOk result (λ required. AreRows (map row_lent required.items) (GivesRow required_rows classes.now)) }
+fn fill_required<'t>(rows: &mut Vec<Row<'t>>, classes: &[Class<'t>]) -> Result<(), NoMemory>
+    requires { rows.old.items ≡ [] }
+    ensures { OnOk result (AreRows (map row_lent rows.new.items) (GivesRow required_rows classes.now)) }
 {
-    let mut rows = Vec::new(alloc);
     for class in classes {
-        push_required(&mut rows, class.facts, &class.part)?;
+        push_required(rows, class.facts, &class.part)?;
     }
-    put_in_order(&mut rows);
-    Ok(rows)
+    put_in_order(rows);
+    Ok(())
 }
 
 fn has_unreadable(files: &[FileRow<'_>]) -> bool

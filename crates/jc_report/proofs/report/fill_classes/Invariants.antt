@@ -1,5 +1,5 @@
 use Rattle.jc_report.proofs.reports.ClassesOfTables.{AreMade}
-use Rattle.jc_report.proofs.report.classes.Given as goal
+use Rattle.jc_report.proofs.report.fill_classes.Given as goal
 
 -- the classes so far are made of the table, and the others are left
 abbrev pub invariant-loop-facts : goal.invariant-loop-facts

@@ -2,7 +2,7 @@ use Rattle.std.proofs.Common.{◌≡◌, map, take}
 use Rattle.jc_report.specs.ClassRows.{required_rows}
 use Rattle.jc_report.specs.RowView.{row_lent}
 use Rattle.jc_report.proofs.reports.GivenRows.{rows_given}
-use Rattle.jc_report.proofs.report.required.Given as goal
+use Rattle.jc_report.proofs.report.fill_required.Given as goal
 
 -- the rows of the classes so far
 abbrev pub invariant-loop-class : goal.invariant-loop-class

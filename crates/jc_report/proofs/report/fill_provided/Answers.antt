@@ -8,13 +8,13 @@ use Rattle.jc_report.specs.RowView.{row_lent}
 use Rattle.jc_report.specs.Rows.{AreRows, Row}
 use Rattle.jc_report.proofs.reports.RowsByClass.{no_classes, one_class_more}
 use Rattle.jc_report.proofs.rows.OwnRows.{own_name}
-use Rattle.jc_report.proofs.report.provided.Goals as goal
+use Rattle.jc_report.proofs.report.fill_provided.Goals as goal
 
 own : (c : Class) (row : Row) → Contains (provided_rows c.facts c.part) row → row.class ≡ name_of c
 own c row h = own_name c.facts c.part row (has_from (provided_rows c.facts c.part) row h)
 
 pub loop-class-init : goal.loop-class-init
-loop-class-init c = λ rises. subst (λ xs. AreRows (map row_lent xs) (GivesRow provided_rows [])) (sym c.new-rows.ensures.items) (no_classes provided_rows own)
+loop-class-init c = λ rises. subst (λ xs. AreRows (map row_lent xs) (GivesRow provided_rows [])) (sym c.requires) (no_classes provided_rows own)
 
 pub loop-class-preserved : goal.loop-class-preserved
 loop-class-preserved c = λ rises.

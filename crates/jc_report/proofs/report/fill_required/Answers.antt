@@ -1,6 +1,6 @@
 use Rattle.jc_report.specs.ClassRows.{required_rows}
 use Rattle.jc_report.proofs.reports.GivenRows.{rows_more, rows_of_all}
-use Rattle.jc_report.proofs.report.required.Goals as goal
+use Rattle.jc_report.proofs.report.fill_required.Goals as goal
 
 pub loop-class-preserved : goal.loop-class-preserved
 loop-class-preserved c =

@@ -1,26 +1,22 @@
-use Rattle.std.proofs.Common.{◌∙◌, ap, refl, subst, sym}
-use Rattle.jc_classes.specs.Names.{Name}
+use Rattle.std.proofs.Common.{◌∙◌, ap, refl, rules, subst, sym}
 use Rattle.jc_classes.specs.Parts.{IsPart}
-use Rattle.jc_link.specs.Closures.{IsClosure}
 use Rattle.jc_link.specs.Tables.{Places, world}
 use Rattle.jc_report.specs.Reports.{Class}
 use Rattle.jc_report.specs.Trees.{Tree}
 use Rattle.jc_report.proofs.reports.ClassesOfTables.{AreMade, are_classes, none_made, one_made}
-use Rattle.jc_report.proofs.report.classes.Goals as goal
+use Rattle.jc_report.proofs.report.fill_classes.Goals as goal
 
 pub loop-facts-init : goal.loop-facts-init
 loop-facts-init c =
     let left = c.into_iter-facts-iterator.ensures.into_iter_gives ∙ c.classes-facts-items.ensures in
-    subst (λ cs. AreMade c.tree.inside.table c.args.outside.now cs c.into_iter-facts-iterator.result) (sym c.new-classes.ensures.items)
+    subst (λ cs. AreMade c.tree.inside.table c.args.outside.now cs c.into_iter-facts-iterator.result) (sym c.requires)
     (none_made c.tree.inside.table c.args.outside.now c.into_iter-facts-iterator.result left)
 
 pub loop-facts-preserved : goal.loop-facts-preserved
 loop-facts-preserved c =
     let m = world c.tree.inside.table c.args.outside.now in
     let name = c.in-Some.facts.now.name in
-    let gathered : IsClosure m c.name.result.now c.in_ok-closure.closure = c.in_ok-closure.ensures.closure in
-    let closure : IsClosure m name c.in_ok-closure.closure = subst (λ (d : Name). IsClosure m d c.in_ok-closure.closure) c.name.ensures gathered in
-    let part : IsPart m name c.in_ok-part.part = c.in_ok-part.ensures.part m name closure in
+    let part : IsPart m name c.in_ok-part.part = search rules in
     let class : Class = record { facts = c.in-Some.facts.now; part = c.in_ok-part.part } in
     one_made c.tree.inside.table c.args.outside.now c.loop-facts.classes.items c.push.new.self.items c.loop-facts.facts-iterator c.next.new.self c.in-Some.facts.now class
     c.loop-facts.invariant c.in-Some.ensures.steps c.in_ok-push.ensures.items refl part

@@ -5,7 +5,7 @@ use Rattle.jc_report.specs.ClassRows.{provided_rows}
 use Rattle.jc_report.specs.Reports.{GivesRow, name_of}
 use Rattle.jc_report.specs.RowView.{row_lent}
 use Rattle.jc_report.specs.Rows.{AreRows}
-use Rattle.jc_report.proofs.report.provided.Given as goal
+use Rattle.jc_report.proofs.report.fill_provided.Given as goal
 
 -- the rows of the classes so far
 abbrev pub invariant-loop-class : goal.invariant-loop-class

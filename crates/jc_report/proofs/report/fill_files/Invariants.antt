@@ -1,0 +1,7 @@
+use Rattle.jc_report.specs.Files.{Files}
+use Rattle.jc_report.specs.Trees.{IsTree}
+use Rattle.jc_report.proofs.trees.RowsOfFiles.{AreMade}
+use Rattle.jc_report.proofs.report.fill_files.Given as goal
+
+abbrev pub invariant-loop-path : goal.invariant-loop-path
+invariant-loop-path l = (f : Files) → IsTree f l.tree → AreMade f l.files.items l.path-iterator
