@@ -5,7 +5,7 @@ ghost use Rattle.std.specs.FinMap as map;
 ghost use Rattle.jc_view.specs.Outcome.{class_named, class_read};
 ghost use Rattle.jc_view.specs.Refusal.{IsNamed};
 ghost use Rattle.jc_classes.specs.FactsOf.{facts_of};
-ghost use Rattle.jc_link.specs.Tables.{record_at};
+ghost use Rattle.jc_link.specs.Tables.{class_at, record_at};
 ghost use Rattle.jc_report.specs.declared.tree.AddError.TheVariants as errors;
 ghost use Rattle.jc_report.specs.Files.{Files};
 ghost use Rattle.jc_report.specs.FileRows.{state_by, state_of};
@@ -132,10 +132,8 @@ impl Tree {
         ensures named { IfOk result (λ outcome. (name : List ℕ) × IsNamed view.now name × (outcome ≡ Ok name)) }
     {
         let facts = Facts::of(self.alloc, view, path)?;
-        match self.table.put(facts) {
-            Ok(Some(before)) => self.put_lesser(before, path)?,
-            Ok(None) => {}
-            Err(_) => return Err(NoMemory),
+        if let Some(before) = self.put(facts)? {
+            self.put_lesser(before, path)?;
         }
         Outcome::named(self.alloc, view.name())
     }
@@ -145,13 +143,20 @@ impl Tree {
         ensures outcomes { self.new.outcomes ≡ self.old.outcomes }
         ensures classes { OnOk result (self.new.classes ≡ put_back (Some before) path.now self.old.classes) }
     {
-        if !less(before.path(), path) {
-            return Ok(());
+        if less(before.path(), path) {
+            self.put(before).and(Ok(()))
+        } else {
+            Ok(())
         }
-        match self.table.put(before) {
-            Ok(_) => Ok(()),
-            Err(_) => Err(NoMemory),
-        }
+    }
+
+    /// Puts a class in its place, and answers the one that stood there.
+    fn put(&mut self, facts: Facts) -> Result<Option<Facts>, NoMemory>
+        ensures outcomes { self.new.outcomes ≡ self.old.outcomes }
+        ensures classes { OnOk result (self.new.classes ≡ map.insert self.old.classes facts.name (Some facts)) }
+        ensures before { IfOk result (λ before. before ≡ class_at self.old.classes facts.name) }
+    {
+        self.table.put(facts).or(Err(NoMemory))
     }
 
     /// What a file of the tree is, by the class that it names.
