@@ -1,6 +1,6 @@
 //! The lines of files.
 
-ghost use Rattle.std.specs.Prelude.{◌≡◌, ◌++◌, codes};
+ghost use Rattle.std.specs.Prelude.{◌≡◌, ◌++◌, [], codes, option_map, unwrap_or};
 ghost use Rattle.jc_text.specs.Escapes.{path_text, shown};
 ghost use Rattle.jc_text.specs.Sends.{Sends};
 ghost use Rattle.jc_report.specs.FileRowText.{at_text, refusal_name, refusal_text, state_text, row_text};
@@ -67,24 +67,34 @@ pub fn write_refusal<W: Output>(text: &mut TextWriter<'_, W>, refusal: ParseErro
 fn write_refusal_name<W: Output>(text: &mut TextWriter<'_, W>, refusal: ParseError)
     ensures { Sends W.written W.failures text.old text.new (refusal_name refusal) }
 {
-    match refusal {
-        ParseError::Magic => text.text(b"Magic"),
-        ParseError::Version => text.text(b"Version"),
-        ParseError::Count => text.text(b"Count"),
-        ParseError::Tag(place) => write_at(text, b"Tag", place),
-        ParseError::Wide(place) => write_at(text, b"Wide", place),
-        ParseError::Trailing(place) => write_at(text, b"Trailing", place),
-        ParseError::Short => text.text(b"Short"),
-        ParseError::NoName => text.text(b"NoName"),
-        ParseError::NoMemory => text.text(b"NoMemory"),
+    let (name, place) = name_and_place(refusal);
+    text.text(name);
+    match place {
+        Some(place) => write_place(text, place),
+        None => {}
     }
 }
 
-/// A name with its place, as in `Tag(10)`.
-fn write_at<W: Output>(text: &mut TextWriter<'_, W>, name: &[u8], place: usize)
-    ensures { Sends W.written W.failures text.old text.new (name.now ++ at_text place) }
+fn name_and_place(refusal: ParseError) -> (&'static [u8], Option<usize>)
+    ensures { refusal_name refusal ≡ result.0.now ++ unwrap_or (option_map at_text result.1) [] }
 {
-    text.text(name);
+    match refusal {
+        ParseError::Magic => (b"Magic", None),
+        ParseError::Version => (b"Version", None),
+        ParseError::Count => (b"Count", None),
+        ParseError::Tag(place) => (b"Tag", Some(place)),
+        ParseError::Wide(place) => (b"Wide", Some(place)),
+        ParseError::Trailing(place) => (b"Trailing", Some(place)),
+        ParseError::Short => (b"Short", None),
+        ParseError::NoName => (b"NoName", None),
+        ParseError::NoMemory => (b"NoMemory", None),
+    }
+}
+
+/// A place behind a name, as in `Tag(10)`.
+fn write_place<W: Output>(text: &mut TextWriter<'_, W>, place: usize)
+    ensures { Sends W.written W.failures text.old text.new (at_text place) }
+{
     text.text(b"(");
     text.decimal(place);
     text.text(b")");
