@@ -149,9 +149,9 @@ pub(crate) fn write_named<W: Output>(
 {
     match kind {
         ReferenceKind::Class => out.shown(class),
-        ReferenceKind::Field => write_member(out, class, key.name, key.descriptor),
-        ReferenceKind::Method => write_member(out, class, key.name, key.descriptor),
-        ReferenceKind::InterfaceMethod => write_member(out, class, key.name, key.descriptor),
+        ReferenceKind::Field | ReferenceKind::Method | ReferenceKind::InterfaceMethod => {
+            write_member(out, class, key.name, key.descriptor);
+        }
     }
 }
 
