@@ -1,7 +1,7 @@
 //! The files with their claims, and how an edit changes them: what can be refused is grown first, and
 //! is then committed or undone by steps that can't fail.
 
-ghost use Rattle.std.specs.Prelude.{◌≡◌, [], IfOk, None, OnErr, Some, false, true};
+ghost use Rattle.std.specs.Prelude.{◌≡◌, [], IfOk, None, OnErr, OnOk, Some, false, true};
 ghost use Rattle.std.specs.FinMap as map;
 ghost use Rattle.jc_edits.specs.Edits.{after, change_lent, judge};
 ghost use Rattle.jc_edits.specs.inside.Claims.{AreClaims};
@@ -136,18 +136,27 @@ fn grow_new<'a>(
     ensures err_files { OnErr result (held.new.files ≡ held.old.files) }
     ensures err_claims { OnErr result (AreClaims held.new.claims held.new.files) }
 {
-    let key = Vec::from_slice(alloc, path)?;
     let mut grown = grow_file(held, alloc, path, bytes)?;
-    match held.files.insert(key, File::empty(alloc)) {
-        Ok(_) => {
+    match keep_place(&mut held.files, alloc, path) {
+        Ok(()) => {
             grown.is_new = true;
             Ok(grown)
         }
-        Err(_) => {
+        Err(refused) => {
             undo(held, grown);
-            Err(NoMemory)
+            Err(refused)
         }
     }
+}
+
+/// Puts an empty file at a path that is new.
+fn keep_place(files: &mut ByteMap<File>, alloc: Global, path: &[u8]) -> Result<(), NoMemory>
+    ensures ok { OnOk result (files.new ≡ map.insert files.old path.now []) }
+    ensures err { OnErr result (files.new ≡ files.old) }
+{
+    let path = Vec::from_slice(alloc, path)?;
+    files.insert(path, File::empty(alloc))?;
+    Ok(())
 }
 
 /// Withdraws the claim of a file that was to stand at the path, unless the file there has it too.

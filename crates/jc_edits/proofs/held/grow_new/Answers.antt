@@ -7,33 +7,29 @@ pub returns-in-Ok-clause-grown : goal.returns-in-Ok-clause-grown
 returns-in-Ok-clause-grown c =
     let f = c.grow_file.new.held.files in
     let path = c.args.path.now in
-    let is : c.insert.new.self ≡ map.insert f path [] = cc (c.in-Ok.ensures.ok, c.in_ok-key.ensures.items, c.empty.ensures) in
     let absent : map.get f path ≡ map.get c.args.held.now.files path = ap (λ g. map.get g path) c.in_ok-grown.ensures.files in
     record {
-      besides = new_besides f c.insert.new.self path c.in_ok-grown.grown.path.now is c.in_ok-grown.ensures.path c.grow_file.new.held.claims c.args.bytes.items c.in_ok-grown.grown.file c.in_ok-grown.ensures.file (absent ∙ c.requires.absent) c.in_ok-grown.ensures.grown;
-      empty = new_empty f c.insert.new.self path c.in_ok-grown.grown.path.now is c.in_ok-grown.ensures.path;
+      besides = new_besides f c.keep_place.new.files path c.in_ok-grown.grown.path.now c.in-Ok.ensures.ok c.in_ok-grown.ensures.path c.grow_file.new.held.claims c.args.bytes.items c.in_ok-grown.grown.file c.in_ok-grown.ensures.file (absent ∙ c.requires.absent) c.in_ok-grown.ensures.grown;
+      empty = new_empty f c.keep_place.new.files path c.in_ok-grown.grown.path.now c.in-Ok.ensures.ok c.in_ok-grown.ensures.path;
     }
 
 pub returns-in-Ok-clause-place : goal.returns-in-Ok-clause-place
 returns-in-Ok-clause-place c =
     let f = c.grow_file.new.held.files in
     let path = c.args.path.now in
-    let is : c.insert.new.self ≡ map.insert f path [] = cc (c.in-Ok.ensures.ok, c.in_ok-key.ensures.items, c.empty.ensures) in
-    new_place f c.insert.new.self path c.in_ok-grown.grown.path.now is c.in_ok-grown.ensures.path c.args.bytes.items c.in_ok-grown.grown.file c.in_ok-grown.ensures.file
+    new_place f c.keep_place.new.files path c.in_ok-grown.grown.path.now c.in-Ok.ensures.ok c.in_ok-grown.ensures.path c.args.bytes.items c.in_ok-grown.grown.file c.in_ok-grown.ensures.file
 
 pub returns-in-Ok-clause-commits : goal.returns-in-Ok-clause-commits
 returns-in-Ok-clause-commits c =
     let f = c.grow_file.new.held.files in
     let path = c.args.path.now in
     let bytes = c.args.bytes.items in
-    let is : c.insert.new.self ≡ map.insert f path [] = cc (c.in-Ok.ensures.ok, c.in_ok-key.ensures.items, c.empty.ensures) in
-    new_commits f c.insert.new.self path c.in_ok-grown.grown.path.now is c.in_ok-grown.ensures.path bytes c.in_ok-grown.grown.file c.in_ok-grown.ensures.file
+    new_commits f c.keep_place.new.files path c.in_ok-grown.grown.path.now c.in-Ok.ensures.ok c.in_ok-grown.ensures.path bytes c.in_ok-grown.grown.file c.in_ok-grown.ensures.file
     ∙ ap (λ g. map.insert g path bytes) c.in_ok-grown.ensures.files
 
 pub returns-in-Ok-clause-undoes : goal.returns-in-Ok-clause-undoes
 returns-in-Ok-clause-undoes c =
     let f = c.grow_file.new.held.files in
     let path = c.args.path.now in
-    let is : c.insert.new.self ≡ map.insert f path [] = cc (c.in-Ok.ensures.ok, c.in_ok-key.ensures.items, c.empty.ensures) in
     let absent = ap (λ g. map.get g path) c.in_ok-grown.ensures.files in
-    new_undoes f c.insert.new.self path c.in_ok-grown.grown.path.now is c.in_ok-grown.ensures.path (absent ∙ c.requires.absent) ∙ c.in_ok-grown.ensures.files
+    new_undoes f c.keep_place.new.files path c.in_ok-grown.grown.path.now c.in-Ok.ensures.ok c.in_ok-grown.ensures.path (absent ∙ c.requires.absent) ∙ c.in_ok-grown.ensures.files

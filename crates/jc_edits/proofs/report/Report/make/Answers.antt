@@ -1,4 +1,5 @@
-use Rattle.std.proofs.Common.{◌≡◌, ◌-◌, ap, subst, ◌∙◌}
+use Rattle.std.proofs.Common.{◌≡◌, ◌-◌, ap, arith, subst, ◌∙◌}
+use Rattle.std.proofs.lemmas.Grind.{common_steps}
 use Rattle.jc_link.specs.Tables.{class_at}
 use Rattle.jc_held.specs.Affected.{IsBounded}
 use Rattle.jc_report.specs.Reports.{world_of}
@@ -41,3 +42,15 @@ returns-in-Ok-clause-bounded c =
     subst (λ g. IsBounded (gives new) (world_of new prefixes) (is_touched g new (path_of change)) made asks) (ap (λ (a : HeldFiles). a.files) c.self.view_is)
     (bounded_after f new (path_of change) (bytes_of change) first put changes stand (class_at c.self.inside.linkage.classes) (class_at c.change.new.self.classes)
     c.self.invariant.classes c.in-Ok.ensures.ok prefixes made asks c.in-Ok.ensures.bounded)
+
+pub returns-in-Ok-clause-ok : goal.returns-in-Ok-clause-ok
+returns-in-Ok-clause-ok c = grind (arith, common_steps)
+
+pub returns-in-Ok-clause-prefixes : goal.returns-in-Ok-clause-prefixes
+returns-in-Ok-clause-prefixes c = grind (arith, common_steps)
+
+pub returns-in-Err-clause-err : goal.returns-in-Err-clause-err
+returns-in-Err-clause-err c = grind (arith, common_steps)
+
+pub returns-in-Err-clause-prefixes : goal.returns-in-Err-clause-prefixes
+returns-in-Err-clause-prefixes c = grind (arith, common_steps)
