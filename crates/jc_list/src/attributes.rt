@@ -8,7 +8,7 @@ ghost use Rattle.jc_list.specs.AttributeLines.{attribute_line, attribute_lines, 
 ghost use Rattle.jc_list.specs.inside.Fronts.{Lists};
 
 use crate::code::{write_all_insn_lines, write_code_line, write_handler_lines};
-use crate::texts::{write_index, write_text};
+use crate::texts::{write_index, write_number, write_text};
 use jc_base::{NoMemory, Output, SigKind, check_signature};
 use jc_text::TextWriter;
 use jc_view::{Attribute, AttributeKind, Attributes, Code, ConstantIndex, Holder, index_at};
@@ -81,9 +81,8 @@ fn write_attribute_line<W: Output>(
     out.text(indent);
     out.text(b"attribute ");
     write_text(out, attribute.name());
-    out.text(b" ");
     let bytes = attribute.bytes();
-    out.decimal(bytes.len());
+    write_number(out, bytes.len());
     if bytes.len() == 2 {
         write_entry(alloc, out, attribute, index_at(bytes, 0))?;
     }

@@ -9,7 +9,7 @@ ghost use Rattle.jc_list.specs.AttributeLines.{catch_text, code_line, cut_line, 
 ghost use Rattle.jc_list.specs.InsnLines.{insn_lines};
 
 use crate::insns::write_insn_lines;
-use crate::texts::write_index_with_reference;
+use crate::texts::{write_index_with_reference, write_number};
 use jc_base::Output;
 use jc_code::Insns;
 use jc_text::TextWriter;
@@ -69,10 +69,8 @@ fn write_handler_line<W: Output>(
 {
     out.text(b"    catch ");
     out.decimal(handler.start_pc);
-    out.text(b" ");
-    out.decimal(handler.end_pc);
-    out.text(b" ");
-    out.decimal(handler.handler_pc);
+    write_number(out, handler.end_pc);
+    write_number(out, handler.handler_pc);
     out.text(b" ");
     write_catch(out, class, handler.catch_type);
     out.text(b"\n");

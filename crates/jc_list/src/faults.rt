@@ -9,6 +9,7 @@ ghost use Rattle.jc_list.specs.FaultLines.{code_fault_line, format_line};
 ghost use Rattle.jc_code.specs.MethodFaults.{code_faults, method_faults};
 ghost use Rattle.jc_list.specs.inside.Fronts.{Lists};
 
+use crate::texts::write_number;
 use jc_base::{NoMemory, Output};
 use jc_code::{CodeFault, faults_in, method_code};
 use jc_file::{Fault, format_faults};
@@ -38,8 +39,7 @@ pub fn write_format_line<W: Output>(out: &mut TextWriter<'_, W>, fault: Fault)
 {
     out.text(b"format F");
     out.decimal(fault.rule.number());
-    out.text(b" ");
-    out.decimal(fault.place);
+    write_number(out, fault.place);
     out.text(b"\n");
 }
 
@@ -92,9 +92,7 @@ pub fn write_code_fault_line<W: Output>(
 {
     out.text(b"code S");
     out.decimal(fault.rule.number());
-    out.text(b" ");
-    out.decimal(number);
-    out.text(b" ");
-    out.decimal(fault.place);
+    write_number(out, number);
+    write_number(out, fault.place);
     out.text(b"\n");
 }

@@ -71,13 +71,12 @@ fn write_operands<W: Output>(out: &mut TextWriter<'_, W>, class: &ClassView, ins
         | Insn::Invoke { index, .. }
         | Insn::InvokeDynamic { index, .. }
         | Insn::Type { index, .. } => write_entry(out, class, *index),
-        Insn::InvokeInterface { index, count, .. } => {
-            write_counted_entry(out, class, *index, *count)
-        }
+        Insn::InvokeInterface { index, count, .. }
+        | Insn::MultiNewArray {
+            index,
+            dimensions: count,
+        } => write_counted_entry(out, class, *index, *count),
         Insn::NewArray { element } => write_number(out, *element),
-        Insn::MultiNewArray { index, dimensions } => {
-            write_counted_entry(out, class, *index, *dimensions)
-        }
     }
 }
 

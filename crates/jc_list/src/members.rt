@@ -1,5 +1,6 @@
 //! A line for each field and each method, with its attributes.
 
+ghost use Rattle.std.specs.List.{flat_map};
 ghost use Rattle.jc_text.specs.Sends.{Sends};
 ghost use Rattle.jc_list.specs.MemberLines.{field_lines, member_line, member_lines, method_lines};
 ghost use Rattle.jc_list.specs.inside.Fronts.{Lists};
@@ -9,7 +10,7 @@ use crate::texts::{write_flags, write_text};
 use jc_base::{NoMemory, Output};
 use jc_file::AccessFlag;
 use jc_text::TextWriter;
-use jc_view::{ClassView, Member};
+use jc_view::{ClassView, Member, Members};
 use std::alloc::Global;
 
 /// The fields, in the order of the file.
@@ -20,10 +21,7 @@ pub(crate) fn write_field_lines<W: Output>(
 ) -> Result<(), NoMemory>
     ensures { Lists W.written W.failures result out.old out.new (field_lines class.now) }
 {
-    for field in class.fields() {
-        write_member(alloc, out, &field, b"field", &AccessFlag::OF_FIELD)?;
-    }
-    Ok(())
+    write_members(alloc, out, class.fields(), b"field", &AccessFlag::OF_FIELD)
 }
 
 /// The methods, in the order of the file.
@@ -34,8 +32,27 @@ pub(crate) fn write_method_lines<W: Output>(
 ) -> Result<(), NoMemory>
     ensures { Lists W.written W.failures result out.old out.new (method_lines class.now) }
 {
-    for method in class.methods() {
-        write_member(alloc, out, &method, b"method", &AccessFlag::OF_METHOD)?;
+    write_members(
+        alloc,
+        out,
+        class.methods(),
+        b"method",
+        &AccessFlag::OF_METHOD,
+    )
+}
+
+/// Fields or methods: a word that says which, and the flags that mean something.
+fn write_members<W: Output>(
+    alloc: Global,
+    out: &mut TextWriter<'_, W>,
+    members: Members,
+    word: &[u8],
+    flags: &[AccessFlag],
+) -> Result<(), NoMemory>
+    ensures { Lists W.written W.failures result out.old out.new (flat_map (member_lines members.entry.class word.now flags.now) members.entry.left) }
+{
+    for member in members {
+        write_member(alloc, out, &member, word, flags)?;
     }
     Ok(())
 }

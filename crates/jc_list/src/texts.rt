@@ -89,17 +89,16 @@ fn write_reference_of<W: Output>(out: &mut TextWriter<'_, W>, class: &ClassView,
 {
     match constant {
         Constant::Class(name) => write_class_reference(out, class, name),
-        Constant::Fieldref(of, entry) => {
-            out.text(b" field ");
-            write_member_reference(out, class, of, entry);
-        }
-        Constant::Methodref(of, entry) => {
-            out.text(b" method ");
-            write_member_reference(out, class, of, entry);
-        }
+        Constant::Fieldref(of, entry) => write_member_reference(out, class, b" field ", of, entry),
+        Constant::Methodref(of, entry) => write_member_reference(
+            out,
+            class,
+            b" method ",
+            of,
+            entry,
+        ),
         Constant::InterfaceMethodref(of, entry) => {
-            out.text(b" imethod ");
-            write_member_reference(out, class, of, entry);
+            write_member_reference(out, class, b" imethod ", of, entry);
         }
         _ => {}
     }
@@ -116,15 +115,17 @@ fn write_class_reference<W: Output>(
     write_text(out, class.utf8(name));
 }
 
-/// A member: its class, its name and its descriptor.
+/// A member behind a word: its class, its name and its descriptor.
 fn write_member_reference<W: Output>(
     out: &mut TextWriter<'_, W>,
     class: &ClassView,
+    word: &[u8],
     of: ConstantIndex,
     entry: ConstantIndex,
 )
-    ensures { Sends W.written W.failures out.old out.new (member_reference class.now of entry) }
+    ensures { Sends W.written W.failures out.old out.new (word.now ++ member_reference class.now of entry) }
 {
+    out.text(word);
     write_text(out, class.class_text(of));
     out.text(b".");
     write_text(out, class.name_at(entry));

@@ -1,8 +1,8 @@
-use Rattle.std.proofs.Common.{◌∙◌, ap, sym, length, decimal, codes}
+use Rattle.std.proofs.Common.{◌∙◌, ◌++◌, ap, sym, length, decimal, codes}
 use Rattle.jc_text.proofs.Sending.{◌⟫◌, sends_equal, sends_nothing}
 use Rattle.jc_list.specs.Texts.{shown_text}
 use Rattle.jc_list.specs.AttributeLines.{entry_text}
-use Rattle.jc_list.proofs.fronts.OneBehindAnother.{begins_equal, begins_first, begins_second, lists_front, sends_to}
+use Rattle.jc_list.proofs.fronts.OneBehindAnother.{begins_equal, begins_first, begins_second, both_behind, lists_front, sends_to}
 use Rattle.jc_list.proofs.told.AttributeTexts.{if_not_two, if_two}
 use Rattle.jc_list.proofs.attributes.write_attribute_line.Goals.{then-bytes-eq2+in_ok-write_entry, else-bytes-eq2}
 use Rattle.jc_list.proofs.attributes.write_attribute_line.Goals as goal
@@ -15,7 +15,7 @@ returns-in_err-write_entry g c =
     let entry = begins_equal _ _ (if_two (length bytes) (entry_text a.class a.attribute) (sym size ∙ c.if-bytes-eq2.true)) c.in_err-write_entry.ensures in
     lists_front c.from_residual.result c.from_residual.ensures.0
     (begins_first _ (codes "\n")
-    (begins_second _ _ (c.text.ensures ⟫ c.text-2.ensures ⟫ sends_equal (ap shown_text c.name.ensures) c.write_text.ensures ⟫ c.text-3.ensures ⟫ sends_equal (ap decimal size) c.decimal.ensures) entry))
+    (begins_second _ _ (both_behind (codes " ") (decimal (length bytes)) (c.text.ensures ⟫ c.text-2.ensures ⟫ sends_equal (ap shown_text c.name.ensures) c.write_text.ensures) (sends_equal (ap (λ n. codes " " ++ decimal n) size) c.write_number.ensures)) entry))
 
 pub returns : goal.returns
 returns g c =
@@ -24,12 +24,12 @@ returns g c =
           let a = c.args.attribute.now in
           let bytes = a.attribute.attribute.bytes in
           let size = ap length c.bytes-bytes.ensures in
-          c.text.ensures ⟫ c.text-2.ensures ⟫ sends_equal (ap shown_text c.name.ensures) c.write_text.ensures ⟫ c.text-3.ensures ⟫ sends_equal (ap decimal size) c.decimal.ensures
-          ⟫ sends_equal (if_two (length bytes) (entry_text a.class a.attribute) (sym size ∙ w.if-bytes-eq2.true)) (sends_to w.out-is w.in_ok-write_entry.ensures) ⟫ c.text-4.ensures
+          both_behind (codes " ") (decimal (length bytes)) (c.text.ensures ⟫ c.text-2.ensures ⟫ sends_equal (ap shown_text c.name.ensures) c.write_text.ensures) (sends_equal (ap (λ n. codes " " ++ decimal n) size) c.write_number.ensures)
+          ⟫ sends_equal (if_two (length bytes) (entry_text a.class a.attribute) (sym size ∙ w.if-bytes-eq2.true)) (sends_to w.out-is w.in_ok-write_entry.ensures) ⟫ c.text-3.ensures
       | else-bytes-eq2 w ↦
           let a = c.args.attribute.now in
           let bytes = a.attribute.attribute.bytes in
           let size = ap length c.bytes-bytes.ensures in
-          c.text.ensures ⟫ c.text-2.ensures ⟫ sends_equal (ap shown_text c.name.ensures) c.write_text.ensures ⟫ c.text-3.ensures ⟫ sends_equal (ap decimal size) c.decimal.ensures
-          ⟫ sends_equal (if_not_two (length bytes) (entry_text a.class a.attribute) (λ e. w.if-bytes-eq2.false (size ∙ e))) (sends_to w.out-is (sends_nothing _ _ _)) ⟫ c.text-4.ensures
+          both_behind (codes " ") (decimal (length bytes)) (c.text.ensures ⟫ c.text-2.ensures ⟫ sends_equal (ap shown_text c.name.ensures) c.write_text.ensures) (sends_equal (ap (λ n. codes " " ++ decimal n) size) c.write_number.ensures)
+          ⟫ sends_equal (if_not_two (length bytes) (entry_text a.class a.attribute) (λ e. w.if-bytes-eq2.false (size ∙ e))) (sends_to w.out-is (sends_nothing _ _ _)) ⟫ c.text-3.ensures
     ]

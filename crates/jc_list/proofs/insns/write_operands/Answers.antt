@@ -31,13 +31,10 @@ pub returns-in-LookupSwitch : goal.returns-in-LookupSwitch
 returns-in-LookupSwitch g c = sends_equal (ap (operands_text c.args.class.now) (sym c.in-LookupSwitch.is)) c.write_lookup_switch.ensures
 
 pub returns-in-InvokeInterface : goal.returns-in-InvokeInterface
-returns-in-InvokeInterface g c = sends_equal (ap (operands_text c.args.class.now) (sym c.in-InvokeInterface.is)) c.write_counted_entry.ensures
+returns-in-InvokeInterface g c = sends_equal (search rules) c.write_counted_entry.ensures
 
 pub returns-in-NewArray : goal.returns-in-NewArray
 returns-in-NewArray g c = sends_equal (ap (operands_text c.args.class.now) (sym c.in-NewArray.is)) c.write_number-in-NewArray.ensures
-
-pub returns-in-MultiNewArray : goal.returns-in-MultiNewArray
-returns-in-MultiNewArray g c = sends_equal (ap (operands_text c.args.class.now) (sym c.in-MultiNewArray.is)) c.write_counted_entry-in-MultiNewArray.ensures
 
 pub returns-in-Load : goal.returns-in-Load
 returns-in-Load g c = sends_equal (search rules) c.write_entry.ensures

@@ -1,6 +1,6 @@
 use Rattle.std.proofs.Common.{ap, sym}
 use Rattle.jc_view.specs.Lent.{constant_of}
-use Rattle.jc_text.proofs.Sending.{◌⟫◌, sends_equal, sends_nothing}
+use Rattle.jc_text.proofs.Sending.{sends_equal, sends_nothing}
 use Rattle.jc_list.specs.Texts.{reference_of}
 use Rattle.jc_list.proofs.lines.References.{refers_to_nothing}
 use Rattle.jc_list.proofs.texts.write_reference_of.Goals as goal
@@ -10,16 +10,16 @@ returns-in-Class g c = sends_equal (ap (λ k. reference_of c.args.class.now (con
 
 pub returns-in-Fieldref : goal.returns-in-Fieldref
 returns-in-Fieldref g c =
-    sends_equal (ap (λ k. reference_of c.args.class.now (constant_of k)) (sym c.in-Fieldref.is)) (c.text.ensures ⟫ c.write_member_reference.ensures)
+    sends_equal (ap (λ k. reference_of c.args.class.now (constant_of k)) (sym c.in-Fieldref.is)) c.write_member_reference.ensures
 
 pub returns-in-Methodref : goal.returns-in-Methodref
 returns-in-Methodref g c =
-    sends_equal (ap (λ k. reference_of c.args.class.now (constant_of k)) (sym c.in-Methodref.is)) (c.text-in-Methodref.ensures ⟫ c.write_member_reference-in-Methodref.ensures)
+    sends_equal (ap (λ k. reference_of c.args.class.now (constant_of k)) (sym c.in-Methodref.is)) c.write_member_reference-in-Methodref.ensures
 
 pub returns-in-InterfaceMethodref : goal.returns-in-InterfaceMethodref
 returns-in-InterfaceMethodref g c =
     sends_equal (ap (λ k. reference_of c.args.class.now (constant_of k)) (sym c.in-InterfaceMethodref.is))
-    (c.text-in-InterfaceMethodref.ensures ⟫ c.write_member_reference-in-InterfaceMethodref.ensures)
+    c.write_member_reference-in-InterfaceMethodref.ensures
 
 pub returns-in_default : goal.returns-in_default
 returns-in_default g c =
