@@ -174,7 +174,7 @@ fn fill_files<'t>(
     tree: &'t Tree,
     meter: &mut Meter,
 ) -> Result<(), NoMemory>
-    requires { files.old.items ≡ [] }
+    requires { map lent.row_lent files.old.items ≡ [] }
     ensures { (f : Files) → IsTree f tree.now → OnOk result (map lent.row_lent files.new.items ≡ rows f) }
 {
     for (path, outcome) in &tree.outcomes {
@@ -222,7 +222,7 @@ fn fill_provided<'t>(
     alloc: Global,
     classes: &[Class<'t>],
 ) -> Result<(), NoMemory>
-    requires { rows.old.items ≡ [] }
+    requires { map row_lent rows.old.items ≡ [] }
     ensures { IsStrictlySortedBy name_cmp (map name_of classes.now) → OnOk result (AreRows (map row_lent rows.new.items) (GivesRow provided_rows classes.now)) }
 {
     let mut own = Vec::new(alloc);
@@ -237,7 +237,7 @@ fn fill_provided<'t>(
 
 /// What the classes require.
 fn fill_required<'t>(rows: &mut Vec<Row<'t>>, classes: &[Class<'t>]) -> Result<(), NoMemory>
-    requires { rows.old.items ≡ [] }
+    requires { map row_lent rows.old.items ≡ [] }
     ensures { OnOk result (AreRows (map row_lent rows.new.items) (GivesRow required_rows classes.now)) }
 {
     for class in classes {

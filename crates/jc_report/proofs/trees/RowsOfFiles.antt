@@ -23,13 +23,13 @@ pub record AreMade (f : Files) (made : List FileRow) (left : List (List ℕ × R
   pub named : left ≡ map outcome files
   pub rows : map row_lent made ≡ map (row_of f) before
 
-pub none_made : (f : Files) (t : Tree) (made : List FileRow) (left : List (List ℕ × Result Name ParseError)) → IsTree f t → made ≡ [] → left ≡ fin.entries t.outcomes → AreMade f made left
+pub none_made : (f : Files) (t : Tree) (made : List FileRow) (left : List (List ℕ × Result Name ParseError)) → IsTree f t → map row_lent made ≡ [] → left ≡ fin.entries t.outcomes → AreMade f made left
 none_made f t made left h none all = record {
   before = [];
   files = fin.entries f;
   all = refl;
   named = all ∙ h.outcomes;
-  rows = ap (map row_lent) none;
+  rows = none;
 }
 
 -- a row is right where its state is, at the outcome of a file of its path

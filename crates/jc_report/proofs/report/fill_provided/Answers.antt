@@ -14,7 +14,7 @@ own : (c : Class) (row : Row) → Contains (provided_rows c.facts c.part) row �
 own c row h = own_name c.facts c.part row (has_from (provided_rows c.facts c.part) row h)
 
 pub loop-class-init : goal.loop-class-init
-loop-class-init c = λ rises. subst (λ xs. AreRows (map row_lent xs) (GivesRow provided_rows [])) (sym c.requires) (no_classes provided_rows own)
+loop-class-init c = λ rises. subst (λ (rows : List Row). AreRows rows (GivesRow provided_rows [])) (sym c.requires) (no_classes provided_rows own)
 
 pub loop-class-preserved : goal.loop-class-preserved
 loop-class-preserved c = λ rises.
