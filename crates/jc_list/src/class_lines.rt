@@ -7,7 +7,7 @@ ghost use Rattle.jc_text.specs.Sends.{Sends};
 ghost use Rattle.jc_list.specs.Texts.{shown_text};
 ghost use Rattle.jc_list.specs.ClassLines.{class_lines, count_line, flags_line, interface_line, name_line, super_line, super_text, version_line};
 
-use crate::texts::{write_flags, write_text};
+use crate::texts::{write_flags, write_number_behind, write_text};
 use jc_base::Output;
 use jc_file::AccessFlag;
 use jc_text::TextWriter;
@@ -46,10 +46,8 @@ fn write_version_line<W: Output>(out: &mut TextWriter<'_, W>, class: &ClassView)
     ensures { Sends W.written W.failures out.old out.new (version_line class.now) }
 {
     let version = class.version();
-    out.text(b"version ");
-    out.decimal(version.major);
-    out.text(b".");
-    out.decimal(version.minor);
+    write_number_behind(out, b"version ", version.major);
+    write_number_behind(out, b".", version.minor);
     out.text(b"\n");
 }
 
@@ -90,7 +88,6 @@ fn write_interface_line<W: Output>(out: &mut TextWriter<'_, W>, name: Option<&[u
 fn write_count_line<W: Output>(out: &mut TextWriter<'_, W>, class: &ClassView)
     ensures { Sends W.written W.failures out.old out.new (count_line class.now) }
 {
-    out.text(b"constants ");
-    out.decimal(class.constant_count() - 1);
+    write_number_behind(out, b"constants ", class.constant_count() - 1);
     out.text(b"\n");
 }

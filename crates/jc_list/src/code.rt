@@ -9,7 +9,7 @@ ghost use Rattle.jc_list.specs.AttributeLines.{catch_text, code_line, cut_line, 
 ghost use Rattle.jc_list.specs.InsnLines.{insn_lines};
 
 use crate::insns::write_insn_lines;
-use crate::texts::{write_index_with_reference, write_number};
+use crate::texts::{write_index_with_reference, write_number, write_number_behind};
 use jc_base::Output;
 use jc_code::Insns;
 use jc_text::TextWriter;
@@ -19,12 +19,9 @@ use jc_view::{ClassView, Code, ConstantIndex, ExceptionHandler};
 pub(crate) fn write_code_line<W: Output>(out: &mut TextWriter<'_, W>, code: &Code)
     ensures { Sends W.written W.failures out.old out.new (code_line code.now.code) }
 {
-    out.text(b"  code stack ");
-    out.decimal(code.max_stack());
-    out.text(b" locals ");
-    out.decimal(code.max_locals());
-    out.text(b" length ");
-    out.decimal(code.bytes().len());
+    write_number_behind(out, b"  code stack ", code.max_stack());
+    write_number_behind(out, b" locals ", code.max_locals());
+    write_number_behind(out, b" length ", code.bytes().len());
     out.text(b"\n");
 }
 
@@ -46,8 +43,7 @@ pub(crate) fn write_all_insn_lines<W: Output>(out: &mut TextWriter<'_, W>, code:
 fn write_cut_line<W: Output>(out: &mut TextWriter<'_, W>, end: usize)
     ensures { Sends W.written W.failures out.old out.new (codes "    cut " ++ decimal end ++ codes "\n") }
 {
-    out.text(b"    cut ");
-    out.decimal(end);
+    write_number_behind(out, b"    cut ", end);
     out.text(b"\n");
 }
 
@@ -67,8 +63,7 @@ fn write_handler_line<W: Output>(
 )
     ensures { Sends W.written W.failures out.old out.new (handler_line class.now (handler_of handler)) }
 {
-    out.text(b"    catch ");
-    out.decimal(handler.start_pc);
+    write_number_behind(out, b"    catch ", handler.start_pc);
     write_number(out, handler.end_pc);
     write_number(out, handler.handler_pc);
     out.text(b" ");

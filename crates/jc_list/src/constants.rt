@@ -7,7 +7,7 @@ ghost use Rattle.jc_text.specs.Numbers.{hexadecimal};
 ghost use Rattle.jc_list.specs.Texts.{index_text};
 ghost use Rattle.jc_list.specs.ConstantLines.{constant_line, constant_lines, constant_text, line_at, pair_text};
 
-use crate::texts::write_index;
+use crate::texts::{write_index, write_number_behind};
 use jc_base::Output;
 use jc_text::TextWriter;
 use jc_view::{ClassView, Constant, ConstantIndex};
@@ -33,8 +33,7 @@ fn write_line_at<W: Output>(out: &mut TextWriter<'_, W>, class: &ClassView, inde
 fn write_constant_line<W: Output>(out: &mut TextWriter<'_, W>, index: u16, constant: Constant)
     ensures { Sends W.written W.failures out.old out.new (constant_line index (constant_of constant.entry)) }
 {
-    out.text(b"  #");
-    out.decimal(index);
+    write_number_behind(out, b"  #", index);
     out.text(b" ");
     out.text(constant.kind().name().as_bytes());
     out.text(b" ");

@@ -9,7 +9,7 @@ ghost use Rattle.jc_list.specs.FaultLines.{code_fault_line, format_line};
 ghost use Rattle.jc_code.specs.MethodFaults.{code_faults, method_faults};
 ghost use Rattle.jc_list.specs.inside.Fronts.{Lists};
 
-use crate::texts::write_number;
+use crate::texts::{write_number, write_number_behind};
 use jc_base::{NoMemory, Output};
 use jc_code::{CodeFault, faults_in, method_code};
 use jc_file::{Fault, format_faults};
@@ -37,8 +37,7 @@ pub(crate) fn write_format_faults<W: Output>(
 pub fn write_format_line<W: Output>(out: &mut TextWriter<'_, W>, fault: Fault)
     ensures { Sends W.written W.failures out.old out.new (format_line fault) }
 {
-    out.text(b"format F");
-    out.decimal(fault.rule.number());
+    write_number_behind(out, b"format F", fault.rule.number());
     write_number(out, fault.place);
     out.text(b"\n");
 }
@@ -90,8 +89,7 @@ pub fn write_code_fault_line<W: Output>(
 )
     ensures { Sends W.written W.failures out.old out.new (code_fault_line (number, fault)) }
 {
-    out.text(b"code S");
-    out.decimal(fault.rule.number());
+    write_number_behind(out, b"code S", fault.rule.number());
     write_number(out, number);
     write_number(out, fault.place);
     out.text(b"\n");

@@ -8,7 +8,9 @@ ghost use Rattle.jc_list.specs.InsnLines.{blank_decimal, blank_signed, insn_line
 use crate::switches::{
     write_case_lines, write_lookup_switch, write_table_switch, write_target_lines,
 };
-use crate::texts::{write_index, write_index_with_reference, write_number, write_reference};
+use crate::texts::{
+    write_index, write_index_with_reference, write_number, write_number_behind, write_reference,
+};
 use jc_base::Output;
 use jc_code::Insn;
 use jc_text::TextWriter;
@@ -35,8 +37,7 @@ fn write_insn_line<W: Output>(
 )
     ensures { Sends W.written W.failures out.old out.new (insn_line class.now place insn.now) }
 {
-    out.text(b"    ");
-    out.decimal(place);
+    write_number_behind(out, b"    ", place);
     out.text(b": ");
     out.text(wide(insn));
     out.text(insn.mnemonic().as_bytes());

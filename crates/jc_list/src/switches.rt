@@ -5,7 +5,7 @@ ghost use Rattle.std.specs.List.{flat_map};
 ghost use Rattle.jc_text.specs.Sends.{Sends};
 ghost use Rattle.jc_list.specs.InsnLines.{blank_decimal, blank_signed, case_line, switch_line, target_lines};
 
-use crate::texts::write_number;
+use crate::texts::{write_number, write_number_behind};
 use jc_base::Output;
 use jc_code::{LookupSwitch, TableSwitch};
 use jc_text::TextWriter;
@@ -55,9 +55,7 @@ pub(crate) fn write_case_lines<W: Output>(out: &mut TextWriter<'_, W>, switch: &
 fn write_switch_line<W: Output>(out: &mut TextWriter<'_, W>, value: i64, target: i64)
     ensures { Sends W.written W.failures out.old out.new (switch_line value target) }
 {
-    out.text(b"      ");
-    out.decimal(value);
-    out.text(b": ");
-    out.decimal(target);
+    write_number_behind(out, b"      ", value);
+    write_number_behind(out, b": ", target);
     out.text(b"\n");
 }

@@ -35,7 +35,18 @@ pub(crate) fn write_index<W: Output>(out: &mut TextWriter<'_, W>, index: Constan
 pub(crate) fn write_number<W: Output, I: Integer>(out: &mut TextWriter<'_, W>, number: I)
     ensures { Sends W.written W.failures out.old out.new (codes " " ++ I.text number) }
 {
-    out.text(b" ");
+    write_number_behind(out, b" ", number);
+}
+
+/// A number behind a word.
+pub(crate) fn write_number_behind<W: Output, I: Integer>(
+    out: &mut TextWriter<'_, W>,
+    word: &[u8],
+    number: I,
+)
+    ensures { Sends W.written W.failures out.old out.new (word.now ++ I.text number) }
+{
+    out.text(word);
     out.decimal(number);
 }
 

@@ -1,9 +1,12 @@
-use Rattle.std.proofs.Common.{ap, decimal, length}
+use Rattle.std.proofs.Common.{◌++◌, ap, codes, decimal, length}
 use Rattle.jc_text.proofs.Sending.{◌⟫◌, sends_equal}
+use Rattle.jc_list.proofs.fronts.OneBehindAnother.{both_behind}
 use Rattle.jc_list.proofs.code.write_code_line.Goals as goal
 
 pub returns : goal.returns
 returns g c =
-    c.text.ensures ⟫ sends_equal (ap decimal c.max_stack.ensures) c.decimal.ensures
-    ⟫ c.text-2.ensures ⟫ sends_equal (ap decimal c.max_locals.ensures) c.decimal-2.ensures
-    ⟫ c.text-3.ensures ⟫ sends_equal (ap (λ code. decimal (length code)) c.bytes.ensures.part) c.decimal-3.ensures ⟫ c.text-4.ensures
+    let code = c.args.code.now.code in
+    let stack = sends_equal (ap (λ n. codes "  code stack " ++ decimal n) c.max_stack.ensures) c.write_number_behind.ensures in
+    let locals = both_behind (codes " locals ") (decimal code.max_locals) stack (sends_equal (ap (λ n. codes " locals " ++ decimal n) c.max_locals.ensures) c.write_number_behind-2.ensures) in
+    both_behind (codes " length ") (decimal (length code.code)) locals (sends_equal (ap (λ bytes. codes " length " ++ decimal (length bytes)) c.bytes.ensures.part) c.write_number_behind-3.ensures)
+    ⟫ c.text.ensures

@@ -1,5 +1,5 @@
 use Rattle.jc_text.proofs.Sending.{◌⟫◌}
-use Rattle.jc_list.proofs.texts.write_number.Goals as goal
+use Rattle.jc_list.proofs.texts.write_number_behind.Goals as goal
 
 pub returns : goal.returns
 returns g c = c.text.ensures ⟫ c.decimal.ensures
