@@ -11,8 +11,9 @@ use crate::class_lines::write_class_lines;
 use crate::constants::write_constant_lines;
 use crate::faults::{write_code_faults, write_format_faults};
 use crate::list_error::ListError;
-use crate::members::{write_field_lines, write_method_lines};
+use crate::members::write_members;
 use jc_base::{NoMemory, Output};
+use jc_file::AccessFlag;
 use jc_text::TextWriter;
 use jc_view::ClassView;
 use std::alloc::Global;
@@ -63,8 +64,14 @@ fn write_lines<W: Output>(
 {
     write_class_lines(out, class);
     write_constant_lines(out, class);
-    write_field_lines(alloc, out, class)?;
-    write_method_lines(alloc, out, class)?;
+    write_members(alloc, out, class.fields(), b"field", &AccessFlag::OF_FIELD)?;
+    write_members(
+        alloc,
+        out,
+        class.methods(),
+        b"method",
+        &AccessFlag::OF_METHOD,
+    )?;
     write_attributes(alloc, out, class.attributes(), b"")?;
     let breaks_format = write_format_faults(alloc, out, class)?;
     let breaks_code = write_code_faults(alloc, out, class)?;

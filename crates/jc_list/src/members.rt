@@ -2,7 +2,7 @@
 
 ghost use Rattle.std.specs.List.{flat_map};
 ghost use Rattle.jc_text.specs.Sends.{Sends};
-ghost use Rattle.jc_list.specs.MemberLines.{field_lines, member_line, member_lines, method_lines};
+ghost use Rattle.jc_list.specs.MemberLines.{member_line, member_lines};
 ghost use Rattle.jc_list.specs.inside.Fronts.{Lists};
 
 use crate::attributes::write_attributes;
@@ -10,39 +10,11 @@ use crate::texts::{write_flags, write_text};
 use jc_base::{NoMemory, Output};
 use jc_file::AccessFlag;
 use jc_text::TextWriter;
-use jc_view::{ClassView, Member, Members};
+use jc_view::{Member, Members};
 use std::alloc::Global;
 
-/// The fields, in the order of the file.
-pub(crate) fn write_field_lines<W: Output>(
-    alloc: Global,
-    out: &mut TextWriter<'_, W>,
-    class: &ClassView,
-) -> Result<(), NoMemory>
-    ensures { Lists W.written W.failures result out.old out.new (field_lines class.now) }
-{
-    write_members(alloc, out, class.fields(), b"field", &AccessFlag::OF_FIELD)
-}
-
-/// The methods, in the order of the file.
-pub(crate) fn write_method_lines<W: Output>(
-    alloc: Global,
-    out: &mut TextWriter<'_, W>,
-    class: &ClassView,
-) -> Result<(), NoMemory>
-    ensures { Lists W.written W.failures result out.old out.new (method_lines class.now) }
-{
-    write_members(
-        alloc,
-        out,
-        class.methods(),
-        b"method",
-        &AccessFlag::OF_METHOD,
-    )
-}
-
-/// Fields or methods: a word that says which, and the flags that mean something.
-fn write_members<W: Output>(
+/// Fields or methods, in the order of the file: a word that says which, and the flags that mean something.
+pub(crate) fn write_members<W: Output>(
     alloc: Global,
     out: &mut TextWriter<'_, W>,
     members: Members,
