@@ -7,6 +7,7 @@ ghost use Rattle.jc_report.specs.FileRowText.{at_text, refusal_name, refusal_tex
 ghost use Rattle.jc_report.specs.FileRowView.{state_lent, row_lent};
 
 use crate::file_row::{FileRow, FileState};
+use crate::part_text::write_shown;
 use jc_base::Output;
 use jc_file::ParseError;
 use jc_text::TextWriter;
@@ -25,25 +26,17 @@ fn write_state<W: Output>(text: &mut TextWriter<'_, W>, state: FileState)
     ensures { Sends W.written W.failures text.old text.new (state_text (state_lent state.entry)) }
 {
     match state {
-        FileState::Class(name) => write_class(text, name),
+        FileState::Class(name) => write_shown(text, b"class ", name),
         FileState::Shadowed(name, winner) => write_shadowed(text, name, winner),
         FileState::Unreadable(refusal) => write_unreadable(text, refusal),
     }
-}
-
-fn write_class<W: Output>(text: &mut TextWriter<'_, W>, name: &[u8])
-    ensures { Sends W.written W.failures text.old text.new (codes "class " ++ shown name.now) }
-{
-    text.text(b"class ");
-    text.shown(name);
 }
 
 fn write_shadowed<W: Output>(text: &mut TextWriter<'_, W>, name: &[u8], winner: &[u8])
     ensures { Sends W.written W.failures text.old text.new
         (codes "shadowed " ++ shown name.now ++ codes " by " ++ path_text winner.now) }
 {
-    text.text(b"shadowed ");
-    text.shown(name);
+    write_shown(text, b"shadowed ", name);
     text.text(b" by ");
     text.path(winner);
 }

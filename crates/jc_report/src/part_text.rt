@@ -1,6 +1,6 @@
 //! The lines of a class's part.
 
-ghost use Rattle.std.specs.Prelude.{◌≡◌, ◌++◌, codes, map};
+ghost use Rattle.std.specs.Prelude.{◌≡◌, ◌++◌, map};
 ghost use Rattle.std.specs.List.{flat_map};
 ghost use Rattle.jc_text.specs.Escapes.{shown};
 ghost use Rattle.jc_text.specs.Sends.{Sends};
@@ -32,8 +32,7 @@ pub fn write_part<W: Output>(out: &mut TextWriter<'_, W>, facts: &Facts, part: &
 fn write_load_line<W: Output>(out: &mut TextWriter<'_, W>, name: &[u8], load: &Loading)
     ensures { Sends W.written W.failures out.old out.new (load_line name.now (loading_of load.now)) }
 {
-    out.text(b"part ");
-    out.shown(name);
+    write_shown(out, b"part ", name);
     out.text(b": ");
     write_load(out, load);
     out.text(b"\n");
@@ -57,7 +56,14 @@ fn write_error<W: Output>(out: &mut TextWriter<'_, W>, error: LinkageError, name
     out.decimal(error.code());
     out.text(b" ");
     out.text(error.name().as_bytes());
-    out.text(b" ");
+    write_shown(out, b" ", name);
+}
+
+/// A name behind a word.
+pub(crate) fn write_shown<W: Output>(out: &mut TextWriter<'_, W>, word: &[u8], name: &[u8])
+    ensures { Sends W.written W.failures out.old out.new (word.now ++ shown name.now) }
+{
+    out.text(word);
     out.shown(name);
 }
 
@@ -164,33 +170,21 @@ fn write_member<W: Output>(
     ensures { (key : KeyValue) → key.name ≡ name.now → key.descriptor ≡ descriptor.now → Sends W.written W.failures out.old out.new (member_text class.now key) }
 {
     out.shown(class);
-    out.text(b".");
-    out.shown(name);
-    out.text(b":");
-    out.shown(descriptor);
+    write_shown(out, b".", name);
+    write_shown(out, b":", descriptor);
 }
 
 fn write_answer<W: Output>(out: &mut TextWriter<'_, W>, answer: Answer<'_>)
     ensures { Sends W.written W.failures out.old out.new (answer_text (answer_of answer.entry)) }
 {
     match answer {
-        Answer::ToClass(class) => write_found(out, class),
+        Answer::ToClass(class) => write_shown(out, b"To ", class),
         Answer::ToMember(class, key) => {
             out.text(b"To ");
             write_member(out, class, key.name, key.descriptor);
         }
-        Answer::Outside(name) => {
-            out.text(b"Outside ");
-            out.shown(name);
-        }
+        Answer::Outside(name) => write_shown(out, b"Outside ", name),
         Answer::NotLoaded => out.text(b"NotLoaded"),
         Answer::Error(error, name) => write_error(out, error, name),
     }
-}
-
-fn write_found<W: Output>(out: &mut TextWriter<'_, W>, class: &[u8])
-    ensures { Sends W.written W.failures out.old out.new (codes "To " ++ shown class.now) }
-{
-    out.text(b"To ");
-    out.shown(class);
 }

@@ -2,4 +2,4 @@ use Rattle.jc_text.proofs.Sending.{◌⟫◌}
 use Rattle.jc_report.proofs.file_row_text.write_shadowed.Goals as goal
 
 pub returns : goal.returns
-returns g c = c.text.ensures ⟫ c.shown.ensures ⟫ c.text-2.ensures ⟫ c.path.ensures
+returns g c = c.write_shown.ensures ⟫ c.text.ensures ⟫ c.path.ensures

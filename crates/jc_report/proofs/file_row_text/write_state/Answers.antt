@@ -1,7 +1,7 @@
 use Rattle.jc_report.proofs.file_row_text.write_state.Goals as goal
 
 pub returns-in-Class : goal.returns-in-Class
-returns-in-Class g c = rw c.in-Class.is c.write_class.ensures
+returns-in-Class g c = rw c.in-Class.is c.write_shown.ensures
 
 pub returns-in-Shadowed : goal.returns-in-Shadowed
 returns-in-Shadowed g c = rw c.in-Shadowed.is c.write_shadowed.ensures

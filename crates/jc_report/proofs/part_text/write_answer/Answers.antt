@@ -7,7 +7,7 @@ use Rattle.std.proofs.Common.{refl}
 use Rattle.jc_report.proofs.part_text.write_answer.Goals as goal
 
 pub returns-in-ToClass : goal.returns-in-ToClass
-returns-in-ToClass g c = sends_equal (ap (λ a. answer_text (answer_of a)) (sym c.in-ToClass.is)) c.write_found.ensures
+returns-in-ToClass g c = sends_equal (ap (λ a. answer_text (answer_of a)) (sym c.in-ToClass.is)) c.write_shown.ensures
 
 pub returns-in-ToMember : goal.returns-in-ToMember
 returns-in-ToMember g c =
@@ -15,7 +15,7 @@ returns-in-ToMember g c =
     sends_equal (ap (λ a. answer_text (answer_of a)) (sym c.in-ToMember.is)) (c.text.ensures ⟫ member)
 
 pub returns-in-Outside : goal.returns-in-Outside
-returns-in-Outside g c = sends_equal (ap (λ a. answer_text (answer_of a)) (sym c.in-Outside.is)) (c.text-in-Outside.ensures ⟫ c.shown.ensures)
+returns-in-Outside g c = sends_equal (ap (λ a. answer_text (answer_of a)) (sym c.in-Outside.is)) c.write_shown-in-Outside.ensures
 
 pub returns-in-NotLoaded : goal.returns-in-NotLoaded
 returns-in-NotLoaded g c = sends_equal (ap (λ a. answer_text (answer_of a)) (sym c.in-NotLoaded.is)) c.text-in-NotLoaded.ensures

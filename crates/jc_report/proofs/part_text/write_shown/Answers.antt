@@ -1,5 +1,5 @@
 use Rattle.jc_text.proofs.Sending.{◌⟫◌}
-use Rattle.jc_report.proofs.part_text.write_found.Goals as goal
+use Rattle.jc_report.proofs.part_text.write_shown.Goals as goal
 
 pub returns : goal.returns
 returns g c = c.text.ensures ⟫ c.shown.ensures
