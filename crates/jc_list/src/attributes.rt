@@ -8,7 +8,7 @@ ghost use Rattle.jc_list.specs.AttributeLines.{attribute_line, attribute_lines, 
 ghost use Rattle.jc_list.specs.inside.Fronts.{Lists};
 
 use crate::code::{write_all_insn_lines, write_code_line, write_handler_lines};
-use crate::texts::{write_index, write_number, write_text};
+use crate::texts::{write_index, write_number, write_text, write_text_behind};
 use jc_base::{NoMemory, Output, SigKind, check_signature};
 use jc_text::TextWriter;
 use jc_view::{Attribute, AttributeKind, Attributes, Code, ConstantIndex, Holder, index_at};
@@ -79,8 +79,7 @@ fn write_attribute_line<W: Output>(
     ensures { Lists W.written W.failures result out.old out.new (attribute_line attribute.now.class indent.now attribute.now.attribute) }
 {
     out.text(indent);
-    out.text(b"attribute ");
-    write_text(out, attribute.name());
+    write_text_behind(out, b"attribute ", attribute.name());
     let bytes = attribute.bytes();
     write_number(out, bytes.len());
     if bytes.len() == 2 {

@@ -7,7 +7,7 @@ ghost use Rattle.jc_text.specs.Sends.{Sends};
 ghost use Rattle.jc_list.specs.Texts.{shown_text};
 ghost use Rattle.jc_list.specs.ClassLines.{class_lines, count_line, flags_line, interface_line, name_line, super_line, super_text, version_line};
 
-use crate::texts::{write_flags, write_number_behind, write_text};
+use crate::texts::{write_flags, write_number_behind, write_text, write_text_behind};
 use jc_base::Output;
 use jc_file::AccessFlag;
 use jc_text::TextWriter;
@@ -29,8 +29,7 @@ pub(crate) fn write_class_lines<W: Output>(out: &mut TextWriter<'_, W>, class: &
 fn write_name_line<W: Output>(out: &mut TextWriter<'_, W>, class: &ClassView)
     ensures { Sends W.written W.failures out.old out.new (name_line class.now) }
 {
-    out.text(b"class ");
-    write_text(out, class.class_text(class.this_class()));
+    write_text_behind(out, b"class ", class.class_text(class.this_class()));
     out.text(b"\n");
 }
 
@@ -80,8 +79,7 @@ fn write_interface_lines<W: Output>(out: &mut TextWriter<'_, W>, class: &ClassVi
 fn write_interface_line<W: Output>(out: &mut TextWriter<'_, W>, name: Option<&[u8]>)
     ensures { Sends W.written W.failures out.old out.new (codes "interface " ++ shown_text (option_copied name.entry) ++ codes "\n") }
 {
-    out.text(b"interface ");
-    write_text(out, name);
+    write_text_behind(out, b"interface ", name);
     out.text(b"\n");
 }
 

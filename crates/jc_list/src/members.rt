@@ -6,7 +6,7 @@ ghost use Rattle.jc_list.specs.MemberLines.{member_line, member_lines};
 ghost use Rattle.jc_list.specs.inside.Fronts.{Lists};
 
 use crate::attributes::write_attributes;
-use crate::texts::{write_flags, write_text};
+use crate::texts::{write_flags, write_text_behind};
 use jc_base::{NoMemory, Output};
 use jc_file::AccessFlag;
 use jc_text::TextWriter;
@@ -51,10 +51,8 @@ fn write_member_line<W: Output>(
     ensures { Sends W.written W.failures out.old out.new (member_line member.now.class word.now flags.now member.now.member.member) }
 {
     out.text(word);
-    out.text(b" ");
-    write_text(out, member.name());
-    out.text(b" ");
-    write_text(out, member.descriptor());
+    write_text_behind(out, b" ", member.name());
+    write_text_behind(out, b" ", member.descriptor());
     out.text(b" ");
     write_flags(out, flags, member.flags());
     out.text(b"\n");

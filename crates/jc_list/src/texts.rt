@@ -23,6 +23,18 @@ pub(crate) fn write_text<W: Output>(out: &mut TextWriter<'_, W>, text: Option<&[
     }
 }
 
+/// The same behind a word.
+pub(crate) fn write_text_behind<W: Output>(
+    out: &mut TextWriter<'_, W>,
+    word: &[u8],
+    text: Option<&[u8]>,
+)
+    ensures { Sends W.written W.failures out.old out.new (word.now ++ shown_text (option_copied text.entry)) }
+{
+    out.text(word);
+    write_text(out, text);
+}
+
 /// An index into the constants.
 pub(crate) fn write_index<W: Output>(out: &mut TextWriter<'_, W>, index: ConstantIndex)
     ensures { Sends W.written W.failures out.old out.new (index_text index) }
@@ -99,7 +111,7 @@ fn write_reference_of<W: Output>(out: &mut TextWriter<'_, W>, class: &ClassView,
     ensures { Sends W.written W.failures out.old out.new (reference_of class.now (constant_of constant.entry)) }
 {
     match constant {
-        Constant::Class(name) => write_class_reference(out, class, name),
+        Constant::Class(name) => write_text_behind(out, b" class ", class.utf8(name)),
         Constant::Fieldref(of, entry) => write_member_reference(out, class, b" field ", of, entry),
         Constant::Methodref(of, entry) => write_member_reference(
             out,
@@ -115,17 +127,6 @@ fn write_reference_of<W: Output>(out: &mut TextWriter<'_, W>, class: &ClassView,
     }
 }
 
-fn write_class_reference<W: Output>(
-    out: &mut TextWriter<'_, W>,
-    class: &ClassView,
-    name: ConstantIndex,
-)
-    ensures { Sends W.written W.failures out.old out.new (codes " class " ++ shown_text (utf8_at class.now name)) }
-{
-    out.text(b" class ");
-    write_text(out, class.utf8(name));
-}
-
 /// A member behind a word: its class, its name and its descriptor.
 fn write_member_reference<W: Output>(
     out: &mut TextWriter<'_, W>,
@@ -136,10 +137,7 @@ fn write_member_reference<W: Output>(
 )
     ensures { Sends W.written W.failures out.old out.new (word.now ++ member_reference class.now of entry) }
 {
-    out.text(word);
-    write_text(out, class.class_text(of));
-    out.text(b".");
-    write_text(out, class.name_at(entry));
-    out.text(b":");
-    write_text(out, class.descriptor_at(entry));
+    write_text_behind(out, word, class.class_text(of));
+    write_text_behind(out, b".", class.name_at(entry));
+    write_text_behind(out, b":", class.descriptor_at(entry));
 }

@@ -1,11 +1,13 @@
-use Rattle.std.proofs.Common.{ap}
+use Rattle.std.proofs.Common.{◌++◌, ap, append_assoc, codes}
 use Rattle.jc_text.proofs.Sending.{◌⟫◌, sends_equal}
+use Rattle.jc_view.specs.ClassFile.{class_text_at}
+use Rattle.jc_view.specs.Lookups.{descriptor_at, name_at}
 use Rattle.jc_list.specs.Texts.{shown_text}
 use Rattle.jc_list.proofs.texts.write_member_reference.Goals as goal
 
 pub returns : goal.returns
 returns g c =
-    c.text.ensures
-    ⟫ (sends_equal (ap shown_text c.class_text.ensures) c.write_text.ensures
-    ⟫ c.text-2.ensures ⟫ sends_equal (ap shown_text c.name_at.ensures) c.write_text-2.ensures
-    ⟫ c.text-3.ensures ⟫ sends_equal (ap shown_text c.descriptor_at.ensures) c.write_text-3.ensures)
+    let class = sends_equal (ap (λ t. c.args.word.now ++ shown_text t) c.class_text.ensures) c.write_text_behind.ensures in
+    let name = sends_equal (ap (λ t. codes "." ++ shown_text t) c.name_at.ensures) c.write_text_behind-2.ensures in
+    let descriptor = sends_equal (ap (λ t. codes ":" ++ shown_text t) c.descriptor_at.ensures) c.write_text_behind-3.ensures in
+    sends_equal (simp append_assoc) (class ⟫ name ⟫ descriptor)

@@ -1,12 +1,13 @@
-use Rattle.std.proofs.Common.{ap, sym}
+use Rattle.std.proofs.Common.{◌∙◌, ◌++◌, ap, codes, sym}
 use Rattle.jc_view.specs.Lent.{constant_of}
 use Rattle.jc_text.proofs.Sending.{sends_equal, sends_nothing}
-use Rattle.jc_list.specs.Texts.{reference_of}
+use Rattle.jc_list.specs.Texts.{reference_of, shown_text}
 use Rattle.jc_list.proofs.lines.References.{refers_to_nothing}
 use Rattle.jc_list.proofs.texts.write_reference_of.Goals as goal
 
 pub returns-in-Class : goal.returns-in-Class
-returns-in-Class g c = sends_equal (ap (λ k. reference_of c.args.class.now (constant_of k)) (sym c.in-Class.is)) c.write_class_reference.ensures
+returns-in-Class g c =
+    sends_equal (ap (λ t. codes " class " ++ shown_text t) c.utf8-2.ensures ∙ ap (λ k. reference_of c.args.class.now (constant_of k)) (sym c.in-Class.is)) c.write_text_behind.ensures
 
 pub returns-in-Fieldref : goal.returns-in-Fieldref
 returns-in-Fieldref g c =
