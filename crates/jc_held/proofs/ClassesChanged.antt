@@ -4,26 +4,28 @@ use Rattle.std.proofs.lemmas.Bool.{cases_Bool, false≢true}
 use Rattle.std.proofs.lemmas.List.{map-append}
 use Rattle.std.proofs.lemmas.List.Folds.{list_any-append}
 use Rattle.std.specs.FinMap as map
+use Rattle.jc_classes.specs.Facts.{Facts}
 use Rattle.jc_classes.specs.Laws.{Differ}
 use Rattle.jc_classes.specs.NameLists.{has}
 use Rattle.jc_classes.specs.Names.{Name, same_name}
+use Rattle.jc_classes.specs.Worlds.{World}
 use Rattle.jc_classes.proofs.worlds.NameTests.{same_is, same_self}
 use Rattle.jc_link.specs.Prefixes.{is_outside}
 use Rattle.jc_link.specs.Tables.{Places, class_at, or_built_in, stands_by, world}
 use Rattle.jc_link.proofs.tables.Changes.{worlds_differ}
 use Rattle.jc_held.specs.Affected.{IsAffected, IsBounded, NoRepeat}
-use Rattle.jc_held.specs.Steps.{class_by, step_name}
+use Rattle.jc_held.specs.Steps.{step_name}
 use Rattle.jc_held.specs.declared.kept.Fresh.{Fresh}
 use Rattle.jc_held.specs.declared.kept.Kept.{Kept}
 use Rattle.jc_held.specs.declared.links.Links.{Links}
 use Rattle.jc_held.specs.declared.step.Step.{Step}
-use Rattle.jc_held.specs.inside.Holding.{AreBack, CountsStep, IsHeld, PutsClass, at_step, comer, given_in, leaver, name_of, stepped_by}
+use Rattle.jc_held.specs.inside.Holding.{IsHeld, at_step, comer, given_in, name_of}
 use Rattle.jc_held.specs.inside.Kept.{AllFresh, AreLinked, IsKept, KeptHits, KeptMap, fresh_at, fresh_names, held_in, reach_sum}
 use Rattle.jc_held.specs.inside.Kept.Relation.{Reaches}
 use Rattle.jc_held.specs.inside.Readying.{IsReady, is_name, one_of, users_at}
-use Rattle.jc_held.proofs.General.{bounded_after, fresh_some, holds_after, kept_by, listed, some_by}
-use Rattle.jc_held.proofs.SteppedClasses.{apart_by, comer_back, comer_is, given_by, leaver_is, puts_by, stepped_at, stepped_not}
-use Rattle.jc_held.proofs.Tests.{and_no, and_not, not_and, or_left, or_no, or_none, or_right, or_split}
+use Rattle.jc_held.proofs.General.{bounded_after, holds_after, kept_by, listed, some_by}
+use Rattle.jc_held.proofs.SteppedClasses.{comer_is}
+use Rattle.jc_held.proofs.Tests.{and_no, and_not, not_and, or_left, or_none, or_right, or_split}
 use Rattle.jc_held.proofs.UserNames.{once_joined}
 
 -- ---- tables of the same classes
@@ -44,6 +46,10 @@ pub bounded_same : (a b : Places) (prefixes : List Name) (touched : Name → Boo
     → IsBounded (given_in a) (world a prefixes) touched made asks → IsBounded (given_in b) (world b prefixes) touched made asks
 bounded_same a b prefixes touched made asks h bounded =
     subst (λ g. IsBounded g (world b prefixes) touched made asks) (same_given a b h) (subst (λ w. IsBounded (given_in a) w touched made asks) (same_world a b prefixes h) bounded)
+
+pub bounded_touch : (given : Name → Bool) (w : World) (touched other : Name → Bool) (made asks : ℕ) → ((n : Name) → touched n ≡ other n)
+    → IsBounded given w touched made asks → IsBounded given w other made asks
+bounded_touch given w touched other made asks h bounded = subst (λ z. IsBounded given w z made asks) (λ i n. h n i) bounded
 
 -- ---- tests
 
@@ -70,6 +76,9 @@ stays_none false k e f = refl
 not_some : {X : Type 0} (o : Option X) → is_some o ≡ false → o ≡ None
 not_some None e = refl
 not_some (Some x) e = absurd (false≢true (sym e))
+
+pub not_given : (b : Bool) (o : Option Facts) → (b && not (is_some o)) ≡ true → o ≡ None
+not_given b o e = not_some o (and_front b (is_some o) e).1
 
 -- ---- what is fresh
 
@@ -102,71 +111,90 @@ one_once (Some n) = (refl, tt)
 abbrev pub either_used : (first second : Option Step) → Links → Name → Bool
 either_used first second links d = has (users_at links.reach (name_of first)) d || has (users_at links.reach (name_of second)) d
 
+-- a class that is linked to the name of a step is kept, and its reach holds the name
+used_at : (kept : KeptMap) (links : Links) → AreLinked kept links → (s : Option Step) (d : Name) → has (users_at links.reach (name_of s)) d ≡ true → KeptHits (at_step s) kept d
+used_at kept links linked None d h = absurd (false≢true h)
+used_at kept links linked (Some s) d h = (step_name s, same_self (step_name s), sym (linked Reaches (step_name s) d) ∙ h)
+
+either_at : (kept : KeptMap) (links : Links) → AreLinked kept links → (first second : Option Step) (d : Name) → either_used first second links d ≡ true → KeptHits (λ n. at_step first n || at_step second n) kept d
+either_at kept links linked first second d h = ⊎_elim
+    (λ e. let u = used_at kept links linked first d e in (u.0, or_left (at_step first u.0) (at_step second u.0) u.1, u.2))
+    (λ e. let u = used_at kept links linked second d e in (u.0, or_right (at_step first u.0) (at_step second u.0) u.1, u.2))
+    (or_split _ _ h)
+
+-- the classes of which parts are made are those that are kept, but the one that goes
+pub users_kept : (kept : KeptMap) (links : Links) (first second : Option Step) (gone : Name → Bool) (names : List Name) → AreLinked kept links
+    → ((d : Name) → has names d ≡ (either_used first second links d && not (gone d)))
+    → (d : Name) → has names d ≡ true → (gone d ≡ false) × IsSome (map.get kept d)
+users_kept kept links first second gone names linked users d h =
+    let p = and_front (either_used first second links d) (gone d) (sym (users d) ∙ h) in
+    let hit = either_at kept links linked first second d p.0 in
+    (p.1, ap is_some (kept_by (map.get kept d) hit.0 hit.2).1)
+
 -- two steps were made, and parts of the classes that they affect
-pub record AreMade (prefixes : List Name) (old new : Places) (first second : Option Step) (kept mid : KeptMap) (links : Links) (fresh last : List Fresh) : Type 0 where
+pub record AreMade (prefixes : List Name) (old new : Places) (first second : Option Step) (gone : Name → Bool) (kept mid : KeptMap) (links : Links) (fresh last : List Fresh) : Type 0 where
   pub held : IsHeld old prefixes kept links
-  pub counts : CountsStep (class_at old) first second
-  pub puts : PutsClass second
-  pub stands : (n : Name) → class_at new n ≡ stepped_by second (stepped_by first (class_at old)) n
-  pub users : (d : Name) → has (fresh_names fresh) d ≡ (either_used first second links d && not (is_name (leaver first) d))
+  pub stood : (n : Name) → at_step first n ≡ true → given_in old n ≡ true
+  pub stands : (n : Name) → at_step second n ≡ true → given_in new n ≡ true
+  pub stays : (n : Name) → (at_step first n || at_step second n) ≡ false → class_at new n ≡ class_at old n
+  pub leaves : (n : Name) → gone n ≡ (at_step first n && not (given_in new n))
+  pub users : (d : Name) → has (fresh_names fresh) d ≡ (either_used first second links d && not (gone d))
   pub once : NoRepeat (fresh_names fresh)
   pub newcomer : fresh_names last ≡ one_of (comer kept second)
   pub parts : AllFresh (world new prefixes) (fresh ++ last)
   pub at : (d : Name) → map.get mid d ≡ fresh_at last d (map.get kept d)
 
 -- what the code knows before it finishes
-pub made_of : (one : Places) (first second back : Option Step) (a b gone comes : Option Name) (names : List Name)
-    {prefixes : List Name} {old new : Places} {kept mid : KeptMap} {links : Links} {listed : List Name} {fresh : List Fresh} {old_made new_made old_asks new_asks : ℕ}
-    → IsHeld old prefixes kept links → CountsStep (class_at old) first second → PutsClass second
-    → ((n : Name) → class_at one n ≡ stepped_by first (class_at old) n) → ((n : Name) → class_at new n ≡ stepped_by second (class_at one) n) → AreBack back second (class_at one)
-    → a ≡ name_of first → b ≡ name_of second → gone ≡ leaver first → comes ≡ comer kept back → listed ≡ names
-    → ((d : Name) → has names d ≡ ((has (users_at links.reach a) d || has (users_at links.reach b) d) && not (is_name gone d))) → NoRepeat names
-    → (ready : IsReady (world new prefixes) listed comes kept mid fresh old_made new_made old_asks new_asks) → AreMade prefixes old new first second kept mid links fresh ready.last
-made_of one first second back a b gone comes names {kept = kept} {links = links} held counts puts once_first once_second back_second at_first at_second goes come same users once ready = record {
+pub users_by : (first second : Option Step) (a b : Option Name) (gone : Name → Bool) (names fresh : List Name) (links : Links)
+    → a ≡ name_of first → b ≡ name_of second → fresh ≡ names
+    → ((d : Name) → has names d ≡ ((has (users_at links.reach a) d || has (users_at links.reach b) d) && not (gone d)))
+    → (d : Name) → has fresh d ≡ (either_used first second links d && not (gone d))
+users_by first second a b gone names fresh links at_first at_second same users d =
+    ap (λ z. has z d) same ∙ users d
+    ∙ ap (λ z. (has (users_at links.reach z) d || has (users_at links.reach b) d) && not (gone d)) at_first
+    ∙ ap (λ z. (has (users_at links.reach (name_of first)) d || has (users_at links.reach z) d) && not (gone d)) at_second
+
+pub made_of : (first second : Option Step) (gone : Name → Bool) (comes : Option Name)
+    {prefixes : List Name} {old new : Places} {kept mid : KeptMap} {links : Links} {names : List Name} {fresh : List Fresh} {old_made new_made old_asks new_asks : ℕ}
+    → IsHeld old prefixes kept links
+    → ((n : Name) → at_step first n ≡ true → given_in old n ≡ true) → ((n : Name) → at_step second n ≡ true → given_in new n ≡ true)
+    → ((n : Name) → (at_step first n || at_step second n) ≡ false → class_at new n ≡ class_at old n)
+    → ((n : Name) → gone n ≡ (at_step first n && not (given_in new n))) → comes ≡ comer kept second
+    → ((d : Name) → has (fresh_names fresh) d ≡ (either_used first second links d && not (gone d))) → NoRepeat names
+    → (ready : IsReady (world new prefixes) names comes kept mid fresh old_made new_made old_asks new_asks) → AreMade prefixes old new first second gone kept mid links fresh ready.last
+made_of first second gone comes held stood stands stays leaves come users once ready = record {
   held = held;
-  counts = counts;
-  puts = puts;
-  stands = λ n. once_second n ∙ ap (λ z. stepped_by second z n) (λ i k. once_first k i);
-  users = λ d.
-      ap (λ z. has z d) (ready.others ∙ same) ∙ users d
-      ∙ ap (λ z. (has (users_at links.reach z) d || has (users_at links.reach b) d) && not (is_name gone d)) at_first
-      ∙ ap (λ z. (has (users_at links.reach (name_of first)) d || has (users_at links.reach z) d) && not (is_name gone d)) at_second
-      ∙ ap (λ z. either_used first second links d && not (is_name z d)) goes;
-  once = subst NoRepeat (sym (ready.others ∙ same)) once;
-  newcomer = ready.newcomer ∙ ap one_of (come ∙ comer_back kept back second (class_at one) back_second);
+  stood = stood;
+  stands = stands;
+  stays = stays;
+  leaves = leaves;
+  users = users;
+  once = subst NoRepeat (sym ready.others) once;
+  newcomer = ready.newcomer ∙ ap one_of come;
   parts = ready.parts;
   at = ready.at;
 }
 
-module _ {prefixes : List Name} {old new : Places} {first second : Option Step} {kept mid : KeptMap} {links : Links} {fresh last : List Fresh}
-    (made : AreMade prefixes old new first second kept mid links fresh last) where
+module _ {prefixes : List Name} {old new : Places} {first second : Option Step} {gone : Name → Bool} {kept mid : KeptMap} {links : Links} {fresh last : List Fresh}
+    (made : AreMade prefixes old new first second gone kept mid links fresh last) where
   abbrev pub touches : Name → Bool
   touches n = at_step first n || at_step second n
 
   untouched : (n : Name) → at_step first n ≡ false → at_step second n ≡ false → class_at new n ≡ class_at old n
-  untouched n e f = made.stands n ∙ stepped_not second (stepped_by first (class_at old)) n f ∙ stepped_not first (class_at old) n e
-
-  at_second : (n : Name) → at_step second n ≡ true → given_in new n ≡ true
-  at_second n e = ap is_some (made.stands n ∙ stepped_at second (stepped_by first (class_at old)) n e) ∙ puts_by second n made.puts e
-
-  at_first : (n : Name) → at_step first n ≡ true → class_at new n ≡ class_by first
-  at_first n e =
-      made.stands n ∙ stepped_not second (stepped_by first (class_at old)) n (apart_by first second (class_at old) n made.counts e)
-      ∙ stepped_at first (class_at old) n e
+  untouched n e f = made.stays n (ap (λ b. b || at_step second n) e ∙ f)
 
   differ : Differ touches (world old prefixes) (world new prefixes)
-  differ = worlds_differ touches old new prefixes (λ n t. let p = or_no (at_step first n) (at_step second n) t in sym (untouched n p.0 p.1))
+  differ = worlds_differ touches old new prefixes (λ n t. sym (made.stays n t))
 
   same : (n : Name) → touches n ≡ false → given_in old n ≡ given_in new n
-  same n t = let p = or_no (at_step first n) (at_step second n) t in ap is_some (sym (untouched n p.0 p.1))
+  same n t = ap is_some (sym (made.stays n t))
 
-  goes : (d : Name) → is_name (leaver first) d ≡ (given_in old d && not (given_in new d))
+  goes : (d : Name) → gone d ≡ (given_in old d && not (given_in new d))
   goes d =
-      leaver_is first d ∙ ⊎_elim
-      (λ e. ap (λ b. b && not (is_some (class_by first))) e ∙ ap (λ o. not (is_some o)) (sym (at_first d e))
-      ∙ ap (λ b. b && not (given_in new d)) (sym (given_by first second (class_at old) d made.counts e)))
-      (λ e. ap (λ b. b && not (is_some (class_by first))) e ∙ ⊎_elim
-      (λ f. sym (ap (λ b. given_in old d && not b) (at_second d f) ∙ and_no (given_in old d)))
+      made.leaves d ∙ ⊎_elim
+      (λ e. ap (λ b. b && not (given_in new d)) (e ∙ sym (made.stood d e)))
+      (λ e. ap (λ b. b && not (given_in new d)) e ∙ ⊎_elim
+      (λ f. sym (ap (λ b. given_in old d && not b) (made.stands d f) ∙ and_no (given_in old d)))
       (λ f. sym (ap (λ o. given_in old d && not (is_some o)) (untouched d e f) ∙ and_not (given_in old d)))
       (cases_Bool (at_step second d)))
       (cases_Bool (at_step first d))
@@ -178,26 +206,19 @@ module _ {prefixes : List Name} {old new : Places} {first second : Option Step} 
 
   comes : (d : Name) → is_name (comer kept second) d ≡ (not (given_in old d) && given_in new d)
   comes d = comer_is kept second d ∙ ap (λ b. at_step second d && not b) (kept_is d) ∙ ⊎_elim
-      (λ f. ap (λ b. b && not (given_in old d)) f ∙ turn (given_in old d) ∙ ap (λ b. not (given_in old d) && b) (sym (at_second d f)))
+      (λ f. ap (λ b. b && not (given_in old d)) f ∙ turn (given_in old d) ∙ ap (λ b. not (given_in old d) && b) (sym (made.stands d f)))
       (λ f. ap (λ b. b && not (given_in old d)) f ∙ ⊎_elim
-      (λ e. sym (ap (λ b. not b && given_in new d) (given_by first second (class_at old) d made.counts e)))
+      (λ e. sym (ap (λ b. not b && given_in new d) (made.stood d e)))
       (λ e. sym (ap (λ o. not (given_in old d) && is_some o) (untouched d e f) ∙ not_and (given_in old d)))
       (cases_Bool (at_step first d)))
       (cases_Bool (at_step second d))
-
-  hit_to : (s : Option Step) (d : Name) → ((n : Name) → at_step s n ≡ true → touches n ≡ true) → has (users_at links.reach (name_of s)) d ≡ true → KeptHits touches kept d
-  hit_to None d t h = absurd (false≢true h)
-  hit_to (Some s) d t h = (step_name s, t (step_name s) (same_self (step_name s)), sym (made.held.linked Reaches (step_name s) d) ∙ h)
 
   hit_from : (s : Option Step) (d n : Name) → at_step s n ≡ true → held_in Reaches kept d n ≡ true → has (users_at links.reach (name_of s)) d ≡ true
   hit_from None d n e h = absurd (false≢true e)
   hit_from (Some s) d n e h = made.held.linked Reaches (step_name s) d ∙ ap (held_in Reaches kept d) (sym (same_is n (step_name s) e)) ∙ h
 
   hits_to : (d : Name) → either_used first second links d ≡ true → KeptHits touches kept d
-  hits_to d h = ⊎_elim
-      (λ e. hit_to first d (λ n t. or_left (at_step first n) (at_step second n) t) e)
-      (λ e. hit_to second d (λ n t. or_right (at_step first n) (at_step second n) t) e)
-      (or_split _ _ h)
+  hits_to d h = either_at kept links made.held.linked first second d h
 
   hits_from : (d : Name) → KeptHits touches kept d → either_used first second links d ≡ true
   hits_from d h = ⊎_elim
@@ -208,32 +229,20 @@ module _ {prefixes : List Name} {old new : Places} {first second : Option Step} 
   last_has : (d : Name) → has (fresh_names last) d ≡ is_name (comer kept second) d
   last_has d = ap (λ z. has z d) made.newcomer ∙ one_has (comer kept second) d
 
-  all_names : (d : Name) → has (fresh_names (fresh ++ last)) d ≡ ((either_used first second links d && not (is_name (leaver first) d)) || is_name (comer kept second) d)
+  all_names : (d : Name) → has (fresh_names (fresh ++ last)) d ≡ ((either_used first second links d && not (gone d)) || is_name (comer kept second) d)
   all_names d =
       ap (λ z. has z d) (names_append fresh last) ∙ list_any-append (same_name d) (fresh_names fresh) (fresh_names last)
       ∙ ap (λ b. b || has (fresh_names last) d) (made.users d)
-      ∙ ap (λ b. (either_used first second links d && not (is_name (leaver first) d)) || b) (last_has d)
+      ∙ ap (λ b. (either_used first second links d && not (gone d)) || b) (last_has d)
 
   exact : (d : Name) → (has (fresh_names (fresh ++ last)) d ≡ true → IsAffected (given_in new) (world new prefixes) touches d) × (IsAffected (given_in new) (world new prefixes) touches d → has (fresh_names (fresh ++ last)) d ≡ true)
   exact d =
       listed touches (given_in old) (given_in new) (world old prefixes) (world new prefixes) kept differ same made.held.parts
-      (fresh_names (fresh ++ last)) (either_used first second links) (is_name (leaver first)) (is_name (comer kept second))
+      (fresh_names (fresh ++ last)) (either_used first second links) gone (is_name (comer kept second))
       hits_to hits_from goes comes all_names d
 
-  -- the classes of which parts were made are those that were kept, but the newcomer
-  used_kept : (d : Name) → has (fresh_names fresh) d ≡ true → IsSome (map.get kept d) × (is_name (leaver first) d ≡ false)
-  used_kept d h =
-      let p = and_front (either_used first second links d) (is_name (leaver first) d) (sym (made.users d) ∙ h) in
-      let hit = hits_to d p.0 in
-      (ap is_some (kept_by (map.get kept d) hit.0 hit.2).1, p.1)
-
-  pub fresh_kept : (d : Name) → has (fresh_names fresh) d ≡ true → (is_name (leaver first) d ≡ false) × IsSome (map.get mid d)
-  fresh_kept d h =
-      let p = used_kept d h in
-      (p.1, ap is_some (made.at d) ∙ fresh_some last d (map.get kept d) p.0)
-
-  pub gone_vacant : (d : Name) → is_name (leaver first) d ≡ true → class_at new d ≡ None
-  gone_vacant d g = not_some (class_at new d) (and_front (given_in old d) (given_in new d) (sym (goes d) ∙ g)).1
+  used_kept : (d : Name) → has (fresh_names fresh) d ≡ true → IsSome (map.get kept d)
+  used_kept d h = (users_kept kept links first second gone (fresh_names fresh) made.held.linked made.users d h).1
 
   last_absent : (d : Name) → given_in old d ≡ true → has (fresh_names last) d ≡ false
   last_absent d g = last_has d ∙ comes d ∙ ap (λ b. not b && given_in new d) g
@@ -241,10 +250,10 @@ module _ {prefixes : List Name} {old new : Places} {first second : Option Step} 
   all_once : NoRepeat (fresh_names (fresh ++ last))
   all_once = subst NoRepeat (sym (names_append fresh last))
       (once_joined (fresh_names fresh) (fresh_names last) made.once (subst NoRepeat (sym made.newcomer) (one_once (comer kept second)))
-      (λ d h. last_absent d (sym (kept_is d) ∙ (used_kept d h).0)))
+      (λ d h. last_absent d (sym (kept_is d) ∙ used_kept d h)))
 
-  kept_then : (d : Name) → cond (is_name (leaver first) d) None (map.get mid d) ≡ fresh_at last d (cond (given_in new d) (map.get kept d) None)
-  kept_then d = ap (cond (is_name (leaver first) d) None) (made.at d) ∙ ⊎_elim
+  kept_then : (d : Name) → cond (gone d) None (map.get mid d) ≡ fresh_at last d (cond (given_in new d) (map.get kept d) None)
+  kept_then d = ap (cond (gone d) None) (made.at d) ∙ ⊎_elim
       (λ g.
       let p = and_front (given_in old d) (given_in new d) (sym (goes d) ∙ g) in
       ap (λ b. cond b None (fresh_at last d (map.get kept d))) g
@@ -255,11 +264,11 @@ module _ {prefixes : List Name} {old new : Places} {first second : Option Step} 
       (λ e. ap (λ b. cond b (map.get kept d) None) (sym e))
       (λ e. not_some (map.get kept d) (kept_is d ∙ stays_none _ _ (sym (goes d) ∙ g) e) ∙ ap (λ b. cond b (map.get kept d) None) (sym e))
       (cases_Bool (given_in new d))))
-      (cases_Bool (is_name (leaver first) d))
+      (cases_Bool (gone d))
 
   -- with the leaver let go and the parts put in, what is held is right
   pub held_then : (after : KeptMap) (joined : Links) → AreLinked after joined
-      → ((d : Name) → map.get after d ≡ fresh_at fresh d (cond (is_name (leaver first) d) None (map.get mid d)))
+      → ((d : Name) → map.get after d ≡ fresh_at fresh d (cond (gone d) None (map.get mid d)))
       → IsHeld new prefixes after joined
   held_then after joined linked at = record {
     parts = holds_after touches (given_in old) (given_in new) (world old prefixes) (world new prefixes) kept differ same made.held.parts after (fresh ++ last) made.parts

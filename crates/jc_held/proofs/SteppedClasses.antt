@@ -1,5 +1,5 @@
 -- Steps, and steps that are taken back.
-use Rattle.std.proofs.Common.{◌≡◌, Bool, true, false, not, ◌&&◌, cond, Option, Some, None, IsSome, is_some, refl, sym, ap, ◌∙◌, ⊎_elim}
+use Rattle.std.proofs.Common.{◌≡◌, Bool, true, false, not, ◌&&◌, ◌||◌, cond, Option, Some, None, IsSome, is_some, refl, sym, ap, ◌∙◌, subst, ⊎_elim}
 use Rattle.std.proofs.lemmas.Bool.{cases_Bool, false≢true}
 use Rattle.std.specs.FinMap as map
 use Rattle.jc_classes.specs.Facts.{Facts}
@@ -10,11 +10,11 @@ use Rattle.jc_held.specs.Steps.{Classes, class_by, step_class, step_name}
 use Rattle.jc_held.specs.declared.kept.Kept.{Kept}
 use Rattle.jc_held.specs.declared.step.Step.{Step}
 use Rattle.jc_held.specs.declared.step.Step.TheVariants.{Put, Remove}
-use Rattle.jc_held.specs.inside.Holding.{AreBack, AreNamed, AreThere, CountsStep, PutsClass, at_step, comer, leaver, stepped_by}
+use Rattle.jc_held.specs.inside.Holding.{AreBack, AreNamed, AreThere, CountsStep, PutsClass, at_step, comer, leaver, name_of, stepped_by}
 use Rattle.jc_held.specs.inside.Kept.{KeptMap}
 use Rattle.jc_held.specs.inside.Readying.{is_name}
 use Rattle.jc_held.proofs.General.{none_some, some_one}
-use Rattle.jc_held.proofs.Tests.{and_no, and_yes}
+use Rattle.jc_held.proofs.Tests.{and_no, and_yes, or_no}
 
 -- ---- a step
 
@@ -38,13 +38,18 @@ pub puts_by : (s : Option Step) (n : Name) → PutsClass s → at_step s n ≡ t
 puts_by None n h e = absurd (false≢true e)
 puts_by (Some s) n h e = h
 
-pub leaver_is : (s : Option Step) (d : Name) → is_name (leaver s) d ≡ (at_step s d && not (is_some (class_by s)))
-leaver_is None d = refl
-leaver_is (Some s) d = by (is_some (step_class s))
+leaver_there : (s : Option Step) (n : Name) → at_step s n ≡ true → is_some (leaver s) ≡ not (is_some (class_by s))
+leaver_there None n e = absurd (false≢true e)
+leaver_there (Some s) n e = by (is_some (step_class s))
   where
-    by : (b : Bool) → is_name (cond b None (Some (step_name s))) d ≡ (same_name d (step_name s) && not b)
-    by true = sym (and_no (same_name d (step_name s)))
-    by false = sym (and_yes (same_name d (step_name s)))
+    by : (b : Bool) → is_some (cond b None (Some (step_name s))) ≡ not b
+    by true = refl
+    by false = refl
+
+name_if : (b : Bool) (s : Option Step) (n : Name) → is_name (cond b (name_of s) None) n ≡ (at_step s n && b)
+name_if true None n = refl
+name_if true (Some s) n = sym (and_yes (same_name n (step_name s)))
+name_if false s n = sym (and_no (at_step s n))
 
 pub comer_is : (kept : KeptMap) (s : Option Step) (d : Name) → is_name (comer kept s) d ≡ (at_step s d && not (is_some (map.get kept d)))
 comer_is kept None d = refl
@@ -92,11 +97,8 @@ back_at (Some b) (Some s) m n h = ap (same_name n) h.name
 back_at None (Some s) m n h = absurd h
 back_at (Some b) None m n h = absurd h
 
-pub comer_back : (kept : KeptMap) (b s : Option Step) (m : Classes) → AreBack b s m → comer kept b ≡ comer kept s
-comer_back kept None None m h = refl
-comer_back kept (Some b) (Some s) m h = ap (λ k. cond (is_some (map.get kept k)) None (Some k)) h.name
-comer_back kept None (Some s) m h = absurd h
-comer_back kept (Some b) None m h = absurd h
+pub back_behind : (b s : Option Step) (m k : Classes) → ((n : Name) → m n ≡ k n) → AreBack b s m → AreBack b s k
+back_behind b s m k same h = subst (AreBack b s) (λ i n. same n i) h
 
 twice : (b : Bool) (x y z : Option Facts) → (b ≡ true → x ≡ z) → cond b x (cond b y z) ≡ z
 twice true x y z h = h refl
@@ -123,3 +125,58 @@ there_back (Some b) None t u h stays = absurd h
 pub there_still : (b : Option Step) (t u : Places) → AreThere b t → ((n : Name) → at_step b n ≡ true → IsSome (map.get t n) → IsSome (map.get u n)) → AreThere b u
 there_still None t u h stays = tt
 there_still (Some b) t u h stays = λ f. stays (step_name b) (same_self (step_name b)) (h f)
+
+-- ---- two steps that were made
+
+pub record AreBoth (first second first_back second_back : Option Step) (m k : Classes) : Type 0 where
+  pub counts : CountsStep m first second
+  pub puts : PutsClass second
+  pub made : (n : Name) → k n ≡ stepped_by second (stepped_by first m) n
+  pub back_first : AreBack first_back first m
+  pub back_second : AreBack second_back second (stepped_by first m)
+
+pub both_of : (first second first_back second_back : Option Step) (old new : Places) → CountsStep (class_at old) first second → PutsClass second
+    → ((n : Name) → class_at new n ≡ stepped_by second (stepped_by first (class_at old)) n)
+    → AreBack first_back first (class_at old) → AreBack second_back second (stepped_by first (class_at old))
+    → AreBoth first second first_back second_back (class_at old) (class_at new)
+both_of first second first_back second_back old new counts puts made back_first back_second =
+    record { counts = counts; puts = puts; made = made; back_first = back_first; back_second = back_second }
+
+module _ {first second first_back second_back : Option Step} {m k : Classes} (both : AreBoth first second first_back second_back m k) where
+  behind_first : (n : Name) → at_step first_back n ≡ true → k n ≡ class_by first
+  behind_first n e =
+      let f = sym (back_at first_back first m n both.back_first) ∙ e in
+      both.made n ∙ stepped_not second (stepped_by first m) n (apart_by first second m n both.counts f) ∙ stepped_at first m n f
+
+  pub first_stood : (n : Name) → at_step first_back n ≡ true → is_some (m n) ≡ true
+  first_stood n e = given_by first second m n both.counts (sym (back_at first_back first m n both.back_first) ∙ e)
+
+  pub second_stands : (n : Name) → at_step second_back n ≡ true → is_some (k n) ≡ true
+  second_stands n e =
+      let f = sym (back_at second_back second (stepped_by first m) n both.back_second) ∙ e in
+      ap is_some (both.made n ∙ stepped_at second (stepped_by first m) n f) ∙ puts_by second n both.puts f
+
+  pub backs_apart : (n : Name) → at_step first_back n ≡ true → at_step second_back n ≡ false
+  backs_apart n e =
+      back_at second_back second (stepped_by first m) n both.back_second ∙ apart_by first second m n both.counts (sym (back_at first_back first m n both.back_first) ∙ e)
+
+  pub backs_touch : (n : Name) → (at_step first_back n || at_step second_back n) ≡ (at_step first n || at_step second n)
+  backs_touch n =
+      ap (λ b. b || at_step second_back n) (back_at first_back first m n both.back_first)
+      ∙ ap (λ b. at_step first n || b) (back_at second_back second (stepped_by first m) n both.back_second)
+
+  pub backs_stay : (n : Name) → (at_step first_back n || at_step second_back n) ≡ false → k n ≡ m n
+  backs_stay n t =
+      let p = or_no (at_step first n) (at_step second n) (sym (backs_touch n) ∙ t) in
+      both.made n ∙ stepped_not second (stepped_by first m) n p.1 ∙ stepped_not first m n p.0
+
+  pub gone_then : (n : Name) → is_name (cond (is_some (leaver first)) (name_of first_back) None) n ≡ (at_step first_back n && not (is_some (k n)))
+  gone_then n = name_if (is_some (leaver first)) first_back n ∙ ⊎_elim
+      (λ e. ap (λ b. at_step first_back n && b) (leaver_there first n (sym (back_at first_back first m n both.back_first) ∙ e) ∙ ap (λ o. not (is_some o)) (sym (behind_first n e))))
+      (λ e. ap (λ b. b && is_some (leaver first)) e ∙ sym (ap (λ b. b && not (is_some (k n))) e))
+      (cases_Bool (at_step first_back n))
+
+  pub both_undone : (after : Places) → ((n : Name) → class_at after n ≡ k n) → (n : Name) → stepped_by first_back (stepped_by second_back (class_at after)) n ≡ m n
+  both_undone after same n =
+      undone first_back first m (stepped_by second_back (class_at after)) both.back_first
+      (undone second_back second (stepped_by first m) (class_at after) both.back_second (λ j. same j ∙ both.made j)) n

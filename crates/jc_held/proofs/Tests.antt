@@ -146,6 +146,13 @@ more_undone true true false true = refl
 more_undone true true x false = refl
 
 -- k, it was kept; f, it was perhaps added; s and h, it was perhaps added at the name of which nothing was kept
+pub undone_some : (l k f m : Bool) → l ≡ k → Between l f m → (m && not (f && not k)) ≡ k
+undone_some l true true true e b = refl
+undone_some l false true true e b = refl
+undone_some l k false true e b = sym (sym e ∙ sym (or_none l) ∙ b.1 refl)
+undone_some l true f false e b = absurd (false≢true (b.0 e))
+undone_some l false f false e b = refl
+
 pub undone_all : (k f s h m : Bool) → (s ≡ true → k ≡ false) → Between k (f || (s && h)) m → ((m && not (s && h)) && not (f && not k)) ≡ k
 undone_all true f true h m g b = absurd (false≢true (sym (g refl)))
 undone_all true true false h true g b = refl

@@ -1,11 +1,11 @@
 //! An edit of what stands at one name or two.
 
-ghost use Rattle.std.specs.Prelude.{◌≡◌, ◌-◌, ◌||◌, ◌&&◌, not, false, true, IfOk, IsSome, None, OnErr, OnOk, Some, cond};
+ghost use Rattle.std.specs.Prelude.{◌≡◌, ◌-◌, ◌||◌, ◌&&◌, not, false, true, IfOk, IsSome, None, OnErr, OnOk, Some, cond, is_some};
 ghost use Rattle.std.specs.FinMap as map;
-ghost use Rattle.std.specs.Option.{option_copied, option_map};
+ghost use Rattle.std.specs.Option.{option_copied};
 ghost use Rattle.jc_classes.specs.NameLists.{has};
 ghost use Rattle.jc_classes.specs.Names.{Name};
-ghost use Rattle.jc_link.specs.Tables.{class_at, world};
+ghost use Rattle.jc_link.specs.Tables.{Places, class_at, world};
 ghost use Rattle.jc_held.specs.Affected.{IsBounded, NoRepeat};
 ghost use Rattle.jc_held.specs.Steps as steps;
 ghost use Rattle.jc_held.specs.inside.Holding as holding;
@@ -70,27 +70,87 @@ pub(crate) fn change_classes(
     ensures held { IsHeld table.new outside.now kept.new links.new }
     ensures bounded { OnOk result (IsBounded (given_in table.new) (world table.new outside.now) (λ n. at_step first n || at_step second n) (meter.new.made - meter.old.made) (meter.new.asks - meter.old.asks)) }
 {
-    let gone = leaver(alloc, &first)?;
-    let names = users_of(alloc, links, name_of(&first), name_of(&second), lent(&gone))?;
-    let first = make(alloc, table, first)?;
-    let second = match make(alloc, table, second) {
-        Ok(back) => back,
+    let leaves = takes_out(&first);
+    let (first, second) = make_both(alloc, table, first, second)?;
+    let gone = leaver(leaves, &first);
+    match remake(
+        alloc, outside, table, kept, links, &first, &second, gone, meter,
+    ) {
+        Ok(()) => Ok(()),
         Err(_) => {
-            unmake(table, first);
-            return Err(NoMemory);
+            unmake_both(table, first, second);
+            Err(NoMemory)
         }
-    };
-    let comes = comer(kept, &second);
-    let fresh = match prepare(alloc, table, outside, kept, links, &names, comes, meter) {
-        Ok(fresh) => fresh,
-        Err(_) => {
-            unmake(table, second);
-            unmake(table, first);
-            return Err(NoMemory);
-        }
-    };
-    finish(table, kept, links, lent(&gone), fresh);
+    }
+}
+
+/// Makes the parts anew that two steps affect. Those that take them back are given, and the name of the class
+/// that is gone. At want of memory all is as before.
+fn remake(
+    alloc: Global,
+    outside: &Outside,
+    table: &mut Table,
+    kept: &mut ByteMap<Kept>,
+    links: &mut Links,
+    first: &Option<Step>,
+    second: &Option<Step>,
+    gone: Option<&[u8]>,
+    meter: &mut Meter,
+) -> Result<(), NoMemory>
+    requires linked { AreLinked kept.old links.old }
+    requires gone { (n : Name) → is_name (option_copied gone) n ≡ (at_step first.now n && not (given_in table.old n)) }
+    requires second { (n : Name) → at_step second.now n ≡ true → given_in table.old n ≡ true }
+    ensures err { OnErr result (table.new ≡ table.old) }
+    ensures kept_err { OnErr result (kept.new ≡ kept.old) }
+    ensures linked_err { OnErr result (AreLinked kept.old links.new) }
+    ensures ok { OnOk result ((n : Name) → class_at table.new n ≡ class_at table.old n) }
+    ensures remade { OnOk result ((old : Places) → IsHeld old outside.now kept.old links.old
+        → ((n : Name) → at_step first.now n ≡ true → given_in old n ≡ true)
+        → ((n : Name) → (at_step first.now n || at_step second.now n) ≡ false → class_at table.old n ≡ class_at old n)
+        → IsHeld table.new outside.now kept.new links.new
+        × IsBounded (given_in table.new) (world table.new outside.now) (λ n. at_step first.now n || at_step second.now n) (meter.new.made - meter.old.made) (meter.new.asks - meter.old.asks)) }
+{
+    let names = users_of(alloc, links, name_of(first), name_of(second), gone)?;
+    let comes = comer(kept, second);
+    let fresh = prepare(alloc, table, outside, kept, links, &names, comes, meter)?;
+    finish(table, kept, links, gone, fresh);
     Ok(())
+}
+
+/// Makes two steps, and answers those that take them back. At want of memory none is made.
+fn make_both(
+    alloc: Global,
+    table: &mut Table,
+    first: Option<Step>,
+    second: Option<Step>,
+) -> Result<(Option<Step>, Option<Step>), NoMemory>
+    requires named { AreNamed table.old }
+    ensures ok { OnOk result ((n : Name) → class_at table.new n ≡ stepped_by second (stepped_by first (class_at table.old)) n) }
+    ensures first { IfOk result (λ back. AreBack back.0 first (class_at table.old)) }
+    ensures second { IfOk result (λ back. AreBack back.1 second (stepped_by first (class_at table.old))) }
+    ensures there_first { IfOk result (λ back. AreThere back.0 table.new) }
+    ensures there_second { IfOk result (λ back. AreThere back.1 table.new) }
+    ensures err { OnErr result ((n : Name) → class_at table.new n ≡ class_at table.old n) }
+{
+    let first = make(alloc, table, first)?;
+    match make(alloc, table, second) {
+        Ok(second) => Ok((first, second)),
+        Err(_) => {
+            unmake(table, first);
+            Err(NoMemory)
+        }
+    }
+}
+
+/// Takes back two steps that were made. No memory.
+fn unmake_both(table: &mut Table, first: Option<Step>, second: Option<Step>)
+    requires first { AreThere first table.old }
+    requires second { AreThere second table.old }
+    requires apart { (n : Name) → at_step first n ≡ true → at_step second n ≡ false }
+    ensures { (n : Name) → class_at table.new n ≡ stepped_by first (stepped_by second (class_at table.old)) n }
+{
+    unmake(table, second);
+    unmake(table, first);
 }
 
 /// Makes a step if there is one, and answers the one that takes it back.
@@ -120,14 +180,21 @@ fn unmake(table: &mut Table, back: Option<Step>)
     take_back(table, back);
 }
 
-/// The name of the class that goes by a step.
-fn leaver(alloc: Global, step: &Option<Step>) -> Result<Option<Vec<u8>>, NoMemory>
-    ensures { IfOk result (λ gone. option_map (λ name. name.items) gone ≡ holding.leaver step.now) }
+/// Whether a step takes a class out.
+fn takes_out(step: &Option<Step>) -> bool
+    ensures { result ≡ is_some (holding.leaver step.now) }
 {
     match step {
-        Some(Step::Remove(name)) => Ok(Some(Vec::from_slice(alloc, name)?)),
-        _ => Ok(None),
+        Some(Step::Remove(_)) => true,
+        _ => false,
     }
+}
+
+/// The name at which a step took a class out.
+fn leaver(leaves: bool, back: &Option<Step>) -> Option<&[u8]>
+    ensures { option_copied result ≡ cond leaves (holding.name_of back.now) None }
+{
+    if leaves { name_of(back) } else { None }
 }
 
 fn name_of(step: &Option<Step>) -> Option<&[u8]>
@@ -135,15 +202,6 @@ fn name_of(step: &Option<Step>) -> Option<&[u8]>
 {
     match step {
         Some(step) => Some(step.name()),
-        None => None,
-    }
-}
-
-fn lent(name: &Option<Vec<u8>>) -> Option<&[u8]>
-    ensures { option_copied result ≡ option_map (λ name. name.items) name.now }
-{
-    match name {
-        Some(name) => Some(name),
         None => None,
     }
 }

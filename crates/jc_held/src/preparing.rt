@@ -1,6 +1,6 @@
 //! The parts that an edit needs are made and linked before anything is taken away.
 
-ghost use Rattle.std.specs.Prelude.{◌≡◌, ◌||◌, ◌&&◌, IfErr, IfOk, None, OnErr, OnOk, Some};
+ghost use Rattle.std.specs.Prelude.{◌≡◌, ◌||◌, ◌&&◌, [], IfErr, IfOk, None, OnErr, OnOk, Some};
 ghost use Rattle.std.specs.FinMap as map;
 ghost use Rattle.std.specs.Option.{option_copied};
 ghost use Rattle.jc_classes.specs.NameLists.{has};
@@ -35,35 +35,61 @@ pub(crate) fn prepare(
     ensures ready { IfOk result (λ fresh. IsReady (world table.now outside.now) (names_of names.now) (option_copied comes.entry) kept.old kept.new fresh.items meter.old.made meter.new.made meter.old.asks meter.new.asks) }
     ensures linked { IfOk result (λ fresh. (r : Relation) (n d : Name) → linked r links.new n d ≡ (held_in r kept.new d n || fresh_has r fresh.items d n)) }
 {
-    match comes {
-        Some(name) => prepare_with(alloc, table, outside, kept, links, names, name, meter),
-        None => prepare_others(alloc, table, outside, kept, links, names, meter),
-    }
+    let fresh = make_fresh(alloc, table, outside, names, meter)?;
+    link_all(alloc, table, outside, kept, links, &fresh, comes, meter)?;
+    Ok(fresh)
 }
 
-/// The same where a class comes.
-fn prepare_with(
+/// Links parts, and that of a class that comes, which is made and kept. At want of memory the links and what is
+/// kept are as before.
+fn link_all(
     alloc: Global,
     table: &Table,
     outside: &Outside,
     kept: &mut ByteMap<Kept>,
     links: &mut Links,
-    names: &[Vec<u8>],
+    fresh: &[Fresh],
+    comes: Option<&[u8]>,
+    meter: &mut Meter,
+) -> Result<(), NoMemory>
+    requires linked { AreLinked kept.old links.old }
+    requires absent { (n : Name) → option_copied comes ≡ Some n → map.get kept.old n ≡ None }
+    ensures kept_err { OnErr result (kept.new ≡ kept.old) }
+    ensures linked_err { OnErr result (AreLinked kept.old links.new) }
+    ensures ready { OnOk result (IsReady (world table.now outside.now) [] (option_copied comes.entry) kept.old kept.new [] meter.old.made meter.new.made meter.old.asks meter.new.asks) }
+    ensures linked { OnOk result ((r : Relation) (n d : Name) → linked r links.new n d ≡ (held_in r kept.new d n || fresh_has r fresh.now d n)) }
+{
+    match comes {
+        Some(name) => link_newcomer(alloc, table, outside, kept, links, fresh, name, meter),
+        None => link_others(kept, links, fresh),
+    }
+}
+
+/// The same where a class comes.
+fn link_newcomer(
+    alloc: Global,
+    table: &Table,
+    outside: &Outside,
+    kept: &mut ByteMap<Kept>,
+    links: &mut Links,
+    fresh: &[Fresh],
     name: &[u8],
     meter: &mut Meter,
-) -> Result<Vec<Fresh>, NoMemory>
+) -> Result<(), NoMemory>
     requires linked { AreLinked kept.old links.old }
     requires absent { map.get kept.old name.now ≡ None }
     ensures kept_err { OnErr result (kept.new ≡ kept.old) }
     ensures linked_err { OnErr result (AreLinked kept.old links.new) }
-    ensures ready { IfOk result (λ fresh. IsReady (world table.now outside.now) (names_of names.now) (Some name.now) kept.old kept.new fresh.items meter.old.made meter.new.made meter.old.asks meter.new.asks) }
-    ensures linked { IfOk result (λ fresh. (r : Relation) (n d : Name) → linked r links.new n d ≡ (held_in r kept.new d n || fresh_has r fresh.items d n)) }
+    ensures ready { OnOk result (IsReady (world table.now outside.now) [] (Some name.now) kept.old kept.new [] meter.old.made meter.new.made meter.old.asks meter.new.asks) }
+    ensures linked { OnOk result ((r : Relation) (n d : Name) → linked r links.new n d ≡ (held_in r kept.new d n || fresh_has r fresh.now d n)) }
 {
-    let fresh = make_fresh(alloc, table, outside, names, meter)?;
     let newcomer = make_one(alloc, table, outside, name, meter)?;
-    match link_and_keep(kept, links, &fresh, newcomer) {
-        Ok(()) => Ok(fresh),
-        Err(_) => Err(NoMemory),
+    match link_and_keep(kept, links, fresh, newcomer) {
+        Ok(()) => Ok(()),
+        Err(newcomer) => {
+            drop(newcomer);
+            Err(NoMemory)
+        }
     }
 }
 
@@ -141,26 +167,16 @@ fn link_with(
     }
 }
 
-/// The same where none comes.
-fn prepare_others(
-    alloc: Global,
-    table: &Table,
-    outside: &Outside,
-    kept: &ByteMap<Kept>,
-    links: &mut Links,
-    names: &[Vec<u8>],
-    meter: &mut Meter,
-) -> Result<Vec<Fresh>, NoMemory>
-    requires linked { AreLinked kept.now links.old }
-    ensures linked_err { OnErr result (AreLinked kept.now links.new) }
-    ensures ready { IfOk result (λ fresh. IsReady (world table.now outside.now) (names_of names.now) None kept.now kept.now fresh.items meter.old.made meter.new.made meter.old.asks meter.new.asks) }
-    ensures linked { IfOk result (λ fresh. (r : Relation) (n d : Name) → linked r links.new n d ≡ (held_in r kept.now d n || fresh_has r fresh.items d n)) }
+/// Links parts where no class comes. At want of memory the links are as before.
+fn link_others(kept: &ByteMap<Kept>, links: &mut Links, fresh: &[Fresh]) -> Result<(), NoMemory>
+    requires { AreLinked kept.now links.old }
+    ensures ok { OnOk result ((r : Relation) (n d : Name) → linked r links.new n d ≡ (held_in r kept.now d n || fresh_has r fresh.now d n)) }
+    ensures err { OnErr result (AreLinked kept.now links.new) }
 {
-    let fresh = make_fresh(alloc, table, outside, names, meter)?;
-    match link_fresh(links, kept, &fresh) {
-        Ok(()) => Ok(fresh),
+    match link_fresh(links, kept, fresh) {
+        Ok(()) => Ok(()),
         Err(_) => {
-            undo_fresh(links, kept, &fresh);
+            undo_fresh(links, kept, fresh);
             Err(NoMemory)
         }
     }

@@ -1,0 +1,13 @@
+use Rattle.std.proofs.Common.{◌∙◌, ap, sym}
+use Rattle.std.specs.Option.{option_copied}
+use Rattle.jc_classes.specs.Names.{names_of}
+use Rattle.jc_link.specs.Meters.{counted}
+use Rattle.jc_link.specs.Tables.{world}
+use Rattle.jc_held.proofs.Readying.{names_length, ready_behind}
+use Rattle.jc_held.proofs.preparing.prepare.Goals as goal
+
+pub returns-clause-ready : goal.returns-clause-ready
+returns-clause-ready c =
+    ready_behind (world c.args.table.now c.args.outside.now) (names_of c.args.names.now) (option_copied c.args.comes) c.args.kept.now c.link_all.new.kept c.in_ok-fresh.fresh.items
+    c.args.meter.now.made c.make_fresh.new.meter.made c.link_all.new.meter.made c.args.meter.now.asks c.make_fresh.new.meter.asks c.link_all.new.meter.asks
+    c.in_ok-fresh.ensures.names c.in_ok-fresh.ensures.kept (c.in_ok-fresh.ensures.made ∙ ap (counted c.args.meter.now.made) (sym (names_length c.args.names.now))) c.in_ok-fresh.ensures.asks c.in_ok-link_all.ensures.ready
