@@ -1,3 +1,4 @@
+use Rattle.std.proofs.lemmas.Grind.{common_steps}
 use Rattle.std.proofs.Common.{◌<◌, length, sym, subst, ap, ◌∙◌, arith}
 use Rattle.std.proofs.lemmas.List.{get_or_default}
 use Rattle.jc_classes.specs.Resolution.{Starts}
@@ -38,3 +39,21 @@ returns-in-Some-clause-starts c =
     let s = begun_of x c.element_begun.result in
     λ m text t h. subst (λ (r : NamedNode). Starts m (name_at x c.args.class) (named_of x r text) s) (sym (c.in-Array.is ∙ ap (λ o. reference.Array o) c.in-Some.is))
     (element_starts m count x c.args.classes.now.graph h c.args.loads.now t c.args.classes.now.object c.args.classes.now.object_within c.args.classes.now.object_name (name_at x c.args.class) text v k _ (get_or_default c.args.loads.now v _ (Fails fault.NoClass 0) (omega (arith, k, c.requires.loads))) _ (get_or_default c.args.loads.now c.args.classes.now.object _ (Fails fault.NoClass 0) (omega (arith, c.args.classes.now.object_within, c.requires.loads))) c.can_see-in-Some.result (c.can_see-in-Some.ensures) s (c.element_begun.ensures.start x text c.args.classes.now.object_name))
+
+pub returns-in-Class-clause-at : goal.returns-in-Class-clause-at
+returns-in-Class-clause-at c = grind (arith, common_steps)
+
+pub returns-in-Class-clause-target : goal.returns-in-Class-clause-target
+returns-in-Class-clause-target c = grind (arith, common_steps)
+
+pub returns-in-None-clause-at : goal.returns-in-None-clause-at
+returns-in-None-clause-at c = grind (arith, common_steps)
+
+pub returns-in-None-clause-target : goal.returns-in-None-clause-target
+returns-in-None-clause-target c = grind (arith, common_steps)
+
+pub returns-in-Some-clause-at : goal.returns-in-Some-clause-at
+returns-in-Some-clause-at c = grind (arith, common_steps)
+
+pub returns-in-Some-clause-target : goal.returns-in-Some-clause-target
+returns-in-Some-clause-target c = grind (arith, common_steps)
