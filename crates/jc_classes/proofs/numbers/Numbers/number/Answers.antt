@@ -1,3 +1,4 @@
+use Rattle.std.proofs.lemmas.Grind.{common_steps}
 use Rattle.std.proofs.Common.{◌≡◌, ◌++◌, ◌∷◌, [], ℕ, length, refl, sym, subst, ap, ◌∙◌, arith}
 use Rattle.std.proofs.lemmas.List.{length-map}
 use Rattle.std.specs.FinMap as fin
@@ -28,3 +29,18 @@ returns-in-Ok-clause-grows c =
     let none = none_found p ns c.args.self.now x c.self.invariant c.self.view_is (c.in_default.ensures.none refl) in
     let f : names_of c.push.new.self.items ≡ ns ++ x ∷ [] = ap names_of c.in_ok-push.ensures.items ∙ names_push c.self.inside.names.items c.in_ok-copy.copy ∙ ap (λ z. ns ++ z ∷ []) c.in_ok-copy.ensures.items in
     subst (λ z. Grows z (names_of c.push.new.self.items) (x ∷ [])) c.self.view_is (subst (λ z. Grows ns z (x ∷ [])) (sym f) (grows_push p ns x c.self.invariant none))
+
+pub returns-in-Some-clause-node : goal.returns-in-Some-clause-node
+returns-in-Some-clause-node c = grind (arith, common_steps)
+
+pub returns-in-Some-clause-grows : goal.returns-in-Some-clause-grows
+returns-in-Some-clause-grows c = grind (arith, common_steps)
+
+pub returns-in-Ok-clause-node : goal.returns-in-Ok-clause-node
+returns-in-Ok-clause-node c = grind (arith, common_steps)
+
+pub returns-clause-node : goal.returns-clause-node
+returns-clause-node c = grind (arith, common_steps)
+
+pub returns-clause-grows : goal.returns-clause-grows
+returns-clause-grows c = grind (arith, common_steps)

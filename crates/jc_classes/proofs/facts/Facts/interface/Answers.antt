@@ -1,0 +1,18 @@
+use Rattle.std.proofs.Common.{◌≡◌, Some, None, option_map, ap, sym, ◌∙◌, arith}
+use Rattle.std.proofs.lemmas.Option.{gets, slice_get-map}
+use Rattle.std.specs.List.{slice_get}
+use Rattle.jc_classes.specs.Facts.{Facts}
+use Rattle.jc_classes.specs.inside.FactsShown.{text_at}
+use Rattle.jc_classes.proofs.facts.Facts.interface.Goals as goal
+
+pub returns-in-Some : goal.returns-in-Some
+returns-in-Some c =
+    let a = c.self.inside in
+    let at : slice_get a.interfaces.items c.args.number ≡ Some c.in-Some.name.now = grind (arith, gets, c.in-Some.ensures.lookup, c.deref.ensures.value) in
+    ap Some c.text.ensures ∙ sym (ap (λ (z : Facts). slice_get z.interfaces c.args.number) (sym c.self.view_is) ∙ slice_get-map (text_at a.texts) a.interfaces.items c.args.number ∙ ap (option_map (text_at a.texts)) at)
+
+pub returns-in-None : goal.returns-in-None
+returns-in-None c =
+    let a = c.self.inside in
+    let at : slice_get a.interfaces.items c.args.number ≡ None = grind (arith, gets, c.in-None.ensures.lookup, c.deref.ensures.value) in
+    sym (ap (λ (z : Facts). slice_get z.interfaces c.args.number) (sym c.self.view_is) ∙ slice_get-map (text_at a.texts) a.interfaces.items c.args.number ∙ ap (option_map (text_at a.texts)) at)
