@@ -1,3 +1,4 @@
+use Rattle.std.proofs.lemmas.Grind.{common_steps}
 use Rattle.std.specs.Prelude.{ℤ, pos, ◌+ℤ◌}
 use mir.Syntax.{w32, w64}
 use mir.Val.{SFits}
@@ -34,3 +35,12 @@ returns c =
           (to_z-of_z w64 c.target-default.result default_fits ∙ c.target-default.ensures ∙ ap (λ z. pos c.args.place +ℤ z) (to_z-of_z w32 c.in_ok-offset.offset offset_fits ∙ offset))
           (count.number ∙ ap (big_number 4) (sym (after_some (p + 4) xs at_count.rest to_count).left)),
     )
+
+pub returns-in_err-skip_pad : goal.returns-in_err-skip_pad
+returns-in_err-skip_pad c = grind (arith, common_steps)
+
+pub returns-in_err-offset : goal.returns-in_err-offset
+returns-in_err-offset c = grind (arith, common_steps)
+
+pub returns-in_err-count : goal.returns-in_err-count
+returns-in_err-count c = grind (arith, common_steps)

@@ -1,3 +1,4 @@
+use Rattle.std.proofs.lemmas.Grind.{common_steps}
 use Rattle.std.specs.Prelude.{ℤ, pos, ◌+ℤ◌}
 use mir.Syntax.{w32, w64}
 use mir.Val.{SFits}
@@ -40,3 +41,12 @@ returns c =
           (to_z-of_z w32 c.in_ok-low.low low_fits ∙ low)
           (to_z-of_z w32 c.in_ok-high.high high_fits ∙ high),
     )
+
+pub returns-in_err-skip_pad : goal.returns-in_err-skip_pad
+returns-in_err-skip_pad c = grind (arith, common_steps)
+
+pub returns-in_err-offset : goal.returns-in_err-offset
+returns-in_err-offset c = grind (arith, common_steps)
+
+pub returns-in_err-low : goal.returns-in_err-low
+returns-in_err-low c = grind (arith, common_steps)
