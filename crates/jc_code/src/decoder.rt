@@ -134,11 +134,18 @@ fn read_multi_new_array<'a>(cursor: &mut Cursor<'a>) -> Option<Insn<'a>>
     Some(Insn::MultiNewArray { index, dimensions })
 }
 
-/// What stands behind `wide`: a load, a store, `ret` or `iinc`, with operands of two bytes.
+/// What stands behind `wide`: an opcode and its operands in their wide form.
 fn read_wide<'a>(cursor: &mut Cursor<'a>) -> Option<Insn<'a>>
     ensures { Lends same after_wide wide_value cursor.old result cursor.new }
 {
     let opcode = Opcode::new(cursor.u1()?)?;
+    read_widened(opcode, cursor)
+}
+
+/// A load, a store, `ret` or `iinc`, with operands of two bytes.
+fn read_widened<'a>(opcode: Opcode, cursor: &mut Cursor<'a>) -> Option<Insn<'a>>
+    ensures { (what : Operands) → operands_of opcode ≡ Some what → Lends same (after_widened what) (widened_value opcode what) cursor.old result cursor.new }
+{
     match opcode.operands() {
         Operands::Local { .. } => Some(Insn::Local {
             opcode,

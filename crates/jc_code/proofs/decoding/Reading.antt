@@ -7,7 +7,7 @@ use Rattle.jc_view.specs.Moves.{Lends}
 use Rattle.jc_code.specs.declared.opcode.Operands.{Operands}
 use Rattle.jc_code.specs.declared.insn.Insn.{Insn}
 use Rattle.jc_code.specs.Opcodes.{opcode_at, operands_of}
-use Rattle.jc_code.specs.InsnReading.{first_operands, after_operands, operands_value, after_insn, insn_value}
+use Rattle.jc_code.specs.InsnReading.{first_operands, after_operands, operands_value, after_insn, insn_value, after_widened, widened_value, after_wide, wide_value}
 use Rattle.jc_code.specs.inside.Decoding.{same}
 use Rattle.jc_code.proofs.decoding.Opcodes.{no_operands}
 
@@ -30,6 +30,11 @@ module _ (old new : Reading) (what : Operands) (first : first_operands old.rest 
   insn_lends None h = rw first h
   insn_lends (Some insn) h = (rw first h.0, (let keeps = h.1 in omega (arith, length-drop 1 old.rest)), h.2 ∙ rw first refl)
 
+  wide_lends : (result : Option Insn) → Lends same (after_widened what) (widened_value (big_number 1 old.rest) what) (past 1 old) result new
+      → Lends same after_wide wide_value old result new
+  wide_lends None h = rw first h
+  wide_lends (Some insn) h = (rw first h.0, (let keeps = h.1 in omega (arith, length-drop 1 old.rest)), h.2 ∙ rw first refl)
+
   -- the same from a place, an opcode and a cursor that are these
   pub insn_lends_at : (at opcode : ℕ) (mid : Reading) (result : Option Insn) → at ≡ old.place → opcode ≡ big_number 1 old.rest → mid ≡ past 1 old
       → Lends same (after_operands at what) (operands_value at opcode what) mid result new → Lends same (after_insn old.place) (insn_value old.place) old result new
@@ -37,3 +42,10 @@ module _ (old new : Reading) (what : Operands) (first : first_operands old.rest 
       let placed = subst (λ (p : ℕ). Lends same (after_operands p what) (operands_value p opcode what) mid result new) e h in
       let told = subst (λ (o : ℕ). Lends same (after_operands old.place what) (operands_value old.place o what) mid result new) f placed in
       insn_lends result (subst (λ (r : Reading). Lends same (after_operands old.place what) (operands_value old.place (big_number 1 old.rest) what) r result new) g told)
+
+  -- behind `wide`, from an opcode and a cursor that are these
+  pub wide_lends_at : (opcode : ℕ) (mid : Reading) (result : Option Insn) → opcode ≡ big_number 1 old.rest → mid ≡ past 1 old
+      → Lends same (after_widened what) (widened_value opcode what) mid result new → Lends same after_wide wide_value old result new
+  wide_lends_at opcode mid result f g h =
+      let told = subst (λ (o : ℕ). Lends same (after_widened what) (widened_value o what) mid result new) f h in
+      wide_lends result (subst (λ (r : Reading). Lends same (after_widened what) (widened_value (big_number 1 old.rest) what) r result new) g told)
