@@ -76,7 +76,9 @@ fn read_last<'a>(cursor: &mut Cursor<'a>) -> Result<(ClassNumbers, ClassTables<'
     ensures numbers { Takes (λ last. numbers last.0) last_at cursor.old result cursor.new }
     ensures tables { IfOk result (λ last. HasTables cursor.old last.1) }
 {
-    let (numbers, tables) = read_tail(cursor).ok_or(ParseError::Short)?;
+    let Some((numbers, tables)) = read_tail(cursor) else {
+        return Err(ParseError::Short);
+    };
     if cursor.has_left() {
         return Err(ParseError::Trailing(cursor.place()));
     }
@@ -91,15 +93,21 @@ fn skip_head(cursor: &mut Cursor) -> Result<(Version, u16), ParseError>
     ensures some { IfOk result (λ head. 0 < head.1) }
     ensures memory { IfErr result (λ e. e ≢ NoMemory) }
 {
-    if cursor.u4().ok_or(ParseError::Short)? != MAGIC {
+    let Some(magic) = cursor.u4() else {
+        return Err(ParseError::Short);
+    };
+    if magic != MAGIC {
         return Err(ParseError::Magic);
     }
-    let minor = cursor.u2().ok_or(ParseError::Short)?;
-    let major = cursor.u2().ok_or(ParseError::Short)?;
+    let (Some(minor), Some(major)) = (cursor.u2(), cursor.u2()) else {
+        return Err(ParseError::Short);
+    };
     if !is_accepted_version(major, minor) {
         return Err(ParseError::Version);
     }
-    let count = cursor.u2().ok_or(ParseError::Short)?;
+    let Some(count) = cursor.u2() else {
+        return Err(ParseError::Short);
+    };
     if count == 0 {
         return Err(ParseError::Count);
     }
@@ -231,8 +239,12 @@ pub(crate) fn skip_constant(is_last: bool, cursor: &mut Cursor) -> Result<Consta
     ensures { Takes (λ kind. kind) (first_constant is_last) cursor.old result cursor.new }
 {
     let place = cursor.place();
-    let tag = cursor.u1().ok_or(ParseError::Short)?;
-    let kind = ConstantKind::of_tag(tag).ok_or(ParseError::Tag(place))?;
+    let Some(tag) = cursor.u1() else {
+        return Err(ParseError::Short);
+    };
+    let Some(kind) = ConstantKind::of_tag(tag) else {
+        return Err(ParseError::Tag(place));
+    };
     if is_last && kind.is_wide() {
         return Err(ParseError::Wide(place));
     }
