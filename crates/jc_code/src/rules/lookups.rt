@@ -1,10 +1,10 @@
 //! What an instruction's index leads to.
 
-ghost use Rattle.std.specs.Prelude.{◌≡◌};
+ghost use Rattle.std.specs.Prelude.{◌≡◌, option_and_then};
 ghost use Rattle.std.specs.Option.{option_copied};
 ghost use Rattle.jc_base.specs.DescriptorTests.{begins_with};
+ghost use Rattle.jc_view.specs.ClassFile.{constant_at};
 ghost use Rattle.jc_view.specs.Lookups.{signature_entry};
-ghost use Rattle.jc_view.specs.Lent.{constant_of};
 ghost use Rattle.jc_code.specs.CodeRules.{dimensions_of, double_kinds, is_either_method, is_init, is_one_of, is_special, referred_descriptor, referred_name, single_kinds, slots_at};
 
 use jc_base::{FieldDesc, MethodDesc};
@@ -48,15 +48,17 @@ pub(crate) fn is_either_method(class: &ClassView, index: ConstantIndex) -> bool
     }
 }
 
-/// The `NameAndType` of a reference to a member, or of an `InvokeDynamic`.
-fn signature_entry(constant: Constant) -> Option<ConstantIndex>
-    ensures { result ≡ signature_entry (constant_of constant.entry) }
+/// The `NameAndType` of the reference to a member, or of the `InvokeDynamic`, of an index.
+fn signature_entry(class: &ClassView, index: ConstantIndex) -> Option<ConstantIndex>
+    ensures { result ≡ option_and_then signature_entry (constant_at class.now index) }
 {
-    match constant {
-        Constant::Fieldref(_, entry)
-        | Constant::Methodref(_, entry)
-        | Constant::InterfaceMethodref(_, entry)
-        | Constant::InvokeDynamic(_, entry) => Some(entry),
+    match class.constant(index.0) {
+        Some(
+            Constant::Fieldref(_, entry)
+            | Constant::Methodref(_, entry)
+            | Constant::InterfaceMethodref(_, entry)
+            | Constant::InvokeDynamic(_, entry),
+        ) => Some(entry),
         _ => None,
     }
 }
@@ -65,14 +67,14 @@ fn signature_entry(constant: Constant) -> Option<ConstantIndex>
 pub(crate) fn referred_name<'a>(class: &ClassView<'a>, index: ConstantIndex) -> Option<&'a [u8]>
     ensures { option_copied result ≡ referred_name class.now index }
 {
-    class.name_at(signature_entry(class.constant(index.0)?)?)
+    class.name_at(signature_entry(class, index)?)
 }
 
 /// Its descriptor.
 fn referred_descriptor<'a>(class: &ClassView<'a>, index: ConstantIndex) -> Option<&'a [u8]>
     ensures { option_copied result ≡ referred_descriptor class.now index }
 {
-    class.descriptor_at(signature_entry(class.constant(index.0)?)?)
+    class.descriptor_at(signature_entry(class, index)?)
 }
 
 /// How many slots the parameters of the method take to which an entry refers.
