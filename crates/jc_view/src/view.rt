@@ -191,7 +191,7 @@ impl<'a> ClassView<'a> {
     pub fn name_at(&self, index: ConstantIndex) -> Option<&'a [u8]>
         ensures { option_copied result ≡ name_at self.now index }
     {
-        let Constant::NameAndType(name, _) = self.constant(index.0)? else {
+        let Some(Constant::NameAndType(name, _)) = self.constant(index.0) else {
             return None;
         };
         self.utf8(name)
@@ -201,7 +201,7 @@ impl<'a> ClassView<'a> {
     pub fn descriptor_at(&self, index: ConstantIndex) -> Option<&'a [u8]>
         ensures { option_copied result ≡ descriptor_at self.now index }
     {
-        let Constant::NameAndType(_, descriptor) = self.constant(index.0)? else {
+        let Some(Constant::NameAndType(_, descriptor)) = self.constant(index.0) else {
             return None;
         };
         self.utf8(descriptor)
@@ -259,7 +259,7 @@ fn class_text<'a>(
 ) -> Option<&'a [u8]>
     ensures { (c : ClassFile) → Holds bytes.now offsets.now c → option_copied result ≡ class_text_at c index }
 {
-    let Constant::Class(text) = entry(bytes, offsets, index)? else {
+    let Some(Constant::Class(text)) = entry(bytes, offsets, index) else {
         return None;
     };
     text_entry(bytes, offsets, text)
