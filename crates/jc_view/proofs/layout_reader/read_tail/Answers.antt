@@ -1,6 +1,3 @@
-use Rattle.std.proofs.Common.{arith}
-use Rattle.std.proofs.lemmas.Grind.{common_steps}
-use Rattle.jc_view.specs.Reading.{after_tail}
 use Rattle.jc_view.specs.declared.layout_reader.ClassTables.{ClassTables}
 use Rattle.jc_view.proofs.reading.BehindConstants.{has_tables}
 use Rattle.jc_view.proofs.layout_reader.read_tail.Goals as goal
@@ -12,7 +9,3 @@ pub returns-clause-tables : goal.returns-clause-tables
 returns-clause-tables c =
     has_tables c.args.cursor.now c.read_numbers.new.cursor c.skip_indexes.new.cursor c.skip_members.new.cursor c.skip_members-2.new.cursor c.skip_attributes.new.cursor (read c)
     c.in_ok-numbers.ensures.0 c.in_ok-numbers.ensures.1 c.in_ok-interfaces.ensures c.in_ok-fields.ensures c.in_ok-methods.ensures c.in_ok-attributes.ensures
-
-pub returns-clause-numbers : goal.returns-clause-numbers
-unfolding after_tail
-returns-clause-numbers c = grind (arith, common_steps)
