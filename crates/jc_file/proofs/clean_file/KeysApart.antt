@@ -35,18 +35,16 @@ seen_more : (keys : List LentKey) (key : LentKey) (q : List ℕ × List ℕ) →
 seen_more keys key q = any-append (λ k. same_key q (key_now k)) keys (key ∷ []) ∙ ap (λ b. seen keys q || b) (or_false (same_key q (key_now key)))
 
 -- the key of an item
-key_is : (item : LentMember) (name descriptor : Bor (List ℕ)) → utf8_at item.class item.member.member.name ≡ Some name.now → utf8_at item.class item.member.member.descriptor ≡ Some descriptor.now → key_of item.class item.member.member ≡ Some (name.now, descriptor.now)
+pub key_is : (item : LentMember) (name descriptor : Bor (List ℕ)) → utf8_at item.class item.member.member.name ≡ Some name.now → utf8_at item.class item.member.member.descriptor ≡ Some descriptor.now → key_of item.class item.member.member ≡ Some (name.now, descriptor.now)
 key_is item name descriptor named described =
     ap (λ n. option_map_or (λ name. option_map_or (λ d. Some (name, d)) (utf8_at item.class item.member.member.descriptor) None) n None) named
     ∙ ap (λ d. option_map_or (λ d. Some (name.now, d)) d None) described
 
 -- one more
-pub one_passed : (members left others : MembersLeft) (item : LentMember) (name descriptor : Bor (List ℕ)) (keys after : List LentKey) → GivesMember left (Some item) others
-    → utf8_at item.class item.member.member.name ≡ Some name.now → utf8_at item.class item.member.member.descriptor ≡ Some descriptor.now
-    → seen keys (name.now, descriptor.now) ≡ false → after ≡ keys ++ (name, descriptor) ∷ [] → DecideAll members keys left → DecideAll members after others
-one_passed members left others item name descriptor keys after gives named described new adds decides none =
-    let key : LentKey = (name, descriptor) in
-    let is_left : keys_left left ≡ Some (key_now key) ∷ keys_left others = keys_next left others item gives ∙ ap (λ k. k ∷ keys_left others) (key_is item name descriptor named described) in
+pub one_passed : (members left others : MembersLeft) (item : LentMember) (key : LentKey) (keys after : List LentKey) → GivesMember left (Some item) others
+    → key_of item.class item.member.member ≡ Some (key_now key) → seen keys (key_now key) ≡ false → after ≡ keys ++ key ∷ [] → DecideAll members keys left → DecideAll members after others
+one_passed members left others item key keys after gives is new adds decides none =
+    let is_left : keys_left left ≡ Some (key_now key) ∷ keys_left others = keys_next left others item gives ∙ ap (λ k. k ∷ keys_left others) is in
     decides (
     ap (repeats same_key (seen keys) (length keys)) is_left
     ∙ ap (λ b. cond b (length keys ∷ []) [] ++ repeats same_key (λ q. seen keys q || same_key q (key_now key)) (length keys + 1) (keys_left others)) new

@@ -1,14 +1,14 @@
 //! Members that repeat an earlier one.
 
-ghost use Rattle.std.specs.Prelude.{◌≡◌, [], true, false, map, IfOk};
+ghost use Rattle.std.specs.Prelude.{◌≡◌, [], true, false, map, IfOk, IfSome, Some};
 ghost use Rattle.std.specs.List.{list_any};
-ghost use Rattle.jc_rules.specs.Faults.{repeated, same_key};
+ghost use Rattle.jc_rules.specs.Faults.{key_of, repeated, same_key};
 ghost use Rattle.jc_file.specs.inside.Clean.{AreApart};
 ghost use Rattle.jc_rules.specs.inside.Repeated.{key_now};
 
 use jc_base::NoMemory;
 use jc_rules::{FormatRule, add_repeated_fields, add_repeated_methods};
-use jc_view::{ClassView, Members};
+use jc_view::{ClassView, Member, Members};
 use std::alloc::Global;
 
 /// The name and the descriptor of a member.
@@ -58,25 +58,30 @@ fn are_few_and_apart(alloc: Global, members: Members) -> Result<bool, NoMemory>
 {
     let mut keys = Vec::new(alloc);
     for member in members {
-        let Some(name) = member.name() else {
-            return Ok(false);
-        };
-        let Some(descriptor) = member.descriptor() else {
-            return Ok(false);
-        };
-        if name.len() > LONGEST_TEXT || descriptor.len() > LONGEST_TEXT {
-            return Ok(false);
+        match short_key(&member) {
+            Some(key) if keys.len() < MOST_KEYS && !has_key(&keys, key) => keys.push(key)?,
+            _ => return Ok(false),
         }
-        if keys.len() >= MOST_KEYS || has_key(&keys, name, descriptor) {
-            return Ok(false);
-        }
-        keys.push((name, descriptor))?;
     }
     Ok(true)
 }
 
-fn has_key(keys: &[Key], name: &[u8], descriptor: &[u8]) -> bool
-    ensures { result ≡ list_any (λ key. same_key (name.now, descriptor.now) (key_now key)) keys.now }
+/// The name and the descriptor of a member, where both are there and short.
+fn short_key<'a>(member: &Member<'_, 'a>) -> Option<Key<'a>>
+    ensures { IfSome result (λ key. key_of member.now.class member.now.member.member ≡ Some (key_now key)) }
 {
-    keys.iter().any(|key| name == key.0 && descriptor == key.1)
+    let name = member.name()?;
+    let descriptor = member.descriptor()?;
+    if name.len() > LONGEST_TEXT || descriptor.len() > LONGEST_TEXT {
+        return None;
+    }
+    Some((name, descriptor))
+}
+
+fn has_key(keys: &[Key], key: Key) -> bool
+    ensures { result ≡ list_any (λ earlier. same_key (key_now key.entry) (key_now earlier)) keys.now }
+{
+    let (name, descriptor) = key;
+    keys.iter()
+        .any(|earlier| name == earlier.0 && descriptor == earlier.1)
 }

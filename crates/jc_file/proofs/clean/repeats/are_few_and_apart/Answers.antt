@@ -1,5 +1,4 @@
 use Rattle.std.proofs.Common.{◌∙◌, ap, sym}
-use Rattle.std.specs.Option.{option_copied}
 use Rattle.std.specs.List.{list_any}
 use Rattle.jc_rules.specs.Faults.{same_key}
 use Rattle.jc_rules.specs.inside.Repeated.{key_now}
@@ -11,10 +10,8 @@ loop-member-init c = none_passed c.args.members c.new-keys.result.items c.into_i
 
 pub loop-member-preserved : goal.loop-member-preserved
 loop-member-preserved c =
-    let name = c.in-Some-name.name in
-    let descriptor = c.in-Some-descriptor.descriptor in
-    one_passed c.args.members c.loop-member.member-iterator c.next.new.self c.in-Some.member name descriptor c.loop-member.keys.items c.push.new.self.items c.in-Some.ensures.steps
-    (sym c.name.ensures ∙ ap option_copied c.in-Some-name.is)
-    (sym c.descriptor.ensures ∙ ap option_copied c.in-Some-descriptor.is)
-    (ap (list_any (λ key. same_key (name.now, descriptor.now) (key_now key))) (sym c.deref.ensures.value) ∙ sym c.has_key.ensures ∙ c.if-has_key.false)
-    c.in_ok-push.ensures.items c.loop-member.invariant
+    let key = c.in-Some-short_key.key in
+    one_passed c.args.members c.loop-member.member-iterator c.next.new.self c.in-Some.member key c.loop-member.keys.items c.push.new.self.items c.in-Some.ensures.steps
+    c.in-Some-short_key.ensures
+    (ap (list_any (λ earlier. same_key (key_now key) (key_now earlier))) (sym c.deref.ensures.value) ∙ sym c.has_key.ensures ∙ c.if-not-has_key.true)
+    c.in_ok-push-in-Some-short_key.ensures.items c.loop-member.invariant
