@@ -151,6 +151,14 @@ impl Assembler {
         }
     }
 
+    fn take_lines(&mut self, alloc: Global, lines: &[&str]) -> Result<()> {
+        for line in lines {
+            let (tokens, _) = tokens_of(alloc, line)?;
+            self.take(&tokens)?;
+        }
+        Ok(())
+    }
+
     /// Takes the words of a line.
     fn take(&mut self, tokens: &[Token]) -> Result<()> {
         match tokens {
@@ -249,10 +257,7 @@ fn tag_of(kind: &str) -> Result<u8> {
 /// The class file of a name and of the lines below it.
 pub(crate) fn assemble(alloc: Global, name: &str, lines: &[&str]) -> Result<Vec<u8>> {
     let mut assembler = Assembler::new(alloc, name);
-    for line in lines {
-        let (tokens, _) = tokens_of(alloc, line)?;
-        assembler.take(&tokens)?;
-    }
+    assembler.take_lines(alloc, lines)?;
     let file = assembler.file(alloc);
     ensure!(!file.are_cut, "no memory");
     Ok(file.bytes)

@@ -50,11 +50,16 @@ impl<'a> Dialogue<'a> {
     /// The dialogue that these lines tell, and what has to come out.
     pub(crate) fn read(alloc: Global, names: &Names, lines: &[&'a str]) -> Result<Dialogue<'a>> {
         let mut dialogue = Dialogue::new(alloc);
+        dialogue.add_lines(alloc, names, lines)?;
+        Ok(dialogue)
+    }
+
+    fn add_lines(&mut self, alloc: Global, names: &Names, lines: &[&'a str]) -> Result<()> {
         for line in lines {
             let (word, rest) = line.split_once(' ').unwrap_or((*line, ""));
-            dialogue.add(alloc, names, word, rest).context(*line)?;
+            self.add(alloc, names, word, rest).context(*line)?;
         }
-        Ok(dialogue)
+        Ok(())
     }
 
     fn add(&mut self, alloc: Global, names: &Names, word: &str, rest: &'a str) -> Result<()> {

@@ -7,7 +7,7 @@ use crate::parts::{Names, bytes_of};
 use crate::row::without_comment;
 use crate::tokens::{Token, tokens_of};
 use anyhow::{Context, Result, bail};
-use jc_base::Output;
+use jc_base::{MemOutput, Output};
 use jc_session::{Done, Edit, EditError, Session};
 use jc_text::TextWriter;
 use std::alloc::{AllocError, Global};
@@ -37,16 +37,23 @@ fn told_of_line(
     let (tokens, wanted) = tokens_of(alloc, line)?;
     let (wanted, bound) = split_bound(without_comment(wanted.unwrap_or("")))?;
     let mut output = output_for(alloc, None, wanted.as_bytes())?;
-    let mut out = TextWriter::new(&mut output);
-    let asks = call(alloc, names, session, &tokens, &mut out)?;
+    let asks = answer(alloc, names, session, &tokens, &mut output)?;
+    let found = output.bytes();
+    told_of_answer(alloc, line, wanted.as_bytes(), found, asks <= bound)
+}
+
+/// Makes the call of these words into an output, and tells how often it asked.
+fn answer(
+    alloc: Global,
+    names: &Names,
+    session: &mut Session,
+    words: &[Token<'_>],
+    output: &mut MemOutput,
+) -> Result<u64> {
+    let mut out = TextWriter::new(output);
+    let asks = call(alloc, names, session, words, &mut out)?;
     let _ = out.finish();
-    told_of_answer(
-        alloc,
-        line,
-        wanted.as_bytes(),
-        output.bytes(),
-        asks <= bound,
-    )
+    Ok(asks)
 }
 
 /// What has to be answered, and how often an edit may ask where that is told.
@@ -85,30 +92,39 @@ fn call<W: Output>(
         bail!("no such call");
     };
     match *word {
-        "classes" => add_classes(alloc, session, argument.parse::<u32>()?, rest)?,
-        "copies" => add_copies(alloc, names, session, argument.parse::<u32>()?, rest)?,
+        "classes" => add_classes(alloc, session, argument, rest)?,
+        "copies" => add_copies(alloc, names, session, argument, rest)?,
         "dependants" => write_dependants(out, session, argument),
-        "holders" => out.decimal(session.holders(argument.parse::<usize>()?)),
+        "holders" => write_holders(out, session, argument)?,
         _ => {
-            let bytes = bytes_of(alloc, names, rest)?;
-            let edit = edit_of(alloc, word, argument, bytes)?;
+            let edit = edit_of(alloc, word, argument, bytes_of(alloc, names, rest)?)?;
             return Ok(write_done(out, session.edit(edit)));
         }
     }
     Ok(0)
 }
 
+/// How many classes require the row at a place.
+fn write_holders<W: Output>(
+    out: &mut TextWriter<'_, W>,
+    session: &Session,
+    place: &str,
+) -> Result<()> {
+    out.decimal(session.holders(place.parse::<usize>()?));
+    Ok(())
+}
+
 /// Adds files, each with a class below java/lang/Object, whose names are the front and a number from 1.
 fn add_classes(
     alloc: Global,
     session: &mut Session,
-    count: u32,
+    count: &str,
     words: &[Token<'_>],
 ) -> Result<()> {
     let [Token::Word(front)] = words else {
         bail!("classes without the front of their names");
     };
-    for index in 0..count {
+    for index in 0..count.parse::<u32>()? {
         let name = numbered(alloc, front, index)?;
         add_file(session, &name, assemble(alloc, &name, &[])?)?;
     }
@@ -120,13 +136,13 @@ fn add_copies(
     alloc: Global,
     names: &Names,
     session: &mut Session,
-    count: u32,
+    count: &str,
     words: &[Token<'_>],
 ) -> Result<()> {
     let [Token::Word(front), parts @ ..] = words else {
         bail!("copies without the front of their paths");
     };
-    for index in 0..count {
+    for index in 0..count.parse::<u32>()? {
         let path = numbered(alloc, front, index)?;
         add_file(session, &path, bytes_of(alloc, names, parts)?)?;
     }

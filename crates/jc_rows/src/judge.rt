@@ -137,13 +137,17 @@ impl Judge {
         row: &Row,
     ) -> Result<Found> {
         match kind {
-            "run" | "edits" => {
-                self.session = new_session(rt.alloc())?;
-                self.judge_session(rt.alloc(), kind, what, row)
-            }
-            "then" | "then-edits" => self.judge_session(rt.alloc(), kind, what, row),
-            _ => judge_named(rt, &mut self.names, kind, what, row),
+            "run" | "edits" => self.renew(rt.alloc())?,
+            "then" | "then-edits" => {}
+            _ => return judge_named(rt, &mut self.names, kind, what, row),
         }
+        self.judge_session(rt.alloc(), kind, what, row)
+    }
+
+    /// Begins a new session.
+    fn renew(&mut self, alloc: Global) -> Result<(), AllocError> {
+        self.session = new_session(alloc)?;
+        Ok(())
     }
 
     /// Judges a row over the session as it stands.
@@ -213,10 +217,21 @@ fn judge_bytes(
     row: &Row,
 ) -> Result<Found> {
     let statement = row.statement(rt.alloc())?;
-    let bytes = row_bytes(rt.alloc(), names, &statement)?;
     let wanted = statement.answer.context("a row without its answer")?;
-    let found = answered(rt, kind, &bytes, wanted.as_bytes())?;
-    judged_bytes(rt.alloc(), kind, what, wanted.as_bytes(), found.bytes())
+    let bytes = row_bytes(rt.alloc(), names, &statement)?;
+    judge_answer(rt, kind, what, &bytes, wanted.as_bytes())
+}
+
+/// Judges what the call of a kind answers to the bytes.
+fn judge_answer(
+    rt: &(impl Files + AllocGlobal),
+    kind: &str,
+    what: &str,
+    bytes: &[u8],
+    wanted: &[u8],
+) -> Result<Found> {
+    let found = answered(rt, kind, bytes, wanted)?;
+    judged_bytes(rt.alloc(), kind, what, wanted, found.bytes())
 }
 
 fn row_bytes(alloc: Global, names: &Names, statement: &Statement) -> Result<Vec<u8>> {
@@ -239,11 +254,16 @@ fn told_of_run(
     lines: &[&str],
 ) -> Result<Option<String>> {
     let mut dialogue = Dialogue::read(alloc, names, lines)?;
-    let told = told_of_outcome(alloc, session, &mut dialogue)?;
-    match unlike(alloc, session, &dialogue.held)? {
-        None => Ok(told),
-        unlike => Ok(unlike),
-    }
+    Ok(told_of_dialogue(alloc, session, &mut dialogue)?)
+}
+
+fn told_of_dialogue(
+    alloc: Global,
+    session: &mut Session,
+    dialogue: &mut Dialogue,
+) -> Result<Option<String>, AllocError> {
+    let told = told_of_outcome(alloc, session, dialogue)?;
+    Ok(unlike(alloc, session, &dialogue.held)?.or(told))
 }
 
 /// What is told where the session holds other bytes than these.

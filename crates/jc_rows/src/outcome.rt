@@ -107,11 +107,19 @@ pub(crate) fn told_of_status(
     rt: &(impl Files + AllocGlobal),
     dialogue: &Dialogue,
 ) -> Result<Option<String>, AllocError> {
-    let alloc = rt.alloc();
-    let wanted = &dialogue.wanted;
-    let mut out = output_for(alloc, dialogue.room, &wanted.output)?;
-    let mut err = output_for(alloc, dialogue.error_room, &wanted.told)?;
+    let mut out = output_for(rt.alloc(), dialogue.room, &dialogue.wanted.output)?;
+    let mut err = output_for(rt.alloc(), dialogue.error_room, &dialogue.wanted.told)?;
     let status = status_of(rt, dialogue, &mut out, &mut err);
+    told_of_outputs(rt.alloc(), &dialogue.wanted, &out, &err, status)
+}
+
+fn told_of_outputs(
+    alloc: Global,
+    wanted: &Outcome,
+    out: &MemOutput,
+    err: &MemOutput,
+    status: u8,
+) -> Result<Option<String>, AllocError> {
     let ending = format!(in alloc; "{status}")?;
     wanted.difference(alloc, out.bytes(), err.bytes(), &ending)
 }

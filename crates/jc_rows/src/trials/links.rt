@@ -17,9 +17,19 @@ pub(crate) fn write_link<W: Output>(
     name: &[u8],
 ) -> Result<u64, NoMemory> {
     let (table, mut meter) = table_of(alloc, frame)?;
-    let part = part_of(alloc, &table, name, &mut meter)?;
+    write_part_of(alloc, out, &table, name, &mut meter)
+}
+
+fn write_part_of<W: Output>(
+    alloc: Global,
+    out: &mut TextWriter<'_, W>,
+    table: &Table,
+    name: &[u8],
+    meter: &mut Meter,
+) -> Result<u64, NoMemory> {
+    let part = part_of(alloc, table, name, meter)?;
     let asks = meter.asks();
-    if let Some(facts) = table.get(name, &mut meter) {
+    if let Some(facts) = table.get(name, meter) {
         write_part(out, facts, &part);
     }
     Ok(asks)

@@ -2,7 +2,7 @@
 use Rattle.std.proofs.Common.{◌≡◌, ◌∙◌, ℕ, Bool, true, false, ◌||◌, ◌&&◌, List, [], ◌∷◌, ◌++◌, Option, None, Some, nat_eq, refl, ap, sym, subst, if◌then◌else◌}
 use Rattle.std.specs.List.{list_any, AllZip}
 use Rattle.std.specs.Cmp.{unsigned_Decides}
-use Rattle.std.specs.Option.{option_map_or}
+use Rattle.std.specs.Option.{option_map_or, option_zip}
 use Rattle.std.proofs.lemmas.Bool.Decides.{same_from_decides}
 use Rattle.std.proofs.lemmas.Option.{same_Some}
 use Rattle.indexmap.specs.IndexSet.{insert_key}
@@ -24,12 +24,16 @@ Numbers = ConstantIndex × ConstantIndex
 
 -- ---- a key from the numbers of its two texts
 
-pub number_is : (c : ClassFile) (t : TextNumbers) (i : ConstantIndex) (n : ConstantIndex) (class : ClassFile) (index : ConstantIndex) (o : Option ConstantIndex) → class ≡ c → index ≡ i → o ≡ Some n → IsNumberAt class t index o → IsNumberAt c t i (Some n)
-number_is c t i n class index o is_class is_index is_number h =
-    subst (λ (d : ClassFile). IsNumberAt d t i (Some n)) is_class (subst (λ (k : ConstantIndex). IsNumberAt class t k (Some n)) is_index (subst (IsNumberAt class t index) is_number h))
+pub number_is : (c : ClassFile) (t : TextNumbers) (i : ConstantIndex) (class : ClassFile) (index : ConstantIndex) (n : Option ConstantIndex) → class ≡ c → index ≡ i → IsNumberAt class t index n → IsNumberAt c t i n
+number_is c t i class index n is_class is_index h =
+    subst (λ (d : ClassFile). IsNumberAt d t i n) is_class (subst (λ (k : ConstantIndex). IsNumberAt class t k n) is_index h)
 
-pub key_numbered : (c : ClassFile) (old t : TextNumbers) (m : Member) (name descriptor : ConstantIndex) → IsNumberAt c old m.name (Some name) → KeepsNumbers old t → IsNumberAt c t m.descriptor (Some descriptor) → IsNumberedKey c t m (Some (name, descriptor))
-key_numbered c old t m name descriptor n keeps d = (
+pub key_numbered : (c : ClassFile) (old t : TextNumbers) (m : Member) (name descriptor : Option ConstantIndex) → IsNumberAt c old m.name name → KeepsNumbers old t → IsNumberAt c t m.descriptor descriptor → IsNumberedKey c t m (option_zip name descriptor)
+key_numbered c old t m None descriptor n keeps d =
+    ap (λ o. option_map_or (λ x. option_map_or (λ y. Some (x, y)) (utf8_at c m.descriptor) None) o None) n
+key_numbered c old t m (Some name) None n keeps d =
+    ap (λ o. option_map_or (λ x. option_map_or (λ y. Some (x, y)) (utf8_at c m.descriptor) None) o None) n.1 ∙ ap (λ o. option_map_or (λ y. Some (n.0, y)) o None) d
+key_numbered c old t m (Some name) (Some descriptor) n keeps d = (
   (n.0, d.0),
   ap (λ o. option_map_or (λ x. option_map_or (λ y. Some (x, y)) (utf8_at c m.descriptor) None) o None) n.1 ∙ ap (λ o. option_map_or (λ y. Some (n.0, y)) o None) d.1,
   (keeps n.0 name n.2, d.2),

@@ -1,6 +1,6 @@
 //! Members whose name and descriptor an earlier one has.
 
-ghost use Rattle.std.specs.Prelude.{◌≡◌, ◌<◌, ◌^◌, ◌++◌, false, map, length, IfOk, OnOk};
+ghost use Rattle.std.specs.Prelude.{◌≡◌, ◌<◌, ◌^◌, ◌++◌, [], false, map, length, IfOk, OnOk};
 ghost use Rattle.std.specs.List.{list_any};
 ghost use Rattle.std.specs.Option.{option_map_or};
 ghost use Rattle.indexmap.specs.IndexSet.{insert_key};
@@ -56,8 +56,24 @@ fn add_repeated(
 {
     let mut texts = TextNumbers::new(alloc, members.class())?;
     let mut seen = IndexSet::new(alloc);
+    add_each(faults, &mut texts, &mut seen, members, rule)
+}
+
+/// Adds the faults of all members, by the numbers of texts and the keys that were seen, none so far.
+fn add_each<'a>(
+    faults: &mut Vec<Fault>,
+    texts: &mut TextNumbers<'a>,
+    seen: &mut IndexSet<NumberedKey>,
+    members: Members<'_, 'a>,
+    rule: FormatRule,
+) -> Result<(), NoMemory>
+    requires few { length members.left < 2 ^ 16 }
+    requires numbers { AreNumbers members.class texts.old }
+    requires none { seen.old.keys ≡ [] }
+    ensures { OnOk result (faults.new.items ≡ faults.old.items ++ map (fault_at rule) (repeated members.entry.class (map (λ m. m.member) members.entry.left))) }
+{
     for (place, member) in members.enumerate() {
-        let is_repeated = note(&mut seen, numbered_key(&mut texts, &member)?)?;
+        let is_repeated = note(seen, numbered_key(texts, &member)?)?;
         add_if(faults, is_repeated, Fault { rule, place })?;
     }
     Ok(())
@@ -75,10 +91,7 @@ fn numbered_key<'a>(
 {
     let name = texts.number(member.class(), member.name_index())?;
     let descriptor = texts.number(member.class(), member.descriptor_index())?;
-    match (name, descriptor) {
-        (Some(name), Some(descriptor)) => Ok(Some((name, descriptor))),
-        _ => Ok(None),
-    }
+    Ok(name.zip(descriptor))
 }
 
 /// Puts a key in, and tells whether it was there.

@@ -1,12 +1,12 @@
-use Rattle.std.proofs.Common.{◌∙◌, ap, rules}
+use Rattle.std.proofs.Common.{◌∙◌, ap}
 use Rattle.jc_rules.proofs.repeats.MembersPassed.{passed_none, passed_more}
-use Rattle.jc_rules.proofs.faults.repeated.add_repeated.Goals as goal
+use Rattle.jc_rules.proofs.faults.repeated.add_each.Goals as goal
 
 pub loop-place-init : goal.loop-place-init
 loop-place-init c =
     let given = c.into_iter-place-iterator.ensures.into_iter_gives in
-    passed_none c.args.members c.args.rule c.in_ok-texts.texts _ c.into_iter-place-iterator.result.count c.into_iter-place-iterator.result.iter c.args.faults.now.items
-    (search rules) c.new-seen.ensures.empty (ap (λ i. i.count) given ∙ c.enumerate-place-items.ensures.count) (ap (λ i. i.iter) given ∙ c.enumerate-place-items.ensures.source)
+    passed_none c.args.members c.args.rule c.args.texts.now _ c.into_iter-place-iterator.result.count c.into_iter-place-iterator.result.iter c.args.faults.now.items
+    c.requires.numbers c.requires.none (ap (λ i. i.count) given ∙ c.enumerate-place-items.ensures.count) (ap (λ i. i.iter) given ∙ c.enumerate-place-items.ensures.source)
 
 pub loop-place-preserved : goal.loop-place-preserved
 loop-place-preserved c =

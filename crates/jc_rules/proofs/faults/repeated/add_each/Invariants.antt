@@ -1,7 +1,7 @@
 use Rattle.std.proofs.Common.{◌++◌, map}
 use Rattle.jc_rules.specs.Faults.{repeated, fault_at}
 use Rattle.jc_rules.proofs.repeats.MembersPassed.{HavePassed}
-use Rattle.jc_rules.proofs.faults.repeated.add_repeated.Given as goal
+use Rattle.jc_rules.proofs.faults.repeated.add_each.Given as goal
 
 abbrev pub invariant-loop-place : goal.invariant-loop-place
 invariant-loop-place l =
