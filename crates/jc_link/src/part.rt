@@ -1,12 +1,18 @@
 //! What is found of a class: how it loads, whether it is circular, its faults, and the answers to its
 //! references.
 
-ghost use Rattle.std.specs.Prelude.{◌≡◌, IfOk, OnErr, OnOk};
+ghost use Rattle.std.specs.Prelude.{◌≡◌, ◌<◌, ℕ, length, map, Some, option_map, IfOk, OnErr, OnOk};
+ghost use Rattle.std.specs.Bool.{Decides};
+ghost use Rattle.std.specs.List.{Contains};
+ghost use Rattle.jc_classes.specs.Facts.{Reference};
 ghost use Rattle.jc_classes.specs.Lent.{stands_of};
+ghost use Rattle.jc_classes.specs.Loading.{Load as Loads, Loading as How};
 ghost use Rattle.jc_classes.specs.Names.{Name};
-ghost use Rattle.jc_classes.specs.Parts.{IsPart};
-ghost use Rattle.jc_classes.specs.Worlds.{World, code_faults_of, format_faults_of};
+ghost use Rattle.jc_classes.specs.Numbers.{name_at};
+ghost use Rattle.jc_classes.specs.Parts.{AreAnswers, IsPart, class_of};
+ghost use Rattle.jc_classes.specs.Worlds.{Above, World, code_faults_of, format_faults_of, references_of};
 ghost use Rattle.jc_resolve.specs.Answers.{loading_of};
+ghost use Rattle.jc_resolve.specs.Numbered.{Agrees, record_of};
 ghost use Rattle.jc_link.specs.Closures.{IsClosure};
 ghost use Rattle.jc_link.specs.Meters.{counted};
 
@@ -91,11 +97,38 @@ pub fn make_part(alloc: Global, closure: &Closure, meter: &mut Meter) -> Result<
         closure.supertypes.as_slice(),
         closure.object,
     )?;
-    let load = hierarchy.loading(alloc, 0)?;
-    let answers = hierarchy.answers(alloc, 0, closure.references.as_slice())?;
-    let format_faults = copy_format_faults(alloc, closure.own())?;
-    let code_faults = copy_code_faults(alloc, closure.own())?;
+    let part = first_part(
+        alloc,
+        &hierarchy,
+        closure.own(),
+        closure.references.as_slice(),
+    )?;
     meter.count_part();
+    Ok(part)
+}
+
+/// The part of the first class of a hierarchy, at whose name this stands and whose references name the
+/// classes of these numbers.
+fn first_part(
+    alloc: Global,
+    hierarchy: &Hierarchy,
+    own: Standing<'_>,
+    references: &[Option<usize>],
+) -> Result<Part, NoMemory>
+    requires some { 0 < length hierarchy.now.names }
+    requires nodes { map (option_map (name_at hierarchy.now.names)) references.now ≡ map (λ (r : Reference). class_of r.named) (references_of (record_of hierarchy.now 0)) }
+    requires within { (v : ℕ) → Contains references.now (Some v) → v < length hierarchy.now.names }
+    ensures circular { IfOk result (λ p. (m : World) → Agrees m hierarchy.now → Decides p.circular (Above m (name_at hierarchy.now.names 0) (name_at hierarchy.now.names 0))) }
+    ensures load { IfOk result (λ p. (m : World) → Agrees m hierarchy.now → Loads m (name_at hierarchy.now.names 0) p.load) }
+    ensures answers { IfOk result (λ p. (m : World) (how : How) → Agrees m hierarchy.now → Loads m (name_at hierarchy.now.names 0) how
+        → AreAnswers m (name_at hierarchy.now.names 0) how (references_of (record_of hierarchy.now 0)) p.answers) }
+    ensures format_faults { IfOk result (λ p. p.format_faults ≡ format_faults_of (stands_of own.entry)) }
+    ensures code_faults { IfOk result (λ p. p.code_faults ≡ code_faults_of (stands_of own.entry)) }
+{
+    let format_faults = copy_format_faults(alloc, own)?;
+    let code_faults = copy_code_faults(alloc, own)?;
+    let load = hierarchy.loading(alloc, 0)?;
+    let answers = hierarchy.answers(alloc, 0, references)?;
     Ok(Part {
         circular: hierarchy.is_circular(0),
         load,

@@ -217,8 +217,8 @@ fn judge_bytes(
     row: &Row,
 ) -> Result<Found> {
     let statement = row.statement(rt.alloc())?;
-    let wanted = statement.answer.context("a row without its answer")?;
     let bytes = row_bytes(rt.alloc(), names, &statement)?;
+    let wanted = statement.answer.context("a row without its answer")?;
     judge_answer(rt, kind, what, &bytes, wanted.as_bytes())
 }
 

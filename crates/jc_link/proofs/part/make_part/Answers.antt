@@ -2,7 +2,6 @@ use Rattle.std.proofs.Common.{◌≡◌, ◌∙◌, Some, sym, ap, subst, length
 use Rattle.std.specs.List.{Contains}
 use Rattle.jc_classes.specs.Names.{names_of}
 use Rattle.jc_classes.specs.Worlds.{format_faults_of, code_faults_of}
-use Rattle.jc_resolve.specs.Answers.{loading_of}
 use Rattle.jc_resolve.specs.Numbered.{IsClosed, Numbered, numbered}
 use Rattle.jc_link.specs.Closures.{Closure, IsClosure}
 use Rattle.jc_link.specs.inside.ClosureShown.{closure_shown}
@@ -18,8 +17,8 @@ new-requires-clause-closed c =
     (subst (λ z. IsClosed (numbered a.found.items z c.as_slice-3.result.now)) (sym c.as_slice-2.ensures.value)
     (subst (λ z. IsClosed (numbered a.found.items a.standing.items z)) (sym c.as_slice-3.ensures.value) net))
 
-pub answers-requires-clause-within : goal.answers-requires-clause-within
-answers-requires-clause-within c = λ v h.
+pub first_part-requires-clause-within : goal.first_part-requires-clause-within
+first_part-requires-clause-within c = λ v h.
     let a = c.closure.inside in
     let l = c.closure.invariant.net.references_in v (subst (λ z. Contains z (Some v)) c.as_slice-4.ensures.value h) in
     let e : length c.in_ok-hierarchy.hierarchy.names ≡ length (names_of a.found.items) = ap (λ (z : Numbered). length z.names) c.in_ok-hierarchy.ensures ∙ ap (λ z. length (names_of z)) c.as_slice.ensures.value in
@@ -32,7 +31,8 @@ returns-clause-part c = λ m d k.
     let is : c.in_ok-hierarchy.hierarchy ≡ numbered a.found.items a.standing.items a.supertypes.items =
     c.in_ok-hierarchy.ensures ∙ ap (λ z. numbered z c.as_slice-2.result.now c.as_slice-3.result.now) c.as_slice.ensures.value ∙ ap (λ z. numbered a.found.items z c.as_slice-3.result.now) c.as_slice-2.ensures.value ∙ ap (λ z. numbered a.found.items a.standing.items z) c.as_slice-3.ensures.value in
     let stands = ap (λ (z : Closure). stand_at z.stands 0) (sym c.closure.view_is) in
-    part_made m d (closure_shown a) (rows_in a.supertypes.items) c.in_ok-hierarchy.hierarchy c.is_circular.result (loading_of c.in_ok-load.load) c.in_ok-answers.answers c.in_ok-format_faults.format_faults.items c.in_ok-code_faults.code_faults.items (stand_at (stands_in a.standing.items) 0)
-    closure c.closure.invariant.net.some is c.is_circular.ensures c.in_ok-load.ensures c.in_ok-answers.ensures refl
-    (c.in_ok-format_faults.ensures ∙ ap format_faults_of (c.own.ensures.first ∙ stands))
-    (c.in_ok-code_faults.ensures ∙ ap code_faults_of (c.own-2.ensures.first ∙ stands))
+    let part = c.in_ok-part.part in
+    part_made m d (closure_shown a) (rows_in a.supertypes.items) c.in_ok-hierarchy.hierarchy part.circular part.load part.answers part.format_faults part.code_faults (stand_at (stands_in a.standing.items) 0)
+    closure c.closure.invariant.net.some is c.in_ok-part.ensures.circular c.in_ok-part.ensures.load c.in_ok-part.ensures.answers refl
+    (c.in_ok-part.ensures.format_faults ∙ ap format_faults_of (c.own.ensures.first ∙ stands))
+    (c.in_ok-part.ensures.code_faults ∙ ap code_faults_of (c.own.ensures.first ∙ stands))
