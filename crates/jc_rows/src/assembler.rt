@@ -196,13 +196,18 @@ impl Assembler {
         let descriptor = self.pool.utf8(descriptor);
         if kind == "field" {
             self.fields.add(&[flags, name, descriptor, 0], &[]);
-        } else if flags & WITHOUT_CODE != 0 {
-            self.methods.add(&[flags, name, descriptor, 0], &[]);
         } else {
-            let code = self.pool.utf8("Code");
-            let numbers = [flags, name, descriptor, 1, code, 0, 13, 2, 9, 0, 1];
-            self.methods.add(&numbers, &[0xb1, 0, 0, 0, 0]);
+            self.add_method(flags, name, descriptor);
         }
+    }
+
+    fn add_method(&mut self, flags: u16, name: u16, descriptor: u16) {
+        if flags & WITHOUT_CODE != 0 {
+            return self.methods.add(&[flags, name, descriptor, 0], &[]);
+        }
+        let code = self.pool.utf8("Code");
+        let numbers = [flags, name, descriptor, 1, code, 0, 13, 2, 9, 0, 1];
+        self.methods.add(&numbers, &[0xb1, 0, 0, 0, 0]);
     }
 
     /// A constant that names a class or a member.

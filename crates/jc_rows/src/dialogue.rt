@@ -63,18 +63,30 @@ impl<'a> Dialogue<'a> {
     }
 
     fn add(&mut self, alloc: Global, names: &Names, word: &str, rest: &'a str) -> Result<()> {
-        if let Some(stream) = self.stream(word) {
-            return push_stream(stream, names, word, rest);
+        match self.stream(word) {
+            Some(stream) => push_stream(stream, names, word, rest),
+            None => self.add_rest(alloc, names, word, rest),
         }
-        if self.switch(word, rest) {
-            return Ok(());
-        }
+    }
+
+    /// Takes a line that tells of no stream.
+    fn add_rest(&mut self, alloc: Global, names: &Names, word: &str, rest: &'a str) -> Result<()> {
         match word {
             "source" => self.push_answers(alloc, names, 1, rest),
             "sources" => self.push_counted(alloc, names, rest),
             "file" => push_file(&mut self.files, names, rest),
             "holds" => push_file(&mut self.held, names, rest),
             "words" => push_words(&mut self.words, rest),
+            _ => self.add_ending(word, rest),
+        }
+    }
+
+    /// Takes a line that tells how a stream or the run ends.
+    fn add_ending(&mut self, word: &str, rest: &str) -> Result<()> {
+        if self.switch(word, rest) {
+            return Ok(());
+        }
+        match word {
             "ends" => Ok(self.wanted.ending.push_str(rest)?),
             _ => self.limit(word, rest),
         }

@@ -97,11 +97,23 @@ fn call<W: Output>(
         "dependants" => write_dependants(out, session, argument),
         "holders" => write_holders(out, session, argument)?,
         _ => {
-            let edit = edit_of(alloc, word, argument, bytes_of(alloc, names, rest)?)?;
-            return Ok(write_done(out, session.edit(edit)));
+            let bytes = bytes_of(alloc, names, rest)?;
+            return make_edit(alloc, session, word, argument, bytes, out);
         }
     }
     Ok(0)
+}
+
+fn make_edit<W: Output>(
+    alloc: Global,
+    session: &mut Session,
+    word: &str,
+    path: &str,
+    bytes: Vec<u8>,
+    out: &mut TextWriter<'_, W>,
+) -> Result<u64> {
+    let edit = edit_of(alloc, word, path, bytes)?;
+    Ok(write_done(out, session.edit(edit)))
 }
 
 /// How many classes require the row at a place.

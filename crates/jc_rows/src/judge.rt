@@ -32,7 +32,7 @@ pub(crate) struct Tally {
 
 /// What rows leave to those below them: names, and the session of the last run.
 #[derive(Drop)]
-struct Judge {
+pub(crate) struct Judge {
     names: Names,
     session: Session,
 }
@@ -48,16 +48,13 @@ enum Found {
 /// Judges the rows of a text, and prints those that are wrong.
 pub(crate) fn judge_file(
     rt: &(impl Files + AllocGlobal + Print),
+    judge: &mut Judge,
     path: &str,
     text: &str,
 ) -> Result<Tally> {
     let rows = rows_of(rt.alloc(), text)?;
-    judge_all(rt, path, &rows)
-}
-
-fn judge_all(rt: &(impl Files + AllocGlobal + Print), path: &str, rows: &[Row]) -> Result<Tally> {
-    let mut judge = Judge::new(rt.alloc())?;
-    judge.judge_rows(rt, path, rows)
+    judge.names = ByteMap::new(rt.alloc());
+    judge.judge_rows(rt, path, &rows)
 }
 
 impl Tally {
@@ -87,7 +84,7 @@ fn new_session(alloc: Global) -> Result<Session, AllocError> {
 }
 
 impl Judge {
-    fn new(alloc: Global) -> Result<Judge, AllocError> {
+    pub(crate) fn new(alloc: Global) -> Result<Judge, AllocError> {
         Ok(Judge {
             names: ByteMap::new(alloc),
             session: new_session(alloc)?,

@@ -82,7 +82,7 @@ mod tokens;
 mod trials;
 
 use anyhow::{Context, Result};
-use judge::judge_file;
+use judge::{Judge, judge_file};
 use std::env::Env;
 use std::process::ExitCode;
 use std::rt::Files;
@@ -99,18 +99,26 @@ fn words(rt: &(impl Env + AllocGlobal)) -> io::Result<Vec<String>> {
 }
 
 /// Judges the rows of a file, and says whether none of them is wrong.
-fn judge_path(rt: &(impl Files + AllocGlobal + Print), path: &str) -> Result<bool> {
+fn judge_path(
+    rt: &(impl Files + AllocGlobal + Print),
+    judge: &mut Judge,
+    path: &str,
+) -> Result<bool> {
     let text = fs::read_to_string(rt, path).context(format_args!("reading {path}"))?;
-    let tally = judge_file(rt, path, &text)?;
+    let tally = judge_file(rt, judge, path, &text)?;
     println!(rt; "{path}: {} rows", tally.rows)?;
     Ok(tally.wrong == 0)
 }
 
 /// Judges the rows of files, and says whether none of them is wrong.
-fn judge_paths(rt: &(impl Files + AllocGlobal + Print), paths: &[String]) -> Result<bool> {
+fn judge_paths(
+    rt: &(impl Files + AllocGlobal + Print),
+    judge: &mut Judge,
+    paths: &[String],
+) -> Result<bool> {
     let mut are_right = true;
     for path in paths {
-        are_right &= judge_path(rt, path)?;
+        are_right &= judge_path(rt, judge, path)?;
     }
     Ok(are_right)
 }
@@ -126,10 +134,16 @@ fn word_at(words: &[String], place: usize) -> &str {
 /// Does what the words ask for, and says whether no row is wrong.
 fn run_words(rt: &HostRuntime, words: &[String]) -> Result<bool> {
     if word_at(words, 0) != "frames" {
-        return judge_paths(rt, words);
+        return judge_words(rt, words);
     }
     answer_frames(rt, word_at(words, 1), word_at(words, 2))?;
     Ok(true)
+}
+
+/// Judges the rows of the files that the words name, and says whether none of them is wrong.
+fn judge_words(rt: &HostRuntime, words: &[String]) -> Result<bool> {
+    let mut judge = Judge::new(rt.alloc())?;
+    judge_paths(rt, &mut judge, words)
 }
 
 fn main(rt: HostRuntime) -> Result<ExitCode> {
