@@ -1,12 +1,13 @@
 //! A class's reach is gathered from a table.
 
-ghost use Rattle.std.specs.Prelude.{◌≡◌, [], IfOk, OnOk, length};
+ghost use Rattle.std.specs.Prelude.{◌≡◌, ◌<◌, ◌≤◌, [], IfOk, OnOk, length};
 ghost use Rattle.jc_classes.specs.Lent.{stands_of};
-ghost use Rattle.jc_classes.specs.Numbers.{IsOnce};
+ghost use Rattle.jc_classes.specs.Names.{object as java_lang_object};
+ghost use Rattle.jc_classes.specs.Numbers.{IsOnce, name_at};
 ghost use Rattle.jc_link.specs.Closures.{IsClosure};
 ghost use Rattle.jc_link.specs.Meters.{counted};
 ghost use Rattle.jc_link.specs.Tables.{world};
-ghost use Rattle.jc_link.specs.inside.Gathering.{IsReached, rows_in, stands_in};
+ghost use Rattle.jc_link.specs.inside.Gathering.{Gathering, IsReached, rows_in, stands_in};
 
 use crate::closure::Closure;
 use crate::meter::Meter;
@@ -32,22 +33,56 @@ pub fn gather<'t>(
     ensures made { meter.new.made ≡ meter.old.made }
 {
     let mut numbers = Numbers::new(alloc);
-    let own = stand_at(table, outside, name, meter);
-    numbers.number(alloc, name)?;
-    let object = numbers.number(alloc, b"java/lang/Object")?;
-    let references = number_references(alloc, &mut numbers, own)?;
-    let mut reached = Reached::with_room(alloc, numbers.len())?;
-    reached.push(alloc, &mut numbers, own)?;
-    while reached.standing.len() < numbers.len() {
-        let next = stand_at(table, outside, numbers.name(reached.standing.len()), meter);
-        reached.push(alloc, &mut numbers, next)?;
-    }
+    let reach = number_reach(alloc, table, outside, name, &mut numbers, meter)?;
     let (found, names) = numbers.into_lists(alloc)?;
     Ok(Closure {
         names: NameList::of(names),
         found,
-        standing: reached.standing,
-        supertypes: reached.supertypes,
+        standing: reach.reached.standing,
+        supertypes: reach.reached.supertypes,
+        references: reach.references,
+        object: reach.object,
+    })
+}
+
+/// A reach by the numbers of its names.
+#[derive(Drop)]
+struct NumberedReach<'t> {
+    reached: Reached<'t>,
+    /// The number of the class that each reference of the name names.
+    references: Vec<Option<usize>>,
+    /// The number of `java/lang/Object`.
+    object: usize,
+}
+
+/// Numbers the names of the reach of a name, where none has a number yet.
+fn number_reach<'t>(
+    alloc: Global,
+    table: &'t Table,
+    outside: &Outside,
+    name: &[u8],
+    numbers: &mut Numbers,
+    meter: &mut Meter,
+) -> Result<NumberedReach<'t>, NoMemory>
+    requires { numbers.old ≡ [] }
+    ensures gathering { IfOk result (λ r. Gathering (world table.now outside.now) name.now numbers.new (stands_in r.reached.standing.items) (rows_in r.reached.supertypes.items) r.references.items) }
+    ensures whole { IfOk result (λ r. length numbers.new ≤ length (stands_in r.reached.standing.items)) }
+    ensures object { IfOk result (λ r. (r.object < length numbers.new) × (name_at numbers.new r.object ≡ java_lang_object)) }
+    ensures asks { IfOk result (λ r. meter.new.asks ≡ counted meter.old.asks (length (stands_in r.reached.standing.items))) }
+    ensures made { meter.new.made ≡ meter.old.made }
+{
+    let own = stand_at(table, outside, name, meter);
+    numbers.number(alloc, name)?;
+    let object = numbers.number(alloc, b"java/lang/Object")?;
+    let references = number_references(alloc, numbers, own)?;
+    let mut reached = Reached::with_room(alloc, numbers.len())?;
+    reached.push(alloc, numbers, own)?;
+    while reached.standing.len() < numbers.len() {
+        let next = stand_at(table, outside, numbers.name(reached.standing.len()), meter);
+        reached.push(alloc, numbers, next)?;
+    }
+    Ok(NumberedReach {
+        reached,
         references,
         object,
     })
