@@ -162,17 +162,16 @@ impl Assembler {
     /// Takes the words of a line.
     fn take(&mut self, tokens: &[Token]) -> Result<()> {
         match tokens {
-            [Token::Word("refers"), rest @ ..] => self.refer(rest)?,
-            [Token::Word(word), value] => self.set(word, value)?,
+            [Token::Word("refers"), rest @ ..] => self.refer(rest),
+            [Token::Word(word), value] => self.set(word, value),
             [
                 Token::Word(kind),
                 Token::Word(flags),
                 Token::Quoted(name),
                 Token::Quoted(descriptor),
-            ] => self.declare(kind, hexadecimal(flags)?, name, descriptor),
+            ] => self.declare(kind, flags, name, descriptor),
             _ => bail!("no line of a class"),
         }
-        Ok(())
     }
 
     /// Takes a line of two words.
@@ -191,7 +190,8 @@ impl Assembler {
     }
 
     /// A field or a method, with the code `return` where it has one.
-    fn declare(&mut self, kind: &str, flags: u16, name: &str, descriptor: &str) {
+    fn declare(&mut self, kind: &str, flags: &str, name: &str, descriptor: &str) -> Result<()> {
+        let flags = hexadecimal(flags)?;
         let name = self.pool.utf8(name);
         let descriptor = self.pool.utf8(descriptor);
         if kind == "field" {
@@ -199,6 +199,7 @@ impl Assembler {
         } else {
             self.add_method(flags, name, descriptor);
         }
+        Ok(())
     }
 
     fn add_method(&mut self, flags: u16, name: u16, descriptor: u16) {

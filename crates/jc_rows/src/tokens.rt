@@ -45,18 +45,28 @@ fn first_token(text: &str) -> Result<(Token<'_>, &str)> {
         }
     }
     if let Some(rest) = text.strip_prefix('"') {
-        let (quoted, rest) = rest.split_once('"').context("a quote without its end")?;
-        return Ok((Token::Quoted(quoted), rest));
+        return quoted(rest);
     }
     if let Some(rest) = text.strip_prefix('*') {
-        let (digits, rest) = split_word(rest);
-        let times = digits
-            .parse::<usize>()
-            .context("a star without its number")?;
-        return Ok((Token::Times(times), rest));
+        return times(rest);
     }
     let (word, rest) = split_word(text);
     Ok((Token::Word(word), rest))
+}
+
+/// What stands up to the next quote.
+fn quoted(text: &str) -> Result<(Token<'_>, &str)> {
+    let (quoted, rest) = text.split_once('"').context("a quote without its end")?;
+    Ok((Token::Quoted(quoted), rest))
+}
+
+/// The number behind a star.
+fn times(text: &str) -> Result<(Token<'_>, &str)> {
+    let (digits, rest) = split_word(text);
+    let times = digits
+        .parse::<usize>()
+        .context("a star without its number")?;
+    Ok((Token::Times(times), rest))
 }
 
 /// The tokens of a line up to its comment or its arrow, and what stands behind the arrow if it has one.

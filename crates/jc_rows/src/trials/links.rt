@@ -62,13 +62,18 @@ fn part_of(alloc: Global, table: &Table, name: &[u8], meter: &mut Meter) -> Resu
 /// a file's bytes by turns. A file is passed over where it is unreadable or an earlier one gives its class.
 fn table_of(alloc: Global, frame: &[u8]) -> Result<(Table, Meter), NoMemory> {
     let (mut table, meter) = Table::new(alloc)?;
+    fill(alloc, &mut table, frame)?;
+    Ok((table, meter))
+}
+
+fn fill(alloc: Global, table: &mut Table, frame: &[u8]) -> Result<(), NoMemory> {
     let mut frames = Frames::new(frame);
     while let (Some(path), Some(bytes)) = (frames.next(), frames.next()) {
         if let Some(facts) = facts_of(alloc, path, bytes)? {
-            put_first(&mut table, facts)?;
+            put_first(table, facts)?;
         }
     }
-    Ok((table, meter))
+    Ok(())
 }
 
 fn facts_of(alloc: Global, path: &[u8], bytes: &[u8]) -> Result<Option<Facts>, NoMemory> {
