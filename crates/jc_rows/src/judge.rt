@@ -21,7 +21,7 @@ use jc_text::TextWriter;
 use std::alloc::{AllocError, Global};
 use std::io::ErrorKind;
 use std::rt::Files;
-use std::{fs, io};
+use std::{fs, io, mem};
 
 /// How many rows a file has, and how many of them are wrong.
 #[derive(Clone, Copy)]
@@ -143,7 +143,7 @@ impl Judge {
 
     /// Begins a new session.
     fn renew(&mut self, alloc: Global) -> Result<(), AllocError> {
-        self.session = new_session(alloc)?;
+        drop(mem::replace(&mut self.session, new_session(alloc)?));
         Ok(())
     }
 

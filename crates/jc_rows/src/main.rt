@@ -143,7 +143,9 @@ fn run_words(rt: &HostRuntime, words: &[String]) -> Result<bool> {
 /// Judges the rows of the files that the words name, and says whether none of them is wrong.
 fn judge_words(rt: &HostRuntime, words: &[String]) -> Result<bool> {
     let mut judge = Judge::new(rt.alloc())?;
-    judge_paths(rt, &mut judge, words)
+    let are_right = judge_paths(rt, &mut judge, words);
+    drop(judge);
+    are_right
 }
 
 fn main(rt: HostRuntime) -> Result<ExitCode> {

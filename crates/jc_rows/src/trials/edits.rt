@@ -55,7 +55,9 @@ fn write_line<W: Output>(out: &mut W, line: &[u8]) {
 fn write_list<W: Output>(alloc: Global, out: &mut W, frame: &[u8]) -> Result<(), NoMemory> {
     let mut frames = Frames::new(frame);
     let mut session = Session::new(alloc, outside(alloc, &mut frames)?)?;
-    do_steps(alloc, out, &mut session, &mut frames)
+    let done = do_steps(alloc, out, &mut session, &mut frames);
+    drop(session);
+    done
 }
 
 fn do_steps<W: Output>(
