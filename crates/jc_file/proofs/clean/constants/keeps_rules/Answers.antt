@@ -1,4 +1,5 @@
-use Rattle.std.proofs.Common.{refl}
+use Rattle.std.proofs.Common.{arith, refl}
+use Rattle.std.proofs.lemmas.Grind.{common_steps}
 use Rattle.jc_view.specs.Lent.{constant_of}
 use Rattle.jc_file.specs.declared.clean.roles.Role.TheVariants as roles
 use Rattle.jc_file.proofs.clean_file.Entries.{method_entry_kept, field_entry_kept}
@@ -13,3 +14,6 @@ returns-else-is_method_entry-clause-kept c = λ e.
     let class = c.args.roles.now in
     field_entry_kept class c.args.index (constant_of c.args.constant) c.requires.at
     (served roles.FieldEntry class c.is_method_entry.new.roles c.args.index c.args.index c.is_method_entry.ensures.same refl (c.is_field_entry-else-is_method_entry.ensures.serves e))
+
+pub returns-in-MethodType-clause-kept : goal.returns-in-MethodType-clause-kept
+returns-in-MethodType-clause-kept c = grind (arith, common_steps)
