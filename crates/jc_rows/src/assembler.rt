@@ -161,27 +161,24 @@ impl Assembler {
 
     /// Takes the words of a line.
     fn take(&mut self, tokens: &[Token]) -> Result<()> {
-        match tokens {
-            [Token::Word("refers"), rest @ ..] => self.refer(rest),
-            [Token::Word(word), value] => self.set(word, value),
-            [
-                Token::Word(kind),
-                Token::Word(flags),
-                Token::Quoted(name),
-                Token::Quoted(descriptor),
-            ] => self.declare(kind, flags, name, descriptor),
-            _ => bail!("no line of a class"),
+        let [Token::Word(word), rest @ ..] = tokens else {
+            bail!("no line of a class");
+        };
+        match *word {
+            "refers" => self.refer(rest),
+            "field" | "method" => self.declare(word, rest),
+            _ => self.set(word, rest),
         }
     }
 
     /// Takes a line of two words.
-    fn set(&mut self, word: &str, value: &Token) -> Result<()> {
-        match (word, value) {
-            ("version", Token::Word(major)) => self.major = major.parse::<u16>()?,
-            ("flags", Token::Word(flags)) => self.flags = hexadecimal(flags)?,
-            ("super", Token::Word("none")) => self.super_class = 0,
-            ("super", Token::Quoted(name)) => self.super_class = self.pool.class(name),
-            ("implements", Token::Quoted(name)) => {
+    fn set(&mut self, word: &str, values: &[Token]) -> Result<()> {
+        match (word, values) {
+            ("version", [Token::Word(major)]) => self.major = major.parse::<u16>()?,
+            ("flags", [Token::Word(flags)]) => self.flags = hexadecimal(flags)?,
+            ("super", [Token::Word("none")]) => self.super_class = 0,
+            ("super", [Token::Quoted(name)]) => self.super_class = self.pool.class(name),
+            ("implements", [Token::Quoted(name)]) => {
                 self.interfaces.add(&[self.pool.class(name)], &[]);
             }
             _ => bail!("no line of a class"),
@@ -190,7 +187,15 @@ impl Assembler {
     }
 
     /// A field or a method, with the code `return` where it has one.
-    fn declare(&mut self, kind: &str, flags: &str, name: &str, descriptor: &str) -> Result<()> {
+    fn declare(&mut self, kind: &str, tokens: &[Token]) -> Result<()> {
+        let [
+            Token::Word(flags),
+            Token::Quoted(name),
+            Token::Quoted(descriptor),
+        ] = tokens
+        else {
+            bail!("no line of a class");
+        };
         let flags = hexadecimal(flags)?;
         let name = self.pool.utf8(name);
         let descriptor = self.pool.utf8(descriptor);
