@@ -175,7 +175,8 @@ fn fill_files<'t>(
     meter: &mut Meter,
 ) -> Result<(), NoMemory>
     requires { map lent.row_lent files.old.items ≡ [] }
-    ensures { (f : Files) → IsTree f tree.now → OnOk result (map lent.row_lent files.new.items ≡ rows f) }
+    ensures rows { (f : Files) → IsTree f tree.now → OnOk result (map lent.row_lent files.new.items ≡ rows f) }
+    ensures made { meter.new.made ≡ meter.old.made }
 {
     for (path, outcome) in &tree.outcomes {
         let state = tree.state(path, outcome, meter);

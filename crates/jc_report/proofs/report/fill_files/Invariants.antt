@@ -1,7 +1,11 @@
+use Rattle.std.proofs.Common.{◌≡◌}
 use Rattle.jc_report.specs.Files.{Files}
 use Rattle.jc_report.specs.Trees.{IsTree}
 use Rattle.jc_report.proofs.trees.RowsOfFiles.{AreMade}
 use Rattle.jc_report.proofs.report.fill_files.Given as goal
 
 abbrev pub invariant-loop-path : goal.invariant-loop-path
-invariant-loop-path l = (f : Files) → IsTree f l.tree → AreMade f l.files.items l.path-iterator
+invariant-loop-path l = record {
+  made : l.meter.made ≡ l.fn.meter.made;
+  rows : (f : Files) → IsTree f l.tree → AreMade f l.files.items l.path-iterator;
+}
