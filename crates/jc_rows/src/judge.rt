@@ -53,7 +53,7 @@ pub(crate) fn judge_file(
     text: &str,
 ) -> Result<Tally> {
     let rows = rows_of(rt.alloc(), text)?;
-    judge.names = ByteMap::new(rt.alloc());
+    judge.forget(rt.alloc())?;
     judge.judge_rows(rt, path, &rows)
 }
 
@@ -139,6 +139,12 @@ impl Judge {
             _ => return judge_named(rt, &mut self.names, kind, what, row),
         }
         self.judge_session(rt.alloc(), kind, what, row)
+    }
+
+    /// Begins anew, with no name and a new session.
+    fn forget(&mut self, alloc: Global) -> Result<(), AllocError> {
+        self.names = ByteMap::new(alloc);
+        self.renew(alloc)
     }
 
     /// Begins a new session.
