@@ -1,7 +1,7 @@
 """What the trials share: the programs that they run, class files from javac, and memory that is refused.
 
-A trial is run from anywhere by its path, as trials/parse/run.py. The program jc_rows, with the word frames,
-answers frames of its input; its next word says what is asked of them.
+A trial is run from anywhere by its path, as trials/parse/run.py. The program jc_asked answers frames of its input; its
+first word says what is asked of them. Its sources stand in trials/asked, apart from the crates that `rt ci` proves.
 """
 import argparse
 import importlib.util
@@ -16,10 +16,12 @@ import zipfile
 
 TOP = pathlib.Path(__file__).resolve().parent.parent
 TRIALS = TOP / "trials"
-CRATE = TOP / "crates" / "jc_rows"
-PROGRAM = CRATE / "out" / "jc_rows"
+# A copy of the tree in which jc_asked is a crate, and what that crate stands on.
+COPY = pathlib.Path(tempfile.gettempdir()) / "jclink-asked"
+ASKED = COPY / "crates" / "jc_asked"
+LIBRARIES = "jc_base jc_text jc_file jc_code jc_list jc_link jc_report jc_session"
 # The command that answers frames, but for what is asked of them.
-ANSWERS = [PROGRAM, "frames"]
+ANSWERS = [ASKED / "out" / "jc_asked"]
 # The environment may name another program.
 JCLINK = pathlib.Path(os.environ.get("JCLINK", TOP / "crates" / "jclink" / "out" / "jclink"))
 
@@ -51,11 +53,31 @@ def load(path):
     return module
 
 
+def copy_anew(folder, to):
+    shutil.rmtree(to, ignore_errors=True)
+    if folder.exists():
+        shutil.copytree(folder, to)
+
+
+def make_copy():
+    """The sources of all crates as they stand, and those of jc_asked beside them. What was proved there before stays."""
+    for crate in (TOP / "crates").iterdir():
+        for part in ("src", "specs", "proofs"):
+            copy_anew(crate / part, COPY / "crates" / crate.name / part)
+    shutil.rmtree(ASKED / "src", ignore_errors=True)
+    (ASKED / "src").mkdir(parents=True)
+    for source in (TRIALS / "asked").glob("*.rt.in"):
+        shutil.copy(source, ASKED / "src" / source.name.removesuffix(".in"))
+    shutil.copy(TOP / "HANDLES", COPY)
+    (COPY / "crates.txt").write_text((TOP / "crates.txt").read_text() + f"jc_asked: {LIBRARIES}\n")
+
+
 def build():
-    """Proves and builds jc_rows, where that is still to do."""
-    done = subprocess.run(["rt", "run", "--", "frames", "faults"], cwd=CRATE, stdin=subprocess.DEVNULL, capture_output=True, check=False)
-    if done.returncode != 0 or not PROGRAM.exists():
-        sys.exit("the program was not built:\n" + done.stderr.decode())
+    """Proves and builds jc_asked, where that is still to do."""
+    make_copy()
+    done = subprocess.run(["rt", "run", "--", "faults"], cwd=ASKED, stdin=subprocess.DEVNULL, capture_output=True, check=False)
+    if done.returncode != 0 or not ANSWERS[0].exists():
+        sys.exit("the program was not built:\n" + done.stdout.decode() + done.stderr.decode())
 
 
 def number(size, value):

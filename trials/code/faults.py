@@ -2,7 +2,7 @@
 """Compares the code faults that the library finds with those of a plain judge, over changed methods.
 
 Compiles the sources of trials/sources for Java 7 and 8, and changes the code of methods in places that
-each rule looks at, some of them in several. The class files are judged by the program jc_rows and by
+each rule looks at, some of them in several. The class files are judged by the program jc_asked and by
 judge.py beside this file.
 
 Usage: faults.py [--seed N] [--changes N], N being the changed methods of each class file. It needs what

@@ -3,7 +3,7 @@
 
 Compiles the sources of trials/sources, collects each descriptor and signature that javap tells, and for
 each takes the text itself and the text with one byte dropped, doubled or changed, at every place. The
-program jc_rows and the recogniser beside this file answer each of them, and the answers are compared.
+program jc_asked and the recogniser beside this file answer each of them, and the answers are compared.
 
 Usage: run.py [--seed N]. It builds the program by `rt run`, and needs javac 9 to 19 and javap.
 """

@@ -6,7 +6,7 @@ The judge (trials/check, trials/link) makes the whole report afresh from the fil
 the library. An edit has to make just the parts of the classes behind it whose reach held a name that it touched, or
 that it brought, and may ask for their reaches' names, and two more.
 
-Usage: run.py [SEED [COUNT]], seed 1 and 2,000 lists where none is given, once jc_rows is built.
+Usage: run.py [SEED [COUNT]], seed 1 and 2,000 lists where none is given. It builds jc_asked.
 """
 import argparse
 import collections
@@ -149,6 +149,7 @@ def main():
     parser.add_argument("seed", type=int, nargs="?", default=1)
     parser.add_argument("count", type=int, nargs="?", default=2000)
     options = parser.parse_args()
+    common.build()
     told, differ = collections.Counter(), 0
     for start in range(0, options.count, BATCH):
         numbers = range(start, min(start + BATCH, options.count))

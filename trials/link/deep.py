@@ -2,7 +2,7 @@
 """The part of the last of many classes that reach one another: in a chain, in a ring, and in other shapes.
 
 Usage: deep.py [COUNT]. COUNT is the greatest number of classes, 65,535 where none is given; each shape is made
-with that many, and with a half, a quarter and an eighth of them. It builds the program jc_rows by `rt run`, and
+with that many, and with a half, a quarter and an eighth of them. It builds the program jc_asked by `rt run`, and
 tells asks and seconds of a processor, less those of as many classes that reach only themselves.
 """
 import pathlib

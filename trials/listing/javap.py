@@ -1,7 +1,7 @@
 #!/usr/bin/env python3
 """Compares listings with what `javap -c -p -v` prints.
 
-Compiles the sources of trials/sources for Java 7 and 8, lets the program jc_rows list each class file,
+Compiles the sources of trials/sources for Java 7 and 8, lets the program jc_asked list each class file,
 reads the listings and javap's text into the same words, and compares them line by line: the class with
 its flags, version and superclass, how many interfaces, members and attributes it has, the constants, the
 members with their flags, signatures and source file, each instruction with its operands and the reference

@@ -5,7 +5,7 @@ Both read the same class files from a file and write their text to one; the prog
 file too, and the plain one judges nothing. The times are seconds of a processor, the least of several runs.
 
 Usage: plain.py [--jars FOLDER] [--seed N]. Without --jars it lists what it compiles from trials/sources. It
-builds jc_rows by `rt run`, and needs javac and rustc.
+builds jc_asked by `rt run`, and needs javac and rustc.
 """
 import pathlib
 import resource

@@ -1,7 +1,7 @@
 #!/usr/bin/env python3
 """Refuses each request for memory of edits in turn, and compares what the session says before and after.
 
-Usage: edits.py, once jc_rows is built. It needs a C compiler.
+Usage: edits.py, which builds jc_asked. It needs a C compiler.
 Each edit of a few lists is asked for twice, with the report and the dependants of the lists' names behind each time. An
 edit that is refused for want of memory has to leave both as they were, and the same edit then gives what it would have
 given. Last, how many requests the edit makes that adds one more class to 200, and to 400, that refer to no other.
@@ -115,6 +115,7 @@ def requests_of_the_last(classes, folder, shim):
 
 
 def main():
+    common.build()
     with common.Workplace() as folder:
         shim = common.make_shim(folder)
         print("| list | edits | requests | refused the edit | outside of edits | could be done without |\n|---|---|---|---|---|---|")

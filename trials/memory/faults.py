@@ -1,5 +1,5 @@
 #!/usr/bin/env python3
-"""Refuses each request for memory of jc_rows in turn while it looks for format faults.
+"""Refuses each request for memory of jc_asked in turn while it looks for format faults.
 
 Usage: faults.py. It builds the program by `rt run`, and needs a C compiler. The line of the file that is being judged is then a refusal for want of memory, and the line of any other
 file is as it is with ample memory; or the program ends with an error before it answers.

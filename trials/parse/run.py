@@ -2,7 +2,7 @@
 """Compares what parse answers with what a plain reader answers, over a real tree of class files.
 
 Compiles the sources of trials/sources for Java 7 and 8, and for each class file takes the file itself,
-cuts of it and changes of it. The program jc_rows and the reader beside this file answer each of them,
+cuts of it and changes of it. The program jc_asked and the reader beside this file answer each of them,
 and the answers are compared, places included.
 
 Usage: run.py [--seed N] [--jars FOLDER]. With a folder of jars it also takes 300 readable class files of

@@ -1,13 +1,13 @@
 #!/usr/bin/env python3
 """Measures Insns and faults_in beside parse: over a tree of class files, and over code of doubled size.
 
-The program jc_rows reads the files once, goes over them N times in memory and prints a sum. The
+The program jc_asked reads the files once, goes over them N times in memory and prints a sum. The
 processor time of N rounds less that of none is the time of the rounds. Each figure is the least of
 several runs.
 
 Usage: code.py [--tree FOLDER] [--reference PROGRAM]. Without --tree it compiles the sources of
 trials/sources. A reference is a program that parses and decodes the class files below a folder: called
-with `-r FOLDER` it prints `in-memory SECONDS s`. It builds jc_rows by `rt run`, and needs javac.
+with `-r FOLDER` it prints `in-memory SECONDS s`. It builds jc_asked by `rt run`, and needs javac.
 """
 import argparse
 import pathlib

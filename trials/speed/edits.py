@@ -1,9 +1,9 @@
 #!/usr/bin/env python3
 """Measures what edits cost on a standing tree: all its files added one by one, then edits of classes with few and many
 dependants. Milliseconds from a line of `jclink session` to its answer, the reading of the file with them; parts and
-names asked for as jc_rows tells them of the same edits.
+names asked for as jc_asked tells them of the same edits.
 
-Usage: edits.py TREE, once jclink and jc_rows are built. What depends on a class is found by this script's own
+Usage: edits.py TREE, once jclink is built; it builds jc_asked. What depends on a class is found by this script's own
 reading of the class files. Each edit of the second table is made three times, and the least time told.
 """
 import collections
@@ -184,6 +184,7 @@ def measure(folder, beside):
 
 
 def main():
+    common.build()
     with common.Workplace() as beside:
         measure(pathlib.Path(sys.argv[1]), beside)
 

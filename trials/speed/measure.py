@@ -1,4 +1,4 @@
-"""Measuring jc_rows: the processor time of N rounds over frames in memory, less that of none."""
+"""Measuring jc_asked: the processor time of N rounds over frames in memory, less that of none."""
 import os
 import subprocess
 import sys

@@ -1,7 +1,7 @@
 #!/usr/bin/env python3
 """Measures parse: megabytes a second over a real tree, and files of doubled counts.
 
-The program jc_rows reads the files once, goes over them N times in memory and prints a sum. The
+The program jc_asked reads the files once, goes over them N times in memory and prints a sum. The
 processor time of N rounds less that of none is the time of the rounds, so neither the start of the
 program nor its input counts. Each figure is the least of several runs.
 

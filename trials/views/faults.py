@@ -3,7 +3,7 @@
 
 Compiles the sources of trials/sources for Java 7 and 8, and changes each class file in many single
 places and some in several: indexes, tags of the same size, flags, bytes of texts and of attributes.
-Those that stay readable are judged by the program jc_rows and by judge.py beside this file.
+Those that stay readable are judged by the program jc_asked and by judge.py beside this file.
 
 Usage: faults.py [--seed N] [--changes N]. It needs what javap.py needs.
 """

@@ -1,6 +1,5 @@
 //! Judges files of rows by the libraries' public calls. The words are the names of the files; a line is
-//! printed for each file and for each row that is wrong, and the status is 1 if one is. With the words
-//! `frames WHAT` the program answers what trials ask (`src/trials.rt`).
+//! printed for each file and for each row that is wrong, and the status is 1 if one is.
 //!
 //! A file of rows is text. `#` begins a comment, and a line that begins with a blank goes on with the
 //! row above it.
@@ -79,7 +78,6 @@ mod prefix_answers;
 mod row;
 mod text_answers;
 mod tokens;
-mod trials;
 
 use anyhow::{Context, Result};
 use judge::{Judge, judge_file};
@@ -87,7 +85,6 @@ use std::env::Env;
 use std::process::ExitCode;
 use std::rt::Files;
 use std::{env, fs, io};
-use trials::answer_frames;
 
 /// The words after the program's name.
 fn words(rt: &(impl Env + AllocGlobal)) -> io::Result<Vec<String>> {
@@ -123,25 +120,8 @@ fn judge_paths(
     Ok(are_right)
 }
 
-/// The word at a place, empty where there is none.
-fn word_at(words: &[String], place: usize) -> &str {
-    match words.get(place) {
-        Some(word) => word.as_str(),
-        None => "",
-    }
-}
-
-/// Does what the words ask for, and says whether no row is wrong.
-fn run_words(rt: &HostRuntime, words: &[String]) -> Result<bool> {
-    if word_at(words, 0) != "frames" {
-        return judge_words(rt, words);
-    }
-    answer_frames(rt, word_at(words, 1), word_at(words, 2))?;
-    Ok(true)
-}
-
 /// Judges the rows of the files that the words name, and says whether none of them is wrong.
-fn judge_words(rt: &HostRuntime, words: &[String]) -> Result<bool> {
+fn judge_words(rt: &(impl Files + AllocGlobal + Print), words: &[String]) -> Result<bool> {
     let mut judge = Judge::new(rt.alloc())?;
     let are_right = judge_paths(rt, &mut judge, words);
     drop(judge);
@@ -150,7 +130,7 @@ fn judge_words(rt: &HostRuntime, words: &[String]) -> Result<bool> {
 
 fn main(rt: HostRuntime) -> Result<ExitCode> {
     let words = words(&rt)?;
-    Ok(if run_words(&rt, &words)? {
+    Ok(if judge_words(&rt, &words)? {
         ExitCode::SUCCESS
     } else {
         ExitCode::FAILURE
