@@ -99,21 +99,6 @@ impl<'a> Cursor<'a> {
         Some(front)
     }
 
-    /// A length of four bytes and the bytes that it counts: these, as the slice of the input that
-    /// they are.
-    pub fn take_sized(&mut self) -> Option<&'a [u8]>
-        ensures some { IsSome result ↔ HasLeft (4 + big_number 4 self.old.rest) self.old }
-        ensures slice { IfSome result (λ bytes. bytes.now ≡ take (big_number 4 self.old.rest) (drop 4 self.old.rest)) }
-        ensures moved { IfSome result (λ _. self.new ≡ past (4 + big_number 4 self.old.rest) self.old) }
-        ensures none { IfNone result (self.new ≡ self.old) }
-    {
-        let mut ahead = self.fork();
-        let count = ahead.u4()?;
-        let bytes = ahead.take(count as usize)?;
-        *self = ahead;
-        Some(bytes)
-    }
-
     /// The next byte.
     pub fn u1(&mut self) -> Option<u8>
         ensures some { IsSome result ↔ HasLeft 1 self.old }
