@@ -16,6 +16,8 @@ TOP = Path(__file__).resolve().parents[2]
 USE = re.compile(r"^\s*(?:ghost )?use (Rattle\.[\w.+]+?)(?:\.\{([^}]*)\}| as (\w+))?;?\s*$", re.M)
 DEFINITION = re.compile(r"^(?:abbrev pub|unfoldable pub|pub record|pub data|abbrev|unfoldable|pub|record|data) (?!mod |use )(\S+)")
 WORD = re.compile(r"(?<![\w'.-])([^\W\d][\w'-]*)(?:\.([^\W\d][\w'-]*))?|(◌[^◌\s]+◌)")
+# crates that only the crate above them uses, which passes none of their calls on: these are no public clauses
+INNER = ("jc_clean",)
 SEEN_BY_CALLERS = ("Value", "next_gives", "remaining", "from_gives", "answers", "asked", "failures", "written", "bound")
 
 
@@ -156,9 +158,11 @@ def roots(specs):
     """What the public clauses speak of, by crate."""
     found = {}
     for path in sorted(TOP.glob("crates/*/src/**/*.rt")):
+        crate = path.relative_to(TOP / "crates").parts[0]
+        if crate in INNER:
+            continue
         text = path.read_text()
         names = imports(text)
-        crate = path.relative_to(TOP / "crates").parts[0]
         for clause in public_clauses(text):
             for word, member, operator in WORD.findall(clause):
                 target = specs.find(names, word, member)
