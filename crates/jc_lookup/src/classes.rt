@@ -82,7 +82,7 @@ impl<'c, 't> Classes<'c, 't> {
     }
 
     /// Whether two nodes are of one package.
-    pub fn are_together(&self, node: usize, other: usize) -> bool
+    pub(crate) fn are_together(&self, node: usize, other: usize) -> bool
         ensures { result ≡ same_name (package_of (name_at (indexed_of self.now) node)) (package_of (name_at (indexed_of self.now) other)) }
     {
         same(package(self.name(node)), package(self.name(other)))
@@ -97,7 +97,7 @@ impl<'c, 't> Classes<'c, 't> {
     }
 
     /// Whether a node is outside.
-    pub fn is_outside(&self, node: usize) -> bool
+    pub(crate) fn is_outside(&self, node: usize) -> bool
         requires { node < length self.now.standing.now }
         ensures { result ≡ lies_outside (indexed_of self.now) node }
     {
