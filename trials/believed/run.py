@@ -2,8 +2,8 @@
 """Which definitions a reader has to believe: those that the public clauses of each crate speak of.
 
 Run from the repository's root: trials/believed/run.py
-It reads the clauses of each `pub fn` and the ghost members that callers see, follows the names through the imports
-of src/ and specs/, and compares:
+It reads the clauses of each `pub fn` and the ghost members that callers see, but for those of the inner crates,
+follows the names through the imports of src/ and specs/, and compares:
 - each definition of specs/ outside specs/inside/ is reached by a public clause of some crate, and none inside is;
 - docs/ARCHITECTURE.md lists for each crate exactly the files of specs/ that hold a definition which is reached.
 It exits with 1 where something differs. With the word `list` it prints the files and how many definitions each has.
@@ -16,8 +16,8 @@ TOP = Path(__file__).resolve().parents[2]
 USE = re.compile(r"^\s*(?:ghost )?use (Rattle\.[\w.+]+?)(?:\.\{([^}]*)\}| as (\w+))?;?\s*$", re.M)
 DEFINITION = re.compile(r"^(?:abbrev pub|unfoldable pub|pub record|pub data|abbrev|unfoldable|pub|record|data) (?!mod |use )(\S+)")
 WORD = re.compile(r"(?<![\w'.-])([^\W\d][\w'-]*)(?:\.([^\W\d][\w'-]*))?|(◌[^◌\s]+◌)")
-# crates that only the crate above them uses, which passes none of their calls on: these are no public clauses
-INNER = ("jc_clean",)
+# Only the crate above uses the calls of these, and it passes none of them on: their clauses are not public.
+INNER = ("jc_clean", "jc_lookup")
 SEEN_BY_CALLERS = ("Value", "next_gives", "remaining", "from_gives", "answers", "asked", "failures", "written", "bound")
 
 

@@ -1,5 +1,3 @@
-pub mod CanUses
-pub mod BeyondLemmas
 pub mod Begins
 pub mod Making
 pub mod Texts

@@ -1,5 +1,4 @@
 pub mod Loadings
 pub mod Goods
 pub mod Nets
-pub mod PackageLemmas
 pub mod Held

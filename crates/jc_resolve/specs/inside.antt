@@ -1,12 +1,8 @@
-pub mod Access
 pub mod AnswersShown
 pub mod Chain
-pub mod Indexed
 pub mod Loaded
 pub mod Loading
 pub mod Looking
 pub mod Net
 pub mod Picks
 pub mod Resolved
-pub mod Settled
-pub mod Shown

@@ -7,18 +7,18 @@ ghost use Rattle.jc_classes.specs.Loading.Loading.{Loaded};
 ghost use Rattle.jc_classes.specs.Parts.{AreAnswers, class_of};
 ghost use Rattle.jc_classes.specs.Resolution.Answer.{NotLoaded};
 ghost use Rattle.jc_classes.specs.Worlds.{World, references_of};
-ghost use Rattle.jc_resolve.specs.inside.Indexed.{name_at, record_at, IsIndexed};
-ghost use Rattle.jc_resolve.specs.inside.Shown.{indexed_of};
-ghost use Rattle.jc_resolve.specs.inside.Resolved.{loading_of, load_at, TellsLoads, TellsGood};
+ghost use Rattle.jc_lookup.specs.inside.Indexed.{name_at, record_at, IsIndexed};
+ghost use Rattle.jc_lookup.specs.inside.Shown.{indexed_of};
+ghost use Rattle.jc_resolve.specs.inside.Resolved.{loading_of, TellsLoads, TellsGood};
+ghost use Rattle.jc_lookup.specs.inside.Loading.{load_at};
 
 use crate::answer_list::Answers;
 use crate::answers::Answer;
-use crate::classes::Classes;
-use crate::loads::Load;
 use crate::references::resolve;
 use jc_base::NoMemory;
 use jc_classes::{Facts, Standing};
 use jc_graph::Seen;
+use jc_lookup::{Classes, Load};
 use std::alloc::Global;
 
 /// Answers each reference of a class that loads. `above` and `covered` are room to look in.

@@ -4,18 +4,17 @@ ghost use Rattle.std.specs.Prelude.{◌≡◌, ◌<◌, length};
 ghost use Rattle.jc_classes.specs.Worlds.{World, text_of};
 ghost use Rattle.jc_classes.specs.Facts.{Named};
 ghost use Rattle.jc_classes.specs.Resolution.{ResolvesClass, class_answer};
-ghost use Rattle.jc_resolve.specs.inside.Indexed.{name_at, IsIndexed};
-ghost use Rattle.jc_resolve.specs.inside.Shown.{indexed_of};
-ghost use Rattle.jc_resolve.specs.inside.Settled.{answer_of as settled_answer};
-ghost use Rattle.jc_resolve.specs.inside.Resolved.{loading_of, begun_of, ended_of, named_of, outcome_of, IsWithinAll, load_at, TellsLoads};
-ghost use Rattle.jc_resolve.specs.inside.Loading.{sees};
+ghost use Rattle.jc_lookup.specs.inside.Indexed.{name_at, IsIndexed};
+ghost use Rattle.jc_lookup.specs.inside.Shown.{indexed_of};
+ghost use Rattle.jc_lookup.specs.inside.Settled.{answer_of as settled_answer};
+ghost use Rattle.jc_resolve.specs.inside.Resolved.{loading_of, begun_of, ended_of, named_of, outcome_of, IsWithinAll, TellsLoads};
+ghost use Rattle.jc_lookup.specs.inside.Loading.{load_at, sees};
 ghost use Rattle.jc_resolve.specs.Answers.{answer_of};
 
-use crate::classes::Classes;
-use crate::loads::{Load, can_see};
 use crate::resolve::{Begun, NamedNode, Outcome};
-use crate::settle::Settled;
 use jc_classes::{Key, LinkageError};
+use jc_lookup::settle::Settled;
+use jc_lookup::{Classes, Load, can_see};
 
 /// The answer of a reference, with lent texts.
 #[derive(Clone, Copy)]

@@ -5,14 +5,13 @@ ghost use Rattle.std.specs.Option.{IfSome};
 ghost use Rattle.jc_classes.specs.Worlds.{World};
 ghost use Rattle.jc_classes.specs.FieldLookup.{FindsField};
 ghost use Rattle.jc_classes.specs.Lent.{key_lent};
-ghost use Rattle.jc_resolve.specs.inside.Indexed.{name_at, good_at, IsIndexed};
-ghost use Rattle.jc_resolve.specs.inside.Shown.{indexed_of};
-ghost use Rattle.jc_resolve.specs.inside.Looking.{found_at};
+ghost use Rattle.jc_lookup.specs.inside.Indexed.{name_at, good_at, IsIndexed};
+ghost use Rattle.jc_lookup.specs.inside.Shown.{indexed_of, found_at};
 
-use crate::classes::{Classes, Hit};
 use jc_base::NoMemory;
 use jc_classes::Key;
 use jc_graph::Seen;
+use jc_lookup::{Classes, Hit};
 use std::alloc::Global;
 
 /// The field that a class has or inherits.

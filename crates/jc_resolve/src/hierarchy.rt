@@ -11,17 +11,16 @@ ghost use Rattle.jc_classes.specs.Numbers.{name_at};
 ghost use Rattle.jc_classes.specs.Parts.{AreAnswers, class_of};
 ghost use Rattle.jc_classes.specs.Worlds.{World, Above, references_of};
 ghost use Rattle.jc_resolve.specs.Answers.{loading_of};
-ghost use Rattle.jc_resolve.specs.inside.Shown.{indexed_of};
+ghost use Rattle.jc_lookup.specs.inside.Shown.{indexed_of};
 ghost use Rattle.jc_resolve.specs.Numbered.{Agrees, IsClosed, numbered, record_of};
 ghost use Rattle.jc_resolve.specs.inside.Resolved.{loading_of as loading_at};
 
 use crate::all_answers::answers;
 use crate::answer_list::Answers;
-use crate::classes::Classes;
 use crate::loaded::{Loaded, load_classes};
-use crate::loads::Load;
 use jc_base::NoMemory;
 use jc_classes::{LinkageError, Standing};
+use jc_lookup::{Classes, Load};
 use std::alloc::Global;
 use std::marker::Model;
 
@@ -44,7 +43,7 @@ pub struct Hierarchy<'c, 't> {
 
 impl<'c, 't> Model for Hierarchy<'c, 't> {
     ghost use Rattle.std.specs.Prelude.{length};
-    ghost use Rattle.jc_resolve.specs.inside.Shown.{indexed_of};
+    ghost use Rattle.jc_lookup.specs.inside.Shown.{indexed_of};
     ghost use Rattle.jc_resolve.specs.Numbered.{Numbered, numbered};
     ghost use Rattle.jc_resolve.specs.inside.Loaded.{IsLoaded};
 

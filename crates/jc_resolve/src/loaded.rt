@@ -2,17 +2,17 @@
 
 ghost use Rattle.std.specs.Prelude.{◌≡◌, ◌<◌, ℕ, length, false, IfOk};
 ghost use Rattle.jc_graph.specs.Seen.{flag_at};
-ghost use Rattle.jc_resolve.specs.inside.Shown.{indexed_of};
+ghost use Rattle.jc_lookup.specs.inside.Shown.{indexed_of};
 ghost use Rattle.jc_classes.specs.Names.{object as java_lang_object};
-ghost use Rattle.jc_resolve.specs.inside.Indexed.{name_at};
+ghost use Rattle.jc_lookup.specs.inside.Indexed.{name_at};
 ghost use Rattle.jc_resolve.specs.inside.Net.{IsNet, bare};
 ghost use Rattle.jc_resolve.specs.inside.Loaded.{IsLoaded};
 
-use crate::classes::Classes;
-use crate::loads::{Load, good_all, load_all, rank_all};
+use crate::all_loads::{good_all, load_all, rank_all};
 use jc_base::NoMemory;
 use jc_classes::Standing;
 use jc_graph::sort_nodes;
+use jc_lookup::{Classes, Load};
 use std::alloc::Global;
 
 /// Classes with how each loads, and whether it is circular.

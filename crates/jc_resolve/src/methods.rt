@@ -2,20 +2,17 @@
 
 ghost use Rattle.std.specs.Prelude.{◌≡◌, ◌<◌, length, true, IfOk, OnOk, option_map};
 ghost use Rattle.std.specs.Option.{IfSome};
-ghost use Rattle.std.specs.Bool.{Decides};
 ghost use Rattle.jc_classes.specs.Worlds.{World};
 ghost use Rattle.jc_classes.specs.MethodLookup.{FindsInClasses, FindsMethod, FindsInterfaceMethod};
 ghost use Rattle.jc_classes.specs.Lent.{key_lent};
-ghost use Rattle.jc_resolve.specs.inside.Indexed.{name_at, good_at, IsIndexed};
-ghost use Rattle.jc_resolve.specs.inside.Shown.{indexed_of};
-ghost use Rattle.jc_resolve.specs.inside.Looking.{found_at};
-ghost use Rattle.jc_resolve.specs.inside.Chain.{ExtendsNode};
+ghost use Rattle.jc_lookup.specs.inside.Indexed.{name_at, good_at, IsIndexed};
+ghost use Rattle.jc_lookup.specs.inside.Shown.{indexed_of, found_at};
 
-use crate::classes::{Classes, Hit};
-use crate::picks::find_above;
+use crate::superinterfaces::find_above;
 use jc_base::NoMemory;
 use jc_classes::Key;
 use jc_graph::Seen;
+use jc_lookup::{Classes, Hit};
 use std::alloc::Global;
 
 /// The method that a class or one of its superclasses answers.
@@ -35,22 +32,6 @@ pub(crate) fn find_in_classes<'a>(classes: &'a Classes, start: usize, key: Key) 
             None => return None,
         }
     }
-}
-
-/// Whether a class is another, or has it on its chain of superclasses.
-pub(crate) fn extends(classes: &Classes, start: usize, other: usize) -> bool
-    requires start { start < length classes.now.standing.now }
-    requires good { good_at (indexed_of classes.now) start ≡ true }
-    ensures { Decides result (ExtendsNode (indexed_of classes.now) start other) }
-{
-    let mut node = start;
-    while node != other {
-        match classes.superclass(node) {
-            Some(above) => node = above,
-            None => return false,
-        }
-    }
-    true
 }
 
 /// The method that a reference to a method finds.

@@ -3,20 +3,19 @@
 ghost use Rattle.std.specs.Prelude.{◌≡◌, ◌<◌, ℕ, length, true, IfOk, OnOk, option_map};
 ghost use Rattle.jc_classes.specs.Worlds.{World};
 ghost use Rattle.jc_classes.specs.Parts.{ResolvesOf, class_of};
-ghost use Rattle.jc_resolve.specs.inside.Indexed.{Indexed, name_at, good_at, IsIndexed};
-ghost use Rattle.jc_resolve.specs.inside.Shown.{indexed_of};
+ghost use Rattle.jc_lookup.specs.inside.Indexed.{Indexed, name_at, good_at, IsIndexed};
+ghost use Rattle.jc_lookup.specs.inside.Shown.{indexed_of};
 ghost use Rattle.jc_resolve.specs.inside.Resolved.{named_of, IsWithinAll, IsWithinSome, TellsLoads, TellsGood};
 ghost use Rattle.jc_classes.specs.NamedTexts.{named_by};
 ghost use Rattle.jc_classes.specs.Lent.{reference_lent};
 ghost use Rattle.jc_resolve.specs.Answers.{answer_of};
 
 use crate::answers::{Answer, outcome_answer, resolve_class};
-use crate::classes::Classes;
-use crate::loads::Load;
 use crate::resolve::{NamedNode, resolve_field, resolve_interface_method, resolve_method};
 use jc_base::NoMemory;
 use jc_classes::{LinkageError, Reference, ReferenceKind};
 use jc_graph::Seen;
+use jc_lookup::{Classes, Load};
 use std::alloc::Global;
 
 /// What a reference names, by the node of its class.

@@ -9,21 +9,19 @@ ghost use Rattle.jc_classes.specs.declared.linkage_error.LinkageError.TheVariant
 ghost use Rattle.jc_classes.specs.Resolution.{Starts, ResolvesField, ResolvesMethod, ResolvesInterfaceMethod, class_answer, start_of, object_start};
 ghost use Rattle.std.specs.Prelude.{Some};
 ghost use Rattle.jc_classes.specs.Lent.{key_lent};
-ghost use Rattle.jc_resolve.specs.inside.Indexed.{Indexed, name_at, good_at, IsIndexed};
-ghost use Rattle.jc_resolve.specs.inside.Shown.{indexed_of};
-ghost use Rattle.jc_resolve.specs.inside.Access.{named_at, IsTarget};
+ghost use Rattle.jc_lookup.specs.inside.Indexed.{Indexed, name_at, good_at, IsIndexed};
+ghost use Rattle.jc_lookup.specs.inside.Shown.{indexed_of};
+ghost use Rattle.jc_lookup.specs.inside.Access.{named_at, IsTarget};
 ghost use Rattle.jc_resolve.specs.inside.Resolved.{loading_of, begun_of, named_of, element_of, target_at, outcome_of, IsWithinAll, TellsLoads, TellsGood};
 
-use crate::access::Target;
-use crate::classes::Classes;
 use crate::fields::find_field;
-use crate::loads::{Load, can_see};
 use crate::methods::{find_interface_method, find_method};
-use crate::settle::{Settled, settle};
 use jc_base::NoMemory;
 use jc_classes::{Key, LinkageError};
 use jc_file::AccessFlag;
 use jc_graph::Seen;
+use jc_lookup::settle::{Settled, settle};
+use jc_lookup::{Classes, Load, Target, can_see};
 use std::alloc::Global;
 
 /// What a Class constant names: a class, or an array with its innermost class.

@@ -15,11 +15,12 @@ use Rattle.jc_classes.proofs.worlds.One.{load_one}
 use Rattle.jc_classes.proofs.worlds.Local.{parents_are}
 use Rattle.jc_graph.specs.Graph as graphs
 use Rattle.jc_graph.specs.Graph.{TellsCircular, IsOrder}
-use Rattle.jc_resolve.specs.declared.loads.Load.{Load}
-use Rattle.jc_resolve.specs.declared.loads.Load.TheVariants.{Loaded, Outside, Fails}
-use Rattle.jc_resolve.specs.inside.Indexed.{Indexed, name_at, IsGraph, IsIndexed}
-use Rattle.jc_resolve.specs.inside.Resolved.{load_at, loading_of, TellsLoads}
-use Rattle.jc_resolve.proofs.lookups.Bridge.{map_in, above_named}
+use Rattle.jc_lookup.specs.declared.loads.Load.{Load}
+use Rattle.jc_lookup.specs.declared.loads.Load.TheVariants.{Loaded, Outside, Fails}
+use Rattle.jc_lookup.specs.inside.Indexed.{Indexed, name_at, IsGraph, IsIndexed}
+use Rattle.jc_lookup.specs.inside.Loading.{load_at}
+use Rattle.jc_resolve.specs.inside.Resolved.{loading_of, TellsLoads}
+use Rattle.jc_lookup.proofs.lookups.Bridge.{map_in, above_named}
 use Rattle.jc_resolve.specs.inside.Loading.{is_good, rank_in, TellsRank}
 
 -- what a class that loads has: it is not above itself, and each of its supertypes loads or is outside

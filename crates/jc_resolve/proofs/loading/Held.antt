@@ -7,9 +7,8 @@ use Rattle.std.specs.declared.alloc.Global.{Global}
 use Rattle.jc_classes.specs.Lent.{stands_of}
 use Rattle.jc_classes.specs.Worlds.{World}
 use Rattle.jc_classes.specs.declared.standing.Standing.{Standing}
-use Rattle.jc_resolve.specs.inside.Indexed.{IsIndexed}
+use Rattle.jc_lookup.specs.inside.Indexed.{IsIndexed, filled}
 use Rattle.jc_resolve.specs.inside.Net.{IsNet}
-use Rattle.jc_resolve.specs.inside.Indexed.{filled}
 use Rattle.jc_resolve.specs.Numbered.{numbered, IsClosed, Agrees}
 
 row_within : (rows : List (List ℕ)) (a b : ℕ) → Contains (get_or rows a []) b → a < length rows

@@ -13,13 +13,14 @@ use Rattle.jc_classes.specs.Loading.{Parent, parents, LoadEach, can_see, same_bo
 use Rattle.jc_classes.specs.Loading as defs
 use Rattle.jc_classes.specs.Loading.{Load as load, LoadEach as each}
 use Rattle.jc_classes.specs.declared.linkage_error.LinkageError.TheVariants as fault
-use Rattle.jc_resolve.specs.declared.loads.Load.{Load}
-use Rattle.jc_resolve.specs.declared.loads.Load.TheVariants.{Loaded, Outside, Fails}
+use Rattle.jc_lookup.specs.declared.loads.Load.{Load}
+use Rattle.jc_lookup.specs.declared.loads.Load.TheVariants.{Loaded, Outside, Fails}
 use Rattle.jc_graph.specs.Graph.{Above as AboveNode, TellsCircular, IsOrder}
-use Rattle.jc_resolve.specs.inside.Indexed.{Indexed, name_at, record_at, IsGraph, IsIndexed}
-use Rattle.jc_resolve.specs.inside.Resolved.{load_at, loading_of}
-use Rattle.jc_resolve.proofs.lookups.Bridge.{above_named, above_numbered, same_node, node_in}
-use Rattle.jc_resolve.specs.inside.Loading.{sees, judged, judged_each, or_else, load_by, load_of, has_super, IsTold, rank_in}
+use Rattle.jc_lookup.specs.inside.Indexed.{Indexed, name_at, record_at, IsGraph, IsIndexed}
+use Rattle.jc_lookup.specs.inside.Loading.{load_at, sees, judged, judged_each, or_else}
+use Rattle.jc_resolve.specs.inside.Resolved.{loading_of}
+use Rattle.jc_lookup.proofs.lookups.Bridge.{above_named, above_numbered, same_node, node_in}
+use Rattle.jc_resolve.specs.inside.Loading.{load_by, load_of, has_super, IsTold, rank_in}
 
 -- ---- one supertype
 

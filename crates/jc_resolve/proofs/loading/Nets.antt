@@ -13,21 +13,20 @@ use Rattle.jc_classes.specs.Resolution.{Answer}
 use Rattle.jc_classes.specs.Resolution.Answer.{NotLoaded}
 use Rattle.jc_classes.specs.Parts.{IsAnswer, AreAnswers, class_of}
 use Rattle.jc_classes.specs.Loading.{Loading as loading}
-use Rattle.jc_resolve.specs.inside.Resolved.{IsWithinSome, loading_of}
+use Rattle.jc_resolve.specs.inside.Resolved.{IsWithinSome, loading_of, TellsLoads}
 use Rattle.std.proofs.Common.{take}
 use Rattle.jc_classes.proofs.worlds.NameTests.{same_is, same_self}
-use Rattle.jc_resolve.specs.declared.loads.Load.{Load}
+use Rattle.jc_lookup.specs.declared.loads.Load.{Load}
 use Rattle.jc_graph.specs.Graph.{TellsCircular, IsOrder}
 use Rattle.jc_graph.specs.Seen.{flag_at}
-use Rattle.jc_resolve.specs.inside.Indexed.{Indexed, name_at, record_at, rank_at, good_at, supers_before, IsGraph, IsIndexed}
-use Rattle.jc_resolve.specs.inside.Resolved.{load_at, TellsLoads}
+use Rattle.jc_lookup.specs.inside.Indexed.{Indexed, name_at, record_at, rank_at, good_at, supers_before, IsGraph, IsIndexed, filled}
+use Rattle.jc_lookup.specs.inside.Loading.{load_at}
 use Rattle.jc_resolve.specs.inside.Loading.{is_good, TellsRank}
 use Rattle.jc_resolve.specs.inside.Net.{IsNet}
-use Rattle.jc_resolve.specs.inside.Indexed.{filled}
 use Rattle.std.specs.declared.vec.Vec.{Vec}
 use Rattle.std.specs.declared.alloc.Global.{Global}
 use Rattle.jc_classes.specs.declared.standing.Standing.{Standing}
-use Rattle.jc_resolve.specs.declared.loads.Load.TheVariants as code
+use Rattle.jc_lookup.specs.declared.loads.Load.TheVariants as code
 use Rattle.jc_resolve.proofs.loading.Goods.{falls, stays}
 
 -- ---- the map that a net is

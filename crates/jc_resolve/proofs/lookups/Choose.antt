@@ -9,12 +9,13 @@ use Rattle.jc_classes.specs.Facts.{Member, Key}
 use Rattle.jc_classes.specs.MethodLookup.{given_by, IsCandidate, IsMaximal, IsOnly, IsLeast, FindsAbove, FindsAbove as up}
 use Rattle.std.proofs.lemmas.List.Elements.{All-contains}
 use Rattle.jc_graph.specs.Seen.{flag_at, IsSeen}
-use Rattle.jc_resolve.specs.inside.Indexed.{Indexed, name_at, IsGraph, IsIndexed}
+use Rattle.jc_lookup.specs.inside.Indexed.{Indexed, name_at, IsGraph, IsIndexed}
 use Rattle.jc_graph.specs.Graph.{Above as AboveNode}
 use Rattle.jc_graph.specs.Seen.{TellsAbove}
-use Rattle.jc_resolve.specs.inside.Picks.{gives, offers, is_concrete, is_pick, IsSole, IsLowest, TellsPick}
+use Rattle.jc_lookup.specs.inside.Picks.{gives, offers, is_concrete, is_pick, IsLowest}
+use Rattle.jc_resolve.specs.inside.Picks.{IsSole, TellsPick}
 use Rattle.jc_graph.proofs.marked.SeenLemmas.{contains_one}
-use Rattle.jc_resolve.proofs.lookups.Bridge.{filter_in, filter_out, named, node_in, above_named, above_numbered, same_node}
+use Rattle.jc_lookup.proofs.lookups.Bridge.{filter_in, filter_out, named, node_in, above_named, above_numbered, same_node}
 
 some_is : {X : Type 0} (o : Option X) (y : X) → o ≡ Some y → is_some o ≡ true
 some_is o y e = ap is_some e

@@ -10,7 +10,7 @@ use Rattle.jc_classes.specs.Facts.{Member, Key}
 use Rattle.jc_classes.specs.Worlds.{World, Found, fields_of, member, super_of, interfaces_of}
 use Rattle.jc_classes.specs.FieldLookup.{FindsField, FindsFirst, onward, FindsField as field, FindsFirst as first}
 use Rattle.jc_graph.specs.Seen.{flag_at}
-use Rattle.jc_resolve.specs.inside.Indexed.{Indexed, name_at, record_at, rank_at, good_at, supers_before, onward_row, IsGraph, IsIndexed}
+use Rattle.jc_lookup.specs.inside.Indexed.{Indexed, name_at, record_at, rank_at, good_at, supers_before, onward_row, IsGraph, IsIndexed}
 use Rattle.jc_resolve.specs.inside.Looking.{names_at, Told, Looking, Going}
 use Rattle.jc_graph.proofs.marked.SeenLemmas.{flag_cases}
 

@@ -2,10 +2,10 @@
 use Rattle.std.specs.Prelude.{◌≡◌, ℕ, Bool, List, length}
 use Rattle.jc_classes.specs.Worlds.{World}
 use Rattle.jc_graph.specs.Graph.{TellsCircular}
-use Rattle.jc_resolve.specs.inside.Indexed.{Indexed, IsIndexed}
+use Rattle.jc_lookup.specs.inside.Indexed.{Indexed, IsIndexed}
 use Rattle.jc_resolve.specs.inside.Net.{IsNet}
 use Rattle.jc_resolve.specs.inside.Resolved.{TellsLoads, TellsGood}
-use Rattle.jc_resolve.specs.declared.loads.Load.{Load}
+use Rattle.jc_lookup.specs.declared.loads.Load.{Load}
 
 pub record IsLoaded (count : ℕ) (x : Indexed) (loads : List Load) (circular : List Bool) : Type 0 where
   pub net : IsNet count x

@@ -1,33 +1,15 @@
 -- How a node loads, as the code computes it.
-use Rattle.std.specs.Prelude.{◌≡◌, ℕ, ◌<◌, ◌≤◌, Bool, true, false, cond, is_some, List, [], ◌∷◌, length, Option, Some, None, slice_index_or}
+use Rattle.std.specs.Prelude.{◌≡◌, ℕ, ◌<◌, ◌≤◌, Bool, true, false, cond, is_some, List, length, slice_index_or}
 use Rattle.jc_classes.specs.Facts.{is_faulty}
-use Rattle.jc_classes.specs.Worlds.{World, Stands, is_interface, super_of}
+use Rattle.jc_classes.specs.Worlds.{World, Stands, super_of}
 use Rattle.jc_classes.specs.Worlds.{Stands as stands}
-use Rattle.jc_classes.specs.Loading.{can_see, same_bool}
 use Rattle.jc_classes.specs.Loading as defs
 use Rattle.jc_classes.specs.declared.linkage_error.LinkageError.TheVariants as fault
-use Rattle.jc_resolve.specs.declared.loads.Load.{Load}
-use Rattle.jc_resolve.specs.declared.loads.Load.TheVariants.{Loaded, Outside, Fails}
-use Rattle.jc_resolve.specs.inside.Indexed.{Indexed, name_at, record_at, IsIndexed}
-use Rattle.jc_resolve.specs.inside.Resolved.{load_at, loading_of}
-
--- a node may use another
-abbrev pub sees : Indexed → ℕ → ℕ → Bool
-sees x v s = can_see (name_at x v) (name_at x s) (record_at x s)
-
-abbrev pub judged : Load → Bool → Bool → ℕ → Option Load
-judged Loaded see wrong s = cond see (cond wrong (Some (Fails fault.Incompatible s)) None) (Some (Fails fault.IllegalAccess s))
-judged Outside see wrong s = None
-judged (Fails f v) see wrong s = Some (Fails f v)
-
-abbrev pub or_else : Option Load → Load → Load
-or_else None b = b
-or_else (Some a) b = a
-
--- the first error of these supertypes, of which the first is named as the superclass or not
-abbrev pub judged_each : Indexed → List Load → ℕ → Bool → List ℕ → Load
-judged_each x loads v is_class [] = Loaded
-judged_each x loads v is_class (s ∷ more) = or_else (judged (load_at loads s) (sees x v s) (same_bool (is_interface (record_at x s)) is_class) s) (judged_each x loads v false more)
+use Rattle.jc_lookup.specs.declared.loads.Load.{Load}
+use Rattle.jc_lookup.specs.declared.loads.Load.TheVariants.{Loaded, Outside, Fails}
+use Rattle.jc_lookup.specs.inside.Indexed.{Indexed, name_at, record_at, IsIndexed}
+use Rattle.jc_lookup.specs.inside.Loading.{judged_each}
+use Rattle.jc_resolve.specs.inside.Resolved.{loading_of}
 
 abbrev pub load_by : Stands → Bool → ℕ → Load → Load
 load_by stands.Nothing flag v each = Fails fault.NoClass v

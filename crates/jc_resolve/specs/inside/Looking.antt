@@ -5,16 +5,11 @@ use Rattle.jc_classes.specs.Names.{Name}
 use Rattle.jc_classes.specs.Worlds.{World, Found}
 use Rattle.jc_classes.specs.Facts.{Key}
 use Rattle.jc_classes.specs.FieldLookup.{FindsField, FindsFirst}
-use Rattle.jc_classes.specs.Lent.{member_lent}
 use Rattle.jc_graph.specs.Seen.{flag_at}
-use Rattle.jc_resolve.specs.inside.Indexed.{Indexed, name_at, rank_at, good_at, IsIndexed}
-use Rattle.jc_resolve.specs.declared.classes.Hit.{Hit}
+use Rattle.jc_lookup.specs.inside.Indexed.{Indexed, name_at, rank_at, good_at, IsIndexed}
 
 abbrev pub names_at : Indexed → List ℕ → List Name
 names_at x vs = map (name_at x) vs
-
-abbrev pub found_at : Indexed → Hit → Found
-found_at x h = record { home = name_at x h.node; member = member_lent h.member }
 
 -- a node that was seen finds nothing, once what stands before `rest` finds nothing; all of that is above it
 pub record Told (m : World) (k : Key) (x : Indexed) (stack : List ℕ) (v : ℕ) : Type 0 where

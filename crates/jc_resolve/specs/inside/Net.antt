@@ -3,7 +3,7 @@ use Rattle.std.specs.Prelude.{◌≡◌, ℕ, ◌<◌, [], List, map, length}
 use Rattle.std.specs.List.{Contains}
 use Rattle.jc_classes.specs.Worlds.{supers_of}
 use Rattle.jc_classes.specs.declared.standing.Standing.{Standing}
-use Rattle.jc_resolve.specs.inside.Indexed.{Indexed, filled, name_at, record_at}
+use Rattle.jc_lookup.specs.inside.Indexed.{Indexed, filled, name_at, record_at}
 use Rattle.std.specs.declared.vec.Vec.{Vec}
 use Rattle.std.specs.declared.alloc.Global.{Global}
 

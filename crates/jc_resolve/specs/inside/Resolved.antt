@@ -1,5 +1,5 @@
 -- The answer of a reference, by numbers.
-use Rattle.std.specs.Prelude.{◌≡◌, ℕ, ◌<◌, true, List, Option, Some, None, slice_index_or, option_map}
+use Rattle.std.specs.Prelude.{◌≡◌, ℕ, ◌<◌, true, List, Option, Some, None, option_map}
 use Rattle.jc_classes.specs.Names.{Name}
 use Rattle.jc_classes.specs.Worlds.{World, text_of}
 use Rattle.jc_classes.specs.Facts.{Named}
@@ -9,13 +9,14 @@ use Rattle.jc_classes.specs.declared.linkage_error.LinkageError.TheVariants as e
 use Rattle.jc_classes.specs.Loading.{Loading as loading}
 use Rattle.jc_classes.specs.Resolution.{Answer, Start}
 use Rattle.jc_classes.specs.Resolution.{Answer as answer, Start as start}
-use Rattle.jc_resolve.specs.inside.Indexed.{Indexed, name_at, good_at}
-use Rattle.jc_resolve.specs.declared.access.Target.{Target}
-use Rattle.jc_resolve.specs.declared.access.Target.TheVariants as target
-use Rattle.jc_resolve.specs.inside.Settled.{answer_of}
+use Rattle.jc_lookup.specs.inside.Indexed.{Indexed, name_at, good_at}
+use Rattle.jc_lookup.specs.inside.Loading.{load_at}
+use Rattle.jc_lookup.specs.declared.access.Target.{Target}
+use Rattle.jc_lookup.specs.declared.access.Target.TheVariants as target
+use Rattle.jc_lookup.specs.inside.Settled.{answer_of}
 use Rattle.jc_classes.specs.declared.linkage_error.LinkageError.{LinkageError}
-use Rattle.jc_resolve.specs.declared.loads.Load.{Load as LoadState}
-use Rattle.jc_resolve.specs.declared.loads.Load.TheVariants as state
+use Rattle.jc_lookup.specs.declared.loads.Load.{Load as LoadState}
+use Rattle.jc_lookup.specs.declared.loads.Load.TheVariants as state
 use Rattle.jc_resolve.specs.declared.resolve.NamedNode.{NamedNode}
 use Rattle.jc_resolve.specs.declared.resolve.NamedNode.TheVariants as reference
 use Rattle.jc_resolve.specs.declared.resolve.Begun.{Begun}
@@ -51,9 +52,6 @@ IsWithinSome count (Some v) = v < count
 abbrev pub IsWithinAll : ℕ → NamedNode → Type 0
 IsWithinAll count (reference.Class v) = v < count
 IsWithinAll count (reference.Array e) = IsWithinSome count e
-
-abbrev pub load_at : List LoadState → ℕ → LoadState
-load_at loads v = slice_index_or loads v (state.Fails error.NoClass 0)
 
 -- how each name loads
 abbrev pub TellsLoads : World → Indexed → ℕ → List LoadState → Type 0

@@ -8,8 +8,8 @@ use Rattle.jc_resolve.proofs.answering.Lists.{past}
 use Rattle.jc_resolve.proofs.lookups.Look.{none_of}
 use Rattle.jc_classes.specs.Loading.Loading.{Loaded}
 use Rattle.jc_classes.specs.Parts.{AreAnswers, class_of}
-use Rattle.jc_resolve.specs.inside.Indexed.{name_at}
-use Rattle.jc_resolve.specs.inside.Shown.{indexed_of}
+use Rattle.jc_lookup.specs.inside.Indexed.{name_at}
+use Rattle.jc_lookup.specs.inside.Shown.{indexed_of}
 use Rattle.jc_resolve.specs.Answers.{answer_of}
 use Rattle.jc_resolve.proofs.loading.Nets.{answers_push, node_of_ref, node_within, take_whole}
 use Rattle.jc_resolve.proofs.all_answers.answer_each.Goals as goal

@@ -2,8 +2,8 @@ use Rattle.std.proofs.Common.{◌≡◌, ◌≤◌, ◌-◌, take, length}
 use Rattle.jc_classes.specs.Worlds.{World}
 use Rattle.jc_classes.specs.Loading.Loading.{Loaded}
 use Rattle.jc_classes.specs.Parts.{AreAnswers}
-use Rattle.jc_resolve.specs.inside.Indexed.{name_at, IsIndexed}
-use Rattle.jc_resolve.specs.inside.Shown.{indexed_of}
+use Rattle.jc_lookup.specs.inside.Indexed.{name_at, IsIndexed}
+use Rattle.jc_lookup.specs.inside.Shown.{indexed_of}
 use Rattle.jc_resolve.specs.inside.Resolved.{TellsLoads}
 use Rattle.jc_resolve.proofs.all_answers.answer_each.Given as goal
 

@@ -6,11 +6,12 @@ use Rattle.jc_classes.specs.Facts.{Reference}
 use Rattle.jc_classes.specs.Parts.{AreAnswers}
 use Rattle.jc_classes.specs.Resolution.Answer.{NotLoaded}
 use Rattle.jc_classes.specs.declared.linkage_error.LinkageError.TheVariants as fault
-use Rattle.jc_resolve.specs.declared.loads.Load.{Load}
-use Rattle.jc_resolve.specs.declared.loads.Load.TheVariants as code
-use Rattle.jc_resolve.specs.inside.Indexed.{name_at, record_at, IsIndexed}
-use Rattle.jc_resolve.specs.inside.Shown.{indexed_of}
-use Rattle.jc_resolve.specs.inside.Resolved.{load_at, loading_of, TellsLoads}
+use Rattle.jc_lookup.specs.declared.loads.Load.{Load}
+use Rattle.jc_lookup.specs.declared.loads.Load.TheVariants as code
+use Rattle.jc_lookup.specs.inside.Indexed.{name_at, record_at, IsIndexed}
+use Rattle.jc_lookup.specs.inside.Shown.{indexed_of}
+use Rattle.jc_lookup.specs.inside.Loading.{load_at}
+use Rattle.jc_resolve.specs.inside.Resolved.{loading_of, TellsLoads}
 use Rattle.jc_resolve.proofs.lookups.IfOks.{if_ok_map}
 use Rattle.std.proofs.Common.{List}
 use Rattle.jc_classes.specs.Resolution.{Answer}

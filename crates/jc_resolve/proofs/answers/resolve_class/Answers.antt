@@ -1,12 +1,11 @@
 use Rattle.std.proofs.Common.{◌≡◌, ◌<◌, length, refl, subst}
-use Rattle.jc_resolve.specs.inside.Indexed.{name_at, IsIndexed}
-use Rattle.jc_resolve.specs.inside.Shown.{indexed_of}
+use Rattle.jc_lookup.specs.inside.Indexed.{name_at, IsIndexed}
+use Rattle.jc_lookup.specs.inside.Shown.{indexed_of}
 use Rattle.jc_classes.specs.Worlds.{World, text_of}
 use Rattle.jc_classes.specs.Resolution.{class_answer}
-use Rattle.jc_resolve.specs.inside.Resolved.{load_at, loading_of, named_of, TellsLoads}
-use Rattle.jc_resolve.specs.inside.Loading.{sees}
+use Rattle.jc_lookup.specs.inside.Loading.{load_at, sees}
+use Rattle.jc_resolve.specs.inside.Resolved.{loading_of, named_of, TellsLoads, IsWithinAll, IsWithinSome}
 use Rattle.jc_resolve.specs.declared.answers.Answer.{Answer}
-use Rattle.jc_resolve.specs.inside.Resolved.{IsWithinAll, IsWithinSome}
 use Rattle.jc_resolve.specs.Answers.{answer_of}
 use Rattle.jc_resolve.proofs.answering.Making.{class_made, array_made, primitive_made}
 use Rattle.jc_resolve.proofs.answers.resolve_class.Goals as goal

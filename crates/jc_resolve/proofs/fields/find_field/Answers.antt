@@ -2,8 +2,8 @@ use Rattle.std.proofs.Common.{◌≡◌, ◌∷◌, [], ◌++◌, length, revers
 use Rattle.jc_classes.specs.Lent.{member_lent}
 use Rattle.jc_graph.specs.Seen.{unseen}
 use Rattle.jc_classes.specs.Lent.{key_lent}
-use Rattle.jc_resolve.specs.inside.Indexed.{onward_row}
-use Rattle.jc_resolve.specs.inside.Shown.{indexed_of}
+use Rattle.jc_lookup.specs.inside.Indexed.{onward_row}
+use Rattle.jc_lookup.specs.inside.Shown.{indexed_of}
 use Rattle.jc_resolve.specs.inside.Looking.{Going}
 use Rattle.jc_graph.proofs.marked.SeenLemmas.{unseen_set}
 use Rattle.jc_resolve.proofs.lookups.Look.{going_start, going_skip, going_add, going_found, going_end, none_of, no_items, popped_going, popped_less}

@@ -4,7 +4,7 @@ use Rattle.std.specs.declared.vec.Vec.{Vec}
 use Rattle.std.specs.declared.alloc.Global.{Global}
 use Rattle.jc_graph.specs.Graph.{ups_of, TellsCircular, IsOrder}
 use Rattle.jc_graph.specs.Seen.{flag_at}
-use Rattle.jc_resolve.specs.inside.Indexed.{Indexed, filled, IsGraph}
+use Rattle.jc_lookup.specs.inside.Indexed.{Indexed, filled, IsGraph}
 use Rattle.jc_resolve.specs.inside.Loading.{is_good, TellsRank}
 use Rattle.jc_resolve.specs.inside.Net.{IsNet}
 use Rattle.jc_resolve.proofs.loading.Nets.{net_again, index_again, good_from, graph_first, graph_last}

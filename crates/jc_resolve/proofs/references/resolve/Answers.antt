@@ -4,8 +4,8 @@ use Rattle.jc_classes.specs.Facts.{Named}
 use Rattle.jc_classes.specs.declared.linkage_error.LinkageError.TheVariants as error
 use Rattle.jc_classes.specs.Resolution.{ResolvesClass, ResolvesField, ResolvesMethod, ResolvesInterfaceMethod}
 use Rattle.jc_classes.specs.Parts.{ResolvesOf}
-use Rattle.jc_resolve.specs.inside.Indexed.{name_at, IsIndexed}
-use Rattle.jc_resolve.specs.inside.Shown.{indexed_of}
+use Rattle.jc_lookup.specs.inside.Indexed.{name_at, IsIndexed}
+use Rattle.jc_lookup.specs.inside.Shown.{indexed_of}
 use Rattle.jc_resolve.specs.inside.Resolved.{named_of, outcome_of, TellsLoads}
 use Rattle.jc_classes.specs.Lent.{reference_lent}
 use Rattle.jc_resolve.proofs.answering.Texts.{text_named}

@@ -2,12 +2,13 @@ use Rattle.std.proofs.lemmas.Grind.{common_steps}
 use Rattle.std.proofs.Common.{◌<◌, length, sym, subst, ap, ◌∙◌, arith}
 use Rattle.std.proofs.lemmas.List.{get_or_default}
 use Rattle.jc_classes.specs.Resolution.{Starts}
-use Rattle.jc_resolve.specs.inside.Indexed.{name_at}
-use Rattle.jc_resolve.specs.inside.Shown.{indexed_of}
-use Rattle.jc_resolve.specs.inside.Resolved.{named_of, begun_of, loading_of, load_at, IsWithinAll}
+use Rattle.jc_lookup.specs.inside.Indexed.{name_at}
+use Rattle.jc_lookup.specs.inside.Shown.{indexed_of}
+use Rattle.jc_resolve.specs.inside.Resolved.{named_of, begun_of, loading_of, IsWithinAll}
+use Rattle.jc_lookup.specs.inside.Loading.{load_at}
 use Rattle.jc_resolve.specs.declared.resolve.NamedNode.{NamedNode}
 use Rattle.jc_resolve.specs.declared.resolve.NamedNode.TheVariants as reference
-use Rattle.jc_resolve.specs.declared.loads.Load.TheVariants.{Fails}
+use Rattle.jc_lookup.specs.declared.loads.Load.TheVariants.{Fails}
 use Rattle.jc_classes.specs.declared.linkage_error.LinkageError.TheVariants as fault
 use Rattle.jc_resolve.proofs.answering.Begins.{class_starts, element_starts, primitive_starts}
 use Rattle.jc_resolve.proofs.resolve.begin.Goals as goal

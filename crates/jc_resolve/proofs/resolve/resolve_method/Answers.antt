@@ -2,18 +2,17 @@ use Rattle.std.proofs.Common.{length, sym, subst, option_map}
 use Rattle.jc_classes.specs.declared.linkage_error.LinkageError.TheVariants.{NoMethod}
 use Rattle.jc_classes.specs.Resolution.{Starts, Settles}
 use Rattle.jc_classes.specs.Resolution.ResolvesMethod.{ends, looks, interface}
-use Rattle.jc_resolve.specs.inside.Indexed.{name_at}
-use Rattle.jc_resolve.specs.inside.Shown.{indexed_of}
-use Rattle.jc_resolve.specs.inside.Access.{IsTarget}
-use Rattle.jc_resolve.specs.inside.Settled.{answer_of}
-use Rattle.jc_resolve.specs.inside.Looking.{found_at}
+use Rattle.jc_lookup.specs.inside.Indexed.{name_at}
+use Rattle.jc_lookup.specs.inside.Shown.{indexed_of, found_at}
+use Rattle.jc_lookup.specs.inside.Access.{IsTarget}
+use Rattle.jc_lookup.specs.inside.Settled.{answer_of}
 use Rattle.jc_resolve.specs.inside.Resolved.{named_of, element_of, begun_of}
-use Rattle.jc_resolve.specs.declared.access.Target.{Target}
+use Rattle.jc_lookup.specs.declared.access.Target.{Target}
 use Rattle.jc_resolve.specs.declared.resolve.Begun.{Begun}
 use Rattle.std.proofs.Common.{true, false, refl, ap, ◌∙◌}
 use Rattle.jc_classes.specs.Worlds.{is_interface}
 use Rattle.jc_rules.specs.AccessFlags.{has, interface as interface_flag}
-use Rattle.jc_resolve.proofs.lookups.Bridge.{record_is}
+use Rattle.jc_lookup.proofs.lookups.Bridge.{record_is}
 use Rattle.jc_resolve.proofs.answering.Begins.{begun_ends}
 use Rattle.jc_resolve.proofs.resolve.resolve_method.Goals as goal
 

@@ -6,10 +6,11 @@ use Rattle.jc_classes.specs.Loading.{Load as Loads, Loading as How}
 use Rattle.jc_classes.specs.Numbers.{name_at}
 use Rattle.jc_classes.specs.Parts.{AreAnswers}
 use Rattle.jc_classes.specs.Worlds.{World, references_of}
-use Rattle.jc_resolve.specs.inside.Indexed.{IsIndexed}
-use Rattle.jc_resolve.specs.inside.Shown.{indexed_of}
+use Rattle.jc_lookup.specs.inside.Indexed.{IsIndexed}
+use Rattle.jc_lookup.specs.inside.Shown.{indexed_of}
 use Rattle.jc_resolve.specs.Numbered.{Numbered, Agrees, numbered, record_of}
-use Rattle.jc_resolve.specs.inside.Resolved.{load_at, loading_of, TellsLoads}
+use Rattle.jc_lookup.specs.inside.Loading.{load_at}
+use Rattle.jc_resolve.specs.inside.Resolved.{loading_of, TellsLoads}
 use Rattle.jc_resolve.proofs.loading.Held.{index_held}
 use Rattle.jc_resolve.proofs.lookups.IfOks.{if_ok_map}
 use Rattle.jc_resolve.proofs.hierarchy.Hierarchy.answers.Goals as goal

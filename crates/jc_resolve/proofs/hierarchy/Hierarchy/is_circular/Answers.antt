@@ -3,7 +3,7 @@ use Rattle.std.proofs.lemmas.List.{get_or_default}
 use Rattle.std.specs.Bool.{Decides}
 use Rattle.jc_classes.specs.Numbers.{name_at}
 use Rattle.jc_classes.specs.Worlds.{World, Above}
-use Rattle.jc_resolve.specs.inside.Shown.{indexed_of}
+use Rattle.jc_lookup.specs.inside.Shown.{indexed_of}
 use Rattle.jc_resolve.specs.Numbered.{Numbered, Agrees, numbered}
 use Rattle.jc_resolve.proofs.loading.Held.{index_held}
 use Rattle.jc_resolve.proofs.loading.Loadings.{circular_same, circular_back}

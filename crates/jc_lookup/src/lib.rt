@@ -1,0 +1,17 @@
+//! What look-up is made of, among the classes of a reach by their numbers: how a class loads by its supertypes,
+//! where look-up goes on, access, and the choice among superinterfaces (JVMS 5.3.5, 5.4.3.2 to 5.4.3.4, 5.4.4).
+#![tactic(auto)]
+
+mod access;
+mod chain;
+mod classes;
+mod loads;
+mod packages;
+mod picks;
+mod polymorphic;
+pub mod settle;
+
+pub use access::Target;
+pub use classes::{Classes, Hit};
+pub use loads::{Load, can_see, judge_each};
+pub use picks::{candidates, is_pick, lowest};

@@ -1,0 +1,101 @@
+//! How each node loads.
+
+ghost use Rattle.std.specs.Prelude.{◌≡◌, ◌<◌, length, map, IfOk};
+ghost use Rattle.std.specs.List.{All};
+ghost use Rattle.jc_classes.specs.Worlds.{World};
+ghost use Rattle.jc_graph.specs.Graph.{TellsCircular, IsOrder};
+ghost use Rattle.jc_lookup.specs.inside.Indexed.{IsIndexed};
+ghost use Rattle.jc_lookup.specs.inside.Shown.{indexed_of};
+ghost use Rattle.jc_graph.specs.Graph.{ups_of};
+ghost use Rattle.jc_resolve.specs.inside.Resolved.{TellsLoads};
+ghost use Rattle.jc_resolve.specs.inside.Loading.{load_of, is_good, TellsRank};
+
+use jc_base::NoMemory;
+use jc_classes::{LinkageError, Standing};
+use jc_graph::Sorted;
+use jc_lookup::{Classes, Load, judge_each};
+use std::alloc::Global;
+
+/// How a node loads, where it is known how its supertypes do.
+fn load_one(classes: &Classes, circular: &[bool], loads: &[Load], node: usize) -> Load
+    requires node { node < length classes.now.standing.now }
+    requires circular { length circular.now ≡ length classes.now.standing.now }
+    requires loads { length loads.now ≡ length classes.now.standing.now }
+    ensures { result ≡ load_of (indexed_of classes.now) circular.now loads.now node }
+{
+    match classes.at(node) {
+        Standing::Nothing => Load::Fails(LinkageError::NoClass, node),
+        Standing::Outside => Load::Outside,
+        Standing::Class(facts) => {
+            if facts.is_faulty() {
+                Load::Fails(LinkageError::Format, node)
+            } else if circular[node] {
+                Load::Fails(LinkageError::Circular, node)
+            } else {
+                judge_each(
+                    classes,
+                    loads,
+                    node,
+                    facts.superclass().is_some(),
+                    classes.row(node),
+                )
+            }
+        }
+    }
+}
+
+/// How each node loads.
+pub(crate) fn load_all(
+    alloc: Global,
+    classes: &Classes,
+    sorted: &Sorted,
+) -> Result<Vec<Load>, NoMemory>
+    requires circular { TellsCircular (ups_of classes.now.ups.now) (length classes.now.standing.now) sorted.now.circular.items }
+    requires order { IsOrder (ups_of classes.now.ups.now) (length classes.now.standing.now) sorted.now.circular.items sorted.now.order.items }
+    ensures size { IfOk result (λ v. length v.items ≡ length classes.now.standing.now) }
+    ensures loads { IfOk result (λ v. (m : World) → IsIndexed m (indexed_of classes.now)
+        → TellsLoads m (indexed_of classes.now) (length classes.now.standing.now) v.items) }
+{
+    let mut loads = vec![in alloc; Load::Loaded; classes.len()]?;
+    for at in 0..sorted.order.len() {
+        let node = sorted.order[at];
+        let load = load_one(classes, sorted.circular.as_slice(), loads.as_slice(), node);
+        loads[node] = load;
+    }
+    Ok(loads)
+}
+
+/// The first place of each node in an order.
+pub(crate) fn rank_all(alloc: Global, order: &[usize], count: usize) -> Result<Vec<usize>, NoMemory>
+    requires { All (λ v. v < count) order.now }
+    ensures { IfOk result (λ r. TellsRank count order.now r.items) }
+{
+    let mut ranks = vec![in alloc; 0usize; count]?;
+    let mut at = order.len();
+    while at > 0 {
+        at -= 1;
+        ranks[order[at]] = at;
+    }
+    Ok(ranks)
+}
+
+/// Whether it is no error.
+fn is_good(load: Load) -> bool
+    ensures { result ≡ is_good load }
+{
+    match load {
+        Load::Fails(_, _) => false,
+        _ => true,
+    }
+}
+
+/// Which nodes load or are outside.
+pub(crate) fn good_all(alloc: Global, loads: &[Load]) -> Result<Vec<bool>, NoMemory>
+    ensures { IfOk result (λ r. r.items ≡ map is_good loads.now) }
+{
+    let mut good = Vec::with_capacity(alloc, loads.len())?;
+    for load in loads {
+        good.push(is_good(*load))?;
+    }
+    Ok(good)
+}
