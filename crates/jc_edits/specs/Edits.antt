@@ -1,32 +1,10 @@
--- Edits of the files of a session.
+-- Edits of the files of a session: why one is refused, and the files after one.
 use Rattle.std.specs.Prelude.{ℕ, ◌==◌, nat_lt, ◌||◌, List, length, Option, Some, None, if◌then◌else◌}
 use Rattle.std.specs.FinMap as map
 use Rattle.jc_report.specs.Files.{Files}
-use Rattle.jc_edits.specs.declared.edit.Edit.{Edit}
-use Rattle.jc_edits.specs.declared.edit.Edit.TheVariants as edits
-use Rattle.jc_edits.specs.declared.edit.EditError.{EditError}
-use Rattle.jc_edits.specs.declared.edit.EditError.TheVariants as errors
-use Rattle.jc_edits.specs.declared.edit.LentEdit.{LentEdit}
-use Rattle.jc_edits.specs.declared.edit.LentEdit.TheVariants as lent
-
--- an edit, as data
-pub data Change : Type 0 where
-  Adds : (path bytes : List ℕ) → Change
-  Replaces : (path bytes : List ℕ) → Change
-  Removes : (path : List ℕ) → Change
-
-abbrev pub change_of : Edit → Change
-change_of (edits.Add path bytes) = Adds path.items bytes.items
-change_of (edits.Replace path bytes) = Replaces path.items bytes.items
-change_of (edits.Remove path) = Removes path.items
-
--- the same of an edit by a borrowed path
-abbrev pub change_lent : LentEdit → Change
-change_lent (lent.Add path bytes) = Adds path.now bytes.items
-change_lent (lent.Replace path bytes) = Replaces path.now bytes.items
-change_lent (lent.Remove path) = Removes path.now
-
--- ---- why an edit is refused
+use Rattle.jc_input.specs.Changes.{Change, Adds, Replaces, Removes}
+use Rattle.jc_input.specs.declared.edit.EditError.{EditError}
+use Rattle.jc_input.specs.declared.edit.EditError.TheVariants as errors
 
 abbrev pub path_fault : List ℕ → Option EditError
 path_fault path = if length path == 0 || nat_lt 4096 (length path) then Some errors.BadPath else None

@@ -6,12 +6,6 @@ use Rattle.jc_held.specs.Affected.{IsBounded}
 use Rattle.jc_report.specs.Files.{Files}
 use Rattle.jc_report.specs.FileRows.{winner}
 use Rattle.jc_report.specs.Reports.{facts_at, world_of}
-use Rattle.jc_edits.specs.Edits.{Change, Adds, Replaces, Removes}
-
-abbrev pub path_of : Change → List ℕ
-path_of (Adds path bytes) = path
-path_of (Replaces path bytes) = path
-path_of (Removes path) = path
 
 -- whether files give a class of the name
 abbrev pub gives : Files → Name → Bool

@@ -3,14 +3,15 @@
 
 ghost use Rattle.std.specs.Prelude.{◌≡◌, [], IfOk, None, OnErr, OnOk, Some, false, true};
 ghost use Rattle.std.specs.FinMap as map;
-ghost use Rattle.jc_edits.specs.Edits.{after, change_lent, judge};
+ghost use Rattle.jc_input.specs.Changes.{change_lent};
+ghost use Rattle.jc_edits.specs.Edits.{after, judge};
 ghost use Rattle.jc_edits.specs.inside.Claims.{AreClaims};
 ghost use Rattle.jc_edits.specs.inside.Growth.{AreClaimsBesides, HasPlace, IsGrown, committed, undone};
 
 use crate::claims::{Claims, claim, withdraw, withdraw_stale};
-use crate::edit::LentEdit;
 use crate::file::File;
 use jc_base::{ByteMap, NoMemory};
+use jc_input::LentEdit;
 use std::alloc::Global;
 
 /// Files by their paths, and which of them name a class.

@@ -2,11 +2,11 @@
 
 ghost use Rattle.std.specs.Prelude.{◌≡◌};
 ghost use Rattle.jc_edits.specs.Edits as files_of;
-ghost use Rattle.jc_edits.specs.Edits.{change_lent};
+ghost use Rattle.jc_input.specs.Changes.{Adds, Replaces, change_lent};
 
-use crate::edit::{EditError, LentEdit};
 use crate::file::File;
 use jc_base::ByteMap;
+use jc_input::{EditError, LentEdit};
 
 const LONGEST_PATH: usize = 4_096;
 
@@ -27,7 +27,7 @@ pub(crate) fn judge(files: &ByteMap<File>, edit: &LentEdit<'_>) -> Option<EditEr
 }
 
 fn judge_add(files: &ByteMap<File>, path: &[u8], bytes: &[u8]) -> Option<EditError>
-    ensures { result ≡ files_of.judge files.now (files_of.Adds path.now bytes.now) }
+    ensures { result ≡ files_of.judge files.now (Adds path.now bytes.now) }
 {
     path_fault(path)
         .or(there_fault(files, path))
@@ -36,7 +36,7 @@ fn judge_add(files: &ByteMap<File>, path: &[u8], bytes: &[u8]) -> Option<EditErr
 }
 
 fn judge_replace(files: &ByteMap<File>, path: &[u8], bytes: &[u8]) -> Option<EditError>
-    ensures { result ≡ files_of.judge files.now (files_of.Replaces path.now bytes.now) }
+    ensures { result ≡ files_of.judge files.now (Replaces path.now bytes.now) }
 {
     path_fault(path)
         .or(missing_fault(files, path))

@@ -4,7 +4,6 @@
 
 mod changes;
 mod claims;
-mod edit;
 mod file;
 mod held;
 mod judge;
@@ -13,7 +12,7 @@ mod report_text;
 mod rows;
 mod session;
 
-pub use edit::{Done, Edit, EditError, LentEdit};
+pub use jc_input::{Done, Edit, EditError, LentEdit};
 pub use jc_report::{FileRow, FileState, winners_are_least};
 pub use judge::{LARGEST_FILE, path_fault, room_fault, size_fault};
 pub use report::Report;

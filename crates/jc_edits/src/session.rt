@@ -10,14 +10,15 @@ ghost use Rattle.jc_held.specs.Holders.{CountsHolders};
 ghost use Rattle.jc_report.specs.FileRows.{winner};
 ghost use Rattle.jc_report.specs.Reports as reports;
 ghost use Rattle.jc_report.specs.Reports.{IsReport, world_of};
-ghost use Rattle.jc_edits.specs.Edits.{after, change_lent, change_of, judge};
+ghost use Rattle.jc_input.specs.Changes.{change_lent, change_of, path_of};
+ghost use Rattle.jc_edits.specs.Edits.{after, judge};
 ghost use Rattle.jc_edits.specs.Judged.{IsJudged};
-ghost use Rattle.jc_edits.specs.Touched.{IsBoundedEdit, gives, path_of};
+ghost use Rattle.jc_edits.specs.Touched.{IsBoundedEdit, gives};
 
-use crate::edit::{Done, Edit, EditError, LentEdit};
 use crate::judge::judge;
 use crate::report::Report;
 use jc_base::NoMemory;
+use jc_input::{Done, Edit, EditError, LentEdit};
 use jc_link::{Meter, Outside, Part};
 use std::alloc::Global;
 use std::marker::Model;

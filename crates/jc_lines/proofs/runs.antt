@@ -1,4 +1,3 @@
-pub mod LinesCut
 pub mod RunsOverLines
 pub mod LineAnswered
 pub mod RunsSoFar

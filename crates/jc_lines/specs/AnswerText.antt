@@ -1,7 +1,7 @@
 -- The texts of answers.
 use Rattle.std.specs.Prelude.{List, ℕ, ◌++◌, codes, decimal}
-use Rattle.jc_edits.specs.declared.edit.EditError.{EditError}
-use Rattle.jc_edits.specs.EditErrors.{edit_code, edit_error_name}
+use Rattle.jc_input.specs.declared.edit.EditError.{EditError}
+use Rattle.jc_input.specs.EditErrors.{edit_code, edit_error_name}
 use Rattle.jc_text.specs.Escapes.{path_text}
 
 -- of an edit that is refused

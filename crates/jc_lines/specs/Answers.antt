@@ -1,10 +1,11 @@
 -- What a list of lines owes.
 use Rattle.std.specs.Prelude.{◌≡◌, ℕ, List, [], ◌∷◌, ◌++◌, drop, Option, Some, None, Result, Ok, Err, codes}
-use Rattle.jc_edits.specs.declared.edit.EditError.{EditError}
-use Rattle.jc_lines.specs.declared.source.SourceError.{SourceError}
-use Rattle.jc_lines.specs.declared.source.SourceError.TheVariants as sources
+use Rattle.jc_input.specs.declared.edit.EditError.{EditError}
+use Rattle.jc_input.specs.declared.source.SourceError.{SourceError}
+use Rattle.jc_input.specs.declared.source.SourceError.TheVariants as sources
 use Rattle.jc_report.specs.Files.{Files}
-use Rattle.jc_edits.specs.Edits.{Change, Adds, Replaces, Removes, judge, after}
+use Rattle.jc_input.specs.Changes.{Change, Adds, Replaces, Removes}
+use Rattle.jc_edits.specs.Edits.{judge, after}
 use Rattle.jc_classes.specs.Names.{Name}
 use Rattle.jc_report.specs.ReportText.{report_text}
 use Rattle.jc_report.specs.Reports as reports
@@ -12,8 +13,8 @@ use Rattle.jc_report.specs.Reports.{IsReport}
 use Rattle.jc_edits.specs.SaidPart.{SaysPart}
 use Rattle.jc_lines.specs.AnswerText.{refused_text, unread_text}
 use Rattle.jc_lines.specs.ListedText.{listed_text}
-use Rattle.jc_lines.specs.Lines.{Command, Add, Replace, Remove, Report, Part, Listing, End, Bad, command_of}
-use Rattle.jc_lines.specs.Sources.{SourceAnswers, next_answer}
+use Rattle.jc_input.specs.Lines.{Command, Add, Replace, Remove, Report, Part, Listing, End, Bad, command_of}
+use Rattle.jc_input.specs.Sources.{SourceAnswers, next_answer}
 
 -- what one line is answered, and what is then
 pub data Reply : Type 0 where

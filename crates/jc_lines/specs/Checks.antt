@@ -5,11 +5,12 @@ use Rattle.jc_base.specs.Device.{MoreFaults, WritesFront}
 use Rattle.jc_report.specs.Files.{Files}
 use Rattle.jc_report.specs.ReportText.{report_text}
 use Rattle.jc_report.specs.Reports.{IsReport, Report, is_wrong}
-use Rattle.jc_edits.specs.declared.edit.EditError.{EditError}
-use Rattle.jc_lines.specs.declared.source.SourceError.{SourceError}
-use Rattle.jc_lines.specs.declared.source.SourceError.TheVariants as sources
-use Rattle.jc_edits.specs.Edits.{Adds, after, judge}
-use Rattle.jc_lines.specs.Sources.{SourceAnswers, TakesAnswer}
+use Rattle.jc_input.specs.declared.edit.EditError.{EditError}
+use Rattle.jc_input.specs.declared.source.SourceError.{SourceError}
+use Rattle.jc_input.specs.declared.source.SourceError.TheVariants as sources
+use Rattle.jc_input.specs.Changes.{Adds}
+use Rattle.jc_edits.specs.Edits.{after, judge}
+use Rattle.jc_input.specs.Sources.{SourceAnswers, TakesAnswer}
 
 -- ---- what the source answers
 

@@ -2,19 +2,19 @@
 use Rattle.std.specs.Prelude.{◌≡◌, ℕ, ◌<◌, ◌≤◌, ◌⊎◌, ◌↔◌, Bool, true, false, List, ◌∷◌, ◌++◌, length, take, Option, Some, None, Result, Ok, Err, ⊤, IsSome}
 use Rattle.std.specs.List.{list_any}
 use Rattle.std.specs.Io.KnownBytes.{Appends, Keeps}
-use Rattle.jc_base.specs.Device.{MoreFaults}
-use Rattle.jc_lines.specs.declared.run_error.RunError.{RunError}
-use Rattle.jc_lines.specs.declared.run_error.RunError.TheVariants as run_errors
-use Rattle.jc_lines.specs.declared.run_error.Ended.{Ended}
-use Rattle.jc_lines.specs.declared.run_error.Ended.TheVariants as ended
-use Rattle.jc_lines.specs.declared.source.SourceError.{SourceError}
-use Rattle.jc_lines.specs.declared.source.SourceError.TheVariants as sources
+use Rattle.jc_input.specs.declared.run_error.RunError.{RunError}
+use Rattle.jc_input.specs.declared.run_error.RunError.TheVariants as run_errors
+use Rattle.jc_input.specs.declared.run_error.Ended.{Ended}
+use Rattle.jc_input.specs.declared.run_error.Ended.TheVariants as ended
+use Rattle.jc_input.specs.declared.source.SourceError.{SourceError}
+use Rattle.jc_input.specs.declared.source.SourceError.TheVariants as sources
 use Rattle.jc_classes.specs.Names.{Name}
 use Rattle.jc_report.specs.Files.{Files}
-use Rattle.jc_edits.specs.Edits.{Change, Adds, Replaces, Removes, judge}
+use Rattle.jc_input.specs.Changes.{Change, Adds, Replaces, Removes}
+use Rattle.jc_edits.specs.Edits.{judge}
 use Rattle.jc_report.specs.FileRows.{winner}
-use Rattle.jc_lines.specs.Lines.{Command, Add, Replace, Remove, Report, Part, Listing, End, Bad, command_of, lines_of, whole_lines}
-use Rattle.jc_lines.specs.Sources.{SourceAnswers, next_answer}
+use Rattle.jc_input.specs.Lines.{Command, Add, Replace, Remove, Report, Part, Listing, End, Bad, command_of, lines_of, whole_lines}
+use Rattle.jc_input.specs.Sources.{SourceAnswers, next_answer}
 use Rattle.jc_lines.specs.Answers.{Reply, Says, Lists, Ends, Lacks, Replies, Run, RunsTo, Ending, AtEnd, AtEof}
 
 -- what a run leaves: the files, the source's answers to come and the input's bytes to come, and what was written before it and is now
@@ -130,25 +130,3 @@ StopsAs prefixes f s bytes run_errors.NoMemory left = IsNotBegun f s bytes left 
 abbrev pub RunsAs : List Name → Files → SourceAnswers → List ℕ → Result Ended RunError → Left → Type 0
 RunsAs prefixes f s bytes (Ok how) left = EndsAs prefixes f s bytes how left
 RunsAs prefixes f s bytes (Err e) left = StopsAs prefixes f s bytes e left
-
--- ---- failures
-
--- a failed read alone raises the input's count of failures
-abbrev pub CountsReads : {T : Type 0} → Result T RunError → ℕ → ℕ → Type 0
-CountsReads (Ok x) old new = new ≡ old
-CountsReads (Err run_errors.Read) old new = MoreFaults old new × (old ≤ new)
-CountsReads (Err run_errors.Write) old new = new ≡ old
-CountsReads (Err run_errors.NoMemory) old new = new ≡ old
-
--- and a failed write alone the output's
-abbrev pub CountsWrites : {T : Type 0} → Result T RunError → ℕ → ℕ → Type 0
-CountsWrites (Ok x) old new = new ≡ old
-CountsWrites (Err run_errors.Read) old new = new ≡ old
-CountsWrites (Err run_errors.Write) old new = MoreFaults old new × (old ≤ new)
-CountsWrites (Err run_errors.NoMemory) old new = new ≡ old
-
--- the number of an error
-abbrev pub run_code : RunError → ℕ
-run_code run_errors.Read = 1
-run_code run_errors.Write = 2
-run_code run_errors.NoMemory = 3

@@ -1,4 +1,3 @@
 pub mod Adding
 pub mod EditText
-pub mod Reading
 pub mod Replies

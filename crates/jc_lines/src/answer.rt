@@ -1,21 +1,22 @@
 //! The answer to one line.
 ghost use Rattle.std.specs.Prelude.{◌≡◌, ◌≢◌, IfErr, IsSome, None, Some};
-ghost use Rattle.jc_lines.specs.declared.run_error.RunError.TheVariants.{NoMemory, Read};
-ghost use Rattle.jc_edits.specs.Edits.{change_lent, judge};
-ghost use Rattle.jc_lines.specs.Sources.{SourceAnswers, next_answer};
+ghost use Rattle.jc_input.specs.declared.run_error.RunError.TheVariants.{NoMemory, Read};
+ghost use Rattle.jc_input.specs.Changes.{change_lent};
+ghost use Rattle.jc_edits.specs.Edits.{judge};
+ghost use Rattle.jc_input.specs.Sources.{SourceAnswers, next_answer};
 ghost use Rattle.jc_lines.specs.Answers.{Lists, edit_reply, sourced_reply};
 ghost use Rattle.jc_lines.specs.ListedText.{listed_text};
 ghost use Rattle.jc_report.specs.FileRows.{winner};
-ghost use Rattle.jc_lines.specs.Runs.{CountsWrites, LineMayLack, MayLack};
-ghost use Rattle.jc_lines.specs.inside.Replies.{Gives, GivesByAnswers, GivesByReply, GivesOwed, command_lent, placed, said_by};
+ghost use Rattle.jc_input.specs.RunErrors.{CountsWrites};
+ghost use Rattle.jc_lines.specs.Runs.{LineMayLack, MayLack};
+ghost use Rattle.jc_input.specs.LentCommands.{command_lent};
+ghost use Rattle.jc_lines.specs.inside.Replies.{Gives, GivesByAnswers, GivesByReply, GivesOwed, placed, said_by};
 
 use crate::answer_text::{write_bad_line, write_edit_answer, write_unread};
-use crate::command::Command;
 use crate::file_listing::list_winner;
-use crate::run_error::RunError;
-use crate::source::{Source, SourceError};
 use jc_base::Output;
 use jc_edits::{EditError, LentEdit, Session, write_part_of, write_report};
+use jc_input::{Command, RunError, Source, SourceError};
 use jc_list::ListError;
 use std::alloc::Global;
 

@@ -9,14 +9,15 @@ ghost use Rattle.jc_report.specs.Reports.{IsReport};
 ghost use Rattle.jc_report.specs.Trees.{IsTree};
 ghost use Rattle.jc_lines.specs.declared.checking.CheckError.TheVariants as errors;
 ghost use Rattle.jc_edits.specs.Edits as edits;
-ghost use Rattle.jc_edits.specs.Edits.{Adds, judge};
-ghost use Rattle.jc_lines.specs.Sources.{answer_of};
+ghost use Rattle.jc_input.specs.Changes.{Adds};
+ghost use Rattle.jc_edits.specs.Edits.{judge};
+ghost use Rattle.jc_input.specs.Sources.{answer_of};
 ghost use Rattle.jc_lines.specs.inside.Adding.{AddsOne, ReadsTree, tree_of};
 ghost use Rattle.jc_lines.specs.LentChecks.{check_lent};
 
-use crate::source::{Source, SourceError};
 use jc_base::{NoMemory, Output};
 use jc_edits::{EditError, path_fault, room_fault, size_fault};
+use jc_input::{Source, SourceError};
 use jc_link::{Meter, Outside};
 use jc_report::{AddError, Report, Tree, write_report};
 use std::alloc::Global;

@@ -1,18 +1,16 @@
 //! A run over lines.
 ghost use Rattle.std.specs.Prelude.{◌≡◌, ◌≢◌, [], IfErr, List, Some, ℕ};
-ghost use Rattle.jc_lines.specs.declared.run_error.RunError.TheVariants.{NoMemory, Read};
-ghost use Rattle.jc_lines.specs.Lines.{command_of};
-ghost use Rattle.jc_lines.specs.Sources.{SourceAnswers};
-ghost use Rattle.jc_lines.specs.Runs.{CountsReads, CountsWrites, LineMayLack, RunsAs};
+ghost use Rattle.jc_input.specs.declared.run_error.RunError.TheVariants.{NoMemory, Read};
+ghost use Rattle.jc_input.specs.Lines.{command_of};
+ghost use Rattle.jc_input.specs.Sources.{SourceAnswers};
+ghost use Rattle.jc_input.specs.RunErrors.{CountsReads, CountsWrites};
+ghost use Rattle.jc_lines.specs.Runs.{LineMayLack, RunsAs};
 ghost use Rattle.jc_lines.specs.inside.Replies.{GivesLast, GivesLastByAnswers};
 
 use crate::answer::{Next, answer};
-use crate::command::parse_line;
-use crate::lines::{Ahead, Line, read_line};
-use crate::run_error::{Ended, RunError};
-use crate::source::Source;
 use jc_base::{Input, Output};
 use jc_edits::Session;
+use jc_input::{Ahead, Ended, Line, RunError, Source, parse_line, read_line};
 use std::alloc::Global;
 
 /// Answers the lines of an input one by one: `add PATH`, `replace PATH`, `remove PATH`, `report`,

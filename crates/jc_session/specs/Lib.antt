@@ -4,7 +4,8 @@ pub use Rattle.jc_base.specs.Bytes
 pub use Rattle.jc_base.specs.CodeUnits
 pub use Rattle.jc_base.specs.Device
 pub use Rattle.jc_base.specs.TextTests
-pub use Rattle.jc_edits.specs.EditErrors
+pub use Rattle.jc_input.specs.Changes
+pub use Rattle.jc_input.specs.EditErrors
 pub use Rattle.jc_edits.specs.Edits
 pub use Rattle.jc_edits.specs.Judged
 pub use Rattle.jc_edits.specs.SaidPart

@@ -3,22 +3,22 @@ use Rattle.std.specs.Prelude.{◌≡◌, ℕ, ◌≤◌, ◌⊎◌, Bool, true, 
 use Rattle.std.specs.FinMap as map
 use Rattle.std.specs.Io.KnownBytes.{Appends, Keeps}
 use Rattle.jc_base.specs.Device.{MoreFaults, WritesFront}
-use Rattle.jc_lines.specs.declared.run_error.Ended.{Ended}
-use Rattle.jc_lines.specs.declared.run_error.RunError.{RunError}
-use Rattle.jc_lines.specs.declared.run_error.RunError.TheVariants as run_errors
-use Rattle.jc_lines.specs.declared.source.SourceError.{SourceError}
-use Rattle.jc_lines.specs.declared.source.SourceError.TheVariants as sources
-use Rattle.jc_edits.specs.declared.edit.EditError.{EditError}
-use Rattle.jc_edits.specs.declared.edit.EditError.TheVariants as errors
+use Rattle.jc_input.specs.declared.run_error.Ended.{Ended}
+use Rattle.jc_input.specs.declared.run_error.RunError.{RunError}
+use Rattle.jc_input.specs.declared.run_error.RunError.TheVariants as run_errors
+use Rattle.jc_input.specs.declared.source.SourceError.{SourceError}
+use Rattle.jc_input.specs.declared.source.SourceError.TheVariants as sources
+use Rattle.jc_input.specs.declared.edit.EditError.{EditError}
+use Rattle.jc_input.specs.declared.edit.EditError.TheVariants as errors
 use Rattle.jc_text.specs.Escapes.{path_text}
-use Rattle.jc_edits.specs.EditErrors.{edit_code, edit_error_name}
+use Rattle.jc_input.specs.EditErrors.{edit_code, edit_error_name}
 use Rattle.jc_lines.specs.Checks.{Answer, CheckFault, ChecksAs, FileRefused, FileUnread, WriteFailed, added}
 use Rattle.jc_lines.specs.Checks as checks
 use Rattle.jc_list.specs.Listing.{WritesBeginning}
 use Rattle.jc_lines.specs.ListedText.{file_text, is_faulty_file}
 use Rattle.jc_report.specs.Files.{Files}
 use Rattle.jc_edits.specs.Edits.{size_fault}
-use Rattle.jc_lines.specs.Sources.{SourceAnswers}
+use Rattle.jc_input.specs.Sources.{SourceAnswers}
 use Rattle.jc_lines.specs.Runs.{RunsAs}
 use Rattle.jc_report.specs.Reports.{IsReport, Report, is_wrong}
 

@@ -3,13 +3,13 @@
 ghost use Rattle.std.specs.Prelude.{◌≡◌, [], Bool, List, Option, Result, Some, ℕ};
 ghost use Rattle.std.specs.FinMap as map;
 ghost use Rattle.jc_classes.specs.Names.{names_of};
-ghost use Rattle.jc_lines.specs.declared.source.SourceError.{SourceError};
-ghost use Rattle.jc_lines.specs.declared.run_error.Ended.{Ended};
-ghost use Rattle.jc_lines.specs.declared.run_error.RunError.{RunError};
+ghost use Rattle.jc_input.specs.declared.source.SourceError.{SourceError};
+ghost use Rattle.jc_input.specs.declared.run_error.Ended.{Ended};
+ghost use Rattle.jc_input.specs.declared.run_error.RunError.{RunError};
 ghost use Rattle.jc_report.specs.Files.{Files};
 ghost use Rattle.jc_lines.specs.Checks.{Answer, CheckFault, ChecksAs, GivesAnswers, added};
 ghost use Rattle.jc_lines.specs.Runs.{RunsAs};
-ghost use Rattle.jc_lines.specs.Sources.{SourceAnswers, TakesAnswer, answer_of};
+ghost use Rattle.jc_input.specs.Sources.{SourceAnswers, TakesAnswer, answer_of};
 ghost use Rattle.jc_session.specs.Statuses.{Checks, CountsInput, CountsOutput, ListsAs, Outcome, Performs, RunsByAnswers, Tells, IsOutcome, outcome_of_check, status_of};
 ghost use Rattle.jc_session.specs.inside.LentFaults.{outcome_lent};
 

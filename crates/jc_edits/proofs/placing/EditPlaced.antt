@@ -13,11 +13,11 @@ use Rattle.jc_report.specs.FileRows.{winner}
 use Rattle.jc_report.specs.Reports.{facts_at, world_of}
 use Rattle.jc_link.specs.Prefixes.{is_outside}
 use Rattle.jc_link.specs.Tables.{or_built_in, stands_by}
-use Rattle.jc_edits.specs.Edits.{Change, Adds, Replaces, Removes}
+use Rattle.jc_input.specs.Changes.{Change, Adds, Replaces, Removes, path_of, bytes_of}
 use Rattle.jc_edits.specs.Edits as edits
-use Rattle.jc_edits.specs.Touched.{gives, is_path, is_touched, path_of}
+use Rattle.jc_edits.specs.Touched.{gives, is_path, is_touched}
 use Rattle.jc_edits.specs.inside.Changing.{AreChanges, won}
-use Rattle.jc_edits.specs.inside.Growth.{bytes_of, put_at}
+use Rattle.jc_edits.specs.inside.Growth.{put_at}
 use Rattle.jc_edits.proofs.placing.ClassesPlaced.{Placed, exact, lost_name, others_with, placed_at, same_here, with_at}
 
 abbrev name_by : Option Facts → Option Name

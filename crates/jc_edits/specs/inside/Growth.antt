@@ -4,16 +4,9 @@ use Rattle.std.specs.FinMap as map
 use Rattle.jc_base.specs.Bytes.{same_bytes}
 use Rattle.jc_edits.specs.declared.held.Grown.{Grown}
 use Rattle.jc_report.specs.Files.{Files}
-use Rattle.jc_edits.specs.Edits.{Change, Adds, Replaces, Removes}
 use Rattle.jc_report.specs.FileRows.{names}
 use Rattle.jc_edits.specs.inside.Claims.{PathsByName, has_claim, AreClaims}
 use Rattle.jc_report.specs.inside.Naming.{names_at}
-
--- the bytes that are to stand at the path
-abbrev pub bytes_of : Change → Option (List ℕ)
-bytes_of (Adds path bytes) = Some bytes
-bytes_of (Replaces path bytes) = Some bytes
-bytes_of (Removes path) = None
 
 -- the files, with this at the path
 abbrev pub put_at : Files → List ℕ → Option (List ℕ) → Files

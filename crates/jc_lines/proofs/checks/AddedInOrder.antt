@@ -5,11 +5,12 @@ use Rattle.jc_report.specs.Files.{Files}
 use Rattle.jc_report.specs.Trees.{IsTree, Tree}
 use Rattle.jc_lines.specs.declared.checking.CheckError.{CheckError}
 use Rattle.jc_lines.specs.declared.checking.CheckError.TheVariants as errors
-use Rattle.jc_edits.specs.declared.edit.EditError.{EditError}
-use Rattle.jc_lines.specs.declared.source.SourceError.TheVariants as sources
+use Rattle.jc_input.specs.declared.edit.EditError.{EditError}
+use Rattle.jc_input.specs.declared.source.SourceError.TheVariants as sources
 use Rattle.jc_lines.specs.Checks.{Added, All, Answer, GivesAnswers, added, answered_add, judged_add}
-use Rattle.jc_edits.specs.Edits.{Adds, after, judge}
-use Rattle.jc_lines.specs.Sources.{SourceAnswers, TakesAnswer}
+use Rattle.jc_input.specs.Changes.{Adds}
+use Rattle.jc_edits.specs.Edits.{after, judge}
+use Rattle.jc_input.specs.Sources.{SourceAnswers, TakesAnswer}
 use Rattle.jc_lines.specs.inside.Adding.{AddsOne, ReadsTree, StopsAs}
 
 -- ---- answers

@@ -5,17 +5,17 @@ use Rattle.std.proofs.KnownBytes.{Keeps-refl}
 use Rattle.jc_base.specs.Device.{WritesFront}
 use Rattle.jc_lines.specs.declared.answer.Next.{Next}
 use Rattle.jc_lines.specs.declared.answer.Next.TheVariants as next
-use Rattle.jc_lines.specs.declared.run_error.Ended.{Ended}
-use Rattle.jc_lines.specs.declared.run_error.Ended.TheVariants as ended
-use Rattle.jc_lines.specs.declared.run_error.RunError.{RunError}
-use Rattle.jc_lines.specs.declared.run_error.RunError.TheVariants as errors
+use Rattle.jc_input.specs.declared.run_error.Ended.{Ended}
+use Rattle.jc_input.specs.declared.run_error.Ended.TheVariants as ended
+use Rattle.jc_input.specs.declared.run_error.RunError.{RunError}
+use Rattle.jc_input.specs.declared.run_error.RunError.TheVariants as errors
 use Rattle.jc_classes.specs.Names.{Name}
 use Rattle.jc_report.specs.Files.{Files}
-use Rattle.jc_lines.specs.Lines.{Command, command_of}
-use Rattle.jc_lines.specs.Sources.{SourceAnswers}
+use Rattle.jc_input.specs.Lines.{Command, command_of}
+use Rattle.jc_input.specs.Sources.{SourceAnswers}
 use Rattle.jc_lines.specs.Answers.{Reply, Says, Replies}
 use Rattle.jc_lines.specs.Runs.{LineMayLack, EndsAs, StopsAs, StopsAtRead, RunsAs}
-use Rattle.jc_lines.specs.inside.Reading.{bytes_left, TakesLine, LosesPart}
+use Rattle.jc_input.specs.LineReading.{bytes_left, TakesLine, LosesPart}
 use Rattle.jc_lines.specs.inside.Replies.{Gives, GivesOwed, GivesLast, GivesByAnswers, GivesLastByAnswers, GivesByReply, said_by, next_of}
 use Rattle.jc_lines.proofs.runs.RunsSoFar.{IsSoFar, so_far_begins, so_far_goes_on, so_far_ends, so_far_stops, so_far_fails, so_far_last}
 

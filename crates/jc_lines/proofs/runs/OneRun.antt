@@ -8,8 +8,8 @@ use Rattle.jc_report.specs.PartText.{part_text}
 use Rattle.jc_report.specs.ReportText.{report_text}
 use Rattle.jc_report.specs.Reports.{facts_at, world_of}
 use Rattle.jc_report.proofs.reports.OneReport.{report_one}
-use Rattle.jc_lines.specs.Lines.{Command, Add, Replace, Remove, Report, Part, Listing, End, Bad, command_of}
-use Rattle.jc_lines.specs.Sources.{SourceAnswers}
+use Rattle.jc_input.specs.Lines.{Command, Add, Replace, Remove, Report, Part, Listing, End, Bad, command_of}
+use Rattle.jc_input.specs.Sources.{SourceAnswers}
 use Rattle.jc_edits.specs.SaidPart.{SaysPartBy}
 use Rattle.jc_lines.specs.Answers.{Reply, Says, Lists, Ends, Lacks, SaysReport, Replies, Run, RunsTo, AtEnd, WithoutMemory, after_text}
 use Rattle.jc_lines.specs.Answers.RunsTo.{at_eof, says, lists, ends, lacks}

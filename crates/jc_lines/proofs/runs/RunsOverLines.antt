@@ -1,15 +1,16 @@
 -- A run over lines, from its front and from its end, and by which line it ends.
 use Rattle.std.proofs.Common.{◌≡◌, ◌∙◌, ◌++◌, ◌||◌, ◌↔◌, ℕ, Bool, true, false, List, [], ◌∷◌, None, Some, Result, Ok, Err, Option, refl, sym, ap, subst, append_assoc, drop}
-use Rattle.jc_edits.specs.declared.edit.EditError.{EditError}
-use Rattle.jc_lines.specs.declared.run_error.Ended.{Ended}
-use Rattle.jc_lines.specs.declared.run_error.Ended.TheVariants as ended
-use Rattle.jc_lines.specs.declared.source.SourceError.{SourceError}
-use Rattle.jc_lines.specs.declared.source.SourceError.TheVariants as sources
+use Rattle.jc_input.specs.declared.edit.EditError.{EditError}
+use Rattle.jc_input.specs.declared.run_error.Ended.{Ended}
+use Rattle.jc_input.specs.declared.run_error.Ended.TheVariants as ended
+use Rattle.jc_input.specs.declared.source.SourceError.{SourceError}
+use Rattle.jc_input.specs.declared.source.SourceError.TheVariants as sources
 use Rattle.jc_classes.specs.Names.{Name}
 use Rattle.jc_report.specs.Files.{Files}
-use Rattle.jc_edits.specs.Edits.{Change, Adds, Replaces, Removes, judge}
-use Rattle.jc_lines.specs.Lines.{Command, Add, Replace, Remove, Report, Part, Listing, End, Bad, command_of}
-use Rattle.jc_lines.specs.Sources.{SourceAnswers, next_answer}
+use Rattle.jc_input.specs.Changes.{Change, Adds, Replaces, Removes}
+use Rattle.jc_edits.specs.Edits.{judge}
+use Rattle.jc_input.specs.Lines.{Command, Add, Replace, Remove, Report, Part, Listing, End, Bad, command_of}
+use Rattle.jc_input.specs.Sources.{SourceAnswers, next_answer}
 use Rattle.jc_lines.specs.Answers.{Says, Lists, Ends, Lacks, judged_reply, told_reply, Replies, Run, RunsTo, AtEnd, AtEof, WithoutMemory, after_text}
 use Rattle.jc_lines.specs.Answers.RunsTo.{at_eof, says, lists, ends, lacks}
 use Rattle.jc_lines.specs.Runs.{ending_of, is_end, has_end}

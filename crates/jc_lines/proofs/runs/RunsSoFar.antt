@@ -5,20 +5,20 @@ use Rattle.std.proofs.KnownBytes.{Appends-nil, Appends-trans, Appends-kept}
 use Rattle.std.specs.Io.KnownBytes.{Appends, Keeps}
 use Rattle.jc_lines.specs.declared.answer.Next.{Next}
 use Rattle.jc_lines.specs.declared.answer.Next.TheVariants as next
-use Rattle.jc_lines.specs.declared.run_error.Ended.{Ended}
-use Rattle.jc_lines.specs.declared.run_error.Ended.TheVariants as ended
-use Rattle.jc_lines.specs.declared.run_error.RunError.{RunError}
-use Rattle.jc_lines.specs.declared.run_error.RunError.TheVariants as errors
+use Rattle.jc_input.specs.declared.run_error.Ended.{Ended}
+use Rattle.jc_input.specs.declared.run_error.Ended.TheVariants as ended
+use Rattle.jc_input.specs.declared.run_error.RunError.{RunError}
+use Rattle.jc_input.specs.declared.run_error.RunError.TheVariants as errors
 use Rattle.jc_classes.specs.Names.{Name}
 use Rattle.jc_report.specs.Files.{Files}
-use Rattle.jc_lines.specs.Lines.{command_of, lines_of, whole_lines}
-use Rattle.jc_lines.specs.Sources.{SourceAnswers}
+use Rattle.jc_input.specs.Lines.{command_of, lines_of, whole_lines}
+use Rattle.jc_input.specs.Sources.{SourceAnswers}
 use Rattle.jc_lines.specs.Answers.{Run, RunsTo}
 use Rattle.jc_lines.specs.Answers.RunsTo.{at_eof}
 use Rattle.jc_lines.specs.Runs.{EndsAs, StopsAtRead, LineMayLack, StopsAs, RunsAs}
-use Rattle.jc_lines.specs.inside.Reading.{LacksFeed, kept_of, bytes_left, TakesLine, LosesPart}
+use Rattle.jc_input.specs.LineReading.{LacksFeed, kept_of, bytes_left, TakesLine, LosesPart}
 use Rattle.jc_lines.specs.inside.Replies.{GivesLast, GivesOwed, next_of}
-use Rattle.jc_lines.proofs.runs.LinesCut.{lines_of-feed, whole_lines-feed, lines_of-last, whole_lines-part, command_of-kept, kept-cons}
+use Rattle.jc_input.proofs.cutting.LinesCut.{lines_of-feed, whole_lines-feed, lines_of-last, whole_lines-part, command_of-kept, kept-cons}
 use Rattle.jc_lines.proofs.runs.RunsOverLines.{IsAnswered, run_so_far, answered_more, by_end}
 use Rattle.jc_lines.proofs.runs.LineAnswered.{gave_line, line_ends, line_breaks, line_lacks, line_last}
 

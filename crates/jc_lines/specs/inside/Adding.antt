@@ -6,7 +6,7 @@ use Rattle.jc_report.specs.Trees.{IsTree, Tree}
 use Rattle.jc_lines.specs.declared.checking.CheckError.{CheckError}
 use Rattle.jc_lines.specs.declared.checking.CheckError.TheVariants as errors
 use Rattle.jc_lines.specs.Checks.{Added, All, Answer, GivesAnswers, Refused, Unread, added, answered_add}
-use Rattle.jc_lines.specs.Sources.{SourceAnswers}
+use Rattle.jc_input.specs.Sources.{SourceAnswers}
 
 -- why the files are not all added
 abbrev pub StopsAs : Added → CheckError → Type 0

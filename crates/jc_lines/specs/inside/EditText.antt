@@ -1,7 +1,7 @@
 -- The text of an edit's answer.
 use Rattle.std.specs.Prelude.{List, ℕ, Result, Ok, Err, codes}
-use Rattle.jc_edits.specs.declared.edit.Done.{Done}
-use Rattle.jc_edits.specs.declared.edit.EditError.{EditError}
+use Rattle.jc_input.specs.declared.edit.Done.{Done}
+use Rattle.jc_input.specs.declared.edit.EditError.{EditError}
 use Rattle.jc_lines.specs.AnswerText.{refused_text}
 
 abbrev pub edit_text : Result Done EditError → List ℕ

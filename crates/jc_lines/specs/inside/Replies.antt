@@ -7,30 +7,17 @@ use Rattle.jc_lines.specs.declared.answer.Next.{Next}
 use Rattle.jc_lines.specs.declared.answer.Next.TheVariants as next
 use Rattle.jc_lines.specs.declared.answer.Placing.{Placing}
 use Rattle.jc_lines.specs.declared.answer.Placing.TheVariants as placings
-use Rattle.jc_lines.specs.declared.run_error.RunError.{RunError}
-use Rattle.jc_lines.specs.declared.run_error.RunError.TheVariants as run_errors
-use Rattle.jc_lines.specs.declared.run_error.Ended.{Ended}
-use Rattle.jc_lines.specs.declared.run_error.Ended.TheVariants as ended
-use Rattle.jc_lines.specs.declared.command.Command.{Command as LentCommand}
-use Rattle.jc_lines.specs.declared.command.Command.TheVariants as lent
+use Rattle.jc_input.specs.declared.run_error.RunError.{RunError}
+use Rattle.jc_input.specs.declared.run_error.RunError.TheVariants as run_errors
+use Rattle.jc_input.specs.declared.run_error.Ended.{Ended}
+use Rattle.jc_input.specs.declared.run_error.Ended.TheVariants as ended
 use Rattle.jc_classes.specs.Names.{Name}
 use Rattle.jc_report.specs.Files.{Files}
-use Rattle.jc_edits.specs.Edits.{Change, Adds, Replaces}
-use Rattle.jc_lines.specs.Lines.{Command, Add, Replace, Remove, Report, Part, Listing, End, Bad, command_of}
-use Rattle.jc_lines.specs.Sources.{SourceAnswers}
+use Rattle.jc_input.specs.Changes.{Change, Adds, Replaces}
+use Rattle.jc_input.specs.Lines.{Command, command_of}
+use Rattle.jc_input.specs.Sources.{SourceAnswers}
 use Rattle.jc_lines.specs.Runs.{LineMayLack}
 use Rattle.jc_lines.specs.Answers.{Reply, Says, Lists, Ends, Lacks, Replies}
-
--- a borrowed command, with its path as bytes
-abbrev pub command_lent : LentCommand → Command
-command_lent (lent.Add path) = Add path.now
-command_lent (lent.Replace path) = Replace path.now
-command_lent (lent.Remove path) = Remove path.now
-command_lent lent.Report = Report
-command_lent (lent.Part name) = Part name.now
-command_lent (lent.List name) = Listing name.now
-command_lent lent.End = End
-command_lent lent.Bad = Bad
 
 -- the change that places bytes at a path
 abbrev pub placed : Placing → List ℕ → List ℕ → Change

@@ -1,9 +1,9 @@
 -- What counts failures of a run counts them of the program.
 use Rattle.std.proofs.Common.{◌≡◌, ◌⊎◌, ℕ, Err, ⊎_elim, refl, sym, subst}
-use Rattle.jc_lines.specs.declared.run_error.Ended.{Ended}
-use Rattle.jc_lines.specs.declared.run_error.RunError.{RunError}
-use Rattle.jc_lines.specs.declared.run_error.RunError.TheVariants as run_errors
-use Rattle.jc_lines.specs.Runs.{CountsReads, CountsWrites}
+use Rattle.jc_input.specs.declared.run_error.Ended.{Ended}
+use Rattle.jc_input.specs.declared.run_error.RunError.{RunError}
+use Rattle.jc_input.specs.declared.run_error.RunError.TheVariants as run_errors
+use Rattle.jc_input.specs.RunErrors.{CountsReads, CountsWrites}
 use Rattle.jc_session.specs.Statuses.{Fault, NoMemory, Usage, fault_of, CountsInput, CountsOutput}
 
 pub input_counts : (e : RunError) (old new : ℕ) → CountsReads {T = Ended} (Err e) old new → CountsInput (Err (fault_of e)) old new

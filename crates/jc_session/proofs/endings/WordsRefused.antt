@@ -2,7 +2,7 @@
 use Rattle.std.proofs.Common.{◌≡◌, ◌⊎◌, ℕ, List, [], Option, Err, ap, inl, inr, ⊎_elim}
 use Rattle.std.specs.FinMap as map
 use Rattle.std.proofs.KnownBytes.{Keeps-refl}
-use Rattle.jc_lines.specs.declared.run_error.RunError.TheVariants as errors
+use Rattle.jc_input.specs.declared.run_error.RunError.TheVariants as errors
 use Rattle.jc_lines.proofs.runs.ByAnswers.{not_begun}
 use Rattle.jc_session.specs.Statuses.{Fault, NoMemory, Performs, Usage}
 

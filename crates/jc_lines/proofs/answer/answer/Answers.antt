@@ -6,10 +6,10 @@ use Rattle.jc_report.specs.Files.{Files}
 use Rattle.jc_report.specs.Reports.{IsReport}
 use Rattle.jc_report.specs.ReportText.{report_text}
 use Rattle.jc_lines.specs.declared.answer.Placing.TheVariants as placings
-use Rattle.jc_edits.specs.Edits.{Removes}
-use Rattle.jc_lines.specs.Lines.{Add, Replace, Report, Part, Bad}
+use Rattle.jc_input.specs.Changes.{Removes}
+use Rattle.jc_input.specs.Lines.{Add, Replace, Report, Part, Bad}
 use Rattle.jc_lines.specs.ListedText.{listed_text}
-use Rattle.jc_lines.specs.Sources.{next_answer}
+use Rattle.jc_input.specs.Sources.{next_answer}
 use Rattle.jc_edits.specs.SaidPart.{SaysPart}
 use Rattle.jc_lines.specs.Answers.{Ends, Lists, edit_reply, sourced_reply}
 use Rattle.jc_lines.specs.Runs.{MayLack}

@@ -1,9 +1,9 @@
 use Rattle.std.proofs.Common.{◌≡◌, ◌∙◌, ◌++◌, [], ◌∷◌, None, Some, Ok, Err, refl, sym, subst, rules}
 use Rattle.std.proofs.KnownBytes.{Keeps-refl}
-use Rattle.jc_lines.specs.declared.source.SourceError.TheVariants as sources
+use Rattle.jc_input.specs.declared.source.SourceError.TheVariants as sources
 use Rattle.jc_lines.specs.AnswerText.{unread_text}
 use Rattle.jc_edits.specs.Edits.{judge}
-use Rattle.jc_lines.specs.Sources.{SourceAnswers, by_any_path}
+use Rattle.jc_input.specs.Sources.{SourceAnswers, by_any_path}
 use Rattle.jc_lines.specs.Answers.{Says, edit_reply}
 use Rattle.jc_lines.specs.inside.Replies.{Gives}
 use Rattle.jc_lines.proofs.runs.ByAnswers.{said_gives, said_not_lacks}

@@ -1,5 +1,5 @@
 use Rattle.std.proofs.Common.{Ok, ap, subst, sym, ◌∙◌}
-use Rattle.jc_lines.specs.Sources.{answer_of}
+use Rattle.jc_input.specs.Sources.{answer_of}
 use Rattle.jc_lines.specs.inside.Adding.{AddsOne}
 use Rattle.jc_lines.proofs.checking.add.Goals as goal
 

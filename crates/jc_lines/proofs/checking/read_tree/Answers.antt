@@ -4,7 +4,7 @@ use Rattle.std.proofs.lemmas.Result.{err_from_is_err_and}
 use Rattle.std.specs.declared.vec.Vec.{Vec}
 use Rattle.std.specs.declared.alloc.Global.{Global}
 use Rattle.jc_classes.specs.Names.{names_of}
-use Rattle.jc_lines.specs.Sources.{TakesAnswer, answer_of}
+use Rattle.jc_input.specs.Sources.{TakesAnswer, answer_of}
 use Rattle.jc_lines.specs.inside.Adding.{AddsOne}
 use Rattle.jc_lines.proofs.checks.AddedInOrder.{HasRead, read_all, read_more, read_start, read_stops}
 use Rattle.jc_lines.proofs.checking.read_tree.Goals as goal

@@ -1,7 +1,7 @@
 use Rattle.std.proofs.Common.{Ok, Err, sym, subst}
 use Rattle.std.proofs.lemmas.Result.{err_from_is_err_and}
 use Rattle.jc_lines.specs.declared.answer.Next.TheVariants as next
-use Rattle.jc_lines.specs.declared.run_error.Ended.TheVariants as ended
+use Rattle.jc_input.specs.declared.run_error.Ended.TheVariants as ended
 use Rattle.jc_lines.specs.inside.Replies.{GivesByAnswers}
 use Rattle.jc_lines.proofs.runs.ByAnswers.{last_gives}
 use Rattle.jc_lines.proofs.running.answer_last.Goals as goal

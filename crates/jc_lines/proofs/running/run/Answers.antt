@@ -1,7 +1,7 @@
 use Rattle.std.proofs.Common.{◌≡◌, ◌∙◌, Err, ap, sym, refl}
 use Rattle.std.proofs.lemmas.Result.{err_from_is_err_and}
-use Rattle.jc_lines.specs.Lines.{command_of}
-use Rattle.jc_lines.specs.inside.Replies.{command_lent}
+use Rattle.jc_input.specs.Lines.{command_of}
+use Rattle.jc_input.specs.LentCommands.{command_lent}
 use Rattle.jc_lines.proofs.runs.RunsSoFar.{so_far_begins, so_far_goes_on, so_far_ends, so_far_stops, so_far_fails, so_far_last}
 use Rattle.jc_lines.proofs.runs.ByAnswers.{by_answers_begins, by_answers_goes_on, by_answers_ends, by_answers_stops, by_answers_fails, by_answers_last, not_begun}
 use Rattle.jc_lines.proofs.running.run.Goals as goal

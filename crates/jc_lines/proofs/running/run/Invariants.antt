@@ -1,5 +1,5 @@
 use Rattle.std.proofs.Common.{◌≡◌, ◌+◌, List, ℕ, Some, length}
-use Rattle.jc_lines.specs.Sources.{SourceAnswers}
+use Rattle.jc_input.specs.Sources.{SourceAnswers}
 use Rattle.jc_lines.proofs.runs.RunsSoFar.{IsSoFar}
 use Rattle.jc_lines.proofs.runs.ByAnswers.{IsSoFarByAnswers}
 use Rattle.jc_lines.proofs.running.run.Given as goal

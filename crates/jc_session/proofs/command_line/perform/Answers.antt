@@ -3,10 +3,10 @@ use Rattle.std.specs.FinMap as map
 use Rattle.std.proofs.KnownBytes.{Keeps-refl}
 use Rattle.std.proofs.lemmas.Result.{err_from_is_err_and}
 use Rattle.jc_classes.specs.Names.{Name}
-use Rattle.jc_lines.specs.declared.run_error.RunError.TheVariants as errors
+use Rattle.jc_input.specs.declared.run_error.RunError.TheVariants as errors
 use Rattle.jc_report.specs.Files.{Files}
 use Rattle.jc_lines.specs.Runs.{Left, RunsAs}
-use Rattle.jc_lines.specs.Sources.{SourceAnswers}
+use Rattle.jc_input.specs.Sources.{SourceAnswers}
 use Rattle.jc_session.specs.Statuses.{IsOutcome}
 use Rattle.jc_session.specs.inside.LentFaults.{outcome_lent}
 use Rattle.jc_lines.proofs.runs.ByAnswers.{not_begun}

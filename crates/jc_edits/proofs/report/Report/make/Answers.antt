@@ -4,10 +4,10 @@ use Rattle.jc_link.specs.Tables.{class_at}
 use Rattle.jc_held.specs.Affected.{IsBounded}
 use Rattle.jc_report.specs.Reports.{world_of}
 use Rattle.jc_edits.specs.SessionState.{HeldFiles}
-use Rattle.jc_edits.specs.Edits.{change_lent}
-use Rattle.jc_edits.specs.Touched.{gives, is_touched, path_of}
+use Rattle.jc_input.specs.Changes.{change_lent, path_of, bytes_of}
+use Rattle.jc_edits.specs.Touched.{gives, is_touched}
 use Rattle.jc_edits.specs.inside.Changing.{AreChanges}
-use Rattle.jc_edits.specs.inside.Growth.{bytes_of, put_at}
+use Rattle.jc_edits.specs.inside.Growth.{put_at}
 use Rattle.jc_edits.proofs.placing.EditPlaced.{bounded_after, held_after, put_after}
 use Rattle.jc_edits.proofs.report.Report.make.Goals as goal
 

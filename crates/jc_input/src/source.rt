@@ -2,8 +2,8 @@
 ghost use Rattle.std.specs.Prelude.{◌≡◌, ◌↔◌, Option, map};
 ghost use Rattle.std.specs.declared.option.Option.TheVariants.{None, Some};
 ghost use Rattle.std.specs.IoError.{error_kind};
-ghost use Rattle.jc_lines.specs.declared.source.SourceError.TheVariants.{NoMemory};
-ghost use Rattle.jc_lines.specs.Sources.{SourceAnswers, TakesAnswer, answer_of, by_any_path};
+ghost use Rattle.jc_input.specs.declared.source.SourceError.TheVariants.{NoMemory};
+ghost use Rattle.jc_input.specs.Sources.{SourceAnswers, TakesAnswer, answer_of, by_any_path};
 
 use std::fs;
 use std::io::{self, ErrorKind, Read};
@@ -41,8 +41,8 @@ pub struct MemSource {
 
 impl Model for MemSource {
     ghost use Rattle.std.specs.Prelude.{ℕ, List, Result, map, reverse};
-    ghost use Rattle.jc_lines.specs.declared.source.SourceError.{SourceError};
-    ghost use Rattle.jc_lines.specs.Sources.{answer_of};
+    ghost use Rattle.jc_input.specs.declared.source.SourceError.{SourceError};
+    ghost use Rattle.jc_input.specs.Sources.{answer_of};
 
     ghost Value = { List (Result (List ℕ) SourceError) };
 
@@ -78,7 +78,7 @@ pub struct FileSource<'a, R> {
 }
 
 impl<'a, R: Files + AllocGlobal> FileSource<'a, R> {
-    ghost use Rattle.jc_lines.specs.FileSource.{runtime_of};
+    ghost use Rattle.jc_input.specs.FileSource.{runtime_of};
 
     /// A source over the files of a runtime.
     pub fn new(rt: &'a R) -> FileSource<'a, R>

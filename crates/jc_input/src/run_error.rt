@@ -1,7 +1,7 @@
 //! How a run ends.
 ghost use Rattle.std.specs.Prelude.{◌≡◌};
-ghost use Rattle.jc_lines.specs.declared.run_error.RunError.TheVariants as errors;
-ghost use Rattle.jc_lines.specs.Runs.{run_code};
+ghost use Rattle.jc_input.specs.declared.run_error.RunError.TheVariants as errors;
+ghost use Rattle.jc_input.specs.RunErrors.{run_code};
 
 use jc_base::NoMemory;
 use thiserror::Error;

@@ -2,8 +2,8 @@
 use Rattle.std.specs.Prelude.{◌≡◌, ℕ, List, [], ◌∷◌, drop, Option, Some, None, Result, Ok, Err, ⊤}
 use Rattle.std.specs.declared.vec.Vec.{Vec}
 use Rattle.std.specs.Global.{Global}
-use Rattle.jc_lines.specs.declared.source.SourceError.{SourceError}
-use Rattle.jc_lines.specs.declared.source.SourceError.TheVariants as errors
+use Rattle.jc_input.specs.declared.source.SourceError.{SourceError}
+use Rattle.jc_input.specs.declared.source.SourceError.TheVariants as errors
 
 -- what the calls of a source are answered, in order, each by the path that is asked
 abbrev pub SourceAnswers : Type 0

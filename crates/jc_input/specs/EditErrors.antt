@@ -1,7 +1,7 @@
 -- The numbers and names of an edit's errors.
 use Rattle.std.specs.Prelude.{List, ℕ, codes}
-use Rattle.jc_edits.specs.declared.edit.EditError.{EditError}
-use Rattle.jc_edits.specs.declared.edit.EditError.TheVariants as errors
+use Rattle.jc_input.specs.declared.edit.EditError.{EditError}
+use Rattle.jc_input.specs.declared.edit.EditError.TheVariants as errors
 
 abbrev pub edit_code : EditError → ℕ
 edit_code errors.AlreadyThere = 1

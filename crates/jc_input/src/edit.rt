@@ -2,10 +2,8 @@
 
 ghost use Rattle.std.specs.Prelude.{◌≡◌};
 ghost use Rattle.std.specs.Option.{option_copied};
-ghost use Rattle.jc_edits.specs.declared.edit.EditError.TheVariants.{NoMemory};
-ghost use Rattle.jc_edits.specs.Touched.{path_of};
-ghost use Rattle.jc_edits.specs.Edits.{change_lent};
-ghost use Rattle.jc_edits.specs.inside.Growth.{bytes_of};
+ghost use Rattle.jc_input.specs.declared.edit.EditError.TheVariants.{NoMemory};
+ghost use Rattle.jc_input.specs.Changes.{path_of, change_lent, bytes_of};
 
 use jc_base::NoMemory;
 use std::alloc::{AllocError, AllocFailed};
@@ -34,7 +32,8 @@ pub enum LentEdit<'a> {
 }
 
 impl LentEdit<'_> {
-    pub(crate) fn path(&self) -> &[u8]
+    /// The path that is edited.
+    pub fn path(&self) -> &[u8]
         ensures { result.now ≡ path_of (change_lent self.now) }
     {
         match self {
@@ -43,7 +42,7 @@ impl LentEdit<'_> {
     }
 
     /// The bytes that are to stand at the path.
-    pub(crate) fn bytes(&self) -> Option<&[u8]>
+    pub fn bytes(&self) -> Option<&[u8]>
         ensures { option_copied result ≡ bytes_of (change_lent self.now) }
     {
         match self {
@@ -85,7 +84,7 @@ pub enum EditError {
 }
 
 impl EditError {
-    ghost use Rattle.jc_edits.specs.EditErrors.{edit_code, edit_error_name};
+    ghost use Rattle.jc_input.specs.EditErrors.{edit_code, edit_error_name};
 
     /// The number of the refusal, from 1, in the order of the variants.
     pub fn code(&self) -> u8

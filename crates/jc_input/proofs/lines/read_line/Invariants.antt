@@ -1,7 +1,7 @@
 use Rattle.std.proofs.Common.{◌≡◌, ◌+◌, ◌≤◌, IsSome, length, position}
-use Rattle.jc_lines.specs.inside.Reading.{bytes_left, is_line_feed}
-use Rattle.jc_lines.proofs.runs.LinesCut.{IsReading}
-use Rattle.jc_lines.proofs.lines.read_line.Given as goal
+use Rattle.jc_input.specs.LineReading.{bytes_left, is_line_feed}
+use Rattle.jc_input.proofs.cutting.LinesCut.{IsReading}
+use Rattle.jc_input.proofs.lines.read_line.Given as goal
 
 abbrev pub invariant-loop-ahead : goal.invariant-loop-ahead
 invariant-loop-ahead g l = record {

@@ -8,8 +8,8 @@ use Rattle.std.proofs.Math.Seq.{take-append-add}
 use Rattle.std.specs.Bool.{⊤}
 use Rattle.std.specs.List.{list_any, position_or_len, before_first, after_first}
 use Rattle.std.specs.Io.KnownBytes.{Consumes, IsAtEnd, Keeps}
-use Rattle.jc_lines.specs.Lines.{Bad, command_of, lines_of, onto_first, whole_lines, onto_whole}
-use Rattle.jc_lines.specs.inside.Reading.{is_line_feed, LacksFeed, kept_of, bytes_left, TakesLine, LosesPart}
+use Rattle.jc_input.specs.Lines.{Bad, command_of, lines_of, onto_first, whole_lines, onto_whole}
+use Rattle.jc_input.specs.LineReading.{is_line_feed, LacksFeed, kept_of, bytes_left, TakesLine, LosesPart}
 
 -- what `keep` keeps
 pub kept : (n : ℕ) (xs ys : List ℕ) → length xs ≤ n → xs ++ take (min (length ys) (n - length xs)) ys ≡ take n (xs ++ ys)

@@ -1,26 +1,34 @@
 //! What a line asks for.
 ghost use Rattle.std.specs.Prelude.{◌≡◌, MatchOption, drop, false, length, true};
-ghost use Rattle.jc_lines.specs.Lines.{begins_with_word, command_of};
-ghost use Rattle.jc_lines.specs.inside.Replies.{command_lent};
+ghost use Rattle.jc_input.specs.Lines.{begins_with_word, command_of};
+ghost use Rattle.jc_input.specs.LentCommands.{command_lent};
 
 /// The most bytes that a line may have, its LF aside.
 const LONGEST_LINE: usize = 8192;
 
 /// What a line asks for. Paths and names are borrowed from the line.
 #[derive(Clone, Copy)]
-pub(crate) enum Command<'a> {
+pub enum Command<'a> {
+    /// A new file at a path.
     Add(&'a [u8]),
+    /// Other bytes at the path of a file.
     Replace(&'a [u8]),
+    /// No file at a path.
     Remove(&'a [u8]),
+    /// The report.
     Report,
+    /// The part of the class of a name.
     Part(&'a [u8]),
+    /// The listing of the file that the class of a name is taken from.
     List(&'a [u8]),
+    /// The end of the session.
     End,
+    /// Nothing that is known.
     Bad,
 }
 
 /// What a line without its LF asks for.
-pub(crate) fn parse_line(line: &[u8]) -> Command<'_>
+pub fn parse_line(line: &[u8]) -> Command<'_>
     ensures { command_lent result ≡ command_of line.now }
 {
     if line.len() > LONGEST_LINE {

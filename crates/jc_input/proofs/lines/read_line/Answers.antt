@@ -1,6 +1,6 @@
 use Rattle.std.proofs.Common.{◌∙◌, arith}
-use Rattle.jc_lines.proofs.runs.LinesCut.{reading_moves, reading_reads, reading_ends, reading_fails, reading_finds, longer_by, no_feed}
-use Rattle.jc_lines.proofs.lines.read_line.Goals as goal
+use Rattle.jc_input.proofs.cutting.LinesCut.{reading_moves, reading_reads, reading_ends, reading_fails, reading_finds, longer_by, no_feed}
+use Rattle.jc_input.proofs.lines.read_line.Goals as goal
 
 pub returns-in-Ok-eq0-clause-takes : goal.returns-in-Ok-eq0-clause-takes
 returns-in-Ok-eq0-clause-takes g c =

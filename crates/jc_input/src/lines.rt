@@ -3,9 +3,9 @@ ghost use Rattle.std.specs.Prelude.{◌≡◌, ◌+◌, ◌<◌, ◌≤◌, ◌+
 ghost use Rattle.std.specs.List.{after_first, before_first};
 ghost use Rattle.std.specs.Io.KnownBytes.{Consumes, IsAtEnd, Keeps};
 ghost use Rattle.jc_base.specs.Device.{CountsFault};
-ghost use Rattle.jc_lines.specs.declared.run_error.RunError.TheVariants.{Read};
-ghost use Rattle.jc_lines.specs.Runs.{CountsReads};
-ghost use Rattle.jc_lines.specs.inside.Reading.{LosesPart, TakesLine, bytes_left, is_line_feed};
+ghost use Rattle.jc_input.specs.declared.run_error.RunError.TheVariants.{Read};
+ghost use Rattle.jc_input.specs.RunErrors.{CountsReads};
+ghost use Rattle.jc_input.specs.LineReading.{LosesPart, TakesLine, bytes_left, is_line_feed};
 
 use crate::run_error::RunError;
 use jc_base::{DeviceFault, Input, NoMemory};
@@ -20,13 +20,13 @@ const CHUNK: usize = 4096;
 
 /// The bytes of one line so far, without its LF: all of them, or the first 8,193.
 #[derive(Drop)]
-pub(crate) struct Line {
+pub struct Line {
     bytes: Vec<u8>,
 }
 
 /// The bytes that were read and are part of no line yet.
 #[derive(Drop)]
-pub(crate) struct Ahead {
+pub struct Ahead {
     chunk: [u8; CHUNK],
     start: usize,
     end: usize,
@@ -44,7 +44,7 @@ impl Model for Line {
 
 impl Line {
     /// An empty line. It takes all the memory that lines need.
-    pub(crate) fn new(alloc: Global) -> Result<Line, NoMemory>
+    pub fn new(alloc: Global) -> Result<Line, NoMemory>
         ensures { IfOk result (λ line. line ≡ []) }
     {
         Ok(Line {
@@ -53,7 +53,7 @@ impl Line {
     }
 
     /// The bytes that are kept.
-    pub(crate) fn bytes(&self) -> &[u8]
+    pub fn bytes(&self) -> &[u8]
         ensures { result.now ≡ self.now }
     {
         self.bytes.as_slice()
@@ -87,7 +87,7 @@ impl Model for Ahead {
 
 impl Ahead {
     /// Nothing is read yet.
-    pub(crate) fn new() -> Ahead
+    pub fn new() -> Ahead
         ensures { result ≡ [] }
     {
         Ahead {
@@ -133,7 +133,7 @@ impl Ahead {
 /// Reads the next line, and tells whether an LF ended it: else it is what stands behind the last LF.
 /// What a read hands over stays ahead past the end of the line, and nothing is read while a whole line
 /// is ahead. After an error the front of the line that was not whole is lost.
-pub(crate) fn read_line<R: Input>(
+pub fn read_line<R: Input>(
     line: &mut Line,
     ahead: &mut Ahead,
     input: &mut R,

@@ -1,0 +1,10 @@
+pub mod Changes
+pub mod EditErrors
+pub mod FileSource
+pub mod LentCommands
+pub mod LineReading
+pub mod Lines
+pub mod RunErrors
+pub mod Sources
+pub use Rattle.jc_base.specs.Bytes
+pub use Rattle.jc_base.specs.Device
