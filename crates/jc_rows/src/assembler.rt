@@ -1,84 +1,72 @@
 //! A class file from the lines of a `class` row.
 
 use crate::tokens::{Token, tokens_of};
-use anyhow::{Context, Result, bail, ensure};
+use anyhow::{Context, Result, bail};
 use jc_base::ByteMap;
 use std::alloc::Global;
 
-/// Bytes in the making. Where memory is refused they are cut, and nothing is told before the end.
-#[derive(Drop)]
-struct Bytes {
-    bytes: Vec<u8>,
-    are_cut: bool,
+/// Adds bytes. Where memory is refused they are left out, so that the row that wants them is wrong.
+fn add(bytes: &mut Vec<u8>, more: &[u8]) {
+    let _ = bytes.extend_from_slice(more);
 }
 
-impl Bytes {
-    fn new(alloc: Global) -> Bytes {
-        Bytes {
-            bytes: Vec::new(alloc),
-            are_cut: false,
-        }
+fn add_numbers(bytes: &mut Vec<u8>, numbers: &[u16]) {
+    for number in numbers {
+        add(bytes, &number.to_be_bytes());
     }
+}
 
-    fn add(&mut self, bytes: &[u8]) {
-        self.are_cut |= self.bytes.extend_from_slice(bytes).is_err();
-    }
-
-    fn add_numbers(&mut self, numbers: &[u16]) {
-        for number in numbers {
-            self.add(&number.to_be_bytes());
-        }
-    }
-
-    fn add_table(&mut self, table: &Table) {
-        self.add_numbers(&[table.count]);
-        self.add(&table.rows.bytes);
-    }
+fn add_table(bytes: &mut Vec<u8>, table: &Table) {
+    add_numbers(bytes, &[table.count]);
+    add(bytes, &table.rows);
 }
 
 /// A table behind its count.
 #[derive(Drop)]
 struct Table {
     count: u16,
-    rows: Bytes,
+    rows: Vec<u8>,
 }
 
 impl Table {
     fn new(alloc: Global) -> Table {
         Table {
             count: 0,
-            rows: Bytes::new(alloc),
+            rows: Vec::new(alloc),
         }
     }
 
     fn add(&mut self, numbers: &[u16], rest: &[u8]) {
         self.count = self.count.wrapping_add(1);
-        self.rows.add_numbers(numbers);
-        self.rows.add(rest);
+        add_numbers(&mut self.rows, numbers);
+        add(&mut self.rows, rest);
     }
 }
 
 /// Constants, each once.
 #[derive(Drop)]
 struct Pool {
-    alloc: Global,
     indexes: ByteMap<u16>,
-    constants: Bytes,
+    constants: Vec<u8>,
 }
 
 impl Pool {
     /// The index of a constant, which is added where it is new.
     fn entry(&mut self, tag: u8, numbers: &[u16], text: &[u8]) -> u16 {
-        let mut constant = Bytes::new(self.alloc);
-        constant.add(&[tag]);
-        constant.add_numbers(numbers);
-        constant.add(text);
-        if let Some(index) = self.indexes.get(&constant.bytes) {
+        let mut constant = Vec::new(*self.constants.allocator());
+        add(&mut constant, &[tag]);
+        add_numbers(&mut constant, numbers);
+        add(&mut constant, text);
+        self.place(constant)
+    }
+
+    fn place(&mut self, constant: Vec<u8>) -> u16 {
+        if let Some(index) = self.indexes.get(&constant) {
             return *index;
         }
         let index = self.count();
-        self.constants.add(&constant.bytes);
-        self.constants.are_cut |= self.indexes.insert(constant.bytes, index).is_err();
+        add(&mut self.constants, &constant);
+        let _ = self.indexes.insert(constant, index);
         index
     }
 
@@ -133,9 +121,8 @@ const WITHOUT_CODE: u16 = 0x0500;
 impl Assembler {
     fn new(alloc: Global, name: &str) -> Assembler {
         let mut pool = Pool {
-            alloc,
             indexes: ByteMap::new(alloc),
-            constants: Bytes::new(alloc),
+            constants: Vec::new(alloc),
         };
         let this_class = pool.class(name);
         let super_class = pool.class("java/lang/Object");
@@ -235,24 +222,17 @@ impl Assembler {
         Ok(())
     }
 
-    fn file(&self, alloc: Global) -> Bytes {
-        let mut file = Bytes::new(alloc);
-        file.add_numbers(&[0xcafe, 0xbabe, 0, self.major, self.pool.count()]);
-        file.add(&self.pool.constants.bytes);
-        file.add_numbers(&[self.flags, self.this_class, self.super_class]);
-        file.add_table(&self.interfaces);
-        file.add_table(&self.fields);
-        file.add_table(&self.methods);
-        file.add_numbers(&[0]);
-        file.are_cut |= self.are_cut();
+    fn file(&self, alloc: Global) -> Vec<u8> {
+        let mut file = Vec::new(alloc);
+        let head = [0xcafe, 0xbabe, 0, self.major, self.pool.count()];
+        add_numbers(&mut file, &head);
+        add(&mut file, &self.pool.constants);
+        add_numbers(&mut file, &[self.flags, self.this_class, self.super_class]);
+        add_table(&mut file, &self.interfaces);
+        add_table(&mut file, &self.fields);
+        add_table(&mut file, &self.methods);
+        add_numbers(&mut file, &[0]);
         file
-    }
-
-    fn are_cut(&self) -> bool {
-        self.pool.constants.are_cut
-            || self.interfaces.rows.are_cut
-            || self.fields.rows.are_cut
-            || self.methods.rows.are_cut
     }
 }
 
@@ -269,7 +249,5 @@ fn tag_of(kind: &str) -> Result<u8> {
 pub(crate) fn assemble(alloc: Global, name: &str, lines: &[&str]) -> Result<Vec<u8>> {
     let mut assembler = Assembler::new(alloc, name);
     assembler.take_lines(alloc, lines)?;
-    let file = assembler.file(alloc);
-    ensure!(!file.are_cut, "no memory");
-    Ok(file.bytes)
+    Ok(assembler.file(alloc))
 }

@@ -2,8 +2,7 @@
 
 use crate::compare::difference;
 use crate::dialogue::Dialogue;
-use crate::doubles::{NoMemoryFiles, TakesNothing};
-use jc_base::{MemInput, MemOutput, StdOutput};
+use jc_base::{MemInput, MemOutput};
 use jc_session::{Ended, MemSource, RunError, Session, program, run};
 use std::alloc::{AllocError, Global};
 use std::mem;
@@ -94,12 +93,7 @@ fn run_dialogue(
     let answers = mem::replace(&mut dialogue.answers, Vec::new(alloc));
     let mut source = MemSource::new(answers);
     let mut input = MemInput::new(&dialogue.input, dialogue.fails);
-    if dialogue.takes_bytes {
-        run(alloc, session, &mut source, &mut input, out)
-    } else {
-        let mut out = StdOutput::new(TakesNothing);
-        run(alloc, session, &mut source, &mut input, &mut out)
-    }
+    run(alloc, session, &mut source, &mut input, out)
 }
 
 /// What is told of a program that does otherwise than its dialogue.
@@ -132,9 +126,5 @@ fn status_of(
 ) -> u8 {
     let mut input = MemInput::new(&dialogue.input, dialogue.fails);
     let words = dialogue.words.as_slice();
-    if dialogue.has_files {
-        program(rt, words, &mut input, out, err)
-    } else {
-        program(&NoMemoryFiles { rt }, words, &mut input, out, err)
-    }
+    program(rt, words, &mut input, out, err)
 }
