@@ -1,4 +1,4 @@
-use Rattle.std.proofs.Common.{◌≡◌, [], ap, ◌∙◌}
+use Rattle.std.proofs.Common.{◌≡◌, ap, ◌∙◌}
 use Rattle.std.specs.FinMap as map
 use Rattle.jc_edits.proofs.holding.ClaimsStay.{new_besides, new_empty, new_place, new_commits, new_undoes}
 use Rattle.jc_edits.proofs.held.grow_new.Goals as goal
