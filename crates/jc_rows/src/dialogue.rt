@@ -19,6 +19,8 @@ pub(crate) struct NamedFile<'a> {
 pub(crate) struct Dialogue<'a> {
     pub(crate) files: Vec<NamedFile<'a>>,
     pub(crate) held: Vec<NamedFile<'a>>,
+    pub(crate) has_files: bool,
+    pub(crate) takes_bytes: bool,
     pub(crate) words: Vec<&'a str>,
     pub(crate) input: Vec<u8>,
     pub(crate) fails: bool,
@@ -33,6 +35,8 @@ impl<'a> Dialogue<'a> {
         Dialogue {
             files: Vec::new(alloc),
             held: Vec::new(alloc),
+            has_files: true,
+            takes_bytes: true,
             words: Vec::new(alloc),
             input: Vec::new(alloc),
             fails: false,
@@ -79,12 +83,13 @@ impl<'a> Dialogue<'a> {
 
     /// Takes a line that tells how a stream or the run ends.
     fn add_ending(&mut self, word: &str, rest: &str) -> Result<()> {
-        match (word, rest) {
-            ("input", "fails") => self.fails = true,
-            ("ends", _) => self.wanted.ending.push_str(rest)?,
-            _ => self.limit(word, rest)?,
+        if self.switch(word, rest) {
+            return Ok(());
         }
-        Ok(())
+        match word {
+            "ends" => Ok(self.wanted.ending.push_str(rest)?),
+            _ => self.limit(word, rest),
+        }
     }
 
     /// What a line that begins so adds to.
@@ -95,6 +100,17 @@ impl<'a> Dialogue<'a> {
             "!" | "!!" => Some(&mut self.wanted.told),
             _ => None,
         }
+    }
+
+    /// Takes a line that has no number and no bytes, and says whether it is one.
+    fn switch(&mut self, word: &str, rest: &str) -> bool {
+        match (word, rest) {
+            ("files", "no-memory") => self.has_files = false,
+            ("input", "fails") => self.fails = true,
+            ("output", "takes nothing") => self.takes_bytes = false,
+            _ => return false,
+        }
+        true
     }
 
     fn limit(&mut self, word: &str, rest: &str) -> Result<()> {

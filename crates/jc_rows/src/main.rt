@@ -43,7 +43,9 @@
 //!     sources N PARTS  the same bytes N times
 //!     holds PATH PARTS after the run the session holds these bytes at the path
 //!     file NAME PARTS  a file that lies in the working folder while the program runs
+//!     files no-memory  no file can be opened for want of memory
 //!     input fails      the input fails behind its bytes
+//!     output takes nothing    the output is one over a writer that takes no byte and tells no error
 //!     room N           the output has room for so many bytes, and then fails
 //!     error-room N     the same of standard error
 //!     words "WORD"..   the words of the program
@@ -66,6 +68,7 @@ mod class_answers;
 mod code_answers;
 mod compare;
 mod dialogue;
+mod doubles;
 mod edits;
 mod file_answers;
 mod judge;

@@ -2,7 +2,8 @@
 
 use crate::compare::difference;
 use crate::dialogue::Dialogue;
-use jc_base::{MemInput, MemOutput};
+use crate::doubles::{NoMemoryFiles, TakesNothing};
+use jc_base::{MemInput, MemOutput, StdOutput};
 use jc_session::{Ended, MemSource, RunError, Session, program, run};
 use std::alloc::{AllocError, Global};
 use std::mem;
@@ -93,7 +94,12 @@ fn run_dialogue(
     let answers = mem::replace(&mut dialogue.answers, Vec::new(alloc));
     let mut source = MemSource::new(answers);
     let mut input = MemInput::new(&dialogue.input, dialogue.fails);
-    run(alloc, session, &mut source, &mut input, out)
+    if dialogue.takes_bytes {
+        run(alloc, session, &mut source, &mut input, out)
+    } else {
+        let mut out = StdOutput::new(TakesNothing);
+        run(alloc, session, &mut source, &mut input, &mut out)
+    }
 }
 
 /// What is told of a program that does otherwise than its dialogue.
@@ -126,5 +132,9 @@ fn status_of(
 ) -> u8 {
     let mut input = MemInput::new(&dialogue.input, dialogue.fails);
     let words = dialogue.words.as_slice();
-    program(rt, words, &mut input, out, err)
+    if dialogue.has_files {
+        program(rt, words, &mut input, out, err)
+    } else {
+        program(&NoMemoryFiles { rt }, words, &mut input, out, err)
+    }
 }
