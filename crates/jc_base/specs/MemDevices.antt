@@ -1,11 +1,15 @@
 -- What a clause sees of a device over memory.
-use Rattle.std.specs.Prelude.{ℕ, Bool, List}
+use Rattle.std.specs.Prelude.{ℕ, ◌==◌, Bool, ◌&&◌, not, List, length}
 
 -- the bytes still to come, whether a failure follows them in place of the end, and the failures so far
 pub record InputState : Type 0 where
   pub remaining : List ℕ
   pub fails : Bool
   pub failures : ℕ
+
+-- it ends with its bytes, unless it fails then
+abbrev pub has_ended : InputState → Bool
+has_ended input = length input.remaining == 0 && not input.fails
 
 -- the bytes that were written, how many there may be, and the failures so far
 pub record OutputState : Type 0 where

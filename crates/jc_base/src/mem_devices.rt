@@ -1,9 +1,10 @@
 //! Devices over memory.
-ghost use Rattle.std.specs.Prelude.{◌≡◌, ◌+◌, ◌-◌, ◌<◌, ◌≤◌, ◌^◌, ◌++◌, ◌↔◌, [], IfOk, IsErr, IsOk, IsTrue, MatchResult, OnErr, Some, min, take, drop, length, vec_capacity};
+ghost use Rattle.std.specs.Prelude.{◌≡◌, ◌+◌, ◌-◌, ◌<◌, ◌≤◌, ◌^◌, ◌++◌, ◌↔◌, [], false, true, IfOk, IsErr, IsOk, IsTrue, MatchResult, OnErr, Some, min, take, drop, length, vec_capacity};
 ghost use Rattle.std.proofs.Common.{arith};
+ghost use Rattle.std.proofs.lemmas.Grind.{common_steps};
 ghost use Rattle.std.specs.Io.KnownBytes.{ReadConsumes, WriteAppends};
 ghost use Rattle.jc_base.specs.Device.{CountsFault, more};
-ghost use Rattle.jc_base.specs.MemDevices.{InputState, OutputState};
+ghost use Rattle.jc_base.specs.MemDevices.{InputState, OutputState, has_ended};
 
 use crate::device::{DeviceFault, Input, Output, one_more};
 use crate::no_memory::NoMemory;
@@ -55,9 +56,20 @@ impl<'a> Input for MemInput<'a> {
 
     ghost bound = { λ input. min (length input.remaining) (2 ^ 63 - 1) };
 
+    ghost ended = { has_ended };
+
+    /// It ends with its bytes, unless it fails then.
+    fn has_ended(&self) -> bool
+        ensures { result ≡ has_ended self.now }
+    {
+        self.rest.is_empty() && !self.fails
+    }
+
     fn read(&mut self, buffer: &mut [u8]) -> Result<usize, DeviceFault>
+        requires { has_ended self.old ≡ false }
         ensures room { IfOk result (λ n. n ≤ length buffer.new) }
         ensures bytes { ReadConsumes (Some self.old.remaining) (Some self.new.remaining) result buffer.new }
+        ensures ended { IfOk result (λ n. n ≡ 0 → 0 < length buffer.new → has_ended self.new ≡ true) }
         ensures failures { CountsFault result self.old.failures self.new.failures }
         ensures bound { MatchResult result
             (λ n. min (length self.new.remaining) (2 ^ 63 - 1) + n ≤ min (length self.old.remaining) (2 ^ 63 - 1))
@@ -82,6 +94,8 @@ impl<'a> Input for MemInput<'a> {
     }
 
     ghost bound_fits = { λ input. Prim.omega arith };
+
+    ghost ended_at_end = { λ input h. Prim.grind (arith, common_steps) };
 }
 
 impl Model for MemOutput {

@@ -1,5 +1,5 @@
 //! Devices over std's readers and writers.
-ghost use Rattle.std.specs.Prelude.{◌≡◌, ◌+◌, ◌<◌, ◌≤◌, ◌^◌, IfOk, IsErr, MatchResult, length};
+ghost use Rattle.std.specs.Prelude.{◌≡◌, ◌+◌, ◌<◌, ◌≤◌, ◌^◌, ◌==◌, ◌&&◌, [], nat_lt, false, true, IfOk, IsErr, MatchResult, OnErr, length, unwrap_or};
 ghost use Rattle.std.proofs.Common.{arith};
 ghost use Rattle.std.specs.Io.KnownBytes.{ReadConsumes};
 ghost use Rattle.jc_base.specs.Device.{CountsFault};
@@ -13,11 +13,13 @@ const MOST_BYTES: u64 = 1 << 62;
 /// An input over a reader of std's. Each error of the reader is a failure, an interruption too, and
 /// so is a read into some room once 2^62 bytes were handed over.
 #[derive(Drop)]
-pub struct StdInput<R> {
+pub struct StdInput<R: Read> {
     inner: R,
     allowance: u64,
     failures: u64,
+    ended: bool,
     ghost limited: { allowance ≤ 2 ^ 62 },
+    ghost at_end: { ended ≡ true → unwrap_or (R.remaining inner) [] ≡ [] },
 }
 
 /// An output over a writer of std's. Each error of the writer is a failure, an interruption too, and
@@ -28,19 +30,21 @@ pub struct StdOutput<W> {
     failures: u64,
 }
 
-impl<R> StdInput<R> {
-    ghost use Rattle.jc_base.specs.StdDevices.{input_reader, input_allowance, input_failures};
+impl<R: Read> StdInput<R> {
+    ghost use Rattle.jc_base.specs.StdDevices.{input_reader, input_allowance, input_ended, input_failures};
 
-    /// An input that has handed over nothing yet, and has not failed.
+    /// An input that has handed over nothing yet, and has neither failed nor ended.
     pub fn new(inner: R) -> StdInput<R>
         ensures reader { input_reader result ≡ inner }
         ensures allowance { input_allowance result ≡ 2 ^ 62 }
         ensures failures { input_failures result ≡ 0 }
+        ensures ended { input_ended result ≡ false }
     {
         StdInput {
             inner,
             allowance: MOST_BYTES,
             failures: 0,
+            ended: false,
         }
     }
 
@@ -53,7 +57,8 @@ impl<R> StdInput<R> {
 }
 
 impl<R: Read + Drop> Input for StdInput<R> {
-    ghost use Rattle.jc_base.specs.StdDevices.{input_reader, input_allowance, input_failures};
+    ghost use Rattle.jc_base.specs.StdDevices.{input_reader, input_allowance, input_ended, input_failures};
+    ghost use Rattle.jc_base.specs.StdDevices.{is_at_end-of};
 
     ghost remaining = { λ input. R.remaining (input_reader input) };
 
@@ -61,9 +66,23 @@ impl<R: Read + Drop> Input for StdInput<R> {
 
     ghost bound = { input_allowance };
 
+    ghost ended = { input_ended };
+
+    /// Whether a read into some room has handed over nothing.
+    fn has_ended(&self) -> bool
+        ensures { result ≡ input_ended self.now }
+    {
+        self.ended
+    }
+
     fn read(&mut self, buffer: &mut [u8]) -> Result<usize, DeviceFault>
+        requires { input_ended self.old ≡ false }
         ensures room { IfOk result (λ n. n ≤ length buffer.new) }
         ensures bytes { ReadConsumes (R.remaining (input_reader self.old)) (R.remaining (input_reader self.new)) result buffer.new }
+
+        // It has ended where a read into some room hands over nothing, and nowhere else.
+        ensures ended { IfOk result (λ n. input_ended self.new ≡ (n == 0 && nat_lt 0 (length buffer.new))) }
+        ensures unended { OnErr result (input_ended self.new ≡ false) }
         ensures failures { CountsFault result (input_failures self.old) (input_failures self.new) }
         ensures bound { MatchResult result
             (λ n. input_allowance self.new + n ≡ input_allowance self.old)
@@ -79,6 +98,7 @@ impl<R: Read + Drop> Input for StdInput<R> {
         match self.inner.read(&mut buffer[..room]) {
             Ok(count) => {
                 self.allowance -= count as u64;
+                self.ended = count == 0 && !buffer.is_empty();
                 Ok(count)
             }
             Err(_) => Err(one_more(&mut self.failures)),
@@ -86,6 +106,8 @@ impl<R: Read + Drop> Input for StdInput<R> {
     }
 
     ghost bound_fits = { λ input. Prim.omega arith };
+
+    ghost ended_at_end = { λ input h. is_at_end-of (R.remaining (input_reader input)) (input.at_end h) };
 }
 
 impl<W> StdOutput<W> {
