@@ -1,5 +1,5 @@
 //! An input, line by line.
-ghost use Rattle.std.specs.Prelude.{◌≡◌, ◌+◌, ◌<◌, ◌≤◌, ◌++◌, [], IfErr, IfOk, IsSome, IsTrue, OnErr, OnOk, drop, is_some, length, position, take};
+ghost use Rattle.std.specs.Prelude.{◌≡◌, ◌+◌, ◌<◌, ◌≤◌, ◌++◌, [], false, true, IfErr, IfOk, IsSome, IsTrue, OnErr, OnOk, drop, is_some, length, position, take};
 ghost use Rattle.std.specs.List.{after_first, before_first};
 ghost use Rattle.std.specs.Io.KnownBytes.{Consumes, IsAtEnd, Keeps};
 ghost use Rattle.jc_base.specs.Device.{CountsFault};
@@ -114,7 +114,8 @@ impl Ahead {
 
     /// Reads what is there, and tells how many bytes came.
     fn refill<R: Input>(&mut self, input: &mut R) -> Result<usize, DeviceFault>
-        requires { self.old ≡ [] }
+        requires empty { self.old ≡ [] }
+        requires goes_on { R.ended input.old ≡ false }
         ensures count { IfOk result (λ count. length self.new ≡ count) }
         ensures bytes { OnOk result (Consumes (R.remaining input.old) (R.remaining input.new) self.new) }
         ensures end { IfOk result (λ count. count ≡ 0 → IsAtEnd (R.remaining input.new)) }
@@ -132,7 +133,8 @@ impl Ahead {
 
 /// Reads the next line, and tells whether an LF ended it: else it is what stands behind the last LF.
 /// What a read hands over stays ahead past the end of the line, and nothing is read while a whole line
-/// is ahead. After an error the front of the line that was not whole is lost.
+/// is ahead, nor once the input has ended. After an error the front of the line that was not whole is
+/// lost, and nothing is ahead.
 pub fn read_line<R: Input>(
     line: &mut Line,
     ahead: &mut Ahead,
@@ -146,16 +148,21 @@ pub fn read_line<R: Input>(
     ensures loses { OnErr result (LosesPart
         (bytes_left ahead.old (R.remaining input.old))
         (R.remaining input.new)) }
+    ensures dropped { OnErr result (ahead.new ≡ []) }
     ensures nearer { IfOk result (λ is_whole. IsTrue is_whole →
         R.bound input.new + length ahead.new < R.bound input.old + length ahead.old) }
     ensures failures { CountsReads result (R.failures input.old) (R.failures input.new) }
     ensures err { IfErr result (λ e. e ≡ Read) }
 
-    // A line that is ahead is handed over with no read.
+    // A line that is ahead is handed over with no read, and an input that has ended is not read again.
     ensures ahead { IsSome (position is_line_feed ahead.old) → input.new ≡ input.old }
+    ensures ended { R.ended input.old ≡ true → input.new ≡ input.old }
 {
     line.clear();
     while !take_front(line, ahead) {
+        if input.has_ended() {
+            return Ok(false);
+        }
         match ahead.refill(input) {
             Ok(0) => return Ok(false),
             Ok(_) => {}

@@ -175,6 +175,15 @@ reading_ends (Some start) kept [] (Some coming) (part, lacks, whole, is) none en
     let same : start ≡ part = whole ∙ ap (λ l. part ++ l) end ∙ append-nil part in
     (subst LacksFeed (sym same) lacks, end, is ∙ ap kept_of (sym same))
 
+-- no LF was ahead, and the input has ended
+pub reading_stops : (start : Option (List ℕ)) (kept ahead longer rest : List ℕ) (coming : Option (List ℕ)) → IsReading start kept ahead coming
+    → false ≡ is_some (position is_line_feed ahead) → longer ≡ take 8193 (kept ++ before_first is_line_feed ahead) → rest ≡ after_first is_line_feed ahead
+    → IsAtEnd coming → TakesLine start false longer (bytes_left rest coming)
+reading_stops start kept ahead longer rest coming reading none more rest_is end =
+    let nothing : rest ≡ [] = rest_is ∙ (all_before_feed ahead (sym none)).1 in
+    let moved = reading_moves start kept ahead longer coming reading none more in
+    reading_ends start longer rest coming (subst (λ r. IsReading start longer r coming) (sym nothing) moved) (ap length nothing) end
+
 -- reading failed
 pub reading_fails : (start : Option (List ℕ)) (kept : List ℕ) (old new : Option (List ℕ)) → IsReading start kept [] old → Keeps old new → LosesPart start new
 reading_fails None kept old new reading keeps = tt
