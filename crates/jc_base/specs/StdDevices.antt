@@ -1,6 +1,5 @@
 -- What a clause reads of a device over a reader or a writer of std's.
-use Rattle.std.specs.Prelude.{◌≡◌, ℕ, Bool, List, [], Option, Some, None, unwrap_or}
-use Rattle.std.specs.Io.KnownBytes.{IsAtEnd}
+use Rattle.std.specs.Prelude.{ℕ, Bool}
 use Rattle.std.specs.declared.io.traits.Read.{Ghosts}
 use Rattle.jc_base.specs.declared.std_devices.StdInput.{StdInput}
 use Rattle.jc_base.specs.declared.std_devices.StdOutput.{StdOutput}
@@ -28,8 +27,3 @@ output_writer output = output.inner
 -- how often a write has failed
 abbrev pub output_failures : {W : Type 0} → StdOutput W → ℕ
 output_failures output = output.failures
-
--- no known byte is left where the known bytes are none
-pub is_at_end-of : (bytes : Option (List ℕ)) → unwrap_or bytes [] ≡ [] → IsAtEnd bytes
-is_at_end-of None h = tt
-is_at_end-of (Some xs) h = h

@@ -58,7 +58,7 @@ impl<R: Read> StdInput<R> {
 
 impl<R: Read + Drop> Input for StdInput<R> {
     ghost use Rattle.jc_base.specs.StdDevices.{input_reader, input_allowance, input_ended, input_failures};
-    ghost use Rattle.jc_base.specs.StdDevices.{is_at_end-of};
+    ghost use Rattle.jc_base.specs.inside.Ended.{is_at_end-of};
 
     ghost remaining = { λ input. R.remaining (input_reader input) };
 

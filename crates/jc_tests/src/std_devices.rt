@@ -65,9 +65,12 @@ fn make_choppy(alloc: Global, cut: Option<usize>, refuses: bool) -> StdOutput<Ch
 fn a_reader_is_read_to_its_end(rt: HostRuntime) {
     let mut input = StdInput::new(b"abc".as_slice());
     let mut buffer = [0; 2];
+    assert!(rt; !input.has_ended());
     assert!(rt; input.read(&mut buffer) == Ok(2));
     assert!(rt; &buffer == b"ab");
+    assert!(rt; !input.has_ended());
     assert!(rt; input.read(&mut []) == Ok(0));
+    assert!(rt; !input.has_ended());
     assert!(rt; input.into_inner() == b"c".as_slice());
 }
 
@@ -79,10 +82,15 @@ fn an_interrupted_read_fails(rt: HostRuntime) {
         told: false,
     });
     let mut buffer = [0; 4];
+    assert!(rt; !input.has_ended());
     assert!(rt; input.read(&mut buffer) == Ok(2));
+    assert!(rt; !input.has_ended());
     assert!(rt; input.read(&mut buffer) == Err(DeviceFault));
+    assert!(rt; !input.has_ended());
     assert!(rt; input.read(&mut buffer) == Ok(1));
+    assert!(rt; !input.has_ended());
     assert!(rt; input.read(&mut buffer) == Ok(0));
+    assert!(rt; input.has_ended());
 }
 
 #[test]
