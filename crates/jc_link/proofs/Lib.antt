@@ -1,4 +1,5 @@
 pub mod closures
+pub mod meters
 pub mod parted
 pub mod prefixes
 pub mod reaches

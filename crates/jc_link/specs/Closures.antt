@@ -1,7 +1,7 @@
 -- The reach of a class, as it is gathered from a table.
 use Rattle.std.specs.Prelude.{◌≡◌, List, Option, Some, None, map}
 use Rattle.jc_classes.specs.Facts.{Facts}
-use Rattle.jc_classes.specs.NameLists.{Lists}
+use Rattle.jc_classes.specs.NameLists.{IsRisingOf, Lists}
 use Rattle.jc_classes.specs.Names.{Name}
 use Rattle.jc_classes.specs.Numbers.{name_at}
 use Rattle.jc_classes.specs.Parts.{Reach}
@@ -20,6 +20,7 @@ pub record Closure : Type 0 where
 -- it is gathered for this class in this world
 pub record IsClosure (m : World) (d : Name) (c : Closure) : Type 0 where
   pub names : Lists c.names (Reach m d)
+  pub found : IsRisingOf c.names c.found
   pub first : name_at c.found 0 ≡ d
   pub stands : c.stands ≡ map m c.found
 

@@ -30,6 +30,7 @@ pub fn gather<'t>(
 ) -> Result<Closure<'t>, NoMemory>
     ensures closure { IfOk result (λ c. IsClosure (world table.now outside.now) name.now c) }
     ensures asks { IfOk result (λ c. meter.new.asks ≡ counted meter.old.asks (length c.names)) }
+    ensures asks_rise { meter.old.asks ≤ meter.new.asks }
     ensures made { meter.new.made ≡ meter.old.made }
 {
     let mut numbers = Numbers::new(alloc);
@@ -69,6 +70,7 @@ fn number_reach<'t>(
     ensures whole { IfOk result (λ r. length numbers.new ≤ length (stands_in r.reached.standing.items)) }
     ensures object { IfOk result (λ r. (r.object < length numbers.new) × (name_at numbers.new r.object ≡ java_lang_object)) }
     ensures asks { IfOk result (λ r. meter.new.asks ≡ counted meter.old.asks (length (stands_in r.reached.standing.items))) }
+    ensures asks_rise { meter.old.asks ≤ meter.new.asks }
     ensures made { meter.new.made ≡ meter.old.made }
 {
     let own = stand_at(table, outside, name, meter);

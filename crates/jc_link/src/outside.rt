@@ -50,12 +50,15 @@ impl From<NoMemory> for OutsideError {
 
 impl Model for Outside {
     ghost use Rattle.std.specs.Prelude.{ℕ, List};
+    ghost use Rattle.jc_classes.specs.Numbers.{IsOnce};
 
     ghost Value = { List (List ℕ) };
 
     ghost use Rattle.jc_link.specs.inside.HeldPrefixes.{prefixes_held};
 
     ghost view = { λ a. prefixes_held a.prefixes };
+
+    ghost invariant = { λ a. IsOnce (prefixes_held a.prefixes) };
 }
 
 impl Outside {
@@ -85,9 +88,10 @@ impl Outside {
         }
     }
 
-    /// Whether a name begins with one of the prefixes.
+    /// Whether a name begins with one of the prefixes, each of which is held once.
     pub fn covers(&self, name: &[u8]) -> bool
-        ensures { result ≡ is_outside self.now name.now }
+        ensures covered { result ≡ is_outside self.now name.now }
+        ensures once { IsOnce self.now }
     {
         match &self.prefixes {
             Prefixes::Standard => name.starts_with(b"java/") || name.starts_with(b"javax/"),

@@ -1,7 +1,7 @@
 //! What is found of a class: how it loads, whether it is circular, its faults, and the answers to its
 //! references.
 
-ghost use Rattle.std.specs.Prelude.{◌≡◌, ◌<◌, ℕ, length, map, Some, option_map, IfOk, OnErr, OnOk};
+ghost use Rattle.std.specs.Prelude.{◌≡◌, ◌<◌, ◌≤◌, ℕ, length, map, Some, option_map, IfOk, OnErr, OnOk};
 ghost use Rattle.std.specs.Bool.{Decides};
 ghost use Rattle.std.specs.List.{Contains};
 ghost use Rattle.jc_classes.specs.Facts.{Reference};
@@ -88,6 +88,7 @@ pub fn make_part(alloc: Global, closure: &Closure, meter: &mut Meter) -> Result<
     ensures part { (m : World) (d : Name) → IsClosure m d closure.now → IfOk result (λ p. IsPart m d p) }
     ensures made { OnOk result (meter.new.made ≡ counted meter.old.made 1) }
     ensures unmade { OnErr result (meter.new.made ≡ meter.old.made) }
+    ensures made_rise { meter.old.made ≤ meter.new.made }
     ensures asks { meter.new.asks ≡ meter.old.asks }
 {
     let hierarchy = Hierarchy::new(

@@ -1,5 +1,5 @@
 -- Prefixes that are held, each once.
-use Rattle.std.proofs.Common.{◌≡◌, ℕ, ◌<◌, ◌≤◌, Bool, true, false, List, [], ◌∷◌, ◌++◌, length, refl, sym, subst, ◌∙◌, arith, ◌⊎◌, inl, inr, ⊎_elim, if◌then◌else◌, length-append}
+use Rattle.std.proofs.Common.{◌≡◌, ℕ, ◌<◌, ◌≤◌, Bool, true, false, List, [], ◌∷◌, ◌++◌, length, codes, refl, sym, ap, subst, ◌∙◌, arith, ◌⊎◌, inl, inr, ⊎_elim, if◌then◌else◌, length-append}
 use Rattle.std.proofs.lemmas.List.Elements.{Contains-append_left, Contains-append_right, Contains-append_cases}
 use Rattle.std.proofs.lemmas.Map.Views.{list_any-from_Contains, Contains-from_any}
 use Rattle.std.proofs.lemmas.List.{get_or_push, get_or_append_left, get_or_default}
@@ -10,6 +10,7 @@ use Rattle.jc_base.proofs.maps.FiniteMaps.{bytes_cmp_total}
 use Rattle.jc_classes.proofs.worlds.NameTests.{same_is}
 use Rattle.jc_classes.specs.Names.{Name, same_name}
 use Rattle.jc_classes.specs.Numbers.{name_at, IsOnce}
+use Rattle.jc_link.specs.Prefixes.{standard_prefixes}
 use Rattle.jc_link.specs.inside.HeldPrefixes.{with_prefix, IsHeldOf}
 
 one_is : (x y : Name) → Contains (x ∷ []) y → x ≡ y
@@ -48,6 +49,10 @@ once_push held x once apart = λ i j a b e. ⊎_elim
       where
         under : (a b : ℕ) → (a < b) ⊎ (b ≤ a)
         under a b = grind arith
+
+pub standard_once : IsOnce standard_prefixes
+standard_once = once_push (codes "java/" ∷ []) (codes "javax/") (once_push [] (codes "java/") (λ i j a b e. absurd (omega arith)) (λ c. absurd (omega (arith, c.1))))
+    (λ c. let longer = ap length (one_is (codes "java/") (codes "javax/") c) in absurd (omega (arith, longer)))
 
 pub held_none : IsHeldOf [] []
 held_none = record { same = λ p. ((λ c. c), (λ c. c)); once = λ i j a b e. absurd (omega arith) }

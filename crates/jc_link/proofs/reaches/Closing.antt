@@ -51,6 +51,7 @@ module _ (m : World) (d : Name) (ns : List Name) (st : List Stands) (rs : List (
       sound = λ n e. let q = place_of ns n (sym (r.same n) ∙ e) in subst (Reach m d) q.2 (g.reached q.0 q.1);
       complete = λ n x. let q = all_numbered m d ns st rs nodes g all_asked x in r.same n ∙ has_at ns q.0 n q.1 q.2;
     };
+    found = r;
     first = g.first.1;
     stands = all_stand m ns st all_asked (λ i l. (g.records i l).1);
   }

@@ -12,7 +12,6 @@ use Rattle.jc_classes.specs.Parts.{Reach, class_of, class_in, names_in}
 use Rattle.jc_classes.specs.Parts.Reach.{itself, always, reference, upward}
 use Rattle.jc_classes.specs.Numbers.{name_at, IsOnce, Grows, Rows}
 use Rattle.jc_link.specs.inside.Gathering.{stand_at, row_at, Nodes, Gathering}
-use Rattle.jc_link.specs.Meters.{counted}
 use Rattle.jc_classes.proofs.numbering.NumberLemmas.{grows_same, grows_more, row_same}
 
 -- ---- references
@@ -209,6 +208,3 @@ all_numbered m d ns st rs nodes g e {n} (upward {mid} r h) =
 
 pub gathering_as : (m : World) (d : Name) (ns : List Name) (st st2 : List Stands) (rs rs2 : List (List ℕ)) (nodes : List (Option ℕ)) → st2 ≡ st → rs2 ≡ rs → Gathering m d ns st rs nodes → Gathering m d ns st2 rs2 nodes
 gathering_as m d ns st st2 rs rs2 nodes e f g = subst (λ z. Gathering m d ns z rs2 nodes) (sym e) (subst (λ z. Gathering m d ns st z nodes) (sym f) g)
-
-pub counted_more : (a k : ℕ) → counted (counted a k) 1 ≡ counted a (k + 1)
-counted_more a k = omega arith

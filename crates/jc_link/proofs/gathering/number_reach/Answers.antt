@@ -6,7 +6,8 @@ use Rattle.jc_link.specs.Meters.{counted}
 use Rattle.jc_link.specs.Tables.{world}
 use Rattle.jc_classes.specs.Numbers.{name_at, Grows}
 use Rattle.jc_link.specs.inside.Gathering.{stands_in, rows_in, Nodes}
-use Rattle.jc_link.proofs.reaches.Gathered.{gathering_add, gathering_first, gathering_as, counted_more}
+use Rattle.jc_link.proofs.meters.Counting.{counted_add}
+use Rattle.jc_link.proofs.reaches.Gathered.{gathering_add, gathering_first, gathering_as}
 use Rattle.jc_link.proofs.reaches.Weights.{left_less}
 use Rattle.jc_link.proofs.gathering.number_reach.Goals as goal
 
@@ -59,7 +60,7 @@ loop-alloc-preserved c =
       gathering = gathering_as m d ns2 _ _ _ _ c.in_ok-references.references.items e.stands_more e.rows_more
           (gathering_add m d ns ns2 st rs c.in_ok-references.references.items o e.row c.loop-alloc.invariant.gathering less is e.numbered);
       object = (omega (arith, object.0), grows.same _ object.0 ∙ object.1);
-      asks = c.stand_at-next.ensures.asks ∙ ap (λ a. counted a 1) c.loop-alloc.invariant.asks ∙ counted_more c.args.meter.now.asks (length st) ∙ ap (counted c.args.meter.now.asks) (sym (ap length e.stands_more ∙ length-append st (o ∷ [])));
+      asks = c.stand_at-next.ensures.asks ∙ ap (λ a. counted a 1) c.loop-alloc.invariant.asks ∙ counted_add c.args.meter.now.asks (length st) 1 ∙ ap (counted c.args.meter.now.asks) (sym (ap length e.stands_more ∙ length-append st (o ∷ [])));
       made = c.stand_at-next.ensures.made ∙ c.loop-alloc.invariant.made;
     }
 
