@@ -1,10 +1,11 @@
 //! The report of a tree of class files.
 
-ghost use Rattle.std.specs.Prelude.{◌≡◌, [], IfOk, OnOk, map};
+ghost use Rattle.std.specs.Prelude.{◌≡◌, ◌≤◌, [], IfOk, OnOk, length, map};
 ghost use Rattle.std.specs.List.{filter, list_any};
 ghost use Rattle.std.specs.List.Sorted.{IsStrictlySortedBy};
 ghost use Rattle.jc_classes.specs.Names.{name_cmp};
 ghost use Rattle.jc_classes.specs.Parts.{IsPart};
+ghost use Rattle.jc_link.specs.Meters.{counted};
 ghost use Rattle.jc_link.specs.Tables.{world};
 ghost use Rattle.jc_resolve.specs.Answers.{answer_of, loading_of};
 ghost use Rattle.jc_report.specs.ClassRows.{provided_rows, required_rows};
@@ -88,7 +89,10 @@ impl<'t> Report<'t> {
         outside: &Outside,
         meter: &mut Meter,
     ) -> Result<Report<'t>, NoMemory>
-        ensures { (f : Files) → IsTree f tree.now → IfOk result (λ r. IsReport f outside.now r) }
+        ensures report { (f : Files) → IsTree f tree.now → IfOk result (λ r. IsReport f outside.now r) }
+        ensures made { IfOk result (λ r. meter.new.made ≡ counted meter.old.made (length r.classes)) }
+        ensures made_rise { meter.old.made ≤ meter.new.made }
+        ensures asks_rise { meter.old.asks ≤ meter.new.asks }
     {
         let mut report = Report::empty(alloc);
         report.fill(alloc, tree, outside, meter)?;
@@ -122,7 +126,10 @@ impl<'t> Report<'t> {
         requires classes { self.old.classes ≡ [] }
         requires provided { self.old.provided ≡ [] }
         requires required { self.old.required ≡ [] }
-        ensures { (f : Files) → IsTree f tree.now → OnOk result (IsReport f outside.now self.new) }
+        ensures report { (f : Files) → IsTree f tree.now → OnOk result (IsReport f outside.now self.new) }
+        ensures made { OnOk result (meter.new.made ≡ counted meter.old.made (length self.new.classes)) }
+        ensures made_rise { meter.old.made ≤ meter.new.made }
+        ensures asks_rise { meter.old.asks ≤ meter.new.asks }
     {
         fill_files(&mut self.files, tree, meter)?;
         fill_classes(&mut self.classes, alloc, tree, outside, meter)?;
@@ -177,6 +184,7 @@ fn fill_files<'t>(
     requires { map lent.row_lent files.old.items ≡ [] }
     ensures rows { (f : Files) → IsTree f tree.now → OnOk result (map lent.row_lent files.new.items ≡ rows f) }
     ensures made { meter.new.made ≡ meter.old.made }
+    ensures asks_rise { meter.old.asks ≤ meter.new.asks }
 {
     for (path, outcome) in &tree.outcomes {
         let state = tree.state(path, outcome, meter);
@@ -194,7 +202,10 @@ fn fill_classes<'t>(
     meter: &mut Meter,
 ) -> Result<(), NoMemory>
     requires { classes.old.items ≡ [] }
-    ensures { (f : Files) → IsTree f tree.now → OnOk result (AreClasses f outside.now classes.new.items) }
+    ensures classes { (f : Files) → IsTree f tree.now → OnOk result (AreClasses f outside.now classes.new.items) }
+    ensures made { OnOk result (meter.new.made ≡ counted meter.old.made (length classes.new.items)) }
+    ensures made_rise { meter.old.made ≤ meter.new.made }
+    ensures asks_rise { meter.old.asks ≤ meter.new.asks }
 {
     for facts in tree.table.classes() {
         let part = part_of(alloc, &tree.table, outside, facts.name(), meter)?;
@@ -211,7 +222,10 @@ fn part_of(
     name: &[u8],
     meter: &mut Meter,
 ) -> Result<Part, NoMemory>
-    ensures { IfOk result (λ part. IsPart (world table.now outside.now) name.now part) }
+    ensures part { IfOk result (λ part. IsPart (world table.now outside.now) name.now part) }
+    ensures made { OnOk result (meter.new.made ≡ counted meter.old.made 1) }
+    ensures made_rise { meter.old.made ≤ meter.new.made }
+    ensures asks_rise { meter.old.asks ≤ meter.new.asks }
 {
     let closure = gather(alloc, table, outside, name, meter)?;
     make_part(alloc, &closure, meter)

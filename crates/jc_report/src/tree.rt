@@ -1,6 +1,6 @@
 //! What is kept of the files of a tree.
 
-ghost use Rattle.std.specs.Prelude.{◌≡◌, IfErr, IfOk, List, OnOk, Some, false, option_map, ℕ};
+ghost use Rattle.std.specs.Prelude.{◌≡◌, ◌≤◌, IfErr, IfOk, List, OnOk, Some, false, option_map, ℕ};
 ghost use Rattle.std.specs.FinMap as map;
 ghost use Rattle.jc_view.specs.Outcome.{class_named, class_read};
 ghost use Rattle.jc_view.specs.Refusal.{IsNamed};
@@ -168,6 +168,7 @@ impl Tree {
     ) -> FileState<'t>
         ensures state { (f : Files) (bytes : List ℕ) → IsTree f self.now → map.get f path.now ≡ Some bytes → outcome.now ≡ class_named bytes → state_lent result ≡ state_of f path.now outcome.now }
         ensures made { meter.new.made ≡ meter.old.made }
+        ensures asks_rise { meter.old.asks ≤ meter.new.asks }
     {
         match outcome.class() {
             Ok(name) => self.class_state(path, name, meter),
@@ -179,6 +180,7 @@ impl Tree {
     fn class_state<'t>(&'t self, path: &'t [u8], name: &'t [u8], meter: &mut Meter) -> FileState<'t>
         ensures state { state_lent result ≡ state_by path.now name.now (option_map (λ facts. facts.path) (record_at self.now.classes name.now)) }
         ensures made { meter.new.made ≡ meter.old.made }
+        ensures asks_rise { meter.old.asks ≤ meter.new.asks }
     {
         match self.table.get(name, meter) {
             Some(facts) if facts.path() != path => FileState::Shadowed(name, facts.path()),
