@@ -1,6 +1,6 @@
 -- Steps, and steps that are taken back.
 use Rattle.std.proofs.Common.{◌≡◌, Bool, true, false, not, ◌&&◌, ◌||◌, cond, Option, Some, None, IsSome, is_some, refl, sym, ap, ◌∙◌, subst, ⊎_elim}
-use Rattle.std.proofs.lemmas.Bool.{cases_Bool, false≢true}
+use Rattle.std.proofs.lemmas.Bool.{cases_Bool, false≢true, false_from_ne_true}
 use Rattle.std.specs.FinMap as map
 use Rattle.jc_classes.specs.Facts.{Facts}
 use Rattle.jc_classes.specs.Names.{Name, same_name}
@@ -10,9 +10,10 @@ use Rattle.jc_held.specs.Steps.{Classes, class_by, step_class, step_name}
 use Rattle.jc_held.specs.declared.kept.Kept.{Kept}
 use Rattle.jc_held.specs.declared.step.Step.{Step}
 use Rattle.jc_held.specs.declared.step.Step.TheVariants.{Put, Remove}
-use Rattle.jc_held.specs.inside.Holding.{AreBack, AreNamed, AreThere, CountsStep, PutsClass, at_step, comer, leaver, name_of, stepped_by}
+use Rattle.jc_held.specs.inside.Holding.{AreBack, AreNamed, AreThere, CountsStep, PutsClass, at_step, comer, given_in, leaver, name_of, stepped_by}
 use Rattle.jc_held.specs.inside.Kept.{KeptMap}
 use Rattle.jc_held.specs.inside.Readying.{is_name}
+use Rattle.jc_held.specs.inside.Stepping.{AreTaken}
 use Rattle.jc_held.proofs.General.{none_some, some_one}
 use Rattle.jc_held.proofs.Tests.{and_no, and_yes, or_no}
 
@@ -125,6 +126,28 @@ there_back (Some b) None t u h stays = absurd h
 pub there_still : (b : Option Step) (t u : Places) → AreThere b t → ((n : Name) → at_step b n ≡ true → IsSome (map.get t n) → IsSome (map.get u n)) → AreThere b u
 there_still None t u h stays = tt
 there_still (Some b) t u h stays = λ f. stays (step_name b) (same_self (step_name b)) (h f)
+
+-- ---- places that may be vacant
+
+-- those of a step are those of the one that takes it back
+pub back_taken : (b s : Option Step) (m : Classes) (vacant : Name → Bool) (t : Places) → AreBack b s m → AreTaken (λ n. vacant n || at_step s n) t → AreTaken (λ n. vacant n || at_step b n) t
+back_taken b s m vacant t back taken = λ n v. taken n (ap (λ x. vacant n || x) (sym (back_at b s m n back)) ∙ v)
+
+one_no : (a b : Bool) → (a && not b) ≡ false → b ≡ false → a ≡ false
+one_no true true e h = absurd (false≢true (sym h))
+one_no true false e h = e
+one_no false b e h = refl
+
+-- only the place of the class that goes
+pub gone_taken : (first second : Option Step) (gone : Name → Bool) (t : Places) → ((n : Name) → gone n ≡ (at_step first n && not (given_in t n)))
+    → ((n : Name) → at_step second n ≡ true → given_in t n ≡ true) → AreTaken (λ n. at_step first n || at_step second n) t → AreTaken gone t
+gone_taken first second gone t is_gone stands taken = λ n v there. ⊎_elim
+    (λ given. given)
+    (λ missing.
+    let not_first : at_step first n ≡ false = one_no (at_step first n) (given_in t n) (sym (is_gone n) ∙ v) missing in
+    let not_second : at_step second n ≡ false = false_from_ne_true (at_step second n) (λ e. false≢true (sym missing ∙ stands n e)) in
+    taken n (ap (λ b. b || at_step second n) not_first ∙ not_second) there)
+    (cases_Bool (given_in t n))
 
 -- ---- two steps that were made
 

@@ -1,12 +1,14 @@
 -- Tables after a step.
-use Rattle.std.proofs.Common.{◌≡◌, Bool, true, false, cond, Option, Some, None, IsSome, is_some, refl, ap, ◌∙◌}
+use Rattle.std.proofs.Common.{◌≡◌, Bool, true, false, ◌||◌, cond, Option, Some, None, IsSome, is_some, refl, ap, subst, sym, ◌∙◌}
 use Rattle.std.specs.Cmp.Lexicographic.{nat_list_cmp_total}
 use Rattle.std.specs.FinMap as map
 use Rattle.jc_classes.specs.Facts.{Facts}
 use Rattle.jc_classes.specs.Names.{Name, same_name}
 use Rattle.jc_classes.proofs.worlds.NameTests.{same_is}
-use Rattle.jc_link.specs.Tables.{Places, class_at}
+use Rattle.jc_link.specs.Tables.{Places, class_at, placed}
 use Rattle.jc_link.proofs.tables.Changes.{places_change}
+use Rattle.jc_held.specs.inside.Stepping.{AreTaken, NoneVacant}
+use Rattle.jc_held.proofs.Tests.{or_no}
 
 pub put_class : (places : Places) (name : Name) (place : Option Facts) (n : Name) → class_at (map.insert places name place) n ≡ cond (same_name n name) place (class_at places n)
 put_class places name place n = (places_change places name place n).0
@@ -31,3 +33,34 @@ put_there places name place n h = ap is_some (map.get-insert nat_list_cmp_total 
 
 pub removed_there : (places : Places) (name n : Name) → same_name n name ≡ false → IsSome (map.get places n) → IsSome (map.get (map.remove places name) n)
 removed_there places name n e h = ap is_some (map.get-remove nat_list_cmp_total places name n ∙ ap (λ b. cond b None (map.get places n)) e) ∙ h
+
+-- ---- places that have a class
+
+-- a place has a class, where there is one
+abbrev IsTaken : Option (Option Facts) → Type 0
+IsTaken place = IsSome place → IsSome (placed place)
+
+-- a class was put
+pub put_taken : (vacant : Name → Bool) (places : Places) (name : Name) (facts : Facts) → AreTaken (λ n. vacant n || same_name n name) places → AreTaken vacant (map.insert places name (Some facts))
+put_taken vacant places name facts taken = λ n v. subst IsTaken (sym (map.get-insert nat_list_cmp_total places name (Some facts) n)) (by (map.get places n) (same_name n name) (vacant n) v (taken n))
+  where
+    by : (o : Option (Option Facts)) (s v : Bool) → v ≡ false → ((v || s) ≡ false → IsTaken o) → IsTaken (cond s (Some (Some facts)) o)
+    by o true v e h = λ t. refl
+    by o false v e h = h (ap (λ b. b || false) e)
+
+-- a place was taken out
+pub removed_taken : (vacant : Name → Bool) (places : Places) (name : Name) → AreTaken (λ n. vacant n || same_name n name) places → AreTaken vacant (map.remove places name)
+removed_taken vacant places name taken = λ n v. subst IsTaken (sym (map.get-remove nat_list_cmp_total places name n)) (by (map.get places n) (same_name n name) (vacant n) v (taken n))
+  where
+    by : (o : Option (Option Facts)) (s v : Bool) → v ≡ false → ((v || s) ≡ false → IsTaken o) → IsTaken (cond s None o)
+    by o true v e h = λ t. t
+    by o false v e h = h (ap (λ b. b || false) e)
+
+-- a place was given something else, or nothing
+pub placed_taken : (vacant : Name → Bool) (places : Places) (name : Name) (place : Option Facts) → AreTaken vacant places → AreTaken (λ n. vacant n || same_name n name) (map.insert places name place)
+placed_taken vacant places name place taken = λ n v. let p = or_no (vacant n) (same_name n name) v in
+    subst IsTaken (sym (map.get-insert nat_list_cmp_total places name place n ∙ ap (λ b. cond b (Some place) (map.get places n)) p.1)) (taken n p.0)
+
+-- nothing changed
+pub still_taken : (vacant more : Name → Bool) (places : Places) → AreTaken vacant places → AreTaken (λ n. vacant n || more n) places
+still_taken vacant more places taken = λ n v. taken n (or_no (vacant n) (more n) v).0

@@ -1,6 +1,6 @@
 //! An edit of what stands at one name or two.
 
-ghost use Rattle.std.specs.Prelude.{◌≡◌, ◌-◌, ◌||◌, ◌&&◌, not, false, true, IfOk, IsSome, None, OnErr, OnOk, Some, cond, is_some};
+ghost use Rattle.std.specs.Prelude.{◌≡◌, ◌≤◌, ◌-◌, ◌||◌, ◌&&◌, not, Bool, false, true, IfOk, IsSome, None, OnErr, OnOk, Some, cond, is_some};
 ghost use Rattle.std.specs.FinMap as map;
 ghost use Rattle.std.specs.Option.{option_copied};
 ghost use Rattle.jc_classes.specs.NameLists.{has};
@@ -12,6 +12,7 @@ ghost use Rattle.jc_held.specs.inside.Holding as holding;
 ghost use Rattle.jc_held.specs.inside.Holding.{AreBack, AreNamed, AreThere, CountsStep, IsHeld, PutsClass, at_step, given_in, stepped_by};
 ghost use Rattle.jc_held.specs.inside.Kept.{AreLinked, Relation, fresh_at, fresh_has, fresh_names, held_in, linked};
 ghost use Rattle.jc_held.specs.inside.Readying.{is_name};
+ghost use Rattle.jc_held.specs.inside.Stepping.{AreTaken, NoneVacant};
 
 use crate::affected::users_of;
 use crate::kept::{Fresh, Kept};
@@ -65,10 +66,14 @@ pub(crate) fn change_classes(
     requires named { AreNamed table.old }
     requires first { CountsStep (class_at table.old) first second }
     requires second { PutsClass second }
+    requires taken { NoneVacant table.old }
     ensures ok { OnOk result ((n : Name) → class_at table.new n ≡ stepped_by second (stepped_by first (class_at table.old)) n) }
     ensures err { OnErr result ((n : Name) → class_at table.new n ≡ class_at table.old n) }
     ensures held { IsHeld table.new outside.now kept.new links.new }
     ensures bounded { OnOk result (IsBounded (given_in table.new) (world table.new outside.now) (λ n. at_step first n || at_step second n) (meter.new.made - meter.old.made) (meter.new.asks - meter.old.asks)) }
+    ensures asks_rise { meter.old.asks ≤ meter.new.asks }
+    ensures made_rise { meter.old.made ≤ meter.new.made }
+    ensures taken { NoneVacant table.new }
 {
     let leaves = takes_out(&first);
     let (first, second) = make_both(alloc, table, first, second)?;
@@ -109,6 +114,9 @@ fn remake(
         → ((n : Name) → (at_step first.now n || at_step second.now n) ≡ false → class_at table.old n ≡ class_at old n)
         → IsHeld table.new outside.now kept.new links.new
         × IsBounded (given_in table.new) (world table.new outside.now) (λ n. at_step first.now n || at_step second.now n) (meter.new.made - meter.old.made) (meter.new.asks - meter.old.asks)) }
+    ensures asks_rise { meter.old.asks ≤ meter.new.asks }
+    ensures made_rise { meter.old.made ≤ meter.new.made }
+    ensures taken { OnOk result (AreTaken (λ n. at_step first.now n || at_step second.now n) table.old → NoneVacant table.new) }
 {
     let names = users_of(alloc, links, name_of(first), name_of(second), gone)?;
     let comes = comer(kept, second);
@@ -131,6 +139,8 @@ fn make_both(
     ensures there_first { IfOk result (λ back. AreThere back.0 table.new) }
     ensures there_second { IfOk result (λ back. AreThere back.1 table.new) }
     ensures err { OnErr result ((n : Name) → class_at table.new n ≡ class_at table.old n) }
+    ensures taken { IfOk result (λ back. NoneVacant table.old → AreTaken (λ n. at_step back.0 n || at_step back.1 n) table.new) }
+    ensures taken_err { OnErr result (NoneVacant table.old → NoneVacant table.new) }
 {
     let first = make(alloc, table, first)?;
     match make(alloc, table, second) {
@@ -147,7 +157,8 @@ fn unmake_both(table: &mut Table, first: Option<Step>, second: Option<Step>)
     requires first { AreThere first table.old }
     requires second { AreThere second table.old }
     requires apart { (n : Name) → at_step first n ≡ true → at_step second n ≡ false }
-    ensures { (n : Name) → class_at table.new n ≡ stepped_by first (stepped_by second (class_at table.old)) n }
+    ensures classes { (n : Name) → class_at table.new n ≡ stepped_by first (stepped_by second (class_at table.old)) n }
+    ensures taken { AreTaken (λ n. at_step first n || at_step second n) table.old → NoneVacant table.new }
 {
     unmake(table, second);
     unmake(table, first);
@@ -160,6 +171,7 @@ fn make(alloc: Global, table: &mut Table, step: Option<Step>) -> Result<Option<S
     ensures back { IfOk result (λ back. AreBack back step (class_at table.old)) }
     ensures there { OnOk result ((n : Name) → IsSome (map.get table.old n) → IsSome (map.get table.new n)) }
     ensures err { OnErr result (table.new ≡ table.old) }
+    ensures taken { IfOk result (λ back. (vacant : Name → Bool) → AreTaken vacant table.old → AreTaken (λ n. vacant n || at_step back n) table.new) }
 {
     let Some(step) = step else {
         return Ok(None);
@@ -173,6 +185,7 @@ fn unmake(table: &mut Table, back: Option<Step>)
     requires { AreThere back table.old }
     ensures ok { (n : Name) → class_at table.new n ≡ stepped_by back (class_at table.old) n }
     ensures there { (n : Name) → at_step back n ≡ false → IsSome (map.get table.old n) → IsSome (map.get table.new n) }
+    ensures taken { (vacant : Name → Bool) → AreTaken (λ n. vacant n || at_step back n) table.old → AreTaken vacant table.new }
 {
     let Some(back) = back else {
         return;
@@ -233,6 +246,7 @@ fn finish(
     ensures classes { (n : Name) → class_at table.new n ≡ class_at table.old n }
     ensures kept { (d : Name) → map.get kept.new d ≡ fresh_at fresh.items d (cond (is_name (option_copied gone.entry) d) None (map.get kept.old d)) }
     ensures linked { AreLinked kept.new links.new }
+    ensures taken { AreTaken (is_name (option_copied gone.entry)) table.old → NoneVacant table.new }
 {
     give_up(table, kept, links, gone);
     commit(kept, links, fresh);
@@ -244,6 +258,7 @@ fn give_up(table: &mut Table, kept: &mut ByteMap<Kept>, links: &mut Links, gone:
     ensures classes { (n : Name) → class_at table.new n ≡ class_at table.old n }
     ensures kept { (d : Name) → map.get kept.new d ≡ cond (is_name (option_copied gone.entry) d) None (map.get kept.old d) }
     ensures linked { (r : Relation) (n d : Name) → linked r links.new n d ≡ (linked r links.old n d && not (is_name (option_copied gone.entry) d && held_in r kept.old d n)) }
+    ensures taken { AreTaken (is_name (option_copied gone.entry)) table.old → NoneVacant table.new }
 {
     let Some(name) = gone else {
         return;

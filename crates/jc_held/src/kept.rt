@@ -1,6 +1,6 @@
 //! What is kept of a class.
 
-ghost use Rattle.std.specs.Prelude.{◌≡◌, IfOk, OnOk, length, map};
+ghost use Rattle.std.specs.Prelude.{◌≡◌, ◌≤◌, IfOk, OnOk, length, map};
 ghost use Rattle.std.specs.Option.{option_copied};
 ghost use Rattle.jc_classes.specs.Names.{Name, names_of};
 ghost use Rattle.jc_classes.specs.Parts.{IsPart};
@@ -48,6 +48,8 @@ pub(crate) fn make_fresh(
     ensures kept { IfOk result (λ fresh. AllFresh (world table.now outside.now) fresh.items) }
     ensures made { OnOk result (meter.new.made ≡ counted meter.old.made (length names.now)) }
     ensures asks { IfOk result (λ fresh. meter.new.asks ≡ counted meter.old.asks (reach_sum fresh.items)) }
+    ensures asks_rise { meter.old.asks ≤ meter.new.asks }
+    ensures made_rise { meter.old.made ≤ meter.new.made }
 {
     let mut fresh = Vec::new(alloc);
     for name in names {
@@ -68,6 +70,8 @@ pub(crate) fn make_one(
     ensures kept { IfOk result (λ fresh. IsKeptOf (world table.now outside.now) name.now fresh.kept) }
     ensures made { OnOk result (meter.new.made ≡ counted meter.old.made 1) }
     ensures asks { IfOk result (λ fresh. meter.new.asks ≡ counted meter.old.asks (length fresh.kept.reach)) }
+    ensures asks_rise { meter.old.asks ≤ meter.new.asks }
+    ensures made_rise { meter.old.made ≤ meter.new.made }
 {
     let name_kept = Vec::from_slice(alloc, name)?;
     let closure = gather(alloc, table, outside, name, meter)?;
@@ -95,6 +99,7 @@ fn part_and_keys(
     ensures required { (m : World) (d : Name) → IsClosure m d closure.now → IfOk result (λ made. AreKeys made.1.1 (required_by (record_of (m d)) made.0)) }
     ensures made { OnOk result (meter.new.made ≡ counted meter.old.made 1) }
     ensures asks { meter.new.asks ≡ meter.old.asks }
+    ensures made_rise { meter.old.made ≤ meter.new.made }
 {
     let part = make_part(alloc, closure, meter)?;
     let keys = keys_of(alloc, closure.record(), &part)?;

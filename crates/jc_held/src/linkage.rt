@@ -1,6 +1,6 @@
 //! The classes of files, each with its part, and which of them depend on a name.
 
-ghost use Rattle.std.specs.Prelude.{◌≡◌, ◌-◌, List, IfOk, IfSome, IsTrue, OnErr, OnOk, is_some, slice_get, true};
+ghost use Rattle.std.specs.Prelude.{◌≡◌, ◌≤◌, ◌-◌, List, IfOk, IfSome, IsTrue, OnErr, OnOk, is_some, slice_get, true};
 ghost use Rattle.std.specs.FinMap as map;
 ghost use Rattle.jc_classes.specs.NameLists.{Lists};
 ghost use Rattle.jc_classes.specs.Names.{Name, names_of};
@@ -43,6 +43,7 @@ impl Model for Linkage {
     ghost use Rattle.std.specs.Coded.{coded_list, coded_ℕ};
     ghost use Rattle.jc_link.specs.contracts.table.Table as tables;
     ghost use Rattle.jc_held.specs.inside.Holding.{AreNamed, IsHeld, linkage_code};
+    ghost use Rattle.jc_held.specs.inside.Stepping.{NoneVacant};
 
     ghost Value = { specs.Linkage };
 
@@ -50,7 +51,7 @@ impl Model for Linkage {
 
     ghost view = { λ a. record { classes = a.table; prefixes = a.outside } };
 
-    ghost invariant = { λ a. IsHeld a.table a.outside a.kept a.links × AreNamed a.table };
+    ghost invariant = { λ a. IsHeld a.table a.outside a.kept a.links × AreNamed a.table × NoneVacant a.table };
 }
 
 impl Linkage {
@@ -84,6 +85,8 @@ impl Linkage {
         ensures err { OnErr result ((n : Name) → class_at self.new.classes n ≡ class_at self.old.classes n) }
         ensures prefixes { self.new.prefixes ≡ self.old.prefixes }
         ensures bounded { OnOk result (IsBounded (given self.new) (world_held self.new) (is_touched (class_at self.old.classes) first put) (meter.new.made - meter.old.made) (meter.new.asks - meter.old.asks)) }
+        ensures asks_rise { meter.old.asks ≤ meter.new.asks }
+        ensures made_rise { meter.old.made ≤ meter.new.made }
     {
         let first = counting(&self.kept, first, &put);
         let second = putting(put);

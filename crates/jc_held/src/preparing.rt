@@ -1,6 +1,6 @@
 //! The parts that an edit needs are made and linked before anything is taken away.
 
-ghost use Rattle.std.specs.Prelude.{◌≡◌, ◌||◌, ◌&&◌, [], IfErr, IfOk, None, OnErr, OnOk, Some};
+ghost use Rattle.std.specs.Prelude.{◌≡◌, ◌≤◌, ◌||◌, ◌&&◌, [], IfErr, IfOk, None, OnErr, OnOk, Some};
 ghost use Rattle.std.specs.FinMap as map;
 ghost use Rattle.std.specs.Option.{option_copied};
 ghost use Rattle.jc_classes.specs.NameLists.{has};
@@ -34,6 +34,8 @@ pub(crate) fn prepare(
     ensures linked_err { OnErr result (AreLinked kept.old links.new) }
     ensures ready { IfOk result (λ fresh. IsReady (world table.now outside.now) (names_of names.now) (option_copied comes.entry) kept.old kept.new fresh.items meter.old.made meter.new.made meter.old.asks meter.new.asks) }
     ensures linked { IfOk result (λ fresh. (r : Relation) (n d : Name) → linked r links.new n d ≡ (held_in r kept.new d n || fresh_has r fresh.items d n)) }
+    ensures asks_rise { meter.old.asks ≤ meter.new.asks }
+    ensures made_rise { meter.old.made ≤ meter.new.made }
 {
     let fresh = make_fresh(alloc, table, outside, names, meter)?;
     link_all(alloc, table, outside, kept, links, &fresh, comes, meter)?;
@@ -58,6 +60,8 @@ fn link_all(
     ensures linked_err { OnErr result (AreLinked kept.old links.new) }
     ensures ready { OnOk result (IsReady (world table.now outside.now) [] (option_copied comes.entry) kept.old kept.new [] meter.old.made meter.new.made meter.old.asks meter.new.asks) }
     ensures linked { OnOk result ((r : Relation) (n d : Name) → linked r links.new n d ≡ (held_in r kept.new d n || fresh_has r fresh.now d n)) }
+    ensures asks_rise { meter.old.asks ≤ meter.new.asks }
+    ensures made_rise { meter.old.made ≤ meter.new.made }
 {
     match comes {
         Some(name) => link_newcomer(alloc, table, outside, kept, links, fresh, name, meter),
@@ -82,6 +86,8 @@ fn link_newcomer(
     ensures linked_err { OnErr result (AreLinked kept.old links.new) }
     ensures ready { OnOk result (IsReady (world table.now outside.now) [] (Some name.now) kept.old kept.new [] meter.old.made meter.new.made meter.old.asks meter.new.asks) }
     ensures linked { OnOk result ((r : Relation) (n d : Name) → linked r links.new n d ≡ (held_in r kept.new d n || fresh_has r fresh.now d n)) }
+    ensures asks_rise { meter.old.asks ≤ meter.new.asks }
+    ensures made_rise { meter.old.made ≤ meter.new.made }
 {
     let newcomer = make_one(alloc, table, outside, name, meter)?;
     match link_and_keep(kept, links, fresh, newcomer) {

@@ -1,13 +1,13 @@
 //! What an edit changes: what stands at a name from then on.
 
-ghost use Rattle.std.specs.Prelude.{◌≡◌, false, IfOk, IsSome, OnErr, OnOk};
+ghost use Rattle.std.specs.Prelude.{◌≡◌, ◌||◌, Bool, false, IfOk, IsSome, OnErr, OnOk};
 ghost use Rattle.std.specs.FinMap as map;
 ghost use Rattle.jc_classes.specs.Names.{Name};
 ghost use Rattle.jc_link.specs.Tables.{class_at};
 ghost use Rattle.jc_held.specs.Steps.{is_step, step_name};
 ghost use Rattle.jc_held.specs.declared.step.Step.TheVariants.{Put, Remove};
 ghost use Rattle.jc_held.specs.inside.Holding.{AreNamed};
-ghost use Rattle.jc_held.specs.inside.Stepping.{IsBack, IsThere, stepped};
+ghost use Rattle.jc_held.specs.inside.Stepping.{AreTaken, IsBack, IsThere, stepped};
 
 use jc_base::NoMemory;
 use jc_classes::Facts;
@@ -42,6 +42,7 @@ pub(crate) fn make_step(alloc: Global, table: &mut Table, step: Step) -> Result<
     ensures back { IfOk result (λ back. IsBack back step (class_at table.old)) }
     ensures there { OnOk result ((n : Name) → IsSome (map.get table.old n) → IsSome (map.get table.new n)) }
     ensures err { OnErr result (table.new ≡ table.old) }
+    ensures taken { OnOk result ((vacant : Name → Bool) → AreTaken vacant table.old → AreTaken (λ n. vacant n || is_step step n) table.new) }
 {
     match step {
         Step::Put(facts) => put(alloc, table, facts),
@@ -55,6 +56,7 @@ fn put(alloc: Global, table: &mut Table, facts: Facts) -> Result<Step, NoMemory>
     ensures back { IfOk result (λ back. IsBack back (Put facts) (class_at table.old)) }
     ensures there { OnOk result ((n : Name) → IsSome (map.get table.old n) → IsSome (map.get table.new n)) }
     ensures err { OnErr result (table.new ≡ table.old) }
+    ensures taken { OnOk result ((vacant : Name → Bool) → AreTaken vacant table.old → AreTaken (λ n. vacant n || is_step (Put facts) n) table.new) }
 {
     let name = Vec::from_slice(alloc, facts.name())?;
     match table.put(facts) {
@@ -69,6 +71,7 @@ fn vacate(table: &mut Table, name: Vec<u8>) -> Step
     ensures ok { (n : Name) → class_at table.new n ≡ stepped (Remove name) (class_at table.old) n }
     ensures back { IsBack result (Remove name) (class_at table.old) }
     ensures there { (n : Name) → IsSome (map.get table.old n) → IsSome (map.get table.new n) }
+    ensures taken { (vacant : Name → Bool) → AreTaken vacant table.old → AreTaken (λ n. vacant n || is_step (Remove name) n) table.new }
 {
     match table.vacate(&name) {
         Some(before) => Step::Put(before),
@@ -81,6 +84,7 @@ pub(crate) fn take_back(table: &mut Table, back: Step)
     requires { IsThere back table.old }
     ensures ok { (n : Name) → class_at table.new n ≡ stepped back (class_at table.old) n }
     ensures there { (n : Name) → is_step back n ≡ false → IsSome (map.get table.old n) → IsSome (map.get table.new n) }
+    ensures taken { (vacant : Name → Bool) → AreTaken (λ n. vacant n || is_step back n) table.old → AreTaken vacant table.new }
 {
     match back {
         Step::Put(facts) => match table.put(facts) {

@@ -9,6 +9,7 @@ use Rattle.jc_held.specs.Linkages.{Linkage}
 use Rattle.jc_held.specs.declared.links.Links.{Links}
 use Rattle.jc_held.specs.inside.Holding.{AreNamed, IsHeld}
 use Rattle.jc_held.specs.inside.Kept.{KeptMap, Relation, linked, names_kept}
+use Rattle.jc_held.specs.inside.Stepping.{NoneVacant}
 
 module _ (a : Linkage) (places : Places) (prefixes : List Name) (is : record { classes = places; prefixes = prefixes } ≡ a) where
   pub held_of : (kept : KeptMap) (links : Links) → IsHeld places prefixes kept links → IsHeld a.classes a.prefixes kept links
@@ -41,3 +42,7 @@ module _ (places : Places) (prefixes : List Name) (kept : KeptMap) (links : Link
 
   pub nothing_named : AreNamed places
   nothing_named = λ name facts e. none_some (sym (no_class name) ∙ e)
+
+-- no place is there
+pub nothing_vacant : (places : Places) → places ≡ fin.empty → NoneVacant places
+nothing_vacant places none = λ n v there. absurd (false≢true (sym (ap is_some (ap (λ m. fin.get m n) none ∙ fin.get-empty name_cmp n)) ∙ there))

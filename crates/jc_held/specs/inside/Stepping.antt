@@ -1,7 +1,8 @@
 -- Steps that are taken back.
-use Rattle.std.specs.Prelude.{◌≡◌, IsSome, cond}
+use Rattle.std.specs.Prelude.{◌≡◌, Bool, false, IsSome, cond}
 use Rattle.std.specs.FinMap as map
-use Rattle.jc_link.specs.Tables.{Places}
+use Rattle.jc_classes.specs.Names.{Name}
+use Rattle.jc_link.specs.Tables.{Places, class_at}
 use Rattle.jc_held.specs.Steps.{Classes, is_step, step_class, step_name}
 use Rattle.jc_held.specs.declared.step.Step.{Step}
 
@@ -17,3 +18,11 @@ pub record IsBack (back step : Step) (m : Classes) : Type 0 where
 -- a class that it puts has its place
 abbrev pub IsThere : Step → Places → Type 0
 IsThere s places = IsSome (step_class s) → IsSome (map.get places (step_name s))
+
+-- each place has a class, but perhaps at these names
+abbrev pub AreTaken : (vacant : Name → Bool) → Places → Type 0
+AreTaken vacant places = (n : Name) → vacant n ≡ false → IsSome (map.get places n) → IsSome (class_at places n)
+
+-- each place has a class
+abbrev pub NoneVacant : Places → Type 0
+NoneVacant places = AreTaken (λ n. false) places

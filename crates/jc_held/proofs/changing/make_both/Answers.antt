@@ -1,6 +1,8 @@
-use Rattle.std.proofs.Common.{ap, ◌∙◌}
+use Rattle.std.proofs.Common.{false, ap, subst, sym, ◌∙◌}
+use Rattle.std.proofs.lemmas.Result.{err_from_is_err_and}
 use Rattle.jc_link.specs.Tables.{class_at}
-use Rattle.jc_held.specs.inside.Holding.{stepped_by}
+use Rattle.jc_held.specs.inside.Holding.{at_step, stepped_by}
+use Rattle.jc_held.specs.inside.Stepping.{AreTaken, NoneVacant}
 use Rattle.jc_held.proofs.SteppedClasses.{back_behind, named_after, there_back, undone}
 use Rattle.jc_held.proofs.changing.make_both.Goals as goal
 
@@ -25,3 +27,16 @@ returns-in-Err-clause-err c = λ n.
     c.unmake.ensures.ok n
     ∙ undone c.in_ok-first.first c.args.first (class_at c.args.table.now) (class_at c.make-2.new.table) c.in_ok-first.ensures.back
     (λ n. ap (λ t. class_at t n) c.in-Err.ensures.err ∙ c.in_ok-first.ensures.ok n) n
+
+pub returns-in_err-first-clause-taken_err : goal.returns-in_err-first-clause-taken_err
+returns-in_err-first-clause-taken_err c =
+    let exit = err_from_is_err_and c.from_residual.result c.from_residual.ensures.1 in
+    let kept : NoneVacant c.args.table.now → NoneVacant c.make.new.table = subst NoneVacant (sym c.in_err-first.ensures.err) in
+    rw exit.1 kept
+
+pub returns-in-Ok-clause-taken : goal.returns-in-Ok-clause-taken
+returns-in-Ok-clause-taken c = λ none. c.in-Ok.ensures.taken (at_step c.in_ok-first.first) (c.in_ok-first.ensures.taken (λ n. false) none)
+
+pub returns-in-Err-clause-taken_err : goal.returns-in-Err-clause-taken_err
+returns-in-Err-clause-taken_err c = λ none.
+    c.unmake.ensures.taken (λ n. false) (subst (AreTaken (at_step c.in_ok-first.first)) (sym c.in-Err.ensures.err) (c.in_ok-first.ensures.taken (λ n. false) none))

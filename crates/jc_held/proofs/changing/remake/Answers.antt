@@ -9,7 +9,7 @@ use Rattle.jc_held.specs.inside.Kept.{fresh_names, reach_sum}
 use Rattle.jc_held.specs.inside.Readying.{is_name}
 use Rattle.jc_held.proofs.ClassesChanged.{bounded_same, bounded_then, held_same, held_then, made_of, not_given, users_by, users_kept}
 use Rattle.jc_held.proofs.General.{fresh_some}
-use Rattle.jc_held.proofs.SteppedClasses.{comer_absent}
+use Rattle.jc_held.proofs.SteppedClasses.{comer_absent, gone_taken}
 use Rattle.jc_held.proofs.changing.remake.Goals as goal
 
 pub prepare-requires-clause-absent : goal.prepare-requires-clause-absent
@@ -56,3 +56,6 @@ returns-clause-remade c = λ old held stood stays.
       bounded_same c.args.table.now c.finish.new.table c.args.outside.now (λ n. at_step first n || at_step second n) parts asks c.finish.ensures.classes
           (bounded_then made parts asks few fewer),
     )
+
+pub returns-clause-taken : goal.returns-clause-taken
+returns-clause-taken c = λ taken. c.finish.ensures.taken (gone_taken c.args.first.now c.args.second.now (is_name (option_copied c.args.gone)) c.args.table.now c.requires.gone c.requires.second taken)

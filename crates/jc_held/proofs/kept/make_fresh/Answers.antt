@@ -1,4 +1,4 @@
-use Rattle.std.proofs.Common.{◌≡◌, ◌++◌, ◌∷◌, [], length, take, sym, ap, subst, ◌∙◌}
+use Rattle.std.proofs.Common.{◌≡◌, ◌++◌, ◌∷◌, [], length, take, sym, ap, subst, ◌∙◌, arith}
 use Rattle.jc_classes.specs.Names.{names_of}
 use Rattle.jc_link.specs.Meters.{counted}
 use Rattle.jc_link.specs.Tables.{world}
@@ -15,6 +15,8 @@ loop-name-init c =
       kept = subst (AllFresh (world c.args.table.now c.args.outside.now)) (sym none) tt;
       made = counted_none meter.made meter.made_fit;
       asks = counted_none meter.asks meter.asks_fit ∙ ap (λ z. counted meter.asks (reach_sum z)) (sym none);
+      asks_rise = omega arith;
+      made_rise = omega arith;
     }
 
 pub loop-name-preserved : goal.loop-name-preserved
@@ -37,4 +39,6 @@ loop-name-preserved c =
       asks = c.in_ok-make_one.ensures.asks ∙ ap (λ a. counted a (length x.kept.reach)) c.loop-name.invariant.asks
           ∙ counted_add meter.asks (reach_sum xs) (length x.kept.reach)
           ∙ ap (counted meter.asks) (sym (ap reach_sum items ∙ reach_sum_push xs x));
+      asks_rise = omega (arith, c.loop-name.invariant.asks_rise, c.make_one.ensures.asks_rise);
+      made_rise = omega (arith, c.loop-name.invariant.made_rise, c.make_one.ensures.made_rise);
     }

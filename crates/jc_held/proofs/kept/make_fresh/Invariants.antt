@@ -1,4 +1,4 @@
-use Rattle.std.proofs.Common.{◌≡◌, take}
+use Rattle.std.proofs.Common.{◌≡◌, ◌≤◌, take}
 use Rattle.jc_classes.specs.Names.{names_of}
 use Rattle.jc_link.specs.Meters.{counted}
 use Rattle.jc_link.specs.Tables.{world}
@@ -11,4 +11,6 @@ invariant-loop-name l = record {
   kept : AllFresh (world l.table l.outside) l.fresh.items;
   made : l.meter.made ≡ counted l.fn.meter.made l.name-index;
   asks : l.meter.asks ≡ counted l.fn.meter.asks (reach_sum l.fresh.items);
+  asks_rise : l.fn.meter.asks ≤ l.meter.asks;
+  made_rise : l.fn.meter.made ≤ l.meter.made;
 }

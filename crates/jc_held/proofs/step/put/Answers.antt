@@ -1,7 +1,9 @@
-use Rattle.std.proofs.Common.{◌∙◌, sym, ap, Some, is_some}
+use Rattle.std.proofs.Common.{◌∙◌, ◌||◌, sym, ap, subst, Some, is_some}
 use Rattle.std.specs.FinMap as map
 use Rattle.jc_link.specs.Tables.{class_at}
-use Rattle.jc_held.proofs.SteppedTables.{put_class, put_there}
+use Rattle.jc_classes.specs.Names.{same_name}
+use Rattle.jc_held.specs.inside.Stepping.{AreTaken}
+use Rattle.jc_held.proofs.SteppedTables.{placed_taken, put_class, put_there}
 use Rattle.jc_held.proofs.step.put.Goals as goal
 
 pub returns-in-Ok-Some-clause-ok : goal.returns-in-Ok-Some-clause-ok
@@ -20,3 +22,13 @@ returns-in-Ok-None-clause-ok c = λ n. ap (λ t. class_at t n) c.in-Ok-None.ensu
 
 pub returns-in-Ok-None-clause-there : goal.returns-in-Ok-None-clause-there
 returns-in-Ok-None-clause-there c = λ n h. ap (λ t. is_some (map.get t n)) c.in-Ok-None.ensures.ok ∙ put_there c.args.table.now c.args.facts.name (Some c.args.facts) n h
+
+pub returns-in-Ok-Some-clause-taken : goal.returns-in-Ok-Some-clause-taken
+returns-in-Ok-Some-clause-taken c = λ vacant taken.
+    let f = c.args.facts in
+    subst (AreTaken (λ n. vacant n || same_name n f.name)) (sym c.in-Ok-Some.ensures.ok) (placed_taken vacant c.args.table.now f.name (Some f) taken)
+
+pub returns-in-Ok-None-clause-taken : goal.returns-in-Ok-None-clause-taken
+returns-in-Ok-None-clause-taken c = λ vacant taken.
+    let f = c.args.facts in
+    subst (AreTaken (λ n. vacant n || same_name n f.name)) (sym c.in-Ok-None.ensures.ok) (placed_taken vacant c.args.table.now f.name (Some f) taken)

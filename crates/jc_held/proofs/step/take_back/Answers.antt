@@ -1,10 +1,10 @@
-use Rattle.std.proofs.Common.{◌∙◌, sym, ap, cond, None, Some, is_some}
+use Rattle.std.proofs.Common.{◌∙◌, ◌||◌, sym, ap, subst, cond, None, Some, is_some}
 use Rattle.std.specs.FinMap as map
 use Rattle.jc_classes.specs.Names.{same_name}
 use Rattle.jc_link.specs.Tables.{class_at}
 use Rattle.jc_held.specs.Steps.{is_step}
-use Rattle.jc_held.specs.inside.Stepping.{stepped}
-use Rattle.jc_held.proofs.SteppedTables.{put_class, put_there, removed_class, removed_there}
+use Rattle.jc_held.specs.inside.Stepping.{AreTaken, stepped}
+use Rattle.jc_held.proofs.SteppedTables.{put_class, put_taken, put_there, removed_class, removed_taken, removed_there}
 use Rattle.jc_held.proofs.step.take_back.Goals as goal
 
 pub returns-in-Ok-clause-ok : goal.returns-in-Ok-clause-ok
@@ -29,3 +29,16 @@ returns-in-Remove-clause-there c = λ n s h.
     ap (λ t. is_some (map.get t n)) c.remove.ensures.removed
     ∙ removed_there c.args.table.now c.deref.result.now n
     (ap (same_name n) c.deref.ensures.value ∙ ap (λ s. is_step s n) (sym c.in-Remove.is) ∙ s) h
+
+pub returns-in-Ok-clause-taken : goal.returns-in-Ok-clause-taken
+returns-in-Ok-clause-taken c = λ vacant taken.
+    let f = c.in-Put.facts in
+    let t = c.args.table.now in
+    subst (AreTaken vacant) (sym c.in-Ok.ensures.ok) (put_taken vacant t f.name f (subst (λ s. AreTaken (λ n. vacant n || is_step s n) t) c.in-Put.is taken))
+
+pub returns-in-Remove-clause-taken : goal.returns-in-Remove-clause-taken
+returns-in-Remove-clause-taken c = λ vacant taken.
+    let t = c.args.table.now in
+    let there = subst (λ s. AreTaken (λ n. vacant n || is_step s n) t) c.in-Remove.is taken in
+    let named = subst (λ name. AreTaken (λ n. vacant n || same_name n name) t) (sym c.deref.ensures.value) there in
+    subst (AreTaken vacant) (sym c.remove.ensures.removed) (removed_taken vacant t c.deref.result.now named)

@@ -30,6 +30,7 @@ invariant_of-self c =
       named_behind c.change_classes.result m behind first put
           (on_ok_weaker c.change_classes.result (λ ok n. ok n ∙ classes n) c.change_classes.ensures.ok)
           c.change_classes.ensures.err c.self.invariant.1,
+      c.change_classes.ensures.taken,
     )
 
 pub returns-clause-ok : goal.returns-clause-ok

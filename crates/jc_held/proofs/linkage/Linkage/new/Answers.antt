@@ -1,4 +1,4 @@
-use Rattle.jc_held.proofs.held.Holding.{nothing_held, nothing_named}
+use Rattle.jc_held.proofs.held.Holding.{nothing_held, nothing_named, nothing_vacant}
 use Rattle.jc_held.proofs.linkage.Linkage.new.Goals as goal
 
 pub invariant_of-linkage : goal.invariant_of-linkage
@@ -8,4 +8,5 @@ invariant_of-linkage c =
     let links = c.new-3.result in (
       nothing_held places c.args.outside kept links c.in_ok-table.ensures.empty c.new-2.ensures c.new-3.ensures,
       nothing_named places c.args.outside kept links c.in_ok-table.ensures.empty c.new-2.ensures,
+      nothing_vacant places c.in_ok-table.ensures.empty,
     )
