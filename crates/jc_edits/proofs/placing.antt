@@ -1,4 +1,5 @@
 pub mod ClassesPlaced
 pub mod ClassesRead
 pub mod EditPlaced
+pub mod FilesDiffer
 pub mod HeldClasses

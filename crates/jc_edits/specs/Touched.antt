@@ -1,11 +1,14 @@
 -- What an edit of files touches, and how many parts it may make.
-use Rattle.std.specs.Prelude.{ℕ, Bool, false, ◌||◌, List, Option, Some, None, is_some}
+use Rattle.std.specs.Prelude.{◌↔◌, ℕ, Bool, false, ◌||◌, List, Option, Some, None, is_some}
 use Rattle.jc_base.specs.Bytes.{same_bytes}
+use Rattle.jc_classes.specs.Laws.{Differ, Hits}
 use Rattle.jc_classes.specs.Names.{Name}
 use Rattle.jc_held.specs.Affected.{IsBounded}
 use Rattle.jc_report.specs.Files.{Files}
 use Rattle.jc_report.specs.FileRows.{winner}
 use Rattle.jc_report.specs.Reports.{facts_at, world_of}
+use Rattle.jc_input.specs.Changes.{Change, path_of}
+use Rattle.jc_edits.specs.Edits.{after}
 
 -- whether files give a class of the name
 abbrev pub gives : Files → Name → Bool
@@ -18,6 +21,15 @@ is_path (Some p) path = same_bytes p path
 -- the name's class is taken from the file at the path, before the edit or after it
 abbrev pub is_touched : (old new : Files) (path : List ℕ) → Name → Bool
 is_touched old new path name = is_path (winner old name) path || is_path (winner new name) path
+
+-- what an edit does not touch stands as before
+abbrev pub FilesDiffer : Type 0
+FilesDiffer = (f : Files) (e : Change) (prefixes : List Name) → Differ (is_touched f (after f e) (path_of e)) (world_of f prefixes) (world_of (after f e) prefixes)
+
+-- the reach of a class holds a touched name before the edit where it holds one behind it
+abbrev pub AffectedEitherWay : Type 0
+AffectedEitherWay = (f : Files) (e : Change) (prefixes : List Name) (d : Name)
+    → Hits (is_touched f (after f e) (path_of e)) (world_of f prefixes) d ↔ Hits (is_touched f (after f e) (path_of e)) (world_of (after f e) prefixes) d
 
 -- the edit made no more parts than there are classes behind it whose reach holds a name that it touched, and asked for no
 -- more classes than their reaches have names, and two

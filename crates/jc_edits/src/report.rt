@@ -1,6 +1,6 @@
 //! The report that a session holds.
 
-ghost use Rattle.std.specs.Prelude.{◌≡◌, ◌-◌, IfOk, List, None, OnErr, OnOk, option_and_then, slice_get};
+ghost use Rattle.std.specs.Prelude.{◌≡◌, ◌≤◌, ◌-◌, IfOk, List, None, OnErr, OnOk, option_and_then, slice_get};
 ghost use Rattle.std.specs.List.{list_any};
 ghost use Rattle.std.specs.Option.{option_map};
 ghost use Rattle.std.specs.FinMap as map;
@@ -69,6 +69,8 @@ impl Report {
         ensures err { OnErr result (self.new.files ≡ self.old.files) }
         ensures prefixes { self.new.prefixes ≡ self.old.prefixes }
         ensures bounded { OnOk result (IsBoundedEdit self.old.files self.new.files self.new.prefixes (path_of (change_lent edit.entry)) (meter.new.made - meter.old.made) (meter.new.asks - meter.old.asks)) }
+        ensures asks_rise { meter.old.asks ≤ meter.new.asks }
+        ensures made_rise { meter.old.made ≤ meter.new.made }
     {
         let Changes { first, put } = changes_of(alloc, &self.held, edit.path(), edit.bytes())?;
         let grown = grow(&mut self.held, alloc, edit)?;

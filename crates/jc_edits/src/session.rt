@@ -1,6 +1,6 @@
 //! A session over class files.
 
-ghost use Rattle.std.specs.Prelude.{◌≡◌, ◌-◌, None, IfOk, IfSome, OnOk, OnErr, MatchResult, is_some, option_and_then, slice_get, true};
+ghost use Rattle.std.specs.Prelude.{◌≡◌, ◌≤◌, ◌-◌, None, IfOk, IfSome, OnOk, OnErr, MatchResult, is_some, option_and_then, slice_get, true};
 ghost use Rattle.std.specs.Option.{option_map};
 ghost use Rattle.std.specs.FinMap as map;
 ghost use Rattle.jc_classes.specs.NameLists.{Lists};
@@ -66,6 +66,8 @@ impl Session {
         ensures made { IfOk result (λ done. done.made ≡ self.new.made - self.old.made) }
         ensures asks { IfOk result (λ done. done.asks ≡ self.new.asks - self.old.asks) }
         ensures bounded { IfOk result (λ done. IsBoundedEdit self.old.files self.new.files self.new.prefixes (path_of (change_of edit)) done.made done.asks) }
+        ensures asks_rise { self.old.asks ≤ self.new.asks }
+        ensures made_rise { self.old.made ≤ self.new.made }
     {
         match edit {
             Edit::Add(path, bytes) => self.make(LentEdit::Add(&path, bytes)),
@@ -83,6 +85,8 @@ impl Session {
         ensures made { IfOk result (λ done. done.made ≡ self.new.made - self.old.made) }
         ensures asks { IfOk result (λ done. done.asks ≡ self.new.asks - self.old.asks) }
         ensures bounded { IfOk result (λ done. IsBoundedEdit self.old.files self.new.files self.new.prefixes (path_of (change_lent edit.entry)) done.made done.asks) }
+        ensures asks_rise { self.old.asks ≤ self.new.asks }
+        ensures made_rise { self.old.made ≤ self.new.made }
     {
         if let Some(fault) = judge(&self.report.held.files, &edit) {
             return Err(fault);

@@ -111,7 +111,7 @@ stepped m others (Some fu) put (Some s) stood name class n =
 -- ---- edits
 
 -- the files with this at the path are the others with it
-put_with : (f : Files) (path : List ℕ) (o : Option (List ℕ)) → with_at (fin.remove f path) path o ≡ put_at f path o
+pub put_with : (f : Files) (path : List ℕ) (o : Option (List ℕ)) → with_at (fin.remove f path) path o ≡ put_at f path o
 put_with f path None = refl
 put_with f path (Some bytes) = insert-remove f path bytes
 

@@ -1,0 +1,12 @@
+//! Laws over the definitions alone.
+ghost use Rattle.jc_edits.specs.Touched.{AffectedEitherWay, FilesDiffer};
+
+/// What an edit of files doesn't touch stands as before.
+pub fn files_differ()
+    ensures { FilesDiffer }
+{}
+
+/// A class is affected by an edit of files whether its reach before the edit is asked or the one behind it.
+pub fn affected_either_way()
+    ensures { AffectedEitherWay }
+{}
