@@ -1,5 +1,5 @@
 -- Checking a tree of files: each is added by its path, and the report of all is written.
-use Rattle.std.specs.Prelude.{◌≡◌, ◌≤◌, ℕ, Bool, List, [], ◌∷◌, Option, Some, None, Result, Ok, Err}
+use Rattle.std.specs.Prelude.{◌≡◌, ◌≤◌, ℕ, Bool, List, [], ◌∷◌, Option, Some, None, Result, Ok, Err, ⊤}
 use Rattle.std.specs.Io.KnownBytes.{Appends, Keeps}
 use Rattle.jc_base.specs.Device.{MoreFaults, WritesFront}
 use Rattle.jc_report.specs.Files.{Files}
@@ -34,21 +34,36 @@ pub data Added : Type 0 where
   Refused : EditError → (path : List ℕ) → Added
   -- memory ended
   Lacks : Added
+  -- the source was asked for a path behind one that was not added
+  AskedOn : Added
 
-abbrev pub judged_add : Files → (path bytes : List ℕ) → Option EditError → (Files → Added) → Added
-judged_add f path bytes None more = more (after f (Adds path bytes))
-judged_add f path bytes (Some e) more = Refused e path
+-- what stops is the last that the source was asked for
+abbrev pub stops_at : Added → List Answer → Added
+stops_at stop [] = stop
+stops_at stop (answer ∷ answers) = AskedOn
 
-abbrev pub answered_add : Files → (path : List ℕ) → Answer → (Files → Added) → Added
-answered_add f path (Ok bytes) more = judged_add f path bytes (judge f (Adds path bytes)) more
-answered_add f path (Err sources.Unread) more = Unread path
-answered_add f path (Err sources.NoMemory) more = Lacks
+abbrev pub judged_add : Files → (path bytes : List ℕ) → Option EditError → List Answer → (Files → Added) → Added
+judged_add f path bytes None answers more = more (after f (Adds path bytes))
+judged_add f path bytes (Some e) answers more = stops_at (Refused e path) answers
+
+abbrev pub answered_add : Files → (path : List ℕ) → Answer → List Answer → (Files → Added) → Added
+answered_add f path (Ok bytes) answers more = judged_add f path bytes (judge f (Adds path bytes)) answers more
+answered_add f path (Err sources.Unread) answers more = stops_at (Unread path) answers
+answered_add f path (Err sources.NoMemory) answers more = stops_at Lacks answers
 
 -- as by adding the file at each path in order, up to the first that is not added
 abbrev pub added : Files → (paths : List (List ℕ)) → List Answer → Added
 added f [] answers = All f
 added f (path ∷ paths) [] = Lacks
-added f (path ∷ paths) (answer ∷ answers) = answered_add f path answer (λ g. added g paths answers)
+added f (path ∷ paths) (answer ∷ answers) = answered_add f path answer answers (λ g. added g paths answers)
+
+-- each file whose bytes were handed over is there
+abbrev pub AreAdded : Added → Type 0
+AreAdded (All f) = ⊤
+AreAdded (Unread path) = ⊥
+AreAdded (Refused e path) = ⊥
+AreAdded Lacks = ⊤
+AreAdded AskedOn = ⊥
 
 -- ---- checks
 
@@ -59,13 +74,14 @@ pub data CheckFault : Type 0 where
   WriteFailed : CheckFault
   NoMemory : CheckFault
 
--- the report of all the files was written, or a proper beginning of it where the output failed, or nothing
+-- the report of all the files was written, or a proper beginning of it where the output failed, or nothing; memory was wanted only
+-- where no file before was unread or refused
 abbrev pub ChecksAs : (prefixes : List (List ℕ)) → Added → Result Bool CheckFault → (before now : Option (List ℕ)) → Type 0
 ChecksAs prefixes files (Ok wrong) before now = (f : Files) × (r : Report) × (files ≡ All f) × IsReport f prefixes r × (wrong ≡ is_wrong r) × Appends before now (report_text r)
 ChecksAs prefixes files (Err WriteFailed) before now = (f : Files) × (r : Report) × (files ≡ All f) × IsReport f prefixes r × WritesFront before now (report_text r)
 ChecksAs prefixes files (Err (FileUnread path)) before now = (files ≡ Unread path) × Keeps before now
 ChecksAs prefixes files (Err (FileRefused e path)) before now = (files ≡ Refused e path) × Keeps before now
-ChecksAs prefixes files (Err NoMemory) before now = Keeps before now
+ChecksAs prefixes files (Err NoMemory) before now = AreAdded files × Keeps before now
 
 -- the output's count of failures rises with its failure alone
 abbrev pub CountsCheck : Result Bool CheckFault → ℕ → ℕ → Type 0

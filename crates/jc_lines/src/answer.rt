@@ -1,5 +1,5 @@
 //! The answer to one line.
-ghost use Rattle.std.specs.Prelude.{◌≡◌, ◌≢◌, IfErr, IsSome, None, Some};
+ghost use Rattle.std.specs.Prelude.{◌≡◌, ◌≤◌, ◌≢◌, IfErr, IsSome, None, Some};
 ghost use Rattle.jc_input.specs.declared.run_error.RunError.TheVariants.{NoMemory, Read};
 ghost use Rattle.jc_input.specs.Changes.{change_lent};
 ghost use Rattle.jc_edits.specs.Edits.{judge};
@@ -60,6 +60,8 @@ pub(crate) fn answer<S: Source, W: Output>(
     ensures prefixes { session.new.prefixes ≡ session.old.prefixes }
     ensures failures { CountsWrites result (W.failures out.old) (W.failures out.new) }
     ensures err { IfErr result (λ e. e ≢ Read) }
+    ensures asks_rise { session.old.asks ≤ session.new.asks }
+    ensures made_rise { session.old.made ≤ session.new.made }
 {
     match command {
         Command::Add(path) => answer_sourced(session, source, path, Placing::New, out),
@@ -89,6 +91,8 @@ fn answer_sourced<S: Source, W: Output>(
     ensures prefixes { session.new.prefixes ≡ session.old.prefixes }
     ensures failures { CountsWrites result (W.failures out.old) (W.failures out.new) }
     ensures err { IfErr result (λ e. e ≢ Read) }
+    ensures asks_rise { session.old.asks ≤ session.new.asks }
+    ensures made_rise { session.old.made ≤ session.new.made }
 {
     match source.read(path) {
         Ok(bytes) => answer_edit(session, placing.edit(path, bytes), out),
@@ -109,6 +113,8 @@ fn answer_edit<W: Output>(
     ensures prefixes { session.new.prefixes ≡ session.old.prefixes }
     ensures failures { CountsWrites result (W.failures out.old) (W.failures out.new) }
     ensures err { IfErr result (λ e. e ≢ Read) }
+    ensures asks_rise { session.old.asks ≤ session.new.asks }
+    ensures made_rise { session.old.made ≤ session.new.made }
 {
     match session.make(edit) {
         Err(EditError::NoMemory) => Err(RunError::NoMemory),

@@ -1,5 +1,5 @@
 //! A run over lines.
-ghost use Rattle.std.specs.Prelude.{◌≡◌, ◌≢◌, [], IfErr, List, Some, ℕ};
+ghost use Rattle.std.specs.Prelude.{◌≡◌, ◌≤◌, ◌≢◌, [], true, IfErr, List, Some, ℕ};
 ghost use Rattle.jc_input.specs.declared.run_error.RunError.TheVariants.{NoMemory, Read};
 ghost use Rattle.jc_input.specs.Lines.{command_of};
 ghost use Rattle.jc_input.specs.Sources.{SourceAnswers};
@@ -40,8 +40,13 @@ pub fn run<S: Source, R: Input, W: Output>(
       now = W.written out.new;
     }) }
     ensures prefixes { session.new.prefixes ≡ session.old.prefixes }
+
+    // An input that has ended is not read.
+    ensures ended { R.ended input.old ≡ true → input.new ≡ input.old }
     ensures reads { CountsReads result (R.failures input.old) (R.failures input.new) }
     ensures writes { CountsWrites result (W.failures out.old) (W.failures out.new) }
+    ensures asks_rise { session.old.asks ≤ session.new.asks }
+    ensures made_rise { session.old.made ≤ session.new.made }
 {
     let mut line = Line::new(alloc)?;
     let mut ahead = Ahead::new();
@@ -69,6 +74,8 @@ fn answer_last<S: Source, W: Output>(
     ensures prefixes { session.new.prefixes ≡ session.old.prefixes }
     ensures failures { CountsWrites result (W.failures out.old) (W.failures out.new) }
     ensures err { IfErr result (λ e. e ≢ Read) }
+    ensures asks_rise { session.old.asks ≤ session.new.asks }
+    ensures made_rise { session.old.made ≤ session.new.made }
 {
     if line.is_empty() {
         return Ok(Ended::Eof);

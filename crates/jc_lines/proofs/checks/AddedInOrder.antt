@@ -7,7 +7,7 @@ use Rattle.jc_lines.specs.declared.checking.CheckError.{CheckError}
 use Rattle.jc_lines.specs.declared.checking.CheckError.TheVariants as errors
 use Rattle.jc_input.specs.declared.edit.EditError.{EditError}
 use Rattle.jc_input.specs.declared.source.SourceError.TheVariants as sources
-use Rattle.jc_lines.specs.Checks.{Added, All, Answer, GivesAnswers, added, answered_add, judged_add}
+use Rattle.jc_lines.specs.Checks.{Added, All, Answer, GivesAnswers, Lacks, Refused, Unread, added, answered_add, judged_add, stops_at}
 use Rattle.jc_input.specs.Changes.{Adds}
 use Rattle.jc_edits.specs.Edits.{after, judge}
 use Rattle.jc_input.specs.Sources.{SourceAnswers, TakesAnswer}
@@ -48,20 +48,25 @@ module _ (mid new : Option SourceAnswers) (path : List ℕ) (answer : Answer) (t
 
 -- ---- files
 
+-- where something stops the files are not all there
+stop_is_not_all : (g : Files) (answers : List Answer) (stop : Added) → (stop ≡ All g → ⊥) → stops_at stop answers ≡ All g → ⊥
+stop_is_not_all g [] stop differs all = differs all
+stop_is_not_all g (a ∷ answers) stop differs all = cc
+
 module _ (g : Files) (path : List ℕ) (answer : Answer) (rest : List (List ℕ)) where
   -- where all files at the front were added, the next path decides
-  pub next_added : (old mid : Option SourceAnswers) (f : Files) (front : List (List ℕ)) (answers : List Answer) → GivesAll old front answers mid → added f front answers ≡ All g → added f (front ++ path ∷ rest) (answers ++ answer ∷ []) ≡ answered_add g path answer (λ h. added h rest [])
-  next_added old mid f [] [] given all = let same : f ≡ g = cc in ap (λ x. answered_add x path answer (λ h. added h rest [])) same
+  pub next_added : (old mid : Option SourceAnswers) (f : Files) (front : List (List ℕ)) (answers : List Answer) → GivesAll old front answers mid → added f front answers ≡ All g → added f (front ++ path ∷ rest) (answers ++ answer ∷ []) ≡ answered_add g path answer [] (λ h. added h rest [])
+  next_added old mid f [] [] given all = let same : f ≡ g = cc in ap (λ x. answered_add x path answer [] (λ h. added h rest [])) same
   next_added old mid f [] (a ∷ answers) given all = absurd given
   next_added old mid f (p ∷ front) [] given all = absurd given
-  next_added old mid f (p ∷ front) (Err sources.Unread ∷ answers) given all = absurd cc
-  next_added old mid f (p ∷ front) (Err sources.NoMemory ∷ answers) given all = absurd cc
+  next_added old mid f (p ∷ front) (Err sources.Unread ∷ answers) given all = absurd (stop_is_not_all g answers (Unread p) (λ h. cc) all)
+  next_added old mid f (p ∷ front) (Err sources.NoMemory ∷ answers) given all = absurd (stop_is_not_all g answers Lacks (λ h. cc) all)
   next_added old mid f (p ∷ front) (Ok bytes ∷ answers) given all = judged (λ h done. next_added given.0 mid h front answers given.2 done) (judge f (Adds p bytes)) all
     where
-      judged : ((h : Files) → added h front answers ≡ All g → added h (front ++ path ∷ rest) (answers ++ answer ∷ []) ≡ answered_add g path answer (λ k. added k rest []))
-          → (o : Option EditError) → judged_add f p bytes o (λ h. added h front answers) ≡ All g → judged_add f p bytes o (λ h. added h (front ++ path ∷ rest) (answers ++ answer ∷ [])) ≡ answered_add g path answer (λ h. added h rest [])
+      judged : ((h : Files) → added h front answers ≡ All g → added h (front ++ path ∷ rest) (answers ++ answer ∷ []) ≡ answered_add g path answer [] (λ k. added k rest []))
+          → (o : Option EditError) → judged_add f p bytes o answers (λ h. added h front answers) ≡ All g → judged_add f p bytes o (answers ++ answer ∷ []) (λ h. added h (front ++ path ∷ rest) (answers ++ answer ∷ [])) ≡ answered_add g path answer [] (λ h. added h rest [])
       judged further None all = further (after f (Adds p bytes)) all
-      judged further (Some e) all = absurd cc
+      judged further (Some e) all = absurd (stop_is_not_all g answers (Refused e p) (λ h. cc) all)
 
 -- ---- a tree of the files at the front
 
@@ -87,24 +92,30 @@ read_more old now new front path answer tree more h takes adds = record {
 }
 
 -- what stops the add of one file stops that of all
-stops_judged : (f : Files) (path bytes : List ℕ) (o : Option EditError) (more : Files → Added) (e : CheckError) → StopsAs (judged_add f path bytes o All) e → StopsAs (judged_add f path bytes o more) e
-stops_judged f path bytes (Some fault) more e h = h
-stops_judged f path bytes None more (errors.Unread p) h = absurd cc
-stops_judged f path bytes None more (errors.Refused fault p) h = absurd cc
-stops_judged f path bytes None more errors.Write h = h
-stops_judged f path bytes None more errors.NoMemory h = h
+stops_judged : (f : Files) (path bytes : List ℕ) (o : Option EditError) (rest : List (List ℕ)) (e : CheckError) → StopsAs (judged_add f path bytes o [] All) e → StopsAs (judged_add f path bytes o [] (λ g. added g rest [])) e
+stops_judged f path bytes (Some fault) rest e h = h
+stops_judged f path bytes None rest (errors.Unread p) h = absurd cc
+stops_judged f path bytes None rest (errors.Refused fault p) h = absurd cc
+stops_judged f path bytes None rest errors.Write h = h
+stops_judged f path bytes None [] errors.NoMemory h = h
+stops_judged f path bytes None (p ∷ rest) errors.NoMemory h = h
 
-stops : (f : Files) (path : List ℕ) (answer : Answer) (more : Files → Added) (e : CheckError) → StopsAs (answered_add f path answer All) e → StopsAs (answered_add f path answer more) e
-stops f path (Ok bytes) more e h = stops_judged f path bytes (judge f (Adds path bytes)) more e h
-stops f path (Err sources.Unread) more e h = h
-stops f path (Err sources.NoMemory) more e h = h
+stops : (f : Files) (path : List ℕ) (answer : Answer) (rest : List (List ℕ)) (e : CheckError) → StopsAs (answered_add f path answer [] All) e → StopsAs (answered_add f path answer [] (λ g. added g rest [])) e
+stops f path (Ok bytes) rest e h = stops_judged f path bytes (judge f (Adds path bytes)) rest e h
+stops f path (Err sources.Unread) rest e h = h
+stops f path (Err sources.NoMemory) rest e h = h
+
+-- where no file was read yet
+pub none_read : (s : Option SourceAnswers) (paths : List (List ℕ)) → ReadsTree paths s s (Err errors.NoMemory)
+none_read s [] = ([], refl, tt)
+none_read s (path ∷ paths) = ([], refl, tt)
 
 pub read_stops : (old now new : Option SourceAnswers) (front rest : List (List ℕ)) (path : List ℕ) (answer : Answer) (tree : Tree) (e : CheckError) → (h : HasRead old now front tree)
     → TakesAnswer now path answer new → AddsOne h.files path answer (Err e) → ReadsTree (front ++ path ∷ rest) old new (Err e)
 read_stops old now new front rest path answer tree e h takes adds = (
   h.answers ++ answer ∷ [],
   last_one now new path answer takes old front rest h.answers h.given,
-  subst (λ (x : Added). StopsAs x e) (sym (next_added h.files path answer rest old now map.empty front h.answers h.given h.all)) (stops h.files path answer (λ g. added g rest []) e adds),
+  subst (λ (x : Added). StopsAs x e) (sym (next_added h.files path answer rest old now map.empty front h.answers h.given h.all)) (stops h.files path answer rest e adds),
 )
 
 pub read_all : (old now : Option SourceAnswers) (paths : List (List ℕ)) (tree : Tree) → HasRead old now paths tree → ReadsTree paths old now (Ok tree)

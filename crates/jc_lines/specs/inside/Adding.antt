@@ -1,11 +1,11 @@
 -- What comes of adding files to a tree.
-use Rattle.std.specs.Prelude.{◌≡◌, ℕ, List, Option, Result, Ok, Err, ⊤}
+use Rattle.std.specs.Prelude.{◌≡◌, ℕ, List, [], Option, Result, Ok, Err}
 use Rattle.std.specs.FinMap as map
 use Rattle.jc_report.specs.Files.{Files}
 use Rattle.jc_report.specs.Trees.{IsTree, Tree}
 use Rattle.jc_lines.specs.declared.checking.CheckError.{CheckError}
 use Rattle.jc_lines.specs.declared.checking.CheckError.TheVariants as errors
-use Rattle.jc_lines.specs.Checks.{Added, All, Answer, GivesAnswers, Refused, Unread, added, answered_add}
+use Rattle.jc_lines.specs.Checks.{Added, All, Answer, AreAdded, GivesAnswers, Refused, Unread, added, answered_add}
 use Rattle.jc_input.specs.Sources.{SourceAnswers}
 
 -- why the files are not all added
@@ -13,7 +13,7 @@ abbrev pub StopsAs : Added → CheckError → Type 0
 StopsAs files (errors.Unread path) = files ≡ Unread path.now
 StopsAs files (errors.Refused error path) = files ≡ Refused error path.now
 StopsAs files errors.Write = ⊥
-StopsAs files errors.NoMemory = ⊤
+StopsAs files errors.NoMemory = AreAdded files
 
 -- a tree of all of them, or the error
 abbrev pub AddsAs : Added → Result Tree CheckError → Type 0
@@ -22,7 +22,7 @@ AddsAs files (Err error) = StopsAs files error
 
 -- the tree with the file at a path beside these files, or the error
 abbrev pub AddsOne : Files → (path : List ℕ) → Answer → Result Tree CheckError → Type 0
-AddsOne f path answer result = AddsAs (answered_add f path answer All) result
+AddsOne f path answer result = AddsAs (answered_add f path answer [] All) result
 
 abbrev pub tree_of : {M : Type 0} → Result (Tree × M) CheckError → Result Tree CheckError
 tree_of (Ok made) = Ok made.0

@@ -6,8 +6,13 @@ use Rattle.std.specs.declared.alloc.Global.{Global}
 use Rattle.jc_classes.specs.Names.{names_of}
 use Rattle.jc_input.specs.Sources.{TakesAnswer, answer_of}
 use Rattle.jc_lines.specs.inside.Adding.{AddsOne}
-use Rattle.jc_lines.proofs.checks.AddedInOrder.{HasRead, read_all, read_more, read_start, read_stops}
+use Rattle.jc_lines.proofs.checks.AddedInOrder.{HasRead, none_read, read_all, read_more, read_start, read_stops}
 use Rattle.jc_lines.proofs.checking.read_tree.Goals as goal
+
+pub returns-in_err-tree : goal.returns-in_err-tree
+returns-in_err-tree g c =
+    let exit = err_from_is_err_and c.from_residual.result c.from_residual.ensures.1 in
+    rw (exit.1, exit.2) (none_read (g.S.Source.answers c.args.source.now) (names_of c.args.paths.now))
 
 pub loop-path-init : goal.loop-path-init
 loop-path-init g c = read_start (g.S.Source.answers c.args.source.now) c.in_ok-tree.tree c.in_ok-tree.ensures.empty

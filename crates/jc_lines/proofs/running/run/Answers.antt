@@ -1,4 +1,4 @@
-use Rattle.std.proofs.Common.{◌≡◌, ◌∙◌, Err, ap, sym, refl}
+use Rattle.std.proofs.Common.{◌≡◌, ◌∙◌, Err, ap, sym, refl, arith}
 use Rattle.std.proofs.lemmas.Result.{err_from_is_err_and}
 use Rattle.jc_input.specs.Lines.{command_of}
 use Rattle.jc_input.specs.LentCommands.{command_lent}
@@ -11,6 +11,9 @@ loop-line-init g c = record {
   so_far = λ bytes s all known. rw c.new-ahead.ensures (so_far_begins _ _ _ _ _ _ _ all known);
   by_answers = λ bytes all. rw c.new-ahead.ensures (by_answers_begins _ _ _ _ _ all);
   prefixes = refl;
+  asks_rise = omega arith;
+  made_rise = omega arith;
+  ended = λ h. refl;
   reads = refl;
   writes = refl;
 }
@@ -44,6 +47,9 @@ loop-line-preserved g c =
           by_answers_goes_on _ _ _ _ _ _ _ _ (at.by_answers bytes all) c.read_line.new.line c.read_line.new.ahead (g.R.Input.remaining c.read_line.new.input) _ _ takes
           (rw (sym same, sym at.prefixes) (rw c.in-Line.is at c.in_ok-answer.ensures.any));
       prefixes = c.in_ok-answer.ensures.prefixes ∙ at.prefixes;
+      asks_rise = omega (arith, at.asks_rise, c.answer.ensures.asks_rise);
+      made_rise = omega (arith, at.made_rise, c.answer.ensures.made_rise);
+      ended = λ h. c.read_line.ensures.ended (ap g.R.Input.ended (at.ended h) ∙ h) ∙ at.ended h;
       reads = c.in_ok-read_line.ensures.failures ∙ at.reads;
       writes = c.in_ok-answer.ensures.failures ∙ at.writes;
     }

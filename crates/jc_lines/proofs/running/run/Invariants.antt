@@ -1,4 +1,4 @@
-use Rattle.std.proofs.Common.{◌≡◌, ◌+◌, List, ℕ, Some, length}
+use Rattle.std.proofs.Common.{◌≡◌, ◌+◌, ◌≤◌, true, List, ℕ, Some, length}
 use Rattle.jc_input.specs.Sources.{SourceAnswers}
 use Rattle.jc_lines.proofs.runs.RunsSoFar.{IsSoFar}
 use Rattle.jc_lines.proofs.runs.ByAnswers.{IsSoFarByAnswers}
@@ -11,6 +11,9 @@ invariant-loop-line g l = record {
   by_answers : (bytes : List ℕ) → g.R.Input.remaining l.fn.input ≡ Some bytes
       → IsSoFarByAnswers l.fn.session.prefixes l.fn.session.files bytes l.ahead (g.R.Input.remaining l.input) l.session.files (g.W.Output.written l.fn.out) (g.W.Output.written l.out);
   prefixes : l.session.prefixes ≡ l.fn.session.prefixes;
+  asks_rise : l.fn.session.asks ≤ l.session.asks;
+  made_rise : l.fn.session.made ≤ l.session.made;
+  ended : g.R.Input.ended l.fn.input ≡ true → l.input ≡ l.fn.input;
   reads : g.R.Input.failures l.input ≡ g.R.Input.failures l.fn.input;
   writes : g.W.Output.failures l.out ≡ g.W.Output.failures l.fn.out;
 }
