@@ -1,1 +1,2 @@
 pub mod endings
+pub mod walking

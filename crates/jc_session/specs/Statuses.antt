@@ -1,5 +1,5 @@
 -- How the program ends, and what it tells on standard error.
-use Rattle.std.specs.Prelude.{◌≡◌, ℕ, ◌≤◌, ◌⊎◌, Bool, true, false, List, [], ◌++◌, Option, Some, Result, Ok, Err, MatchOption, codes, decimal}
+use Rattle.std.specs.Prelude.{◌≡◌, ℕ, ◌≤◌, ◌⊎◌, Bool, true, false, List, [], ◌∷◌, ◌++◌, Option, Some, Result, Ok, Err, MatchOption, codes, decimal}
 use Rattle.std.specs.FinMap as map
 use Rattle.std.specs.Io.KnownBytes.{Appends, Keeps}
 use Rattle.jc_base.specs.Device.{MoreFaults, WritesFront}
@@ -83,13 +83,18 @@ Checks outcome before now =
     ⊎ ((prefixes : List (List ℕ)) × (paths : List (List ℕ)) × (answers : List Answer) × (checked : Result Bool CheckFault) × (outcome ≡ outcome_of_check checked)
     × ChecksAs prefixes (added map.empty paths answers) checked before now)
 
--- the words were refused and nothing was written, or there was a run, or a file was listed, or a tree was checked
-abbrev pub Performs : Outcome → (input coming before now : Option (List ℕ)) → Type 0
-Performs outcome input coming before now =
-    ((outcome ≡ Err Usage) × Keeps before now)
-    ⊎ ((prefixes : List (List ℕ)) × (ending : Result Ended RunError) × (f : Files) × IsOutcome prefixes ending f outcome × RunsByAnswers prefixes ending f input coming before now)
-    ⊎ ((path : List ℕ) × (answer : Result (List ℕ) SourceError) × ListsAs path answer outcome before now × (coming ≡ input))
-    ⊎ (Checks outcome before now × (coming ≡ input))
+-- the first word
+abbrev pub NamesCommand : (command : List ℕ) → (words : List (List ℕ)) → Type 0
+NamesCommand command words = (behind : List (List ℕ)) × (words ≡ command ∷ behind)
+
+-- the words were refused, or there was no memory for them; or the command that they name was done: a run, a listing
+-- of a file, or a check of a tree. Nothing but a run touches the input, of which a function tells what is left
+abbrev pub Performs : {R : Type 0} → (remaining : R → Option (List ℕ)) → (words : List (List ℕ)) → Outcome → (input coming : R) → (before now : Option (List ℕ)) → Type 0
+Performs remaining words outcome input coming before now =
+    (((outcome ≡ Err Usage) ⊎ (outcome ≡ Err NoMemory)) × (coming ≡ input) × Keeps before now)
+    ⊎ (NamesCommand (codes "session") words × ((prefixes : List (List ℕ)) × (ending : Result Ended RunError) × (f : Files) × IsOutcome prefixes ending f outcome × RunsByAnswers prefixes ending f (remaining input) (remaining coming) before now))
+    ⊎ (NamesCommand (codes "list") words × (coming ≡ input) × ((path : List ℕ) × (answer : Result (List ℕ) SourceError) × ListsAs path answer outcome before now))
+    ⊎ (NamesCommand (codes "check") words × (coming ≡ input) × Checks outcome before now)
 
 abbrev pub fault_status : Fault → ℕ
 fault_status Usage = 2

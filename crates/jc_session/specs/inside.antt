@@ -1,1 +1,4 @@
+pub mod FolderNames
 pub mod LentFaults
+pub mod Paths
+pub mod Requests

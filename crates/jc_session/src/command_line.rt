@@ -1,6 +1,6 @@
 //! The program, apart from the standard streams: words and devices in, a status out.
 
-ghost use Rattle.std.specs.Prelude.{◌≡◌, [], Bool, List, Option, Result, Some, ℕ};
+ghost use Rattle.std.specs.Prelude.{◌≡◌, [], Bool, List, Option, Result, Some, map as map_each, ℕ};
 ghost use Rattle.std.specs.FinMap as map;
 ghost use Rattle.jc_classes.specs.Names.{names_of};
 ghost use Rattle.jc_input.specs.declared.source.SourceError.{SourceError};
@@ -39,7 +39,7 @@ pub fn program<F: Files + AllocGlobal, R: Input, W: Output, E: Output>(
     err: &mut E,
 ) -> u8
     ensures { (outcome : Outcome)
-        × Performs outcome (R.remaining input.old) (R.remaining input.new) (W.written out.old) (W.written out.new)
+        × Performs R.remaining (map_each (λ word. word.now) words.now) outcome input.old input.new (W.written out.old) (W.written out.new)
         × (result ≡ status_of outcome)
         × CountsInput outcome (R.failures input.old) (R.failures input.new)
         × CountsOutput outcome (W.failures out.old) (W.failures out.new)

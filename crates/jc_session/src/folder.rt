@@ -1,6 +1,9 @@
 //! The files below a folder, by their paths there.
 
+ghost use Rattle.std.specs.Prelude.{◌≡◌, IfOk};
+ghost use Rattle.std.specs.String.{string_bytes};
 ghost use Rattle.std.specs.declared.option.Option.TheVariants.{None};
+ghost use Rattle.jc_session.specs.inside.Paths.{below};
 
 use jc_lines::{FileSource, Source, SourceError};
 use std::alloc::{AllocError, Global};
@@ -35,8 +38,10 @@ impl<R: Files + AllocGlobal> Source for FolderSource<'_, R> {
     }
 }
 
-/// The path of what stands at a path below a folder.
-pub(crate) fn path_below(alloc: Global, folder: &str, path: &str) -> Result<String, AllocError> {
+/// The path of what stands at a path below a folder: at the empty one the folder itself.
+pub(crate) fn path_below(alloc: Global, folder: &str, path: &str) -> Result<String, AllocError>
+    ensures { IfOk result (λ whole. string_bytes whole ≡ below folder.now path.now) }
+{
     let length = folder.len().saturating_add(path.len()).saturating_add(1);
     let mut whole = String::with_capacity(alloc, length)?;
     whole.push_str(folder)?;

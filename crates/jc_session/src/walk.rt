@@ -1,5 +1,13 @@
 //! The class files below a folder.
 
+ghost use Rattle.std.specs.Prelude.{◌≡◌, ◌||◌, IfOk, OnOk, true};
+ghost use Rattle.std.specs.FinMap as map;
+ghost use Rattle.std.specs.List.Sorted.{IsStrictlySortedBy};
+ghost use Rattle.jc_classes.specs.NameLists.{Lists};
+ghost use Rattle.jc_classes.specs.Names.{Name, name_cmp, names_of};
+ghost use Rattle.jc_session.specs.inside.FolderNames.{is_entry_name, is_name_in};
+ghost use Rattle.jc_session.specs.inside.Paths.{IsEntry};
+
 use crate::folder::path_below;
 use jc_base::{ByteMap, NoMemory};
 use std::alloc::{AllocError, AllocFailed, Global};
@@ -24,7 +32,9 @@ pub(crate) enum WalkFault {
 pub(crate) fn class_files<'a, F: Files + AllocGlobal>(
     rt: &'a F,
     folder: &'a str,
-) -> Result<Vec<Vec<u8>>, WalkFault> {
+) -> Result<Vec<Vec<u8>>, WalkFault>
+    ensures { IfOk result (λ paths. IsStrictlySortedBy name_cmp (names_of paths.items)) }
+{
     let mut walk = Walk {
         rt,
         folder,
@@ -55,8 +65,11 @@ struct Walk<'a, F> {
 }
 
 impl<F: Files + AllocGlobal> Walk<'_, F> {
-    /// Visits what stands below the folder, one thing after another.
+    /// Visits what stands below the folder, one thing after another. The empty path is no folder.
     fn go_through(&mut self) -> Result<(), WalkFault> {
+        if self.folder.is_empty() {
+            return Err(self.unread_at(""));
+        }
         self.enter("")?;
         for _ in 0..u64::MAX {
             match self.pending.pop() {
@@ -154,24 +167,37 @@ fn read_names<R: Read>(folder: &mut R, names: &mut Vec<u8>) -> io::Result<()> {
     Ok(())
 }
 
-/// Names that are each ended by a NUL, in the order of their bytes.
-fn sorted(alloc: Global, names: &[u8]) -> Result<Vec<Vec<u8>>, NoMemory> {
+/// The names of a folder's entries, in the order of their bytes, of the names in it, each ended by a NUL.
+fn sorted(alloc: Global, names: &[u8]) -> Result<Vec<Vec<u8>>, NoMemory>
+    ensures { IfOk result (λ each. Lists (names_of each.items) (λ n. is_name_in names.now n ≡ true)) }
+{
     let mut each = ByteMap::new(alloc);
     sort_into(alloc, &mut each, names)?;
     each.into_keys(alloc)
 }
 
-fn sort_into(alloc: Global, each: &mut ByteMap<()>, names: &[u8]) -> Result<(), NoMemory> {
+fn sort_into(alloc: Global, each: &mut ByteMap<()>, names: &[u8]) -> Result<(), NoMemory>
+    ensures { OnOk result ((n : Name) → map.contains_key each.new n ≡ (map.contains_key each.old n || is_name_in names.now n)) }
+{
     for name in names.split(|byte| *byte == 0) {
-        if !name.is_empty() && name != b".".as_slice() && name != b"..".as_slice() {
+        if is_entry_name(name) {
             each.insert(Vec::from_slice(alloc, name)?, ())?;
         }
     }
     Ok(())
 }
 
+/// Whether a name in a folder is neither empty nor that of the folder itself or of the one above it.
+fn is_entry_name(name: &[u8]) -> bool
+    ensures { result ≡ is_entry_name name.now }
+{
+    !name.is_empty() && name != b".".as_slice() && name != b"..".as_slice()
+}
+
 /// The entry of a name in a folder.
-fn entry_of(alloc: Global, folder: &str, name: &[u8]) -> Result<Entry, AllocError> {
+fn entry_of(alloc: Global, folder: &str, name: &[u8]) -> Result<Entry, AllocError>
+    ensures { IfOk result (IsEntry folder.now name.now) }
+{
     match str::from_utf8(name) {
         Ok(name) if folder.is_empty() => Ok(Entry::At(String::from_str(alloc, name)?)),
         Ok(name) => Ok(Entry::At(path_below(alloc, folder, name)?)),

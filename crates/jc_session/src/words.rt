@@ -1,9 +1,11 @@
 //! What the words after the program's name ask for.
 
-ghost use Rattle.std.specs.Prelude.{◌≡◌, ◌⊎◌, ◌↔◌, IfErr};
+ghost use Rattle.std.specs.Prelude.{◌≡◌, ◌⊎◌, ◌↔◌, IfErr, IfOk, None, OnErr, Some, codes, map};
+ghost use Rattle.clap.specs.Matches.{first_value, found_of};
 ghost use Rattle.clap.specs.Values.{kind_of};
-ghost use Rattle.jc_session.specs.Statuses.{NoMemory, Usage};
+ghost use Rattle.jc_session.specs.Statuses.{NamesCommand, NoMemory, Usage};
 ghost use Rattle.jc_session.specs.inside.LentFaults.{fault_lent};
+ghost use Rattle.jc_session.specs.inside.Requests.{AreRefused, AsksFor, HoldsGiven, command_of, given_among};
 
 use crate::fault::Fault;
 use clap::error::ErrorKind;
@@ -23,33 +25,54 @@ pub(crate) enum Request<'w> {
 
 /// What the words ask for: `session`, `list` and a path, or `check`, prefixes and a folder.
 pub(crate) fn asked<'w>(alloc: Global, words: &'w [&'w str]) -> Result<Request<'w>, Fault<'w>>
-    ensures { IfErr result (λ fault. (fault_lent fault ≡ Usage) ⊎ (fault_lent fault ≡ NoMemory)) }
+    ensures command { IfOk result (λ request. NamesCommand (command_of request) (map (λ word. word.now) words.now)) }
+    ensures fault { IfErr result (λ fault. (fault_lent fault ≡ Usage) ⊎ (fault_lent fault ≡ NoMemory)) }
 {
     let matches = match jclink_command(alloc)?.try_get_matches_from(words) {
         Ok(matches) => matches,
         Err(error) => return Err(words_fault(&error)),
     };
-    request_of(alloc, &matches)
+    match words {
+        [command, ..] => request_of(alloc, command, &matches),
+        [] => Err(Fault::Usage),
+    }
 }
 
-/// What the words that were taken ask for.
-fn request_of<'w>(alloc: Global, matches: &ArgMatches<'w>) -> Result<Request<'w>, Fault<'w>>
-    ensures { IfErr result (λ fault. (fault_lent fault ≡ Usage) ⊎ (fault_lent fault ≡ NoMemory)) }
+/// What the words that were taken ask for, of which the first is the command.
+fn request_of<'w>(
+    alloc: Global,
+    command: &str,
+    matches: &ArgMatches<'w>,
+) -> Result<Request<'w>, Fault<'w>>
+    ensures command { IfOk result (λ request. command.now ≡ command_of request) }
+    ensures fault { IfErr result (λ fault. (fault_lent fault ≡ Usage) ⊎ (fault_lent fault ≡ NoMemory)) }
 {
-    match matches.subcommand() {
-        Some(("list", matches)) => match matches.get_str("FILE") {
-            Some(path) => Ok(Request::List(path)),
-            None => Err(Fault::Usage),
-        },
-        Some(("check", matches)) => check_request(alloc, matches),
-        Some(("session", matches)) => Ok(Request::Session(outside(alloc, matches)?)),
+    match (command, matches.subcommand()) {
+        ("list", Some(("list", matches))) => list_request(matches),
+        ("check", Some(("check", matches))) => check_request(alloc, matches),
+        ("session", Some(("session", matches))) => Ok(Request::Session(outside(alloc, matches)?)),
         _ => Err(Fault::Usage),
+    }
+}
+
+/// The file to list. None is usage.
+fn list_request<'w>(matches: &ArgMatches<'w>) -> Result<Request<'w>, Fault<'w>>
+    ensures command { IfOk result (λ request. command_of request ≡ codes "list") }
+    ensures asks { IfOk result (AsksFor (found_of matches.now)) }
+    ensures none { OnErr result (first_value (found_of matches.now) (codes "FILE") ≡ None) }
+    ensures fault { IfErr result (λ fault. (fault_lent fault ≡ Usage) ⊎ (fault_lent fault ≡ NoMemory)) }
+{
+    match matches.get_str("FILE") {
+        Some(path) => Ok(Request::List(path)),
+        None => Err(Fault::Usage),
     }
 }
 
 /// The folder to check, and the outside prefixes.
 fn check_request<'w>(alloc: Global, matches: &ArgMatches<'w>) -> Result<Request<'w>, Fault<'w>>
-    ensures { IfErr result (λ fault. (fault_lent fault ≡ Usage) ⊎ (fault_lent fault ≡ NoMemory)) }
+    ensures command { IfOk result (λ request. command_of request ≡ codes "check") }
+    ensures asks { IfOk result (AsksFor (found_of matches.now)) }
+    ensures fault { IfErr result (λ fault. (fault_lent fault ≡ Usage) ⊎ (fault_lent fault ≡ NoMemory)) }
 {
     match matches.get_str("DIR") {
         Some(folder) => Ok(Request::Check(outside(alloc, matches)?, folder)),
@@ -59,7 +82,9 @@ fn check_request<'w>(alloc: Global, matches: &ArgMatches<'w>) -> Result<Request<
 
 /// The outside prefixes: those that are given, else the standard ones.
 fn outside<'w>(alloc: Global, matches: &ArgMatches<'w>) -> Result<Outside, Fault<'w>>
-    ensures { IfErr result (λ fault. (fault_lent fault ≡ Usage) ⊎ (fault_lent fault ≡ NoMemory)) }
+    ensures held { IfOk result (HoldsGiven (given_among (found_of matches.now))) }
+    ensures refused { IfErr result (λ fault. fault_lent fault ≡ Usage → AreRefused (given_among (found_of matches.now))) }
+    ensures fault { IfErr result (λ fault. (fault_lent fault ≡ Usage) ⊎ (fault_lent fault ≡ NoMemory)) }
 {
     match matches.get_strs("outside") {
         Some(prefixes) => given_prefixes(alloc, prefixes),
@@ -69,7 +94,9 @@ fn outside<'w>(alloc: Global, matches: &ArgMatches<'w>) -> Result<Outside, Fault
 
 /// The outside prefixes that are given. One that is refused is usage.
 fn given_prefixes<'w>(alloc: Global, prefixes: &[&'w str]) -> Result<Outside, Fault<'w>>
-    ensures { IfErr result (λ fault. (fault_lent fault ≡ Usage) ⊎ (fault_lent fault ≡ NoMemory)) }
+    ensures held { IfOk result (HoldsGiven (Some (map (λ prefix. prefix.now) prefixes.now))) }
+    ensures refused { IfErr result (λ fault. fault_lent fault ≡ Usage → AreRefused (Some (map (λ prefix. prefix.now) prefixes.now))) }
+    ensures fault { IfErr result (λ fault. (fault_lent fault ≡ Usage) ⊎ (fault_lent fault ≡ NoMemory)) }
 {
     let mut texts = Vec::new(alloc);
     for prefix in prefixes {

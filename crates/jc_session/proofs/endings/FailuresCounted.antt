@@ -1,10 +1,12 @@
 -- What counts failures of a run counts them of the program.
-use Rattle.std.proofs.Common.{◌≡◌, ◌⊎◌, ℕ, Err, ⊎_elim, refl, sym, subst}
+use Rattle.std.proofs.Common.{◌≡◌, ◌⊎◌, ℕ, Bool, Err, List, Ok, Option, Result, ⊎_elim, refl, sym, subst}
 use Rattle.jc_input.specs.declared.run_error.Ended.{Ended}
 use Rattle.jc_input.specs.declared.run_error.RunError.{RunError}
 use Rattle.jc_input.specs.declared.run_error.RunError.TheVariants as run_errors
 use Rattle.jc_input.specs.RunErrors.{CountsReads, CountsWrites}
-use Rattle.jc_session.specs.Statuses.{Fault, NoMemory, Usage, fault_of, CountsInput, CountsOutput}
+use Rattle.jc_lines.specs.Checks.{CheckFault, FileRefused, FileUnread, WriteFailed}
+use Rattle.jc_lines.specs.Checks as checks
+use Rattle.jc_session.specs.Statuses.{Checks, Fault, NoMemory, Outcome, Usage, fault_of, outcome_of_check, CountsInput, CountsOutput}
 
 pub input_counts : (e : RunError) (old new : ℕ) → CountsReads {T = Ended} (Err e) old new → CountsInput (Err (fault_of e)) old new
 input_counts run_errors.Read old new counts = counts
@@ -22,3 +24,16 @@ input_idle fault n is = ⊎_elim (λ e. subst (λ x. CountsInput (Err x) n n) (s
 
 pub output_idle : (fault : Fault) (n : ℕ) → (fault ≡ Usage) ⊎ (fault ≡ NoMemory) → CountsOutput (Err fault) n n
 output_idle fault n is = ⊎_elim (λ e. subst (λ x. CountsOutput (Err x) n n) (sym e) refl) (λ e. subst (λ x. CountsOutput (Err x) n n) (sym e) refl) is
+
+counts_of_check : (checked : Result Bool CheckFault) (n : ℕ) → CountsInput (outcome_of_check checked) n n
+counts_of_check (Ok wrong) n = refl
+counts_of_check (Err (FileUnread path)) n = refl
+counts_of_check (Err (FileRefused e path)) n = refl
+counts_of_check (Err WriteFailed) n = refl
+counts_of_check (Err checks.NoMemory) n = refl
+
+-- a check reads no input
+pub input_unread : (outcome : Outcome) (before now : Option (List ℕ)) (n : ℕ) → Checks outcome before now → CountsInput outcome n n
+input_unread outcome before now n =
+    ⊎_elim (λ h. subst (λ x. CountsInput x n n) (sym h.0) refl)
+    (⊎_elim (λ h. subst (λ x. CountsInput x n n) (sym h.1) refl) (λ h. subst (λ x. CountsInput x n n) (sym h.4) (counts_of_check h.3 n)))

@@ -1,15 +1,23 @@
-use Rattle.std.proofs.Common.{Err, inl, inr}
-use Rattle.jc_session.proofs.endings.FailuresCounted.{input_idle, output_idle}
+use Rattle.std.proofs.Common.{Err, codes, inl, inr, map, refl, rules}
+use Rattle.jc_session.proofs.endings.FailuresCounted.{input_idle, input_unread, output_idle}
 use Rattle.jc_session.proofs.endings.WordsRefused.{words_perform}
+use Rattle.jc_session.specs.Statuses.{NamesCommand}
 use Rattle.jc_session.specs.inside.LentFaults.{fault_lent}
 use Rattle.jc_session.proofs.command_line.program.Goals as goal
 
 pub returns-in-Ok-Session : goal.returns-in-Ok-Session
 returns-in-Ok-Session g c =
     let did = c.serve.ensures in
-    (did.2, inr (inl (c.in-Ok-Session.outside, did.0, did.1, did.3, did.9)), did.4, did.5, did.6, did.7)
+    let named : NamesCommand (codes "session") (map (λ word. word.now) c.args.words.now) = search rules in
+    (did.2, inr (inl (named, (c.in-Ok-Session.outside, did.0, did.1, did.3, did.9))), did.4, did.5, did.6, did.7)
+
+pub returns-in-Ok-Check : goal.returns-in-Ok-Check
+returns-in-Ok-Check g c =
+    let did = c.check_folder.ensures in
+    let named : NamesCommand (codes "check") (map (λ word. word.now) c.args.words.now) = search rules in
+    (did.0, inr (inr (inr (named, refl, did.1))), did.2, input_unread did.0 _ _ _ did.1, did.3, did.4)
 
 pub returns-in-Err : goal.returns-in-Err
 returns-in-Err g c =
     let fault = fault_lent c.in-Err.fault in
-    (Err fault, words_perform fault (g.R.Input.remaining c.args.input.now) (g.W.Output.written c.args.out.now) c.in-Err.ensures, c.conclude.ensures.status, input_idle fault _ c.in-Err.ensures, output_idle fault _ c.in-Err.ensures, c.conclude.ensures.tells)
+    (Err fault, words_perform g.R.Input.remaining _ fault c.args.input.now (g.W.Output.written c.args.out.now) c.in-Err.ensures.fault, c.conclude.ensures.status, input_idle fault _ c.in-Err.ensures.fault, output_idle fault _ c.in-Err.ensures.fault, c.conclude.ensures.tells)

@@ -1,0 +1,3 @@
+pub mod FirstWords
+pub mod FolderNames
+pub mod NamesSorted
