@@ -17,17 +17,20 @@ pub(crate) fn write_parsed<W: Output>(alloc: Global, out: &mut TextWriter<'_, W>
     }
 }
 
-/// How many proper beginnings the bytes have, where all are too short, or the length of the first that is not.
-pub(crate) fn write_fronts<W: Output>(alloc: Global, out: &mut TextWriter<'_, W>, bytes: &[u8]) {
+/// The fronts of longer class files are not tried.
+const MOST_BYTES: usize = 4096;
+
+/// Whether each proper front of the bytes is too short, where they are a class file.
+pub(crate) fn has_short_fronts(alloc: Global, bytes: &[u8]) -> bool {
+    if bytes.len() > MOST_BYTES || parse(alloc, bytes).is_err() {
+        return true;
+    }
     for length in 0..bytes.len() {
         if !is_short(alloc, &bytes[..length]) {
-            out.text(b"another answer after ");
-            return out.decimal(length);
+            return false;
         }
     }
-    out.decimal(bytes.len());
-    out.text(b" times ");
-    write_refusal(out, ParseError::Short);
+    true
 }
 
 fn is_short(alloc: Global, bytes: &[u8]) -> bool {

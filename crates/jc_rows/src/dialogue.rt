@@ -1,5 +1,6 @@
 //! The lines of a row that tell what goes in and what has to come out.
 
+use crate::doubles::Refusal;
 use crate::outcome::Outcome;
 use crate::parts::{Names, bytes_of};
 use crate::tokens::{Token, tokens_of};
@@ -19,7 +20,7 @@ pub(crate) struct NamedFile<'a> {
 pub(crate) struct Dialogue<'a> {
     pub(crate) files: Vec<NamedFile<'a>>,
     pub(crate) held: Vec<NamedFile<'a>>,
-    pub(crate) has_files: bool,
+    pub(crate) refusal: Option<Refusal>,
     pub(crate) takes_bytes: bool,
     pub(crate) words: Vec<&'a str>,
     pub(crate) input: Vec<u8>,
@@ -35,7 +36,7 @@ impl<'a> Dialogue<'a> {
         Dialogue {
             files: Vec::new(alloc),
             held: Vec::new(alloc),
-            has_files: true,
+            refusal: None,
             takes_bytes: true,
             words: Vec::new(alloc),
             input: Vec::new(alloc),
@@ -105,7 +106,9 @@ impl<'a> Dialogue<'a> {
     /// Takes a line that has no number and no bytes, and says whether it is one.
     fn switch(&mut self, word: &str, rest: &str) -> bool {
         match (word, rest) {
-            ("files", "no-memory") => self.has_files = false,
+            ("files", "no-memory") => self.refusal = Some(Refusal::NoMemory),
+            ("files", "unread") => self.refusal = Some(Refusal::UnreadFiles),
+            ("folders", "unread") => self.refusal = Some(Refusal::UnreadFolders),
             ("input", "fails") => self.fails = true,
             ("output", "takes nothing") => self.takes_bytes = false,
             _ => return false,

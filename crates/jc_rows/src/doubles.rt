@@ -20,17 +20,31 @@ impl Write for TakesNothing {
     }
 }
 
-/// Files for which no memory is left.
+/// What can't be opened, and why.
+#[derive(Clone, Copy)]
+pub(crate) enum Refusal {
+    NoMemory,
+    UnreadFiles,
+    UnreadFolders,
+}
+
+impl Refusal {
+    fn error<T>(self) -> io::Result<T> {
+        Err(io::Error::from(match self {
+            Refusal::NoMemory => ErrorKind::OutOfMemory,
+            Refusal::UnreadFiles | Refusal::UnreadFolders => ErrorKind::PermissionDenied,
+        }))
+    }
+}
+
+/// Files that can't be opened, in folders that can where files alone are unread.
 #[derive(Drop)]
-pub(crate) struct NoMemoryFiles<'a, R> {
+pub(crate) struct RefusedFiles<'a, R> {
     pub(crate) rt: &'a R,
+    pub(crate) refusal: Refusal,
 }
 
-fn refused<T>() -> io::Result<T> {
-    Err(io::Error::from(ErrorKind::OutOfMemory))
-}
-
-impl<R: AllocGlobal> Alloc for NoMemoryFiles<'_, R> {
+impl<R: AllocGlobal> Alloc for RefusedFiles<'_, R> {
     type A = Global;
 
     fn alloc(&self) -> Global {
@@ -38,48 +52,54 @@ impl<R: AllocGlobal> Alloc for NoMemoryFiles<'_, R> {
     }
 }
 
-impl<R: Files> Files for NoMemoryFiles<'_, R> {
+impl<R: Files> Files for RefusedFiles<'_, R> {
     type File = R::File;
 
     type Dir = R::Dir;
 
     fn open_file(&self, _how: &OpenOptions, _path: &str) -> io::Result<R::File> {
-        refused()
+        self.refusal.error()
     }
 
-    fn open_dir(&self, _path: &str) -> io::Result<R::Dir> {
-        refused()
+    fn open_dir(&self, path: &str) -> io::Result<R::Dir> {
+        match self.refusal {
+            Refusal::UnreadFiles => self.rt.open_dir(path),
+            refusal => refusal.error(),
+        }
     }
 
     fn metadata(&self, _path: &str) -> io::Result<Metadata> {
-        refused()
+        self.refusal.error()
     }
 
-    fn symlink_metadata(&self, _path: &str) -> io::Result<Metadata> {
-        refused()
+    fn symlink_metadata(&self, path: &str) -> io::Result<Metadata> {
+        match self.refusal {
+            Refusal::UnreadFiles => self.rt.symlink_metadata(path),
+            refusal => refusal.error(),
+        }
     }
 
     fn copy(&self, _from: &str, _to: &str) -> io::Result<u64> {
-        refused()
+        self.refusal.error()
     }
 
     fn rename(&self, _from: &str, _to: &str) -> io::Result<()> {
-        refused()
+        self.refusal.error()
     }
 
     fn remove_file(&self, _path: &str) -> io::Result<()> {
-        refused()
+        self.refusal.error()
     }
 
     fn create_dir(&self, _path: &str) -> io::Result<()> {
-        refused()
+        self.refusal.error()
     }
 
     fn remove_dir(&self, _path: &str) -> io::Result<()> {
-        refused()
+        self.refusal.error()
     }
 
     fn remove_dir_all<B: Allocator>(&self, _alloc: B, _path: &str) -> io::Result<()> {
-        refused()
+        self.refusal.error()
     }
 }

@@ -96,6 +96,8 @@ fn call<W: Output>(
         "copies" => add_copies(alloc, names, session, argument, rest)?,
         "dependants" => write_dependants(out, session, argument),
         "holders" => write_holders(out, session, argument)?,
+        "part" => write_part(out, session, argument),
+        "meter" => out.decimal(session.meter().made()),
         _ => {
             let bytes = bytes_of(alloc, names, rest)?;
             return make_edit(alloc, session, word, argument, bytes, out);
@@ -126,6 +128,14 @@ fn write_holders<W: Output>(
     Ok(())
 }
 
+/// How many answers the part of a class has.
+fn write_part<W: Output>(out: &mut TextWriter<'_, W>, session: &Session, name: &str) {
+    match session.part(name.as_bytes()) {
+        Some(part) => out.decimal(part.answers().len()),
+        None => out.text(b"none"),
+    }
+}
+
 /// Adds files, each with a class below java/lang/Object, whose names are the front and a number from 1.
 fn add_classes(
     alloc: Global,
@@ -154,9 +164,10 @@ fn add_copies(
     let [Token::Word(front), parts @ ..] = words else {
         bail!("copies without the front of their paths");
     };
+    let bytes = bytes_of(alloc, names, parts)?;
     for index in 0..count.parse::<u32>()? {
         let path = numbered(alloc, front, index)?;
-        add_file(session, &path, bytes_of(alloc, names, parts)?)?;
+        add_file(session, &path, Vec::from_slice(alloc, &bytes)?)?;
     }
     Ok(())
 }

@@ -1,11 +1,12 @@
 //! Judging the rows of a file, one by one.
 
 use crate::assembler::assemble;
-use crate::class_answers::{write_faults, write_fronts, write_parsed};
+use crate::class_answers::{write_faults, write_parsed};
 use crate::code_answers::{write_code_faults, write_instructions};
 use crate::compare::difference;
 use crate::dialogue::{Dialogue, NamedFile};
 use crate::edits::told_of_edits;
+use crate::error_answers::write_errors;
 use crate::file_answers::write_read;
 use crate::outcome::{output_for, told_of_outcome, told_of_status};
 use crate::parts::{Names, bytes_of};
@@ -362,11 +363,11 @@ fn answered(
 fn write_answer<W: Output>(alloc: Global, out: &mut TextWriter<'_, W>, kind: &str, bytes: &[u8]) {
     match kind {
         "parse" => write_parsed(alloc, out, bytes),
-        "fronts" => write_fronts(alloc, out, bytes),
         "faults" => write_faults(alloc, out, bytes),
         "instructions" => write_instructions(out, bytes),
         "code-faults" => write_code_faults(alloc, out, bytes),
         "outside" => write_covered(alloc, out, bytes),
+        "errors" => write_errors(alloc, out, bytes),
         "units" => write_units(alloc, out, bytes),
         "name" => write_names(out, bytes),
         "field" => write_field(out, bytes),

@@ -8,7 +8,9 @@
 //!     KIND "what" PARTS -> ANSWER     a row: what the call of this kind answers to the bytes
 //!
 //! PARTS are bytes one after another: hexadecimal digits in any grouping, a NAME, a "text" (its bytes as
-//! they stand in the file) or `(PARTS)`. A part with `*N` behind it stands N times.
+//! they stand in the file) or `(PARTS)`. A part with `*N` behind it stands N times. Wherever the bytes are
+//! a readable class file of at most 4,096 bytes, `parse` is asked of each proper front of them too, which
+//! has to be `7 Short`.
 //!
 //! A row `class "NAME" as WORD` names a class file, of version 52 and flags 0021 below java/lang/Object,
 //! with what the lines below it tell. Each constant stands once, in the order in which it is first
@@ -20,12 +22,12 @@
 //!
 //! The other kinds and their answers:
 //!
-//! - `parse`: `class NAME`, or a refusal with its number and place, as `6 Trailing(53)`. `fronts`: the one
-//!   answer of `parse` to each proper beginning of the bytes, how many they may be.
+//! - `parse`: `class NAME`, or a refusal with its number and place, as `6 Trailing(53)`.
 //! - `faults`: `none`, or each fault's rule and place, as `F1 5, F2 6`.
 //! - `instructions`: of a code each instruction's offset, mnemonic and operands, and the offset where they
 //!   end, as `0 iload 1, rest 2`. `code-faults`: `none`, or each code fault's rule and place of the first
 //!   method.
+//! - `errors`: what the errors of a type say of themselves, as `the output failed; memory was refused`.
 //! - `outside`: whether the prefixes of all lines but the first cover the name in the first.
 //! - `units`: the code units, four digits each, or `none`; or `bad at PLACE`.
 //! - `name`: what the text is of `unqualified`, `method` and `class`, or `none`.
@@ -44,6 +46,7 @@
 //!     holds PATH PARTS after the run the session holds these bytes at the path
 //!     file NAME PARTS  a file that lies in the working folder while the program runs
 //!     files no-memory  no file can be opened for want of memory
+//!     files unread     none may be read; folders unread: nor a folder
 //!     input fails      the input fails behind its bytes
 //!     output takes nothing    the output is one over a writer that takes no byte and tells no error
 //!     room N           the output has room for so many bytes, and then fails
@@ -59,6 +62,8 @@
 //!     remove PATH -> refused 2 NoSuchFile
 //!     dependants NAME -> NAMES     the classes that depend on a name
 //!     holders PLACE -> N           how many classes require the row at a place of the required ones
+//!     part NAME -> N               how many answers the part of a class has, or `none`
+//!     meter made -> N              how many parts the session has made
 //!     classes N FRONT              adds so many files, each with a class of its own: FRONT and a number
 //!     copies N FRONT PARTS         adds so many files with the same bytes, at FRONT and a number
 #![tactic(auto)]
@@ -70,6 +75,7 @@ mod compare;
 mod dialogue;
 mod doubles;
 mod edits;
+mod error_answers;
 mod file_answers;
 mod judge;
 mod outcome;

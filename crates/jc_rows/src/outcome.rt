@@ -2,7 +2,7 @@
 
 use crate::compare::difference;
 use crate::dialogue::Dialogue;
-use crate::doubles::{NoMemoryFiles, TakesNothing};
+use crate::doubles::{RefusedFiles, TakesNothing};
 use jc_base::{MemInput, MemOutput, StdOutput};
 use jc_session::{Ended, MemSource, RunError, Session, program, run};
 use std::alloc::{AllocError, Global};
@@ -132,9 +132,8 @@ fn status_of(
 ) -> u8 {
     let mut input = MemInput::new(&dialogue.input, dialogue.fails);
     let words = dialogue.words.as_slice();
-    if dialogue.has_files {
-        program(rt, words, &mut input, out, err)
-    } else {
-        program(&NoMemoryFiles { rt }, words, &mut input, out, err)
+    match dialogue.refusal {
+        None => program(rt, words, &mut input, out, err),
+        Some(refusal) => program(&RefusedFiles { rt, refusal }, words, &mut input, out, err),
     }
 }

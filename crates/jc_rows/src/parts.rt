@@ -1,5 +1,6 @@
 //! The bytes that a row's parts are.
 
+use crate::class_answers::has_short_fronts;
 use crate::tokens::Token;
 use anyhow::{Context, Result, bail, ensure};
 use jc_base::ByteMap;
@@ -66,7 +67,7 @@ fn is_hexadecimal(word: &str) -> bool {
     true
 }
 
-/// The bytes that the tokens are.
+/// The bytes that the tokens are. Of a class file each proper front has to be too short.
 pub(crate) fn bytes_of(alloc: Global, names: &Names, tokens: &[Token]) -> Result<Vec<u8>> {
     let mut parts = Parts {
         bytes: Vec::new(alloc),
@@ -77,5 +78,9 @@ pub(crate) fn bytes_of(alloc: Global, names: &Names, tokens: &[Token]) -> Result
         parts.add(alloc, names, *token)?;
     }
     ensure!(parts.open.is_empty(), "a bracket is not closed");
+    ensure!(
+        has_short_fronts(alloc, &parts.bytes),
+        "a front of a class file is not 7 Short"
+    );
     Ok(parts.bytes)
 }
