@@ -19,7 +19,7 @@ TRIALS = TOP / "trials"
 # A copy of the tree in which jc_asked is a crate, and what that crate stands on.
 COPY = pathlib.Path(tempfile.gettempdir()) / "jclink-asked"
 ASKED = COPY / "crates" / "jc_asked"
-LIBRARIES = "jc_base jc_text jc_file jc_code jc_list jc_link jc_report jc_session"
+LIBRARIES = "jc_base jc_text jc_file jc_code jc_list jc_link jc_report jc_edits"
 # The command that answers frames, but for what is asked of them.
 ANSWERS = [ASKED / "out" / "jc_asked"]
 # The environment may name another program.

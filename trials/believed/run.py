@@ -5,7 +5,9 @@ Run from the repository's root: trials/believed/run.py
 It reads the clauses of each `pub fn` and the ghost members that callers see, but for those of the inner crates,
 follows the names through the imports of src/ and specs/, and compares:
 - each definition of specs/ outside specs/inside/ is reached by a public clause of some crate, and none inside is;
-- docs/ARCHITECTURE.md lists for each crate exactly the files of specs/ that hold a definition which is reached.
+- docs/ARCHITECTURE.md lists for each crate exactly the files of specs/ that hold a definition which is reached;
+- an inner crate is used by the one crate above it alone, which passes none of its items on: no `pub use` of that
+  crate leads to one, and no text there that a caller sees names one.
 It exits with 1 where something differs. With the word `list` it prints the files and how many definitions each has.
 """
 import re
@@ -16,9 +18,11 @@ TOP = Path(__file__).resolve().parents[2]
 USE = re.compile(r"^\s*(?:ghost )?use (Rattle\.[\w.+]+?)(?:\.\{([^}]*)\}| as (\w+))?;?\s*$", re.M)
 DEFINITION = re.compile(r"^(?:abbrev pub|unfoldable pub|pub record|pub data|abbrev|unfoldable|pub|record|data) (?!mod |use )(\S+)")
 WORD = re.compile(r"(?<![\w'.-])([^\W\d][\w'-]*)(?:\.([^\W\d][\w'-]*))?|(◌[^◌\s]+◌)")
-# Only the crate above uses the calls of these, and it passes none of them on: their clauses are not public.
-INNER = ("jc_clean", "jc_lookup")
-SEEN_BY_CALLERS = ("Value", "next_gives", "remaining", "from_gives", "answers", "asked", "failures", "written", "bound")
+# Each inner crate with the one that stands on it, which passes none of its items on: their clauses are not public.
+INNER = {"jc_clean": "jc_file", "jc_lookup": "jc_resolve"}
+SEEN_BY_CALLERS = ("Value", "next_gives", "remaining", "from_gives", "answers", "asked", "failures", "written", "bound", "ended")
+PUBLIC_USE = re.compile(r"^\s*pub (?:use|extern crate) ([^;]*);", re.M)
+ANY_USE = re.compile(r"^\s*(?:pub(?:\([^)]*\))? )?(?:use|extern crate) ([^;]*);", re.M)
 
 
 def module_of(path):
@@ -171,6 +175,103 @@ def roots(specs):
     return found
 
 
+def users_of(crate):
+    """The crates of crates.txt that use a library."""
+    rows = (line.split("#")[0].partition(":") for line in (TOP / "crates.txt").read_text().splitlines())
+    return [head.split()[0] for head, _, libraries in rows if crate in libraries.split()]
+
+
+def leaves(tree, front=()):
+    """The paths of a tree of imports, each with the name that it has here."""
+    head, brace, inside = tree.strip().partition("{")
+    if brace:
+        for part in parts(inside.removesuffix("}")):
+            yield from leaves(part, front + steps(head))
+    elif head:
+        path, _, new = head.partition(" as ")
+        path = front + steps(path)
+        path = path[:-1] if path[-1] == "self" else path
+        yield path, new.strip() or path[-1]
+
+
+def steps(path):
+    return tuple(step.strip() for step in path.split("::") if step.strip())
+
+
+def parts(text):
+    """What stands between the commas that are in no braces."""
+    depth, found = 0, [""]
+    for letter in text:
+        depth += {"{": 1, "}": -1}.get(letter, 0)
+        if letter == "," and depth == 0:
+            found.append("")
+        else:
+            found[-1] += letter
+    return found
+
+
+def sources_of(crate):
+    """The sources of a crate without comments, by path."""
+    return {path: re.sub(r"//.*", "", path.read_text()) for path in sorted(TOP.glob(f"crates/{crate}/src/**/*.rt"))}
+
+
+def items_of(crate):
+    """The names that an import with a star may bring in from a crate."""
+    found = set()
+    for text in sources_of(crate).values():
+        found |= set(re.findall(r"^pub (?:const )?(?:fn|struct|enum|trait|type|const|static|mod) (\w+)", text, re.M))
+        found |= {name for tree in PUBLIC_USE.findall(text) for _, name in leaves(tree)}
+    return found
+
+
+def names_for(inner, sources):
+    """The names by which these sources speak of an inner crate and of what they bring in from there."""
+    trees = [tree for text in sources.values() for tree in ANY_USE.findall(text)]
+    imports, names, before = [leaf for tree in trees for leaf in leaves(tree)], {inner}, None
+    while names != before:
+        before = set(names)
+        for path, name in imports:
+            if not names.isdisjoint(path):
+                names |= items_of(inner) if name == "*" else {name}
+    return names
+
+
+def seen_by_callers(text):
+    """The lines of Rust that a caller sees: public items and fields, and how a public type meets traits."""
+    lines = text.split("\n")
+    for at, line in enumerate(lines):
+        meets = meets_trait(text, lines, at)
+        if re.match(r"\s*pub (const )?fn ", line) or re.match(r"\s+fn ", line) and (meets or in_trait(lines, at)):
+            yield re.split(r"\n\s*(?:requires|ensures)\b", header(lines, at))[0]
+        elif line.startswith("pub enum"):
+            yield "\n".join(lines[at : lines.index("}", at)])
+        elif re.match(r"\s*pub (?!use |ghost )", line) or re.match(r"\s+type ", line) and meets:
+            yield line
+        elif re.match(r"impl\b.* for ", line) and is_public(text, lines, at + 1):
+            yield line
+
+
+def meets_trait(text, lines, at):
+    """Whether the line stands in an `impl` of a trait for a type that this file makes public."""
+    block = next((line for line in reversed(lines[:at]) if re.match(r"[^\s}]", line)), "")
+    return re.match(r"impl\b.* for ", block) is not None and is_public(text, lines, at)
+
+
+def passed_on():
+    """Where another crate could reach an inner one past the crate above it."""
+    for inner, above in INNER.items():
+        if users_of(inner) != [above]:
+            yield f"crates.txt: {inner} is for {above} alone, and is used by: {' '.join(users_of(inner))}"
+        sources = sources_of(above)
+        names = names_for(inner, sources)
+        for path, text in sources.items():
+            public = [path for tree in PUBLIC_USE.findall(text) for path, _ in leaves(tree)]
+            shown = ["pub use " + "::".join(path) for path in public if not names.isdisjoint(path)]
+            shown += [line for line in seen_by_callers(text) if not names.isdisjoint(re.findall(r"\w+", line))]
+            for line in shown:
+                yield f"{path.relative_to(TOP)}: passes {inner} on: {' '.join(line.split())}"
+
+
 def listed():
     """The files of specs/ that docs/ARCHITECTURE.md names, by crate."""
     text = (TOP / "docs/ARCHITECTURE.md").read_text()
@@ -188,6 +289,9 @@ def main():
             if ((module, name) in reached) == inside:
                 print(f"{path.relative_to(TOP)}: {name} is {'reached by' if inside else 'reached by no'} public clause")
                 amiss += 1
+    for fault in passed_on():
+        print(fault)
+        amiss += 1
     for name in sorted(files ^ listed()):
         print(f"{name}: {'not ' if name in files else ''}listed in docs/ARCHITECTURE.md")
         amiss += 1

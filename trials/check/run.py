@@ -2,8 +2,8 @@
 """Compares the reports of the built program with those of a plain judge (judge.py), over random small worlds.
 
 Each world is written as a folder and `jclink check` is run on it; standard output, standard error and the status
-are compared, also where a name is no UTF-8 and there is no report. The last lines tell how often each sort of row
-was owed, and which sorts never were.
+are compared, also where a name is no UTF-8 and there is no report, and of a folder in which something may not be
+read. The last lines tell how often each sort of row was owed, and which sorts never were.
 
 Usage: run.py [--tree DIR]... [--keep FOLDER] [SEED [COUNT]], seed 1 and 2,000 worlds where none is given, once ./jclink
 is built; the environment's JCLINK may name another program. --tree compares a folder of class files too, and --keep
@@ -116,6 +116,22 @@ def try_world(seed, number, work, keep, told):
     return right
 
 
+def try_shut(work):
+    """A folder, one in it and a file in it that may not be read. Nobody looks, where root would read all."""
+    tree, program = work / "shut", shutil.copy(common.JCLINK, work / "jclink")
+    write(tree, {b"A.class": common.class_file(b"A"), b"b/B.class": common.class_file(b"B")})
+    right = []
+    for path, told in {".": tree, "b": "b", "b/B.class": "b/B.class"}.items():
+        (tree / path).chmod(0)
+        done = subprocess.run([program, "check", tree], capture_output=True, user="nobody" if os.geteuid() == 0 else None)
+        (tree / path).chmod(0o755)
+        ours, wanted = (done.stdout.decode(), done.returncode, done.stderr.decode()), ("", 3, f"jclink: cannot read {told}\n")
+        if ours != wanted:
+            tell(f"{path} shut", ours, wanted)
+        right.append(ours == wanted)
+    return right
+
+
 def main():
     parser = argparse.ArgumentParser()
     parser.add_argument("--keep", metavar="FOLDER")
@@ -128,9 +144,11 @@ def main():
     told = collections.Counter()
     right = [compare(tree, [], tree, judge.owed(judge.files_below(tree), None, tree), told) for tree in options.tree]
     with common.Workplace() as work:
+        work.chmod(0o755)
+        right += try_shut(work)
         right += [try_world(options.seed, number, work, options.keep, told) for number in range(options.count)]
     missed = [sort for sort in EXPECTED if not told[sort]]
-    print(f"{options.count} worlds and {len(options.tree)} trees, {right.count(False)} differ; never owed: {', '.join(missed) or 'nothing'}")
+    print(f"{options.count} worlds, {len(options.tree)} trees and three that may not be read, {right.count(False)} differ; never owed: {', '.join(missed) or 'nothing'}")
     print(", ".join(f"{told[sort]} {sort}" for sort in [*EXPECTED, *sorted(set(told) - set(EXPECTED))]))
     sys.exit(0 if all(right) else 1)
 

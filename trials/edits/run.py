@@ -3,6 +3,10 @@
 
     python3 trials/edits/run.py              the edits of every crate
     python3 trials/edits/run.py jc_base      those of the named crates
+        --only WORD       those whose name has the word
+        --gate            the edits of the merge gate, crates/CRATE/must-fail
+        --said FOLDER     writes what each check says into files of a folder
+        --jobs N          how many jobs a check gets; 1 where no number is given
 
 A file CRATE/MODULE-FUNCTION-WHAT.edit has the form of a must-fail edit: a line `file: src/x.rt`, then
 pairs of lines `old: TEXT` and `new: TEXT`, and each old text stands in that file exactly once. The
@@ -11,20 +15,29 @@ merge gate tries one edit for many of the public functions, and these here are t
 A check of a crate costs far more than one function's proof. So one check, on a copy of the crate and
 of those below it, tries an edit of each function. It says nothing of a function that calls one which
 is not proved: such an edit is tried again in the next round. An edit is refused where the check says
-that the edited function itself is not proved.
+that the edited function itself is not proved. Where all that it says is that the proof names what the
+edit took away, it has refused only a name: such an edit has to be written anew.
 
-The last line says `N edits, each refused`, or else how many got through, and the status is then 1.
+Behind each crate stands a row for trials/RESULTS.md: crate, edits, refused, refused only by a name,
+seconds. The last line says `N edits, each refused`, or else how many were not, and the status is then 1.
 """
+import argparse
 import re
 import shutil
 import subprocess
 import sys
 import tempfile
+import time
 from pathlib import Path
 
 HERE = Path(__file__).resolve().parent
 ROOT = HERE.parent.parent
 FUNCTION = re.compile(r"( *)(?:pub(?:\(crate\))? )?fn (\w+)")
+ERROR = re.compile(r"^\./proofs/(\S+)/\w+\.antt:\d+:\d+: error: (.*(?:\n  .*)*)", re.M)
+OPEN = re.compile(r"^note: (src/\S+\.rt):(\d+):\d+: (.*)$", re.M)
+# What an error says where a proof names a step or a branch that is not there, or rests on one that does.
+NAMES = re.compile(r"that can be named|has no field|no name that rattle asks for|which was rejected, w(?:as|ere) not checked")
+REFUSED, NAMED, THROUGH = "refused", "REFUSED ONLY BY A NAME", "NOT REFUSED"
 
 
 def owner_of(line):
@@ -34,7 +47,7 @@ def owner_of(line):
 
 
 def functions_of(text):
-    """The functions of a file that `rt fmt` laid out, each with the type of its `impl` and its text."""
+    """The functions of a file that `rt fmt` laid out, each with the type of its `impl` and its lines."""
     found, owner, lines = {}, "", text.split("\n")
     for at, line in enumerate(lines):
         start = FUNCTION.match(line)
@@ -45,7 +58,7 @@ def functions_of(text):
         elif start:
             ends = (n for n in range(at, len(lines)) if lines[n] in (start[1] + "}", start[1] + "{}"))
             # (two impls of one trait, as of From, go under one name)
-            found[owner, start[2]] = found.get((owner, start[2]), "") + "\n".join(lines[at : next(ends, at) + 1])
+            found.setdefault((owner, start[2]), {}).update((n, lines[n]) for n in range(at, next(ends, at) + 1))
     return found
 
 
@@ -61,7 +74,8 @@ class Edit:
             elif word == "new":
                 self.pairs.append((old, text))
         functions = functions_of((crate / self.file).read_text(encoding="utf-8"))
-        self.functions = {it for it, text in functions.items() if any(old in text for old, _ in self.pairs)}
+        self.functions = {it for it, lines in functions.items() if any(old in "\n".join(lines.values()) for old, _ in self.pairs)}
+        self.lines = {n + 1 for it in self.functions for n in functions[it]}
 
     def applied(self, text):
         for old, new in self.pairs:
@@ -75,17 +89,27 @@ class Edit:
         pairs = [(a, b) for a in self.pairs for b in other.pairs]
         return self.file == other.file and any(a[0] in b[1] or b[0] in a[1] for a, b in pairs)
 
-    def verdict(self, said):
-        """Whether the check refused the edited function. None: a callee of it is not proved."""
+    def is_about(self, path):
+        """Whether the name of a function is that of one that the edit may be refused by."""
         module = [] if self.file == "src/lib.rt" else list(Path(self.file).with_suffix("").parts[1:])
-        reasons = []
-        for name, reason in re.findall(r"^fn \w+::(\S+): (.*)$", said, re.M):
-            path = name.split("::")
-            if any(is_named(it, module, path) for it in self.functions):
-                reasons.append(reason)
+        return not self.functions or any(is_named(it, module, path) for it in self.functions)
+
+    def verdict(self, said):
+        """What the check says of the edited function. None: a callee of it is not proved."""
+        fns = re.findall(r"^fn \w+::(\S+): (.*)$", said, re.M)
+        reasons = [reason for name, reason in fns if self.is_about(name.split("::"))]
         if any(it != "proved" and "it calls `" not in it for it in reasons):
-            return True
-        return None if any("it calls `" in it for it in reasons) else False
+            return NAMED if self.lost_names_alone(said) else REFUSED
+        return None if any("it calls `" in it for it in reasons) else THROUGH
+
+    def lost_names_alone(self, said):
+        """Whether all that is wrong with the function's proof is names, and no goal is seen to be false."""
+        errors = [what for path, what in ERROR.findall(said) if self.is_about(path.split("/"))]
+        false = any(
+            "at which this goal is false" in what and (not self.functions or file == self.file and int(line) in self.lines)
+            for file, line, what in OPEN.findall(said)
+        )
+        return bool(errors) and not false and all(NAMES.search(it) for it in errors)
 
 
 def is_named(function, module, path):
@@ -125,13 +149,16 @@ def copied(name, room):
     return room / "crates" / name
 
 
-def checked(edits, crate, copy):
+def checked(edits, crate, copy, options):
     """What the check of the copy says with these edits in it. They are taken out again."""
     for edit in edits:
         text = edit.applied((copy / edit.file).read_text(encoding="utf-8"))
         (copy / edit.file).write_text(text, encoding="utf-8")
     how = {"stdout": subprocess.PIPE, "stderr": subprocess.STDOUT, "text": True}
-    said = subprocess.run(["rt", "check"], cwd=copy, **how).stdout
+    said = subprocess.run(["rt", "check", "--jobs", str(options.jobs)], cwd=copy, **how).stdout
+    if options.said:
+        kept = options.said / f"{crate.name}-{sum(1 for _ in options.said.glob(crate.name + '-*')) + 1}"
+        kept.write_text("".join(f"{it.path.name}\n" for it in edits) + "\n" + said, encoding="utf-8")
     for edit in edits:
         shutil.copyfile(crate / edit.file, copy / edit.file)
     if "\nlogic=" not in said:
@@ -140,7 +167,11 @@ def checked(edits, crate, copy):
 
 
 def one_of_each(edits):
-    """The edits of which no two are in one function, and none writes what another looks for."""
+    """The edits of which no two are in one function, and none writes what another looks for. One that is in no
+    function, as of a constant, goes by itself: any function may refuse it."""
+    alone = [edit for edit in edits if not edit.functions]
+    if alone:
+        return alone[:1]
     taken, chosen = set(), []
     for edit in edits:
         here = {(edit.file, it) for it in edit.functions}
@@ -150,31 +181,46 @@ def one_of_each(edits):
     return chosen
 
 
-def tried(crate):
-    """Tries the crate's edits, and returns how many there are and how many got through."""
-    edits = [Edit(it, crate) for it in sorted((HERE / crate.name).glob("*.edit"))]
-    left, through = edits, 0
+def tried(crate, options):
+    """Tries the crate's edits, and returns what came of each."""
+    left, verdicts, start = [Edit(it, crate) for it in edits_of(crate, options)], [], time.time()
     with tempfile.TemporaryDirectory(prefix="edits-") as room:
         copy = copied(crate.name, Path(room))
         while left:
             at_once = one_of_each(left)
-            said = checked(at_once, crate, copy)
+            said = checked(at_once, crate, copy, options)
             judged = {it: it.verdict(said) for it in at_once}
             for edit in [it for it in at_once if judged[it] is not None]:
-                through += not judged[edit]
                 left = [it for it in left if it is not edit]
-                print(f"{crate.name}/{edit.path.name}: {'refused' if judged[edit] else 'NOT REFUSED'}", flush=True)
+                verdicts.append(judged[edit])
+                print(f"{crate.name}/{edit.path.name}: {judged[edit]}", flush=True)
             if all(it is None for it in judged.values()):
                 sys.exit(f"{crate.name}: what these edits call is not proved without them")
-    return len(edits), through
+    counts = " | ".join(str(it) for it in (len(verdicts), verdicts.count(REFUSED), verdicts.count(NAMED)))
+    print(f"| `{crate.name}` | {counts} | {time.time() - start:.0f} |", flush=True)
+    return verdicts
+
+
+def edits_of(crate, options):
+    folder = crate / "must-fail" if options.gate else HERE / crate.name
+    return sorted(it for it in folder.glob("*.edit") if re.search(options.only, it.name))
 
 
 def main():
-    folders = sorted(it.name for it in HERE.iterdir() if any(it.glob("*.edit")))
-    counts = [tried(ROOT / "crates" / name) for name in sys.argv[1:] or folders]
-    count, through = (sum(it[k] for it in counts) for k in (0, 1))
-    print(f"{count} edits, {through} of them not refused" if through else f"{count} edits, each refused")
-    sys.exit(through > 0)
+    parser = argparse.ArgumentParser()
+    parser.add_argument("crates", nargs="*")
+    parser.add_argument("--only", default="")
+    parser.add_argument("--gate", action="store_true")
+    parser.add_argument("--said", type=Path)
+    parser.add_argument("--jobs", type=int, default=1)
+    options = parser.parse_args()
+    if options.said:
+        options.said.mkdir(parents=True, exist_ok=True)
+    crates = [ROOT / "crates" / name for name in options.crates] or sorted((ROOT / "crates").iterdir())
+    verdicts = [it for crate in crates if edits_of(crate, options) for it in tried(crate, options)]
+    amiss = len(verdicts) - verdicts.count(REFUSED)
+    print(f"{len(verdicts)} edits, {amiss} of them not refused" if amiss else f"{len(verdicts)} edits, each refused")
+    sys.exit(amiss > 0)
 
 
 if __name__ == "__main__":

@@ -2,10 +2,12 @@
 """Refuses each request for memory of edits in turn, and compares what the session says before and after.
 
 Usage: edits.py, which builds jc_asked. It needs a C compiler.
-Each edit of a few lists is asked for twice, with the report and the dependants of the lists' names behind each time. An
-edit that is refused for want of memory has to leave both as they were, and the same edit then gives what it would have
-given. Last, how many requests the edit makes that adds one more class to 200, and to 400, that refer to no other.
+Each edit of a few lists is asked for twice. Before the first and behind each, the report, the dependants of the lists'
+names and the bytes of each file are asked for. An edit that is refused for want of memory has to leave all of them as
+they were, and the same edit then gives what it would have given. Last, how many requests the edit makes that adds one
+more class to 200, and to 400, that refer to no other: beside 400 at most 60 more. It ends with 1 where something differs.
 """
+import itertools
 import pathlib
 import sys
 
@@ -16,6 +18,8 @@ import common
 worlds = common.load("link/worlds.py")
 OBJECT, CLASS = worlds.OBJECT, 7
 NO_MEMORY = "refused NoMemory"
+# So many more requests may an edit make beside twice as many classes.
+MOST_MORE = 60
 
 
 def named(name, parent=OBJECT, *references):
@@ -38,18 +42,22 @@ NAMES = (b"A", b"B", b"X", b"Y", OBJECT)
 
 
 def frames_of(steps):
-    frames = [b""]
+    looks = [b"t", *(b"q" + name for name in NAMES), *(b"f" + path for path in paths_of(steps))]
+    said = [frame for look in looks for frame in (look, b"")]
+    frames = [b"", *said]
     for word, path, data in steps:
-        for _ in range(2):
-            frames += [word + path, data, b"t", b""]
-            frames += [frame for name in NAMES for frame in (b"q" + name, b"")]
+        frames += 2 * [word + path, data, *said]
     return common.framed([common.framed(frames)])
 
 
-def told_of(text):
-    """Pairs of an edit's answer and what is said behind it."""
+def paths_of(steps):
+    return sorted({path for _, path, _ in steps})
+
+
+def told_of(text, steps):
+    """Pairs of an edit's answer and what is said behind it. The first has no answer."""
     lines, pairs = iter(text.decode("ascii").splitlines()), []
-    for answer in lines:
+    for answer in itertools.chain([""], lines):
         if answer == "end":
             break
         said = []
@@ -57,18 +65,31 @@ def told_of(text):
             said.append(line)
             if line == "end":
                 break
-        pairs.append((answer, said + [next(lines) for _ in NAMES]))
+        pairs.append((answer, said + [next(lines) for _ in (*NAMES, *paths_of(steps))]))
     return pairs
+
+
+def files_of(steps):
+    """The bytes of the files before the list and behind each edit, as they are said."""
+    files = dict.fromkeys(paths_of(steps), "none")
+    found = [list(files.values())]
+    for word, path, data in steps:
+        if (files[path] == "none") == (word == b"a"):
+            files[path] = "none" if word == b"d" else data.hex()
+        found += 2 * [list(files.values())]
+    return found
 
 
 def is_owed(pairs, owed):
     """Whether at most one edit wanted memory, it changed nothing, and all others gave what they owe."""
-    before, wanted = None, 0
-    for at in range(0, len(owed), 2):
+    if pairs[0] != owed[0]:
+        return False
+    before, wanted = owed[0][1], 0
+    for at in range(1, len(owed), 2):
         (first, said), (again, said_again) = pairs[at:at + 2]
         if first == NO_MEMORY:
             wanted += 1
-            if before is not None and said != before or (again, said_again) != owed[at]:
+            if said != before or (again, said_again) != owed[at]:
                 return False
         elif again == NO_MEMORY:
             wanted += 1
@@ -86,14 +107,15 @@ def refuse_each(what, steps, folder, shim):
         return common.run_refused([*common.ANSWERS, "edits"], frames_of(steps), folder, shim, number)
 
     status, text, _, count = run(0)
-    owed, felt, beside = told_of(text), 0, 0
-    assert status == 0 and len(owed) == 2 * len(steps), (what, status)
+    owed, felt, beside = told_of(text, steps), 0, 0
+    assert status == 0 and len(owed) == 1 + 2 * len(steps), (what, status)
+    assert [said[-len(paths_of(steps)):] for _, said in owed] == files_of(steps), what
     for number in range(1, count + 1):
         status, text, _, _ = run(number)
         if status != 0:
             beside += 1
             continue
-        pairs = told_of(text)
+        pairs = told_of(text, steps)
         if not is_owed(pairs, owed):
             sys.exit(f"{what}, request {number}: {text.decode()}")
         felt += pairs != owed
@@ -121,8 +143,10 @@ def main():
         print("| list | edits | requests | refused the edit | outside of edits | could be done without |\n|---|---|---|---|---|---|")
         for what, steps in LISTS.items():
             refuse_each(what, steps, folder, shim)
-        for classes in (200, 400):
-            print(f"\none more class beside {classes}: {requests_of_the_last(classes, folder, shim)} requests for memory")
+        few, many = (requests_of_the_last(classes, folder, shim) for classes in (200, 400))
+        print(f"\none more class beside 200: {few} requests for memory; beside 400: {many}")
+        if few == 0 or abs(many - few) > MOST_MORE:
+            sys.exit(f"they differ by more than {MOST_MORE}" if few else "no request of the edit was refused")
 
 
 if __name__ == "__main__":
