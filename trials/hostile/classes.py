@@ -1,0 +1,243 @@
+"""Class files that cost as much as their size allows: each kind is made of one thing, as often as a class file has room for it.
+
+A kind is a function that gives files by their paths. All of them are readable class files of version 52.0, and but for the
+kinds that say so without a format fault.
+"""
+import itertools
+import struct
+
+OBJECT = b"java/lang/Object"
+PUBLIC, SUPER, INTERFACE, ABSTRACT, NATIVE, VARARGS = 1, 0x20, 0x200, 0x400, 0x100, 0x80
+# The longest text, and most constants, members and interfaces.
+LONGEST, MOST = 65535, 65534
+# The longest code of a method, and so many such methods have room in a file.
+CODE, METHODS = 65535, 254
+
+
+def u2(*numbers):
+    return struct.pack(f">{len(numbers)}H", *numbers)
+
+
+class Pool:
+    """The constants of a class, each once."""
+
+    def __init__(self):
+        self.bytes, self.count, self.known = bytearray(), 1, {}
+
+    def add(self, body):
+        self.bytes += body
+        self.count += 1
+        return self.count - 1
+
+    def once(self, body):
+        if body not in self.known:
+            self.known[body] = self.add(body)
+        return self.known[body]
+
+    def text(self, text):
+        return self.once(b"\1" + u2(len(text)) + text)
+
+    def of_class(self, name):
+        return self.once(b"\7" + u2(self.text(name)))
+
+    def name_and_type(self, name, descriptor):
+        return self.once(b"\14" + u2(self.text(name), self.text(descriptor)))
+
+    def reference(self, tag, owner, name, descriptor):
+        """One more, also where there is one of the same texts."""
+        return self.add(bytes([tag]) + u2(self.of_class(owner), self.name_and_type(name, descriptor)))
+
+    def room(self):
+        return MOST - self.count
+
+
+def class_file(pool, name, flags=PUBLIC | SUPER, parent=OBJECT, interfaces=(), fields=(), methods=()):
+    """A member is its flags, its name, its descriptor and its attributes, as numbers of constants and bytes."""
+    own = u2(flags, pool.of_class(name), pool.of_class(parent))
+    above = u2(len(interfaces)) + u2(*interfaces)
+    tables = b"".join(u2(len(table)) + b"".join(u2(*head, len(attributes)) + b"".join(attributes) for *head, attributes in table)
+                      for table in (fields, methods))
+    return struct.pack(">IHHH", 0xCAFEBABE, 0, 52, pool.count) + bytes(pool.bytes) + own + above + tables + u2(0)
+
+
+def attribute(pool, name, body):
+    return u2(pool.text(name)) + struct.pack(">I", len(body)) + body
+
+
+def descriptors():
+    """Different descriptors of methods, the shortest first."""
+    for length in itertools.count():
+        for letters in itertools.product(b"BCDFIJSZ", repeat=length):
+            yield b"(" + bytes(letters) + b")V"
+
+
+def names():
+    for length in itertools.count(1):
+        for letters in itertools.product(b"abcdefghijklmnopqrstuvwxyz", repeat=length):
+            yield bytes(letters)
+
+
+def native(pool, name, descriptor):
+    return PUBLIC | NATIVE, pool.text(name), pool.text(descriptor), []
+
+
+def plain(name, **more):
+    return class_file(Pool(), name, **more)
+
+
+def with_code(code, max_locals=0, pool=None):
+    """As many methods with this code as a file has room for."""
+    pool = pool or Pool()
+    body = u2(0, max_locals) + struct.pack(">I", len(code)) + code + u2(0, 0)
+    each = [attribute(pool, b"Code", body)]
+    return {"A.class": class_file(pool, b"A", methods=[(PUBLIC, pool.text(name), pool.text(b"()V"), each)
+                                                       for name in itertools.islice(names(), METHODS)])}
+
+
+# ---- members and references
+
+def methods_of_one_name():
+    pool, name, methods = Pool(), b"n" * LONGEST, []
+    for descriptor in itertools.islice(descriptors(), MOST // 3 - 20):
+        methods.append(native(pool, name, descriptor))
+        pool.reference(10, b"A", name, descriptor)
+    return {"A.class": class_file(pool, b"A", methods=methods)}
+
+
+def fields_and_references():
+    pool, fields = Pool(), []
+    for name in itertools.islice(names(), MOST // 3 - 20):
+        fields.append((PUBLIC, pool.text(name), pool.text(b"I"), []))
+        pool.reference(9, b"A", name, b"I")
+    return {"A.class": class_file(pool, b"A", fields=fields)}
+
+
+def references_to_one_member():
+    pool, name, descriptor = Pool(), b"n" * LONGEST, b"(L" + b"d" * (LONGEST - 5) + b";)V"
+    methods = [native(pool, name, descriptor)]
+    pool.of_class(b"A"), pool.of_class(OBJECT)
+    while pool.room():
+        pool.reference(10, b"A", name, descriptor)
+    return {"A.class": class_file(pool, b"A", methods=methods)}
+
+
+def constants_of_one_missing_class():
+    pool = Pool()
+    text = pool.text(b"m" * LONGEST)
+    pool.of_class(b"A"), pool.of_class(OBJECT)
+    while pool.room():
+        pool.add(b"\7" + u2(text))
+    return {"A.class": class_file(pool, b"A")}
+
+
+def calls_of_method_handles():
+    """`java/lang/invoke/MethodHandle` with methods of one name, and references to it that any descriptor has."""
+    handle, pool = b"java/lang/invoke/MethodHandle", Pool()
+    methods = [native(pool, b"invoke", descriptor) for descriptor in itertools.islice(descriptors(), MOST - 100)]
+    user = Pool()
+    while user.room() > 3:
+        user.reference(10, handle, b"invoke", b"(" + b"J" * (user.count % 120) + b")I")
+    return {"H.class": class_file(pool, handle, methods=methods), "U.class": class_file(user, b"U")}
+
+
+def provided_by_a_long_name():
+    pool, fields = Pool(), []
+    for name in itertools.islice(names(), MOST - 100):
+        fields.append((PUBLIC, pool.text(name), pool.text(b"I"), []))
+    return {"A.class": class_file(pool, b"a" * LONGEST, fields=fields)}
+
+
+# ---- supertypes
+
+def an_interface_many_times():
+    pool = Pool()
+    interface = pool.of_class(b"I")
+    files = {"I.class": plain(b"I", flags=PUBLIC | INTERFACE | ABSTRACT),
+             "C.class": class_file(pool, b"C", interfaces=[interface] * 65535)}
+    for number in range(20):
+        user = Pool()
+        user.reference(10, b"C", b"m", b"()V")
+        files[f"S{number}.class"] = class_file(user, b"S%d" % number, parent=b"C")
+    return files
+
+
+def references_below_a_chain():
+    """Each is looked for in all of a chain of superclasses, and found in none."""
+    files = {f"{number}.class": plain(b"C%d" % number, parent=b"C%d" % (number - 1) if number else OBJECT) for number in range(20000)}
+    user = Pool()
+    user.of_class(b"U"), user.of_class(OBJECT)
+    while user.room() > 3:
+        user.reference(10, b"C19999", b"m", b"()V")
+    files["U.class"] = class_file(user, b"U")
+    return files
+
+
+def references_below_interfaces():
+    """The same of a class with as many interfaces above it."""
+    many = Pool()
+    interfaces = [many.of_class(b"I%d" % number) for number in range(20000)]
+    files = {f"{number}.class": plain(b"I%d" % number, flags=PUBLIC | INTERFACE | ABSTRACT) for number in range(20000)}
+    files["C.class"] = class_file(many, b"C", interfaces=interfaces)
+    user = Pool()
+    user.of_class(b"U"), user.of_class(OBJECT)
+    while user.room() > 3:
+        user.reference(9, b"C", b"x", b"I")
+    files["U.class"] = class_file(user, b"U")
+    return files
+
+
+# ---- texts that many things name
+
+def one_signature():
+    pool, fields = Pool(), []
+    signature = pool.text(b"L" + b"s" * (LONGEST - 2) + b";")
+    each = [attribute(pool, b"Signature", u2(signature))]
+    for name in itertools.islice(names(), MOST - 100):
+        fields.append((PUBLIC, pool.text(name), pool.text(b"I"), each))
+    return {"A.class": class_file(pool, b"A", fields=fields)}
+
+
+def one_descriptor():
+    pool, methods = Pool(), []
+    descriptor = b"(L" + b"d" * (LONGEST - 5) + b";)V"
+    for name in itertools.islice(names(), MOST - 100):
+        methods.append(native(pool, name, descriptor))
+    return {"A.class": class_file(pool, b"A", methods=methods)}
+
+
+def one_array_type():
+    pool = Pool()
+    array = pool.of_class(b"[" * 200 + b"L" + b"a" * (LONGEST - 202) + b";")
+    return with_code((b"\xbd" + u2(array)) * (CODE // 3), pool=pool)
+
+
+def one_array_type_and_a_fault():
+    pool = Pool()
+    array = pool.of_class(b"[" * 200 + b"L" + b"a" * (LONGEST - 202) + b";")
+    return with_code(b"\x2a" + (b"\xbd" + u2(array)) * ((CODE - 1) // 3), pool=pool)
+
+
+def one_interface_method():
+    pool = Pool()
+    method = pool.reference(11, b"I", b"m", b"(" + b"I" * 200 + b"L" + b"d" * (LONGEST - 205) + b";)V")
+    return with_code((b"\xb9" + u2(method) + bytes([202, 0])) * (CODE // 5), pool=pool)
+
+
+# ---- faults
+
+def code_faults():
+    """An aload_0 with no local variable, at each byte."""
+    return with_code(b"\x2a" * CODE)
+
+
+def format_faults():
+    """A field of flags that no field has, as often as there is room: a format fault each."""
+    pool, fields = Pool(), []
+    for name in itertools.islice(names(), MOST - 100):
+        fields.append((3, pool.text(name), pool.text(b"I"), []))
+    return {"A.class": class_file(pool, b"A", fields=fields)}
+
+
+KINDS = [methods_of_one_name, fields_and_references, references_to_one_member, constants_of_one_missing_class, calls_of_method_handles,
+         provided_by_a_long_name, an_interface_many_times, references_below_a_chain, references_below_interfaces, one_signature,
+         one_descriptor, one_array_type, one_array_type_and_a_fault, one_interface_method, code_faults, format_faults]

@@ -1,0 +1,80 @@
+#!/usr/bin/env python3
+"""What the built program takes of class files that are made to cost much, and whether it stays within its limits.
+
+    run.py [KIND ..] [--seconds N]
+
+A KIND is a function of classes.py, all of them where none is named. Each kind is checked by `jclink check`, and added to a
+session, by `jclink session`. `check` writes to a device that takes nothing: texts may be long, and how they are written is not
+asked here. The limits are 30 seconds of a processor, and 50 MB with 40 bytes for each byte of the files. A run that takes more
+than N seconds, 120 where no number is given, is broken off. The status is 1 where a limit is not kept.
+"""
+import argparse
+import os
+import pathlib
+import resource
+import subprocess
+import sys
+import tempfile
+
+sys.dont_write_bytecode = True
+sys.path.insert(0, str(pathlib.Path(__file__).resolve().parent.parent))
+import classes
+import common
+
+SECONDS, BASE, EACH = 30, 50_000_000, 40
+# So much memory a run may ask for at most, lest the machine ends it.
+ROOM = 12 << 30
+# A session keeps the reach of each class: of a chain that is half the square of its length, whatever is done.
+NO_SESSION = {"references_below_a_chain"}
+
+
+def measured(words, lines, out, folder, most):
+    """Seconds of a processor, bytes, and how it ended."""
+    def limited():
+        resource.setrlimit(resource.RLIMIT_CPU, (most, most))
+        resource.setrlimit(resource.RLIMIT_AS, (ROOM, ROOM))
+    with tempfile.TemporaryFile() as source, open(out, "wb") as sink:
+        source.write(lines)
+        source.seek(0)
+        ran = subprocess.Popen([common.JCLINK, *words], cwd=folder, stdin=source, stdout=sink, stderr=subprocess.DEVNULL, preexec_fn=limited)
+        _, status, used = os.wait4(ran.pid, 0)
+        ran.returncode = os.waitstatus_to_exitcode(status)
+    return used.ru_utime + used.ru_stime, used.ru_maxrss * 1024, ran.returncode
+
+
+def told(name, files, size, words, lines, out, wanted, folder, most):
+    seconds, room, status = measured(words, lines, out, folder, most)
+    limit = BASE + EACH * size
+    right = status in wanted and seconds <= SECONDS and room <= limit
+    how = "" if right else f" status {status}," if status not in wanted else ""
+    print(f"| {name} | `{words[0]}` | {files:,} | {size:,} | {seconds:.2f} | {room / 1e6:.0f} | {limit / 1e6:.0f} |{how}{'' if right else ' over'}", flush=True)
+    return right
+
+
+def tried(kind, most):
+    files = kind()
+    size = sum(map(len, files.values()))
+    with tempfile.TemporaryDirectory() as room:
+        for path, data in files.items():
+            pathlib.Path(room, path).write_bytes(data)
+        lines = b"".join(b"add %s\n" % path.encode() for path in sorted(files)) + b"end\n"
+        right = told(kind.__name__, len(files), size, ["check", "."], b"", "/dev/full", (3,), room, most)
+        if kind.__name__ not in NO_SESSION:
+            right &= told(kind.__name__, len(files), size, ["session"], lines, "/dev/null", (0, 1), room, most)
+    return right
+
+
+def main():
+    words = argparse.ArgumentParser()
+    words.add_argument("kinds", nargs="*", choices=[[], *(kind.__name__ for kind in classes.KINDS)])
+    words.add_argument("--seconds", type=int, default=120)
+    words = words.parse_args()
+    print("| kind | command | files | bytes | seconds | MB | most MB |\n|---|---|---|---|---|---|---|")
+    kinds = [kind for kind in classes.KINDS if not words.kinds or kind.__name__ in words.kinds]
+    over = sum(not tried(kind, words.seconds) for kind in kinds)
+    print(f"{len(kinds)} kinds, {over} over a limit" if over else f"{len(kinds)} kinds, each within its limits")
+    sys.exit(1 if over else 0)
+
+
+if __name__ == "__main__":
+    main()
