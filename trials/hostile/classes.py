@@ -161,15 +161,19 @@ def an_interface_many_times():
     return files
 
 
+def user_of(tag, owner, name, descriptor):
+    """A class of nothing but references to one member."""
+    pool = Pool()
+    pool.of_class(b"U"), pool.of_class(OBJECT)
+    while pool.room() > 3:
+        pool.reference(tag, owner, name, descriptor)
+    return class_file(pool, b"U")
+
+
 def references_below_a_chain():
     """Each is looked for in all of a chain of superclasses, and found in none."""
     files = {f"{number}.class": plain(b"C%d" % number, parent=b"C%d" % (number - 1) if number else OBJECT) for number in range(20000)}
-    user = Pool()
-    user.of_class(b"U"), user.of_class(OBJECT)
-    while user.room() > 3:
-        user.reference(10, b"C19999", b"m", b"()V")
-    files["U.class"] = class_file(user, b"U")
-    return files
+    return {**files, "U.class": user_of(10, b"C19999", b"m", b"()V")}
 
 
 def references_below_interfaces():
@@ -177,13 +181,7 @@ def references_below_interfaces():
     many = Pool()
     interfaces = [many.of_class(b"I%d" % number) for number in range(20000)]
     files = {f"{number}.class": plain(b"I%d" % number, flags=PUBLIC | INTERFACE | ABSTRACT) for number in range(20000)}
-    files["C.class"] = class_file(many, b"C", interfaces=interfaces)
-    user = Pool()
-    user.of_class(b"U"), user.of_class(OBJECT)
-    while user.room() > 3:
-        user.reference(9, b"C", b"x", b"I")
-    files["U.class"] = class_file(user, b"U")
-    return files
+    return {**files, "C.class": class_file(many, b"C", interfaces=interfaces), "U.class": user_of(9, b"C", b"x", b"I")}
 
 
 # ---- texts that many things name
