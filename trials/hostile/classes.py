@@ -156,7 +156,8 @@ def an_interface_many_times():
              "C.class": class_file(pool, b"C", interfaces=[interface] * 65535)}
     for number in range(20):
         user = Pool()
-        user.reference(10, b"C", b"m", b"()V")
+        for _ in range(3000):
+            user.reference(10, b"C", b"m", b"()V")
         files[f"S{number}.class"] = class_file(user, b"S%d" % number, parent=b"C")
     return files
 
@@ -182,6 +183,54 @@ def references_below_interfaces():
     interfaces = [many.of_class(b"I%d" % number) for number in range(20000)]
     files = {f"{number}.class": plain(b"I%d" % number, flags=PUBLIC | INTERFACE | ABSTRACT) for number in range(20000)}
     return {**files, "C.class": class_file(many, b"C", interfaces=interfaces), "U.class": user_of(9, b"C", b"x", b"I")}
+
+
+def an_interface_by_many_constants():
+    """Each of the class's interfaces is a constant and a text of its own, and all have the same bytes."""
+    pool = Pool()
+    interfaces = []
+    while pool.room() > 8:
+        interfaces.append(pool.add(b"\7" + u2(pool.add(b"\1" + u2(1) + b"I"))))
+    files = {"I.class": plain(b"I", flags=PUBLIC | INTERFACE | ABSTRACT), "C.class": class_file(pool, b"C", interfaces=interfaces)}
+    for number in range(20):
+        user = Pool()
+        for _ in range(3000):
+            user.reference(10, b"C", b"m", b"()V")
+        files[f"S{number}.class"] = class_file(user, b"S%d" % number, parent=b"C")
+    return files
+
+
+def interfaces_that_give_one_method():
+    """Each of many superinterfaces gives the method that all references name."""
+    files = {}
+    for number in range(2000):
+        pool = Pool()
+        method = (PUBLIC | ABSTRACT, pool.text(b"m"), pool.text(b"()V"), [])
+        files[f"{number}.class"] = class_file(pool, b"I%d" % number, flags=PUBLIC | INTERFACE | ABSTRACT, methods=[method])
+    many = Pool()
+    interfaces = [many.of_class(b"I%d" % number) for number in range(2000)]
+    return {**files, "C.class": class_file(many, b"C", interfaces=interfaces), "U.class": user_of(10, b"C", b"m", b"()V")}
+
+
+# ---- names
+
+def packages_of_long_names():
+    """A class that is not PUBLIC, by a name without a package, as long as it may be, and references to it from another."""
+    owner, pool = b"p" * LONGEST, Pool()
+    files = {"P.class": class_file(Pool(), owner, flags=SUPER)}
+    pool.of_class(b"u" * LONGEST), pool.of_class(OBJECT)
+    while pool.room() > 3:
+        pool.reference(10, owner, b"m", b"()V")
+    return {**files, "U.class": class_file(pool, b"u" * LONGEST)}
+
+
+def members_of_a_long_missing_name():
+    """Each a row that is required, whose key in a session has the class's name."""
+    pool = Pool()
+    pool.of_class(b"A"), pool.of_class(OBJECT)
+    for name in itertools.islice(names(), MOST // 3 - 20):
+        pool.reference(9, b"m" * LONGEST, name, b"I")
+    return {"A.class": class_file(pool, b"A")}
 
 
 # ---- texts that many things name
@@ -228,6 +277,15 @@ def code_faults():
     return with_code(b"\x2a" * CODE)
 
 
+def handlers():
+    """As many exception handlers as there is room for, each of which breaks two rules."""
+    pool = Pool()
+    table = (u2(1, 0, 1) + u2(pool.text(b"x"))) * MOST
+    body = u2(0, 1) + struct.pack(">I", 1) + b"\xb1" + u2(MOST) + table + u2(0)
+    each = [attribute(pool, b"Code", body)]
+    return {"A.class": class_file(pool, b"A", methods=[(PUBLIC, pool.text(name), pool.text(b"()V"), each) for name in itertools.islice(names(), 31)])}
+
+
 def format_faults():
     """A field of flags that no field has, as often as there is room: a format fault each."""
     pool, fields = Pool(), []
@@ -237,5 +295,6 @@ def format_faults():
 
 
 KINDS = [methods_of_one_name, fields_and_references, references_to_one_member, constants_of_one_missing_class, calls_of_method_handles,
-         provided_by_a_long_name, an_interface_many_times, references_below_a_chain, references_below_interfaces, one_signature,
-         one_descriptor, one_array_type, one_array_type_and_a_fault, one_interface_method, code_faults, format_faults]
+         provided_by_a_long_name, an_interface_many_times, an_interface_by_many_constants, references_below_a_chain, references_below_interfaces,
+         interfaces_that_give_one_method, packages_of_long_names, members_of_a_long_missing_name, one_signature, one_descriptor, one_array_type,
+         one_array_type_and_a_fault, one_interface_method, code_faults, handlers, format_faults]

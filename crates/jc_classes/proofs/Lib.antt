@@ -1,3 +1,4 @@
+pub mod members
 pub mod worlds
 pub mod numbering
 pub mod texts

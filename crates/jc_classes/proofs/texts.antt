@@ -2,4 +2,6 @@ pub mod AskedTexts
 pub mod ConstantTexts
 pub mod Entries
 pub mod FaultsOfMethods
+pub mod FirstNames
+pub mod Numbering
 pub mod TextLists

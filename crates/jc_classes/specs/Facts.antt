@@ -1,5 +1,6 @@
 -- What linking keeps of a class file.
-use Rattle.std.specs.Prelude.{ℕ, Bool, List, Option, length, ◌==◌, not}
+use Rattle.std.specs.Prelude.{◌≡◌, ℕ, ◌<◌, Bool, List, Option, Some, length, slice_get, ◌==◌, not}
+use Rattle.std.specs.List.{All, Contains}
 use Rattle.jc_rules.specs.declared.fault.Fault.{Fault}
 use Rattle.jc_code.specs.declared.code_fault.CodeFault.{CodeFault}
 use Rattle.jc_classes.specs.Names.{Name}
@@ -27,6 +28,15 @@ pub record Reference : Type 0 where
   pub kind : ReferenceKind
   pub named : Named
   pub key : Key
+
+-- two references, by their numbers, ask for the same
+abbrev pub AreAlike : List Reference → ℕ → ℕ → Type 0
+AreAlike rs a b = (r s : Reference) → slice_get rs a ≡ Some r → slice_get rs b ≡ Some s → (r.kind ≡ s.kind) × (r.named ≡ s.named) × (r.key ≡ s.key)
+
+-- the numbers below a count, in some order
+pub record AreNumbers (count : ℕ) (numbers : List ℕ) : Type 0 where
+  pub within : All (λ n. n < count) numbers
+  pub each : (n : ℕ) → n < count → Contains numbers n
 
 pub record Facts : Type 0 where
   pub path : List ℕ

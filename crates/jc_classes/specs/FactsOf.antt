@@ -1,7 +1,7 @@
 -- What is kept of a class file.
-use Rattle.std.specs.Prelude.{ℕ, ◌==◌, List, [], length, Option, Some, None, option_and_then, if◌then◌else◌}
+use Rattle.std.specs.Prelude.{ℕ, ◌==◌, not, List, [], ◌∷◌, length, Option, Some, None, option_and_then, if◌then◌else◌}
 use Rattle.std.specs.Option.{option_map_or, option_to_list}
-use Rattle.std.specs.List.{flat_map, range_with_len}
+use Rattle.std.specs.List.{filter, flat_map, range_with_len}
 use Rattle.jc_view.specs.declared.constant_pool.ConstantIndex.{ConstantIndex}
 use Rattle.jc_view.specs.ConstantPool as pool
 use Rattle.jc_view.specs.ClassFile as file
@@ -13,6 +13,7 @@ use Rattle.jc_classes.specs.declared.reference_kind.ReferenceKind.{ReferenceKind
 use Rattle.jc_classes.specs.declared.reference_kind.ReferenceKind.TheVariants as kinds
 use Rattle.jc_classes.specs.Facts.{Facts, Member, Reference}
 use Rattle.jc_classes.specs.NamedTexts.{named_by}
+use Rattle.jc_classes.specs.Names.{Name, same_name}
 
 infixl 10 ◌>>=◌
 abbrev ◌>>=◌ : {A B : Type 0} → Option A → (A → Option B) → Option B
@@ -61,6 +62,11 @@ members_in c members = flat_map (λ m. option_to_list (member_of c m)) members
 abbrev pub interfaces_in : ClassFile → List (List ℕ)
 interfaces_in c = flat_map (λ index. option_to_list (class_text_at c index)) c.interfaces
 
+-- each name where it stands first
+abbrev pub once : List Name → List Name
+once [] = []
+once (n ∷ ns) = n ∷ filter (λ m. not (same_name m n)) (once ns)
+
 abbrev pub class_name : ClassFile → List ℕ
 class_name c = option_map_or (λ name. name) (class_text_at c c.this_class) []
 
@@ -72,7 +78,7 @@ sound_facts path c = record {
   name = class_name c;
   flags = c.flags;
   superclass = class_text_at c c.super_class;
-  interfaces = interfaces_in c;
+  interfaces = once (interfaces_in c);
   fields = members_in c c.fields;
   methods = members_in c c.methods;
   references = references_in c;

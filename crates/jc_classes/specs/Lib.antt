@@ -7,6 +7,7 @@ pub mod Laws
 pub mod Lent
 pub mod LinkageErrors
 pub mod Loading
+pub mod MemberOrder
 pub mod MethodLookup
 pub mod NameLists
 pub mod NamedTexts

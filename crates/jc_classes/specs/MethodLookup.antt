@@ -20,9 +20,13 @@ abbrev pub first_named : List Member → Name → Option Member
 first_named [] name = None
 first_named (x ∷ xs) name = cond (same_name x.name name) (Some x) (first_named xs name)
 
+-- the method that has this name, where exactly one has
+abbrev pub sole_named : List Member → Name → Option Member
+sole_named methods name = cond (count_named methods name == 1) (first_named methods name) None
+
 -- the signature polymorphic method of this name, the only one of its name in its class (2.9)
 abbrev pub polymorphic : Name → List Member → Name → Option Member
-polymorphic c methods name = cond (same_name c method_handle && (count_named methods name == 1)) (if_polymorphic (first_named methods name)) None
+polymorphic c methods name = cond (same_name c method_handle) (if_polymorphic (sole_named methods name)) None
 
 abbrev pub or_else : Option Member → Option Member → Option Member
 or_else None y = y

@@ -1,6 +1,10 @@
+pub mod Alike
 pub mod ClassTexts
 pub mod ConstantTexts
 pub mod Entries
 pub mod FactsShown
 pub mod Numbering
+pub mod Ordered
+pub mod OrderedMembers
+pub mod Ranks
 pub mod TextList

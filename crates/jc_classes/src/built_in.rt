@@ -3,10 +3,12 @@
 ghost use Rattle.std.specs.Prelude.{◌≡◌, map, IfOk};
 ghost use Rattle.jc_classes.specs.BuiltIn.{object_facts};
 
-use crate::facts::{Facts, MemberEntry};
+use crate::facts::{Facts, Faults, MemberEntry};
+use crate::member_order::{order_members, rank_texts};
 use crate::text_list::TextList;
 use jc_base::NoMemory;
 use std::alloc::Global;
+use std::rc::Rc;
 
 /// The texts of its name and of its methods' names and descriptors.
 const TEXTS: [&[u8]; 19] = [
@@ -104,18 +106,22 @@ impl Facts {
     {
         let texts = list_of(alloc, &TEXTS)?;
         let methods = Vec::from_slice(alloc, &METHODS)?;
+        let ranks = rank_texts(alloc, &texts)?;
+        let method_order = order_members(alloc, &ranks, &methods)?;
+        let texts_shared = Rc::new(alloc, texts)?;
         Ok(Facts {
             path: Vec::new(alloc),
-            texts,
+            texts: texts_shared,
             name: 0,
             flags: 0x0001,
             superclass: None,
             interfaces: Vec::new(alloc),
             fields: Vec::new(alloc),
             methods,
-            references: Vec::new(alloc),
-            format_faults: Vec::new(alloc),
-            code_faults: Vec::new(alloc),
+            field_order: Vec::new(alloc),
+            method_order,
+            references: Rc::new(alloc, Vec::new(alloc))?,
+            faults: Faults::shared(alloc, Vec::new(alloc), Vec::new(alloc))?,
         })
     }
 }

@@ -7,8 +7,10 @@ ghost use Rattle.jc_classes.specs.FactsOf.{interfaces_in, member_of, references_
 ghost use Rattle.jc_classes.specs.inside.ClassTexts.{Tells};
 ghost use Rattle.jc_classes.specs.inside.ConstantTexts.{texts_of};
 ghost use Rattle.jc_classes.specs.inside.FactsShown.{member_shown, reference_shown, text_at};
+ghost use Rattle.jc_classes.specs.inside.Ranks.{AreRanks};
 
 use crate::facts::{MemberEntry, ReferenceEntry};
+use crate::member_order::rank_texts;
 use crate::read_facts::{member_entry, name_index, push_some, reference_entry};
 use crate::text_list::TextList;
 use jc_base::NoMemory;
@@ -117,6 +119,13 @@ impl<'c, 'a> ClassTexts<'c, 'a> {
         }
         entries.shrink_to_fit();
         Ok(entries)
+    }
+
+    /// The ranks of the texts so far by their bytes.
+    pub(crate) fn ranks(&self) -> Result<Vec<usize>, NoMemory>
+        ensures { IfOk result (λ ranks. AreRanks self.now.texts ranks.items) }
+    {
+        rank_texts(self.alloc, &self.texts)
     }
 
     /// A member by the numbers of its texts, from one by indexes, where there is one.

@@ -1,35 +1,51 @@
 //! What linking keeps of a class file.
 
-ghost use Rattle.std.specs.Prelude.{◌≡◌, length, option_map, slice_get};
+ghost use Rattle.std.specs.Prelude.{◌≡◌, length, option_map, slice_get, IfOk};
 ghost use Rattle.std.specs.Option.{option_copied};
 ghost use Rattle.jc_classes.specs.Facts.{is_faulty};
 ghost use Rattle.jc_classes.specs.Lent.{member_lent, reference_lent};
+ghost use Rattle.jc_classes.specs.MemberOrder.{IsOrder};
 ghost use Rattle.jc_classes.specs.inside.FactsShown.{reference_shown};
 
 use crate::member::{Key, Member};
 use crate::reference::Reference;
 use crate::reference_kind::ReferenceKind;
+use crate::references::References;
 use crate::text_list::TextList;
+use jc_base::NoMemory;
 use jc_code::CodeFault;
 use jc_file::Fault;
+use std::alloc::Global;
 use std::marker::Model;
+use std::rc::Rc;
 
 /// What linking keeps of a class file: its names and flags, what it declares and refers to, and its
 /// faults. A file with a format fault keeps no supertypes, members, references and code faults.
 #[derive(Drop)]
 pub struct Facts {
     pub(crate) path: Vec<u8>,
-    /// The texts of names and descriptors, by their numbers.
-    pub(crate) texts: TextList,
+    /// The texts of names and descriptors, by their numbers, shared with the references that are handed out.
+    pub(crate) texts: Rc<TextList>,
     pub(crate) name: u16,
     pub(crate) flags: u16,
     pub(crate) superclass: Option<u16>,
     pub(crate) interfaces: Vec<u16>,
     pub(crate) fields: Vec<MemberEntry>,
     pub(crate) methods: Vec<MemberEntry>,
-    pub(crate) references: Vec<ReferenceEntry>,
-    pub(crate) format_faults: Vec<Fault>,
-    pub(crate) code_faults: Vec<(usize, CodeFault)>,
+    /// The numbers of the fields and of the methods, in the order by which they are found.
+    pub(crate) field_order: Vec<u16>,
+    pub(crate) method_order: Vec<u16>,
+    pub(crate) references: Rc<Vec<ReferenceEntry>>,
+    pub(crate) faults: Rc<Faults>,
+}
+
+/// The faults of a class file.
+#[derive(Drop)]
+pub struct Faults {
+    /// Those of its format, by rule and then by place.
+    pub format: Vec<Fault>,
+    /// Those of its methods' code, each with the number of the method.
+    pub code: Vec<(usize, CodeFault)>,
 }
 
 /// A field or a method, by the numbers of its texts: first those of their constants, and then their own
@@ -52,14 +68,31 @@ pub(crate) struct ReferenceEntry {
     pub(crate) descriptor: u16,
 }
 
+impl Faults {
+    /// These faults, to be shared.
+    pub(crate) fn shared(
+        alloc: Global,
+        format: Vec<Fault>,
+        code: Vec<(usize, CodeFault)>,
+    ) -> Result<Rc<Faults>, NoMemory>
+        ensures format { IfOk result (λ faults. faults.value.format ≡ format) }
+        ensures code { IfOk result (λ faults. faults.value.code ≡ code) }
+    {
+        Ok(Rc::new(alloc, Faults { format, code })?)
+    }
+}
+
 impl Model for Facts {
     ghost use Rattle.jc_classes.specs.Facts as specs;
 
     ghost Value = { specs.Facts };
 
     ghost use Rattle.jc_classes.specs.inside.FactsShown.{facts_shown};
+    ghost use Rattle.jc_classes.specs.inside.Ordered.{AreOrdered};
 
     ghost view = { facts_shown };
+
+    ghost invariant = { AreOrdered };
 }
 
 impl Facts {
@@ -74,7 +107,7 @@ impl Facts {
     pub fn name(&self) -> &[u8]
         ensures { result.now ≡ self.now.name }
     {
-        self.texts.text(self.name as usize)
+        self.texts.as_ref().text(self.name as usize)
     }
 
     /// Its access flags (JVMS 4.1, table 4.1-B).
@@ -88,21 +121,21 @@ impl Facts {
     pub fn is_faulty(&self) -> bool
         ensures { result ≡ is_faulty self.now }
     {
-        !self.format_faults.is_empty()
+        !self.format_faults().is_empty()
     }
 
     /// Its format faults, by rule and then by place.
     pub fn format_faults(&self) -> &[Fault]
         ensures { result.now ≡ self.now.format_faults }
     {
-        self.format_faults.as_slice()
+        self.faults.as_ref().format.as_slice()
     }
 
     /// The faults of its methods' code, each with the number of the method.
     pub fn code_faults(&self) -> &[(usize, CodeFault)]
         ensures { result.now ≡ self.now.code_faults }
     {
-        self.code_faults.as_slice()
+        self.faults.as_ref().code.as_slice()
     }
 
     /// The name of its superclass.
@@ -110,7 +143,7 @@ impl Facts {
         ensures { option_copied result ≡ self.now.superclass }
     {
         match self.superclass {
-            Some(name) => Some(self.texts.text(name as usize)),
+            Some(name) => Some(self.texts.as_ref().text(name as usize)),
             None => None,
         }
     }
@@ -120,7 +153,7 @@ impl Facts {
         ensures { option_copied result ≡ slice_get self.now.interfaces number }
     {
         match self.interfaces.get(number) {
-            Some(name) => Some(self.texts.text(*name as usize)),
+            Some(name) => Some(self.texts.as_ref().text(*name as usize)),
             None => None,
         }
     }
@@ -137,7 +170,7 @@ impl Facts {
         ensures { option_map member_lent result ≡ slice_get self.now.fields number }
     {
         match self.fields.get(number) {
-            Some(entry) => Some(entry.lend(&self.texts)),
+            Some(entry) => Some(entry.lend(self.texts.as_ref())),
             None => None,
         }
     }
@@ -149,12 +182,20 @@ impl Facts {
         self.fields.len()
     }
 
+    /// The numbers of its fields by name, then by descriptor, and of several with both the same as in the
+    /// file.
+    pub fn field_order(&self) -> &[u16]
+        ensures { IsOrder self.now.fields result.now }
+    {
+        self.field_order.as_slice()
+    }
+
     /// The method of a number, in file order.
     pub fn own_method(&self, number: usize) -> Option<Member<'_>>
         ensures { option_map member_lent result ≡ slice_get self.now.methods number }
     {
         match self.methods.get(number) {
-            Some(entry) => Some(entry.lend(&self.texts)),
+            Some(entry) => Some(entry.lend(self.texts.as_ref())),
             None => None,
         }
     }
@@ -166,12 +207,19 @@ impl Facts {
         self.methods.len()
     }
 
+    /// The numbers of its methods in the same order.
+    pub fn method_order(&self) -> &[u16]
+        ensures { IsOrder self.now.methods result.now }
+    {
+        self.method_order.as_slice()
+    }
+
     /// The reference of a number, by rising index of its constant.
     pub fn reference(&self, number: usize) -> Option<Reference<'_>>
         ensures { option_map reference_lent result ≡ slice_get self.now.references number }
     {
-        match self.references.get(number) {
-            Some(entry) => Some(entry.lend(&self.texts)),
+        match self.references.as_ref().get(number) {
+            Some(entry) => Some(entry.lend(self.texts.as_ref())),
             None => None,
         }
     }
@@ -180,13 +228,35 @@ impl Facts {
     pub fn reference_count(&self) -> usize
         ensures { result ≡ length self.now.references }
     {
-        self.references.len()
+        self.references.as_ref().len()
+    }
+
+    /// Its references, which share their texts with it, so that they may outlive it.
+    ///
+    /// Answers `NoMemory` only where they are shared as often as can be counted.
+    pub fn shared_references(&self) -> Result<References, NoMemory>
+        ensures { IfOk result (λ references. references ≡ self.now.references) }
+    {
+        Ok(References {
+            texts: self.texts.clone()?,
+            entries: self.references.clone()?,
+        })
+    }
+
+    /// Its faults, shared with it.
+    ///
+    /// Answers `NoMemory` only where they are shared as often as can be counted.
+    pub fn shared_faults(&self) -> Result<Rc<Faults>, NoMemory>
+        ensures format { IfOk result (λ faults. faults.value.format.items ≡ self.now.format_faults) }
+        ensures code { IfOk result (λ faults. faults.value.code.items ≡ self.now.code_faults) }
+    {
+        Ok(self.faults.clone()?)
     }
 }
 
 impl ReferenceEntry {
     /// The reference, with its texts.
-    fn lend(self, texts: &TextList) -> Reference<'_>
+    pub(crate) fn lend(self, texts: &TextList) -> Reference<'_>
         ensures { reference_lent result ≡ reference_shown texts.now self }
     {
         Reference {

@@ -2,6 +2,7 @@
 //! definitions of loading, resolution and access (JVMS 5.3.5, 5.4.3, 5.4.4), with the laws over them.
 #![tactic(auto)]
 
+mod alike;
 mod built_in;
 mod class_texts;
 mod facts;
@@ -9,15 +10,18 @@ mod laws;
 mod linkage_error;
 mod member;
 mod member_lookup;
+mod member_order;
 mod names;
 mod numbers;
+mod once;
 mod read_facts;
 mod reference;
 mod reference_kind;
+mod references;
 mod standing;
 mod text_list;
 
-pub use facts::Facts;
+pub use facts::{Facts, Faults};
 pub use laws::{affected_by_either, locality, part_is_one};
 pub use linkage_error::LinkageError;
 pub use member::{Key, Member};
@@ -25,5 +29,6 @@ pub use names::{less, same};
 pub use numbers::Numbers;
 pub use reference::Reference;
 pub use reference_kind::ReferenceKind;
+pub use references::References;
 pub use standing::Standing;
 pub use text_list::TextList;

@@ -1,11 +1,14 @@
 //! Look-up of members in one class.
 
-ghost use Rattle.std.specs.Prelude.{◌≡◌, ◌≤◌, length, map, option_map};
+ghost use Rattle.std.specs.Prelude.{◌≡◌, option_map};
 ghost use Rattle.jc_classes.specs.Lent.{key_lent, member_lent};
-ghost use Rattle.jc_classes.specs.MethodLookup.{count_named, first_named, given_by};
+ghost use Rattle.jc_classes.specs.MemberOrder.{IsOrder};
+ghost use Rattle.jc_classes.specs.MethodLookup.{given_by, sole_named};
 ghost use Rattle.jc_classes.specs.Worlds.{member};
 ghost use Rattle.jc_classes.specs.Worlds.Stands.{Record};
 ghost use Rattle.jc_classes.specs.inside.FactsShown.{member_shown};
+ghost use Rattle.jc_classes.specs.inside.Ordered.{IsPlace, member_there, named_there};
+ghost use Rattle.jc_classes.specs.inside.OrderedMembers.{shown};
 
 use crate::facts::{Facts, MemberEntry};
 use crate::member::{Key, Member};
@@ -18,28 +21,38 @@ impl Facts {
     pub fn field(&self, key: Key) -> Option<Member<'_>>
         ensures { option_map member_lent result ≡ member self.now.fields (key_lent key.entry) }
     {
-        find_member(&self.texts, self.fields.as_slice(), key)
+        let fields = OrderedMembers {
+            texts: self.texts.as_ref(),
+            members: self.fields.as_slice(),
+            order: self.field_order.as_slice(),
+        };
+        fields.find(key)
     }
 
     /// Its own method with a name and a descriptor.
     pub fn method(&self, key: Key) -> Option<Member<'_>>
         ensures { option_map member_lent result ≡ member self.now.methods (key_lent key.entry) }
     {
-        find_member(&self.texts, self.methods.as_slice(), key)
+        self.ordered_methods().find(key)
     }
 
-    /// How many methods of its own have a name.
-    pub fn count_named(&self, name: &[u8]) -> usize
-        ensures { result ≡ count_named self.now.methods name.now }
+    /// The method of its own that has a name, where exactly one has, whatever the descriptor.
+    pub fn sole_named(&self, name: &[u8]) -> Option<Member<'_>>
+        ensures { option_map member_lent result ≡ sole_named self.now.methods name.now }
     {
-        count_named(&self.texts, self.methods.as_slice(), name)
+        self.ordered_methods().sole_named(name)
     }
 
-    /// Its own first method with a name, whatever the descriptor.
-    pub fn first_named(&self, name: &[u8]) -> Option<Member<'_>>
-        ensures { option_map member_lent result ≡ first_named self.now.methods name.now }
+    /// Its methods, with their order.
+    fn ordered_methods(&self) -> OrderedMembers<'_>
+        ensures methods { shown result ≡ self.now.methods }
+        ensures order { IsOrder self.now.methods result.order.now }
     {
-        first_named(&self.texts, self.methods.as_slice(), name)
+        OrderedMembers {
+            texts: self.texts.as_ref(),
+            members: self.methods.as_slice(),
+            order: self.method_order.as_slice(),
+        }
     }
 
     /// The method that it gives to what is below it, if it is an interface: one that is neither PRIVATE
@@ -50,7 +63,7 @@ impl Facts {
         if !AccessFlag::Interface.is_in(self.flags) {
             return None;
         }
-        match find_member(&self.texts, self.methods.as_slice(), key) {
+        match self.method(key) {
             Some(member) => {
                 if member.has(AccessFlag::Private) || member.has(AccessFlag::Static) {
                     None
@@ -76,41 +89,83 @@ impl MemberEntry {
     }
 }
 
-/// The first member that has a name and a descriptor.
-fn find_member<'a>(texts: &'a TextList, members: &[MemberEntry], key: Key) -> Option<Member<'a>>
-    ensures { option_map member_lent result ≡ member (map (member_shown texts.now) members.now) (key_lent key.entry) }
-{
-    for entry in members {
-        let member = entry.lend(texts);
+/// Fields or methods, with the order by which they are found.
+#[derive(Clone, Copy)]
+struct OrderedMembers<'a> {
+    texts: &'a TextList,
+    members: &'a [MemberEntry],
+    order: &'a [u16],
+}
+
+impl<'a> OrderedMembers<'a> {
+    /// The first in the file that has a name and a descriptor.
+    fn find(self, key: Key) -> Option<Member<'a>>
+        requires { IsOrder (shown self) self.order.now }
+        ensures { option_map member_lent result ≡ member (shown self.entry) (key_lent key.entry) }
+    {
+        let member = self.member(self.place(key))?;
         if member.is_at(key) {
-            return Some(member);
+            Some(member)
+        } else {
+            None
         }
     }
-    None
-}
 
-/// How many members have a name.
-fn count_named(texts: &TextList, members: &[MemberEntry], name: &[u8]) -> usize
-    ensures count { result ≡ count_named (map (member_shown texts.now) members.now) name.now }
-    ensures few { result ≤ length members.now }
-{
-    let mut count = 0;
-    for entry in members {
-        if same(texts.text(entry.name as usize), name) {
-            count += 1;
+    /// The one that has a name, where exactly one has. Those of a name stand together.
+    fn sole_named(self, name: &[u8]) -> Option<Member<'a>>
+        requires { IsOrder (shown self) self.order.now }
+        ensures { option_map member_lent result ≡ sole_named (shown self.entry) name.now }
+    {
+        let key = Key {
+            name,
+            descriptor: &[],
+        };
+        let place = self.place(key);
+        let member = self.named(place, name)?;
+        match self.named(place + 1, name) {
+            Some(_) => None,
+            None => Some(member),
         }
     }
-    count
-}
 
-/// The first member that has a name.
-fn first_named<'a>(texts: &'a TextList, members: &[MemberEntry], name: &[u8]) -> Option<Member<'a>>
-    ensures { option_map member_lent result ≡ first_named (map (member_shown texts.now) members.now) name.now }
-{
-    for entry in members {
-        if same(texts.text(entry.name as usize), name) {
-            return Some(entry.lend(texts));
+    /// The one at a place of the order, if it has a name.
+    fn named(self, place: usize, name: &[u8]) -> Option<Member<'a>>
+        requires { IsOrder (shown self) self.order.now }
+        ensures { option_map member_lent result ≡ named_there (shown self.entry) self.entry.order.now place name.now }
+    {
+        let member = self.member(place)?;
+        if same(member.name, name) {
+            Some(member)
+        } else {
+            None
         }
     }
-    None
+
+    /// The one at a place of the order.
+    fn member(self, place: usize) -> Option<Member<'a>>
+        requires { IsOrder (shown self) self.order.now }
+        ensures { option_map member_lent result ≡ member_there (shown self.entry) self.entry.order.now place }
+    {
+        let number = *self.order.get(place)?;
+        Some(self.members[number as usize].lend(self.texts))
+    }
+
+    /// How many stand before a key.
+    fn place(self, key: Key) -> usize
+        requires { IsOrder (shown self) self.order.now }
+        ensures { IsPlace (shown self.entry) self.entry.order.now (key_lent key.entry) result }
+    {
+        let mut low = 0;
+        let mut high = self.order.len();
+        while low < high {
+            let middle = low + (high - low) / 2;
+            let number = self.order[middle] as usize;
+            if self.members[number].lend(self.texts).is_before(key) {
+                low = middle + 1;
+            } else {
+                high = middle;
+            }
+        }
+        low
+    }
 }

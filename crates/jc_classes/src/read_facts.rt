@@ -15,14 +15,17 @@ ghost use Rattle.jc_classes.specs.inside.FactsShown.{member_shown, reference_sho
 ghost use Rattle.jc_classes.specs.inside.ConstantTexts.{key_at, key_shown, texts_of};
 
 use crate::class_texts::ClassTexts;
-use crate::facts::{Facts, MemberEntry, ReferenceEntry};
+use crate::facts::{Facts, Faults, MemberEntry, ReferenceEntry};
+use crate::member_order::order_members;
+use crate::once::once;
 use crate::reference_kind::ReferenceKind;
 use crate::text_list::TextList;
 use jc_base::NoMemory;
-use jc_code::{CodeFault, faults_in, method_code};
+use jc_code::{CodeFault, TextSizes, faults_in, method_code};
 use jc_file::{Fault, format_faults};
 use jc_view::{ClassView, Constant, ConstantIndex, Member, Members};
 use std::alloc::Global;
+use std::rc::Rc;
 
 impl Facts {
     /// What is kept of a class file, and of the path where it stands.
@@ -48,6 +51,8 @@ struct Entries {
     interfaces: Vec<u16>,
     fields: Vec<MemberEntry>,
     methods: Vec<MemberEntry>,
+    field_order: Vec<u16>,
+    method_order: Vec<u16>,
     references: Vec<ReferenceEntry>,
 }
 
@@ -58,25 +63,33 @@ fn sound_facts(alloc: Global, class: &ClassView, path: &[u8]) -> Result<Facts, N
 {
     let path = Vec::from_slice(alloc, path)?;
     let mut texts = ClassTexts::new(alloc, class)?;
-    let entries = read_entries(&mut texts, class)?;
+    let entries = read_entries(alloc, &mut texts, class)?;
     let code_faults = all_code_faults(alloc, class)?;
+    let texts_shared = Rc::new(alloc, texts.into_list())?;
+    let references = Rc::new(alloc, entries.references)?;
+    let faults = Faults::shared(alloc, Vec::new(alloc), code_faults)?;
     Ok(Facts {
         path,
-        texts: texts.into_list(),
+        texts: texts_shared,
         name: entries.name,
         flags: class.flags(),
         superclass: entries.superclass,
         interfaces: entries.interfaces,
         fields: entries.fields,
         methods: entries.methods,
-        references: entries.references,
-        format_faults: Vec::new(alloc),
-        code_faults,
+        field_order: entries.field_order,
+        method_order: entries.method_order,
+        references,
+        faults,
     })
 }
 
 /// Reads the entries of a class file, and numbers their texts.
-fn read_entries(texts: &mut ClassTexts, class: &ClassView) -> Result<Entries, NoMemory>
+fn read_entries(
+    alloc: Global,
+    texts: &mut ClassTexts,
+    class: &ClassView,
+) -> Result<Entries, NoMemory>
     requires { texts.old.class ≡ class.now }
     ensures { IfOk result (λ entries. Tells texts.old texts.new (λ numbered. AreEntries class.now numbered entries)) }
 {
@@ -85,6 +98,10 @@ fn read_entries(texts: &mut ClassTexts, class: &ClassView) -> Result<Entries, No
     let interfaces = texts.interfaces()?;
     let fields = texts.members(class.fields())?;
     let methods = texts.members(class.methods())?;
+    let ranks = texts.ranks()?;
+    let interfaces = once(alloc, &ranks, interfaces)?;
+    let field_order = order_members(alloc, &ranks, &fields)?;
+    let method_order = order_members(alloc, &ranks, &methods)?;
     let references = texts.references()?;
     Ok(Entries {
         name,
@@ -92,6 +109,8 @@ fn read_entries(texts: &mut ClassTexts, class: &ClassView) -> Result<Entries, No
         interfaces,
         fields,
         methods,
+        field_order,
+        method_order,
         references,
     })
 }
@@ -109,18 +128,20 @@ fn faulty_facts(
     let path = Vec::from_slice(alloc, path)?;
     let mut texts = TextList::new(alloc);
     texts.push(class.name())?;
+    let texts_shared = Rc::new(alloc, texts)?;
     Ok(Facts {
         path,
-        texts,
+        texts: texts_shared,
         name: 0,
         flags: class.flags(),
         superclass: None,
         interfaces: Vec::new(alloc),
         fields: Vec::new(alloc),
         methods: Vec::new(alloc),
-        references: Vec::new(alloc),
-        format_faults,
-        code_faults: Vec::new(alloc),
+        field_order: Vec::new(alloc),
+        method_order: Vec::new(alloc),
+        references: Rc::new(alloc, Vec::new(alloc))?,
+        faults: Faults::shared(alloc, format_faults, Vec::new(alloc))?,
     })
 }
 
@@ -245,9 +266,19 @@ fn member_reference(
 fn all_code_faults(alloc: Global, class: &ClassView) -> Result<Vec<(usize, CodeFault)>, NoMemory>
     ensures { IfOk result (λ found. found.items ≡ code_faults class.now) }
 {
+    code_faults_by_method(alloc, &TextSizes::of(alloc, class)?)
+}
+
+/// Those of the class whose sizes these are.
+fn code_faults_by_method(
+    alloc: Global,
+    sizes: &TextSizes,
+) -> Result<Vec<(usize, CodeFault)>, NoMemory>
+    ensures { IfOk result (λ found. found.items ≡ code_faults sizes.now) }
+{
     let mut found = Vec::new(alloc);
-    for (number, method) in class.methods().enumerate() {
-        add_code_faults(alloc, &mut found, class, &method, number)?;
+    for (number, method) in sizes.class().methods().enumerate() {
+        add_code_faults(alloc, &mut found, sizes, &method, number)?;
     }
     Ok(found)
 }
@@ -256,18 +287,18 @@ fn all_code_faults(alloc: Global, class: &ClassView) -> Result<Vec<(usize, CodeF
 fn add_code_faults(
     alloc: Global,
     found: &mut Vec<(usize, CodeFault)>,
-    class: &ClassView,
+    sizes: &TextSizes,
     method: &Member,
     number: usize,
 ) -> Result<(), NoMemory>
-    requires class { method.now.class ≡ class.now }
+    requires class { method.now.class ≡ sizes.now }
     requires holder { method.now.member.holder ≡ holders.Method }
-    ensures { OnOk result (found.new.items ≡ found.old.items ++ map (λ fault. (number, fault)) (method_faults class.now method.now.member.member)) }
+    ensures { OnOk result (found.new.items ≡ found.old.items ++ map (λ fault. (number, fault)) (method_faults sizes.now method.now.member.member)) }
 {
     let Some(code) = method_code(method) else {
         return Ok(());
     };
-    for fault in &faults_in(alloc, class, &code)? {
+    for fault in &faults_in(alloc, sizes, &code)? {
         found.push((number, *fault))?;
     }
     Ok(())

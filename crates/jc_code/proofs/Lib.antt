@@ -3,3 +3,4 @@ pub mod decoding
 pub mod marks
 pub mod orders
 pub mod methods
+pub mod sizes

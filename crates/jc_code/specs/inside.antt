@@ -1,5 +1,6 @@
 pub mod Entries
 pub mod Decoding
 pub mod Marks
+pub mod TextSizes
 pub mod Clean
 pub mod FirstPass

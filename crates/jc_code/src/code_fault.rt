@@ -128,5 +128,5 @@ impl CodeRule {
 #[derive(Clone, Copy)]
 pub struct CodeFault {
     pub rule: CodeRule,
-    pub place: usize,
+    pub place: u32,
 }

@@ -30,6 +30,7 @@ use crate::rules::locals::breaks_s22;
 use crate::rules::targets::{breaks_s2, breaks_s3, breaks_s4, breaks_s5};
 use crate::scope::Scope;
 use crate::starts::Starts;
+use crate::text_sizes::TextSizes;
 use jc_base::NoMemory;
 use jc_view::{ClassView, Code, ExceptionHandler, Member};
 use std::alloc::Global;
@@ -78,7 +79,7 @@ fn list_member_faults(
     ensures { IfOk result (λ found. MatchOption (code_of_member class.now member.now.member.member) (found.items ≡ []) (λ k. AreFaultsOf class.now k found.items)) }
 {
     match method_code(member) {
-        Some(code) => list_faults(alloc, class, &code),
+        Some(code) => list_faults(alloc, &TextSizes::of(alloc, class)?, &code),
         None => Ok(Vec::new(alloc)),
     }
 }
@@ -99,37 +100,37 @@ pub fn method_code<'v, 'a>(member: &Member<'v, 'a>) -> Option<Code<'v, 'a>>
     found
 }
 
-/// The faults of a code of a class.
+/// The faults of a code of the class whose sizes these are: made once, they serve all its methods.
 ///
 /// Answers `NoMemory` only where memory was refused.
-pub fn faults_in(alloc: Global, class: &ClassView, code: &Code) -> Result<Vec<CodeFault>, NoMemory>
-    ensures listed { IfOk result (λ found. AreFaultsOf class.now code.now.code found.items) }
-    ensures violated { IfOk result (λ found. (fault : CodeFault) → Contains found.items fault ↔ BreaksCode fault.rule class.now code.now.code fault.place) }
+pub fn faults_in(alloc: Global, sizes: &TextSizes, code: &Code) -> Result<Vec<CodeFault>, NoMemory>
+    ensures listed { IfOk result (λ found. AreFaultsOf sizes.now code.now.code found.items) }
+    ensures violated { IfOk result (λ found. (fault : CodeFault) → Contains found.items fault ↔ BreaksCode fault.rule sizes.now code.now.code fault.place) }
     ensures rising { IfOk result (λ found. IsStrictlySortedBy fault_cmp found.items) }
-    ensures computed { IfOk result (λ found. found.items ≡ faults_of class.now code.now.code) }
+    ensures computed { IfOk result (λ found. found.items ≡ faults_of sizes.now code.now.code) }
 {
     let _bytes = as_bytes(code.bytes());
     codes_are_read();
     instructions_are_apart();
-    list_faults(alloc, class, code)
+    list_faults(alloc, sizes, code)
 }
 
 /// The faults of a code, in their order.
-fn list_faults(alloc: Global, class: &ClassView, code: &Code) -> Result<Vec<CodeFault>, NoMemory>
-    ensures { IfOk result (λ found. AreFaultsOf class.now code.now.code found.items) }
+fn list_faults(alloc: Global, sizes: &TextSizes, code: &Code) -> Result<Vec<CodeFault>, NoMemory>
+    ensures { IfOk result (λ found. AreFaultsOf sizes.now code.now.code found.items) }
 {
     let bytes = code.bytes();
     let size = bytes.len();
-    let found = first_pass(alloc, &scope_with(class, code, Starts::none(alloc)), bytes)?;
+    let found = first_pass(alloc, &scope_with(sizes, code, Starts::none(alloc)), bytes)?;
     let FirstPass {
         starts,
         end,
         jumps,
         is_kept,
     } = found;
-    let scope = scope_with(class, code, starts);
+    let scope = scope_with(sizes, code, starts);
     let mut faults = Vec::new(alloc);
-    if end < size {
+    if (end as usize) < size {
         faults.push(CodeFault {
             rule: CodeRule::S1,
             place: end,
@@ -141,11 +142,11 @@ fn list_faults(alloc: Global, class: &ClassView, code: &Code) -> Result<Vec<Code
 }
 
 /// What the rules look at in a code, with these starts of instructions.
-fn scope_with<'c, 'a>(class: &'c ClassView<'a>, code: &Code, starts: Starts) -> Scope<'c, 'a>
-    ensures { result ≡ record { class = class.now; max_locals = code.now.code.max_locals; size = length code.now.code.code; starts = starts } }
+fn scope_with<'c, 'a>(sizes: &'c TextSizes<'c, 'a>, code: &Code, starts: Starts) -> Scope<'c, 'a>
+    ensures { result ≡ record { class = sizes.now; max_locals = code.now.code.max_locals; size = length code.now.code.code; starts = starts } }
 {
     Scope {
-        class,
+        sizes,
         max_locals: code.max_locals(),
         size: code.bytes().len(),
         starts,
@@ -189,10 +190,7 @@ fn add_insn_faults(
         add_if(
             faults,
             insn_breaks(scope, rule, &insn),
-            CodeFault {
-                rule,
-                place: place as usize,
-            },
+            CodeFault { rule, place },
         )?;
     }
     Ok(())
@@ -211,7 +209,10 @@ fn add_handler_faults(
         add_if(
             faults,
             handler_breaks(scope, rule, handler),
-            CodeFault { rule, place },
+            CodeFault {
+                rule,
+                place: place as u32,
+            },
         )?;
     }
     Ok(())

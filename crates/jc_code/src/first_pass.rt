@@ -17,7 +17,7 @@ use std::alloc::Global;
 #[derive(Drop)]
 pub(crate) struct FirstPass<'a> {
     pub(crate) starts: Starts,
-    pub(crate) end: usize,
+    pub(crate) end: u32,
     pub(crate) jumps: Vec<Insn<'a>>,
     pub(crate) is_kept: bool,
 }
@@ -43,7 +43,7 @@ pub(crate) fn first_pass<'a>(
     }
     Ok(FirstPass {
         starts: Starts { marks },
-        end: insns.rest() as usize,
+        end: insns.rest(),
         jumps,
         is_kept,
     })

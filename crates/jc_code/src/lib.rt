@@ -10,6 +10,7 @@ mod faults;
 mod first_pass;
 mod insn;
 mod insns;
+mod known_slots;
 mod laws;
 mod numbers;
 mod opcode;
@@ -17,6 +18,7 @@ mod rules;
 mod scope;
 mod starts;
 mod switch;
+mod text_sizes;
 
 pub use code_fault::{CodeFault, CodeRule};
 pub use fault_laws::faults_are_exact;
@@ -29,3 +31,4 @@ pub use laws::{
 };
 pub use opcode::{Opcode, Operands};
 pub use switch::{Case, Cases, LookupSwitch, TableSwitch, Targets};
+pub use text_sizes::TextSizes;

@@ -4,13 +4,15 @@ ghost use Rattle.std.specs.Prelude.{◌≡◌};
 ghost use Rattle.jc_code.specs.CodeRules.{is_start, is_target};
 
 use crate::starts::Starts;
+use crate::text_sizes::TextSizes;
 use jc_view::ClassView;
 use std::marker::Model;
 
-/// The class, how many local variables the code has, how many bytes, and where its instructions start.
+/// The class with the sizes of its texts, how many local variables the code has, how many bytes, and where
+/// its instructions start.
 #[derive(Drop)]
 pub(crate) struct Scope<'c, 'a> {
-    pub(crate) class: &'c ClassView<'a>,
+    pub(crate) sizes: &'c TextSizes<'c, 'a>,
     pub(crate) max_locals: u16,
     pub(crate) size: usize,
     pub(crate) starts: Starts,
@@ -21,10 +23,16 @@ impl<'c, 'a> Model for Scope<'c, 'a> {
 
     ghost Value = { Scope };
 
-    ghost view = { λ s. record { class = s.class.now; max_locals = s.max_locals; size = s.size; starts = s.starts } };
+    ghost view = { λ s. record { class = s.sizes.now; max_locals = s.max_locals; size = s.size; starts = s.starts } };
 }
 
 impl<'c, 'a> Scope<'c, 'a> {
+    pub(crate) fn class(&self) -> &'c ClassView<'a>
+        ensures { result.now ≡ self.now.class }
+    {
+        self.sizes.class()
+    }
+
     /// Whether an instruction starts at a place.
     pub(crate) fn is_start(&self, place: usize) -> bool
         ensures { result ≡ is_start self.now place }

@@ -117,7 +117,6 @@ impl Report {
     pub fn provided(&self) -> Provided<'_>
         ensures { (r : reports.Report) → IsReport self.now.files self.now.prefixes r → result ≡ r.provided }
     {
-        rows_are_plain();
         self.linkage.provided()
     }
 

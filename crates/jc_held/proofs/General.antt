@@ -14,7 +14,7 @@ use Rattle.jc_link.specs.Closures.{record_of}
 use Rattle.jc_held.specs.Affected.{AreReaches, IsAffected, IsBounded, NoRepeat, sum_of_lengths}
 use Rattle.jc_held.specs.declared.kept.Fresh.{Fresh}
 use Rattle.jc_held.specs.declared.kept.Kept.{Kept}
-use Rattle.jc_held.specs.inside.Kept.{AllFresh, AreKeys, IsKept, IsKeptOf, KeptHits, KeptMap, fresh_at, fresh_names, held_in, names_kept, provided_by, reach_sum, required_by}
+use Rattle.jc_held.specs.inside.Kept.{AllFresh, AreKeys, IsKept, IsKeptOf, KeptHits, KeptMap, fresh_at, fresh_names, held_in, names_kept, reach_sum, required_by}
 use Rattle.jc_held.specs.inside.Kept.Relation.{Reaches}
 use Rattle.jc_held.proofs.Tests.{and_join, and_split, listed_by, or_join, or_split}
 
@@ -95,7 +95,6 @@ module _ (touched g h : Name → Bool) (w v : World) (kept : KeptMap) (differ : 
           sound = λ n e. reach_there touched w v d differ avoids (of.reach.sound n e);
           complete = λ n r. of.reach.complete n (reach_back touched w v d differ avoids r);
         };
-        provided = subst (λ o. AreKeys k.provided (provided_by (record_of o) k.part)) there of.provided;
         required = subst (λ o. AreKeys k.required (required_by (record_of o) k.part)) there of.required;
       }
 

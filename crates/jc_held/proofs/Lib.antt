@@ -8,4 +8,5 @@ pub mod Readying
 pub mod SteppedClasses
 pub mod ClassesChanged
 pub mod Leaving
+pub mod KeysOfRows
 pub mod held

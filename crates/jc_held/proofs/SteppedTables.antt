@@ -7,7 +7,7 @@ use Rattle.jc_classes.specs.Names.{Name, same_name}
 use Rattle.jc_classes.proofs.worlds.NameTests.{same_is}
 use Rattle.jc_link.specs.Tables.{Places, class_at, placed}
 use Rattle.jc_link.proofs.tables.Changes.{places_change}
-use Rattle.jc_held.specs.inside.Stepping.{AreTaken, NoneVacant}
+use Rattle.jc_held.specs.inside.Stepping.{AreTaken}
 use Rattle.jc_held.proofs.Tests.{or_no}
 
 pub put_class : (places : Places) (name : Name) (place : Option Facts) (n : Name) → class_at (map.insert places name place) n ≡ cond (same_name n name) place (class_at places n)

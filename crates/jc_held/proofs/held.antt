@@ -3,6 +3,7 @@ pub mod Places
 pub mod Dependants
 pub mod Classes
 pub mod Rows
-pub mod Provided
+pub mod ProvidedRows
+pub mod Required
 pub mod Holders
 pub mod Changed

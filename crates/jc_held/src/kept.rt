@@ -8,13 +8,13 @@ ghost use Rattle.jc_classes.specs.Worlds.{World};
 ghost use Rattle.jc_link.specs.Closures.{IsClosure, record_of};
 ghost use Rattle.jc_link.specs.Meters.{counted};
 ghost use Rattle.jc_link.specs.Tables.{world};
-ghost use Rattle.jc_held.specs.inside.Kept.{AllFresh, AreKeys, IsKeptOf, fresh_names, provided_by, reach_sum, required_by};
+ghost use Rattle.jc_held.specs.inside.Kept.{AllFresh, AreKeys, IsKeptOf, fresh_names, reach_sum, required_by};
 
 use jc_base::NoMemory;
 use jc_classes::Facts;
 use jc_index::NameList;
 use jc_link::{Closure, Meter, Outside, Part, Table, gather, make_part};
-use jc_report::{provided_keys, required_keys};
+use jc_report::required_keys;
 use std::alloc::Global;
 
 /// The part of a class, and the names that it depends on.
@@ -23,8 +23,6 @@ pub(crate) struct Kept {
     pub(crate) part: Part,
     /// The names of its reach.
     pub(crate) reach: NameList,
-    /// The keys of the rows that it provides.
-    pub(crate) provided: NameList,
     /// The keys of the rows that it requires.
     pub(crate) required: NameList,
 }
@@ -75,11 +73,10 @@ pub(crate) fn make_one(
 {
     let name_kept = Vec::from_slice(alloc, name)?;
     let closure = gather(alloc, table, outside, name, meter)?;
-    let (part, (provided, required)) = part_and_keys(alloc, &closure, meter)?;
+    let (part, required) = part_and_keys(alloc, &closure, meter)?;
     let kept = Kept {
         part,
         reach: closure.into_names(),
-        provided,
         required,
     };
     Ok(Fresh {
@@ -88,46 +85,21 @@ pub(crate) fn make_one(
     })
 }
 
-/// The part of the class that a closure was gathered for, and the keys of its rows.
+/// The part of the class that a closure was gathered for, and the keys of the rows that it requires.
 fn part_and_keys(
     alloc: Global,
     closure: &Closure,
     meter: &mut Meter,
-) -> Result<(Part, (NameList, NameList)), NoMemory>
+) -> Result<(Part, NameList), NoMemory>
     ensures part { (m : World) (d : Name) → IsClosure m d closure.now → IfOk result (λ made. IsPart m d made.0) }
-    ensures provided { (m : World) (d : Name) → IsClosure m d closure.now → IfOk result (λ made. AreKeys made.1.0 (provided_by (record_of (m d)) made.0)) }
-    ensures required { (m : World) (d : Name) → IsClosure m d closure.now → IfOk result (λ made. AreKeys made.1.1 (required_by (record_of (m d)) made.0)) }
+    ensures required { (m : World) (d : Name) → IsClosure m d closure.now → IfOk result (λ made. AreKeys made.1 (required_by (record_of (m d)) made.0)) }
     ensures made { OnOk result (meter.new.made ≡ counted meter.old.made 1) }
     ensures asks { meter.new.asks ≡ meter.old.asks }
     ensures made_rise { meter.old.made ≤ meter.new.made }
 {
     let part = make_part(alloc, closure, meter)?;
-    let keys = keys_of(alloc, closure.record(), &part)?;
-    Ok((part, keys))
-}
-
-/// The keys of the rows that a class provides, and of those that it requires.
-fn keys_of(
-    alloc: Global,
-    own: Option<&Facts>,
-    part: &Part,
-) -> Result<(NameList, NameList), NoMemory>
-    ensures provided { IfOk result (λ keys. AreKeys keys.0 (provided_by (option_copied own.entry) part.now)) }
-    ensures required { IfOk result (λ keys. AreKeys keys.1 (required_by (option_copied own.entry) part.now)) }
-{
-    let provided = provided_by(alloc, own, part)?;
-    let required = required_by(alloc, own, part)?;
-    Ok((provided, required))
-}
-
-/// The keys of the rows that a class provides by its record; none where it has none.
-fn provided_by(alloc: Global, own: Option<&Facts>, part: &Part) -> Result<NameList, NoMemory>
-    ensures { IfOk result (λ keys. AreKeys keys (provided_by (option_copied own.entry) part.now)) }
-{
-    match own {
-        Some(facts) => Ok(NameList::of(provided_keys(alloc, facts, part)?)),
-        None => Ok(NameList::new(alloc)),
-    }
+    let required = required_by(alloc, closure.record(), &part)?;
+    Ok((part, required))
 }
 
 /// The keys of the rows that a class requires by its record; none where it has none.

@@ -130,11 +130,11 @@ impl Linkage {
 
     /// The rows that the classes provide. No memory.
     pub fn provided(&self) -> Provided<'_>
-        ensures { HasPlainRows self.now → (classes : List Class) → AreHeldClasses self.now classes → AreRows result (GivesRow provided_rows classes) }
+        ensures { (classes : List Class) → AreHeldClasses self.now classes → AreRows result (GivesRow provided_rows classes) }
     {
         Provided {
-            kept: self.kept.iter(),
-            keys: [].iter(),
+            classes: self.classes(),
+            rows: None,
         }
     }
 

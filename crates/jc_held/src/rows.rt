@@ -2,32 +2,30 @@
 
 ghost use Rattle.std.specs.Iterator.{YieldsFirstBy, item_count};
 ghost use Rattle.jc_report.specs.RowView.{row_lent};
+ghost use Rattle.jc_held.specs.inside.Lending.{rows_left};
 
-use crate::kept::Kept;
-use jc_base::byte_map;
+use crate::classes::Classes;
 use jc_index::Keys;
-use jc_report::Row;
+use jc_report::{ProvidedRows, Row, provided_in_order};
 use std::marker::Model;
-use std::slice;
 
-/// The rows that the classes of a [`crate::Linkage`] provide, in their order, seen as the list of those that are left.
+/// The rows that the classes of a [`crate::Linkage`] provide, in their order, lent from what is kept of their
+/// files, seen as the list of those that are left.
 #[derive(Drop)]
 pub struct Provided<'a> {
-    pub(crate) kept: byte_map::Iter<'a, Kept>,
-    pub(crate) keys: slice::Iter<'a, Vec<u8>>,
+    pub(crate) classes: Classes<'a>,
+    /// Those of one class.
+    pub(crate) rows: Option<ProvidedRows<'a>>,
 }
 
 impl<'a> Model for Provided<'a> {
-    ghost use Rattle.std.specs.Prelude.{◌++◌, List, map};
-    ghost use Rattle.std.specs.Slice.Iter.{iter_rest};
-    ghost use Rattle.jc_classes.specs.Names.{names_of};
-    ghost use Rattle.jc_report.specs.RowKeys.{row_of};
-    ghost use Rattle.jc_report.specs.Rows as rows;
-    ghost use Rattle.jc_held.specs.inside.Lending.{provided_in};
+    ghost use Rattle.std.specs.Prelude.{◌++◌, List};
+    ghost use Rattle.jc_report.specs.Rows.{Row};
+    ghost use Rattle.jc_held.specs.inside.Lending.{provided_in, rows_left};
 
-    ghost Value = { List rows.Row };
+    ghost Value = { List Row };
 
-    ghost view = { λ a. map row_of (names_of (iter_rest a.keys) ++ provided_in a.kept) };
+    ghost view = { λ a. rows_left a.rows ++ provided_in a.classes };
 }
 
 impl<'a> Iterator for Provided<'a> {
@@ -39,12 +37,22 @@ impl<'a> Iterator for Provided<'a> {
 
     fn next(&mut self) -> Option<Row<'a>> {
         loop {
-            if let Some(key) = self.keys.next() {
-                return Some(Row::of_key(key));
+            if let Some(row) = next_row(&mut self.rows) {
+                return Some(row);
             }
-            let (_, kept) = self.kept.next()?;
-            self.keys = kept.provided.names().iter();
+            let class = self.classes.next()?;
+            self.rows = Some(provided_in_order(class.facts, class.part));
         }
+    }
+}
+
+/// The next of some rows, if there are any.
+fn next_row<'a>(rows: &mut Option<ProvidedRows<'a>>) -> Option<Row<'a>>
+    ensures { YieldsFirstBy row_lent rows_left rows.old result rows.new }
+{
+    match rows {
+        Some(rows) => rows.next(),
+        None => None,
     }
 }
 

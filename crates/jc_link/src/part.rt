@@ -1,7 +1,7 @@
 //! What is found of a class: how it loads, whether it is circular, its faults, and the answers to its
 //! references.
 
-ghost use Rattle.std.specs.Prelude.{◌≡◌, ◌<◌, ◌≤◌, ℕ, length, map, Some, option_map, IfOk, OnErr, OnOk};
+ghost use Rattle.std.specs.Prelude.{◌≡◌, ◌<◌, ◌≤◌, ℕ, [], length, map, Some, option_map, IfOk, OnErr, OnOk};
 ghost use Rattle.std.specs.Bool.{Decides};
 ghost use Rattle.std.specs.List.{Contains};
 ghost use Rattle.jc_classes.specs.Facts.{Reference};
@@ -15,24 +15,26 @@ ghost use Rattle.jc_resolve.specs.Answers.{loading_of};
 ghost use Rattle.jc_resolve.specs.Numbered.{Agrees, record_of};
 ghost use Rattle.jc_link.specs.Closures.{IsClosure};
 ghost use Rattle.jc_link.specs.Meters.{counted};
+ghost use Rattle.std.specs.Option.{option_map_or};
 
 use crate::closure::Closure;
 use crate::meter::Meter;
 use jc_base::NoMemory;
-use jc_classes::Standing;
+use jc_classes::{Faults, Standing};
 use jc_code::CodeFault;
 use jc_file::Fault;
 use jc_resolve::{Answers, Hierarchy, Loading};
 use std::alloc::Global;
 use std::marker::Model;
+use std::rc::Rc;
 
 /// What is found of a class. A name without a record has how it loads, and nothing else.
 #[derive(Drop)]
 pub struct Part {
     circular: bool,
     load: Loading,
-    format_faults: Vec<Fault>,
-    code_faults: Vec<(usize, CodeFault)>,
+    /// Those of its facts, where it has a record.
+    faults: Option<Rc<Faults>>,
     answers: Answers,
 }
 
@@ -65,14 +67,20 @@ impl Part {
     pub fn format_faults(&self) -> &[Fault]
         ensures { result.now ≡ self.now.format_faults }
     {
-        self.format_faults.as_slice()
+        match &self.faults {
+            Some(faults) => faults.as_ref().format.as_slice(),
+            None => &[],
+        }
     }
 
     /// The faults of its methods' code, each with the number of the method.
     pub fn code_faults(&self) -> &[(usize, CodeFault)]
         ensures { result.now ≡ self.now.code_faults }
     {
-        self.code_faults.as_slice()
+        match &self.faults {
+            Some(faults) => faults.as_ref().code.as_slice(),
+            None => &[],
+        }
     }
 
     /// The answer to each of its references, in their order (JVMS 5.4.3).
@@ -126,38 +134,24 @@ fn first_part(
     ensures format_faults { IfOk result (λ p. p.format_faults ≡ format_faults_of (stands_of own.entry)) }
     ensures code_faults { IfOk result (λ p. p.code_faults ≡ code_faults_of (stands_of own.entry)) }
 {
-    let format_faults = copy_format_faults(alloc, own)?;
-    let code_faults = copy_code_faults(alloc, own)?;
+    let faults = share_faults(own)?;
     let load = hierarchy.loading(alloc, 0)?;
     let answers = hierarchy.answers(alloc, 0, references)?;
     Ok(Part {
         circular: hierarchy.is_circular(0),
         load,
-        format_faults,
-        code_faults,
+        faults,
         answers,
     })
 }
 
-/// The format faults of what stands at a name.
-fn copy_format_faults(alloc: Global, standing: Standing<'_>) -> Result<Vec<Fault>, NoMemory>
-    ensures { IfOk result (λ faults. faults.items ≡ format_faults_of (stands_of standing.entry)) }
+/// The faults of what stands at a name.
+fn share_faults(standing: Standing<'_>) -> Result<Option<Rc<Faults>>, NoMemory>
+    ensures format { IfOk result (λ faults. option_map_or (λ f. f.value.format.items) faults [] ≡ format_faults_of (stands_of standing.entry)) }
+    ensures code { IfOk result (λ faults. option_map_or (λ f. f.value.code.items) faults [] ≡ code_faults_of (stands_of standing.entry)) }
 {
     match standing {
-        Standing::Class(facts) => Ok(Vec::from_slice(alloc, facts.format_faults())?),
-        _ => Ok(Vec::new(alloc)),
-    }
-}
-
-/// The faults of the code of what stands at a name.
-fn copy_code_faults(
-    alloc: Global,
-    standing: Standing<'_>,
-) -> Result<Vec<(usize, CodeFault)>, NoMemory>
-    ensures { IfOk result (λ faults. faults.items ≡ code_faults_of (stands_of standing.entry)) }
-{
-    match standing {
-        Standing::Class(facts) => Ok(Vec::from_slice(alloc, facts.code_faults())?),
-        _ => Ok(Vec::new(alloc)),
+        Standing::Class(facts) => Ok(Some(facts.shared_faults()?)),
+        _ => Ok(None),
     }
 }

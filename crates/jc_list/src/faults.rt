@@ -11,7 +11,7 @@ ghost use Rattle.jc_list.specs.inside.Fronts.{Lists};
 
 use crate::texts::{write_number, write_number_behind};
 use jc_base::{NoMemory, Output};
-use jc_code::{CodeFault, faults_in, method_code};
+use jc_code::{CodeFault, TextSizes, faults_in, method_code};
 use jc_file::{Fault, format_faults};
 use jc_text::TextWriter;
 use jc_view::{ClassView, Member};
@@ -51,9 +51,22 @@ pub(crate) fn write_code_faults<W: Output>(
     ensures lists { Lists W.written W.failures result out.old out.new (flat_map code_fault_line (code_faults class.now)) }
     ensures some { IfOk result (λ some. some ≡ not (length (code_faults class.now) == 0)) }
 {
+    let sizes = TextSizes::of(alloc, class)?;
+    write_faults_by_method(alloc, out, &sizes)
+}
+
+/// The faults of each method's code, and whether there is one.
+fn write_faults_by_method<W: Output>(
+    alloc: Global,
+    out: &mut TextWriter<'_, W>,
+    sizes: &TextSizes,
+) -> Result<bool, NoMemory>
+    ensures lists { Lists W.written W.failures result out.old out.new (flat_map code_fault_line (code_faults sizes.now)) }
+    ensures some { IfOk result (λ some. some ≡ not (length (code_faults sizes.now) == 0)) }
+{
     let mut some = false;
-    for (number, method) in class.methods().enumerate() {
-        some |= write_method_faults(alloc, out, class, &method, number)?;
+    for (number, method) in sizes.class().methods().enumerate() {
+        some |= write_method_faults(alloc, out, sizes, &method, number)?;
     }
     Ok(some)
 }
@@ -62,19 +75,19 @@ pub(crate) fn write_code_faults<W: Output>(
 fn write_method_faults<W: Output>(
     alloc: Global,
     out: &mut TextWriter<'_, W>,
-    class: &ClassView,
+    sizes: &TextSizes,
     method: &Member,
     number: usize,
 ) -> Result<bool, NoMemory>
-    requires class { method.now.class ≡ class.now }
+    requires class { method.now.class ≡ sizes.now }
     requires holder { method.now.member.holder ≡ holders.Method }
-    ensures lists { Lists W.written W.failures result out.old out.new (flat_map code_fault_line (map (λ fault. (number, fault)) (method_faults class.now method.now.member.member))) }
-    ensures some { IfOk result (λ some. some ≡ not (length (method_faults class.now method.now.member.member) == 0)) }
+    ensures lists { Lists W.written W.failures result out.old out.new (flat_map code_fault_line (map (λ fault. (number, fault)) (method_faults sizes.now method.now.member.member))) }
+    ensures some { IfOk result (λ some. some ≡ not (length (method_faults sizes.now method.now.member.member) == 0)) }
 {
     let Some(code) = method_code(method) else {
         return Ok(false);
     };
-    let faults = faults_in(alloc, class, &code)?;
+    let faults = faults_in(alloc, sizes, &code)?;
     for fault in &faults {
         write_code_fault_line(out, number, *fault);
     }

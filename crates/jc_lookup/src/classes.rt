@@ -1,18 +1,18 @@
 //! The classes of a reach, by numbers.
 
-ghost use Rattle.std.specs.Prelude.{◌≡◌, ◌<◌, ◌++◌, length, OnOk, option_map, reverse};
+ghost use Rattle.std.specs.Prelude.{◌≡◌, ◌<◌, ◌++◌, length, map, OnOk, option_map, reverse};
 ghost use Rattle.std.specs.List.{All};
 ghost use Rattle.jc_classes.specs.Lent.{key_lent, member_lent, stands_of};
 ghost use Rattle.jc_classes.specs.MethodLookup.{declared, of_object};
-ghost use Rattle.jc_classes.specs.Names.{object as java_lang_object, package_of, same_name};
+ghost use Rattle.jc_classes.specs.Names.{names_of, object as java_lang_object, package_of, same_name};
 ghost use Rattle.jc_classes.specs.Worlds.{member, fields_of, methods_of, flags_of};
 ghost use Rattle.jc_graph.specs.Graph.{ups_of};
 ghost use Rattle.jc_graph.specs.Seen.{TellsAbove};
 ghost use Rattle.jc_lookup.specs.inside.Indexed.{filled, name_at, record_at, super_at, supers_before, onward_row, IsGraph};
+ghost use Rattle.jc_lookup.specs.inside.Packages.{package_end};
 ghost use Rattle.jc_lookup.specs.inside.Picks.{gives};
 ghost use Rattle.jc_lookup.specs.inside.Settled.{lies_outside};
 
-use crate::packages::package;
 use crate::polymorphic::declared;
 use jc_base::NoMemory;
 use jc_classes::{Key, Member, Standing, same};
@@ -35,10 +35,13 @@ pub struct Classes<'c, 't> {
     pub rank: Vec<usize>,
     /// Whether each loads or is outside.
     pub good: Vec<bool>,
+    /// Where the package of each name ends.
+    pub package_ends: Vec<usize>,
     pub ghost names_size: { length names.now ≡ length standing.now },
     pub ghost rows_size: { length ups.now ≡ length standing.now },
     pub ghost object_within: { object < length standing.now },
     pub ghost object_name: { name_at (filled names.now standing.now ups.now rank.items good.items) object ≡ java_lang_object },
+    pub ghost packages: { package_ends.items ≡ map package_end (names_of names.now) },
     pub ghost graph: { IsGraph (length standing.now) (filled names.now standing.now ups.now rank.items good.items) },
 }
 
@@ -85,7 +88,17 @@ impl<'c, 't> Classes<'c, 't> {
     pub(crate) fn are_together(&self, node: usize, other: usize) -> bool
         ensures { result ≡ same_name (package_of (name_at (indexed_of self.now) node)) (package_of (name_at (indexed_of self.now) other)) }
     {
-        same(package(self.name(node)), package(self.name(other)))
+        same(self.package(node), self.package(other))
+    }
+
+    /// The package of a node's name.
+    fn package(&self, node: usize) -> &[u8]
+        ensures { result.now ≡ package_of (name_at (indexed_of self.now) node) }
+    {
+        match self.package_ends.get(node) {
+            Some(end) => &self.name(node)[..*end],
+            None => &[],
+        }
     }
 
     /// What stands at a node.

@@ -22,17 +22,13 @@ pub(crate) fn declared<'a>(facts: &'a Facts, class: &[u8], key: Key) -> Option<M
 fn find_polymorphic<'a>(facts: &'a Facts, class: &[u8], name: &[u8]) -> Option<Member<'a>>
     ensures { option_map member_lent result ≡ polymorphic class.now facts.now.methods name.now }
 {
-    if !same(class, b"java/lang/invoke/MethodHandle") || facts.count_named(name) != 1 {
+    if !same(class, b"java/lang/invoke/MethodHandle") {
         return None;
     }
-    match facts.first_named(name) {
-        Some(member) => {
-            if member.is_polymorphic() {
-                Some(member)
-            } else {
-                None
-            }
-        }
-        None => None,
+    let member = facts.sole_named(name)?;
+    if member.is_polymorphic() {
+        Some(member)
+    } else {
+        None
     }
 }

@@ -2,6 +2,8 @@ pub mod RowOrder
 pub mod RowsAreOne
 pub mod DerivedRowOrder
 pub mod SortedRows
-pub mod MemberRows
+pub mod ReferenceRows
 pub mod RisingLists
+pub mod KeysInOrder
+pub mod ProvidedInOrder
 pub mod OwnRows

@@ -1,13 +1,19 @@
 -- A row as one string of bytes.
-use Rattle.std.specs.Prelude.{◌≡◌, ℕ, ◌==◌, Bool, false, List, [], ◌∷◌, ◌++◌, drop, if◌then◌else◌, slice_index_or}
+use Rattle.std.specs.Prelude.{◌≡◌, ℕ, ◌==◌, Bool, false, List, [], ◌∷◌, ◌++◌, drop, if◌then◌else◌, map, slice_index_or}
 use Rattle.std.specs.List.{list_any}
 use Rattle.jc_classes.specs.declared.reference_kind.ReferenceKind.{ReferenceKind}
 use Rattle.jc_classes.specs.declared.reference_kind.ReferenceKind.TheVariants as kinds
-use Rattle.jc_report.specs.Rows.{Row, kind_number}
+use Rattle.jc_report.specs.Rows.{AreRows, Row, kind_number}
 
 -- the class, a byte 0, the kind, the name, a byte 0 and the descriptor
 abbrev pub row_key : Row → List ℕ
 row_key row = row.class ++ 0 ∷ kind_number row.kind ∷ row.key.name ++ 0 ∷ row.key.descriptor
+
+-- the keys of the rows of which P holds, each once
+pub record AreRowKeys (keys : List (List ℕ)) (P : Row → Type 0) : Type 0 where
+  pub rows : List Row
+  pub are : AreRows rows P
+  pub same : keys ≡ map row_key rows
 
 abbrev pub has_zero : List ℕ → Bool
 has_zero bytes = list_any (λ b. b == 0) bytes

@@ -1,4 +1,5 @@
 pub mod Kept
+pub mod MemberRows
 pub mod Naming
 pub mod Outcomes
 pub mod ReportShown

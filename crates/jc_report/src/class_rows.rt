@@ -1,12 +1,11 @@
 //! The rows that a class gives.
 
-ghost use Rattle.std.specs.Prelude.{◌≡◌, ◌++◌, OnOk, map};
-ghost use Rattle.std.specs.List.{filter};
+ghost use Rattle.std.specs.Prelude.{◌≡◌, ◌&&◌, ◌++◌, OnOk, map};
+ghost use Rattle.jc_rules.specs.AccessFlags.{has, public};
 ghost use Rattle.jc_classes.specs.Lent.{member_lent, reference_lent};
-ghost use Rattle.jc_classes.specs.declared.reference_kind.ReferenceKind.TheVariants as kinds;
 ghost use Rattle.jc_resolve.specs.Answers.{answer_of, loading_of};
 ghost use Rattle.jc_report.specs.ClassRows as class_rows;
-ghost use Rattle.jc_report.specs.ClassRows.{is_loaded, is_missing, is_open, is_open_method, member_row, provided_rows, reference_row, required_rows};
+ghost use Rattle.jc_report.specs.ClassRows.{is_loaded, is_missing, is_open, is_open_method, reference_row, required_rows};
 ghost use Rattle.jc_report.specs.RowView.{row_lent};
 
 use crate::row::Row;
@@ -16,20 +15,11 @@ use jc_file::AccessFlag;
 use jc_link::Part;
 use jc_resolve::{Answer, Loading};
 
-/// Adds what a class provides, in file order.
-pub(crate) fn push_provided<'t>(
-    rows: &mut Vec<Row<'t>>,
-    facts: &'t Facts,
-    part: &Part,
-) -> Result<(), NoMemory>
-    ensures { OnOk result (map row_lent rows.new.items ≡ map row_lent rows.old.items ++ provided_rows facts.now part.now) }
+/// Whether a class provides rows: it is public and loads.
+pub(crate) fn provides(facts: &Facts, part: &Part) -> bool
+    ensures { result ≡ (is_loaded part.now.load && has facts.now.flags public) }
 {
-    if !is_loaded(part.load()) || !AccessFlag::Public.is_in(facts.flags()) {
-        return Ok(());
-    }
-    rows.push(class_row(facts.name()))?;
-    push_fields(rows, facts)?;
-    push_methods(rows, facts)
+    is_loaded(part.load()) && AccessFlag::Public.is_in(facts.flags())
 }
 
 fn is_loaded(load: &Loading) -> bool
@@ -41,7 +31,7 @@ fn is_loaded(load: &Loading) -> bool
     }
 }
 
-fn class_row(class: &[u8]) -> Row<'_>
+pub(crate) fn class_row(class: &[u8]) -> Row<'_>
     ensures { row_lent result ≡ class_rows.class_row class.now }
 {
     Row {
@@ -52,52 +42,15 @@ fn class_row(class: &[u8]) -> Row<'_>
     }
 }
 
-fn member_row<'t>(class: &'t [u8], kind: ReferenceKind, member: Member<'t>) -> Row<'t>
-    ensures { row_lent result ≡ member_row class.now kind (member_lent member.entry) }
-{
-    Row {
-        class,
-        kind,
-        name: member.name,
-        descriptor: member.descriptor,
-    }
-}
-
-fn push_fields<'t>(rows: &mut Vec<Row<'t>>, facts: &'t Facts) -> Result<(), NoMemory>
-    ensures { OnOk result (map row_lent rows.new.items ≡ map row_lent rows.old.items ++ map (member_row facts.now.name kinds.Field) (filter is_open facts.now.fields)) }
-{
-    for number in 0..facts.field_count() {
-        if let Some(field) = facts.own_field(number)
-            && is_open(field)
-        {
-            rows.push(member_row(facts.name(), ReferenceKind::Field, field))?;
-        }
-    }
-    Ok(())
-}
-
-fn push_methods<'t>(rows: &mut Vec<Row<'t>>, facts: &'t Facts) -> Result<(), NoMemory>
-    ensures { OnOk result (map row_lent rows.new.items ≡ map row_lent rows.old.items ++ map (member_row facts.now.name kinds.Method) (filter is_open_method facts.now.methods)) }
-{
-    for number in 0..facts.method_count() {
-        if let Some(method) = facts.own_method(number)
-            && is_open_method(method)
-        {
-            rows.push(member_row(facts.name(), ReferenceKind::Method, method))?;
-        }
-    }
-    Ok(())
-}
-
 /// Whether a member is seen outside its package.
-fn is_open(member: Member<'_>) -> bool
+pub(crate) fn is_open(member: Member<'_>) -> bool
     ensures { result ≡ is_open (member_lent member.entry) }
 {
     member.has(AccessFlag::Public) || member.has(AccessFlag::Protected)
 }
 
 /// The same of a method that is not `<clinit>`.
-fn is_open_method(method: Member<'_>) -> bool
+pub(crate) fn is_open_method(method: Member<'_>) -> bool
     ensures { result ≡ is_open_method (member_lent method.entry) }
 {
     is_open(method) && !same(method.name, b"<clinit>")

@@ -1,6 +1,6 @@
 //! The report of a tree of class files.
 
-ghost use Rattle.std.specs.Prelude.{◌≡◌, ◌≤◌, [], IfOk, OnOk, length, map};
+ghost use Rattle.std.specs.Prelude.{◌≡◌, ◌≤◌, ◌++◌, [], IfOk, OnOk, length, map};
 ghost use Rattle.std.specs.List.{filter, list_any};
 ghost use Rattle.std.specs.List.Sorted.{IsStrictlySortedBy};
 ghost use Rattle.jc_classes.specs.Names.{name_cmp};
@@ -18,8 +18,9 @@ ghost use Rattle.jc_report.specs.RowView.{row_lent};
 ghost use Rattle.jc_report.specs.Trees.{IsTree};
 ghost use Rattle.jc_report.specs.inside.ReportShown.{AreClasses};
 
-use crate::class_rows::{push_provided, push_required};
+use crate::class_rows::push_required;
 use crate::file_row::{FileRow, FileState};
+use crate::provided_rows::{ProvidedRows, provided_in_order};
 use crate::row::Row;
 use crate::row_set::put_in_order;
 use crate::tree::Tree;
@@ -133,7 +134,7 @@ impl<'t> Report<'t> {
     {
         fill_files(&mut self.files, tree, meter)?;
         fill_classes(&mut self.classes, alloc, tree, outside, meter)?;
-        fill_provided(&mut self.provided, alloc, &self.classes)?;
+        fill_provided(&mut self.provided, &self.classes)?;
         fill_required(&mut self.required, &self.classes)
     }
 
@@ -231,21 +232,23 @@ fn part_of(
     make_part(alloc, &closure, meter)
 }
 
-/// What the classes provide, which rise by name: each one's rows are put in order by themselves.
-fn fill_provided<'t>(
-    rows: &mut Vec<Row<'t>>,
-    alloc: Global,
-    classes: &[Class<'t>],
-) -> Result<(), NoMemory>
+/// What the classes provide, which rise by name.
+fn fill_provided<'t>(rows: &mut Vec<Row<'t>>, classes: &[Class<'t>]) -> Result<(), NoMemory>
     requires { map row_lent rows.old.items ≡ [] }
     ensures { IsStrictlySortedBy name_cmp (map name_of classes.now) → OnOk result (AreRows (map row_lent rows.new.items) (GivesRow provided_rows classes.now)) }
 {
-    let mut own = Vec::new(alloc);
     for class in classes {
-        own.clear();
-        push_provided(&mut own, class.facts, &class.part)?;
-        put_in_order(&mut own);
-        rows.extend_from_slice(&own)?;
+        push_all(rows, provided_in_order(class.facts, &class.part))?;
+    }
+    Ok(())
+}
+
+/// Adds the rows of a class.
+fn push_all<'t>(rows: &mut Vec<Row<'t>>, own: ProvidedRows<'t>) -> Result<(), NoMemory>
+    ensures { OnOk result (map row_lent rows.new.items ≡ map row_lent rows.old.items ++ own.entry) }
+{
+    for row in own {
+        rows.push(row)?;
     }
     Ok(())
 }

@@ -1,34 +1,28 @@
 //! A row as one string of bytes, whose order is that of rows.
 
 ghost use Rattle.std.specs.Prelude.{◌≡◌, ◌++◌, ◌∷◌, [], IfOk, OnOk, List, map};
+ghost use Rattle.std.specs.List.{Contains};
 ghost use Rattle.jc_classes.specs.Names.{names_of};
-ghost use Rattle.jc_report.specs.ClassRows.{provided_rows, required_rows};
-ghost use Rattle.jc_report.specs.RowKeys.{after_zero, before_zero, kind_of, row_key, row_of};
+ghost use Rattle.jc_report.specs.ClassRows.{required_rows};
+ghost use Rattle.jc_report.specs.RowKeys.{AreRowKeys, after_zero, before_zero, kind_of, row_key, row_of};
 ghost use Rattle.jc_report.specs.Rows.{kind_number};
 ghost use Rattle.jc_report.specs.RowView.{row_lent};
 
-use crate::class_rows::{push_provided, push_required};
+use crate::class_rows::push_required;
 use crate::row::Row;
+use crate::row_set::put_in_order;
 use jc_base::NoMemory;
 use jc_classes::{Facts, ReferenceKind};
 use jc_link::Part;
 use std::alloc::Global;
 
-/// The keys of the rows that a class provides.
-pub fn provided_keys(alloc: Global, facts: &Facts, part: &Part) -> Result<Vec<Vec<u8>>, NoMemory>
-    ensures { IfOk result (λ keys. names_of keys.items ≡ map row_key (provided_rows facts.now part.now)) }
-{
-    let mut rows = Vec::new(alloc);
-    push_provided(&mut rows, facts, part)?;
-    row_keys(alloc, &rows)
-}
-
-/// The keys of the rows that a class requires.
+/// The keys of the rows that a class requires, each once.
 pub fn required_keys(alloc: Global, facts: &Facts, part: &Part) -> Result<Vec<Vec<u8>>, NoMemory>
-    ensures { IfOk result (λ keys. names_of keys.items ≡ map row_key (required_rows facts.now part.now)) }
+    ensures { IfOk result (λ keys. AreRowKeys (names_of keys.items) (Contains (required_rows facts.now part.now))) }
 {
     let mut rows = Vec::new(alloc);
     push_required(&mut rows, facts, part)?;
+    put_in_order(&mut rows);
     row_keys(alloc, &rows)
 }
 
@@ -67,7 +61,7 @@ fn kind_byte(kind: ReferenceKind) -> u8
 }
 
 impl<'a> Row<'a> {
-    /// The row of a key that [`provided_keys`] or [`required_keys`] made.
+    /// The row of a key that [`required_keys`] made.
     pub fn of_key(key: &'a [u8]) -> Row<'a>
         ensures { row_lent result ≡ row_of key.now }
     {

@@ -1,5 +1,9 @@
+pub mod Alike
+pub mod Asking
 pub mod Begins
-pub mod Making
-pub mod Texts
-pub mod Lists
 pub mod Entries
+pub mod Keys
+pub mod Lists
+pub mod Making
+pub mod Numbers
+pub mod Texts

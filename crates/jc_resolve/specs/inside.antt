@@ -1,8 +1,10 @@
-pub mod AnswersShown
+pub mod Answered
 pub mod Chain
+pub mod Entries
 pub mod Loaded
 pub mod Loading
 pub mod Looking
+pub mod Naming
 pub mod Net
 pub mod Picks
 pub mod Resolved

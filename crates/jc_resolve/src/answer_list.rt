@@ -1,73 +1,139 @@
 //! Answers in the order of their references.
 
-ghost use Rattle.std.specs.Prelude.{◌≡◌, ◌<◌, ◌+◌, ◌++◌, ◌∷◌, [], Some, length, slice_get, IfOk, OnErr, OnOk};
+ghost use Rattle.std.specs.Prelude.{◌≡◌, ◌<◌, ℕ, [], Some, length, option_map, slice_get, IfOk, OnOk};
+ghost use Rattle.jc_classes.specs.Facts.{Reference as Refers};
+ghost use Rattle.jc_classes.specs.Lent.{reference_lent};
+ghost use Rattle.jc_classes.specs.Names.{Name};
+ghost use Rattle.jc_lookup.specs.inside.Indexed.{name_at};
+ghost use Rattle.jc_lookup.specs.inside.Shown.{indexed_of};
 ghost use Rattle.jc_resolve.specs.Answers.{answer_of};
-ghost use Rattle.jc_resolve.specs.inside.AnswersShown.{IsFront, IsWithin, entry_shown};
+ghost use Rattle.jc_resolve.specs.inside.Entries.{IsFront, IsWithin, entries_shown, entry_shown, text_at};
+ghost use Rattle.jc_resolve.specs.inside.Naming.{AreNames, AreSame, IsNumberOf, references_in};
 
 use crate::answers::Answer;
+use crate::entry::Entry;
 use jc_base::NoMemory;
-use jc_classes::{Key, LinkageError, TextList};
+use jc_classes::{Key, Reference, References, TextList};
+use jc_lookup::Classes;
 use std::alloc::Global;
 use std::marker::Model;
 
-/// The answers to the references of a class, in their order. Their texts stand in one list.
+/// The answers to the references of a class, in their order. The texts of the references are those of the
+/// class's facts, and each name of another class stands once.
 #[derive(Drop)]
 pub struct Answers {
-    texts: TextList,
+    references: Option<References>,
+    names: TextList,
+    /// The answer to each reference, by the numbers of names.
     entries: Vec<Entry>,
 }
 
-/// An answer by the numbers of its texts.
-#[derive(Clone, Copy)]
-pub(crate) enum Entry {
-    ToClass(usize),
-    /// The member's descriptor has this number, and its class and its name have the two before.
-    ToMember(usize),
-    Outside(usize),
-    NotLoaded,
-    Error(LinkageError, usize),
-}
-
 impl Model for Answers {
-    ghost use Rattle.std.specs.Prelude.{List, length, map};
-    ghost use Rattle.std.specs.List.{All};
+    ghost use Rattle.std.specs.Prelude.{◌≡◌, List, length};
     ghost use Rattle.jc_classes.specs.Resolution as specs;
-    ghost use Rattle.jc_resolve.specs.inside.AnswersShown.{IsWithin, entry_shown};
+    ghost use Rattle.jc_resolve.specs.inside.Entries.{entries_shown, text_at};
+    ghost use Rattle.jc_resolve.specs.inside.Naming.{references_in};
 
     ghost Value = { List specs.Answer };
 
-    ghost view = { λ a. map (entry_shown a.texts) a.entries.items };
+    ghost view = { λ a. entries_shown (text_at a.names) (references_in a.references) a.entries.items };
 
-    ghost invariant = { λ a. All (IsWithin (length a.texts)) a.entries.items };
+    ghost invariant = { λ a. length a.entries.items ≡ length (references_in a.references) };
+}
+
+/// Names of classes, each once, by numbers of their own.
+#[derive(Drop)]
+struct Naming {
+    texts: TextList,
+    /// The number of the name of each class, by the number of the class, once it was asked for.
+    numbers: Vec<Option<usize>>,
+}
+
+impl Naming {
+    /// None yet, of so many classes.
+    fn new(alloc: Global, count: usize) -> Result<Naming, NoMemory>
+        ensures { (name : ℕ → Name) → IfOk result (AreNames name) }
+    {
+        Ok(Naming {
+            texts: TextList::new(alloc),
+            numbers: vec![in alloc; None; count]?,
+        })
+    }
+
+    /// The number of the name of a class.
+    fn number(&mut self, classes: &Classes, node: usize) -> Result<usize, NoMemory>
+        requires { AreNames (name_at (indexed_of classes.now)) self.old }
+        ensures names { OnOk result (AreNames (name_at (indexed_of classes.now)) self.new) }
+        ensures front { OnOk result (IsFront self.old.texts self.new.texts) }
+        ensures number { IfOk result (IsNumberOf self.new.texts (name_at (indexed_of classes.now) node)) }
+    {
+        match known(&self.numbers, node) {
+            Some(number) => Ok(number),
+            None => self.add(classes, node),
+        }
+    }
+
+    /// The same of a class whose name has none.
+    fn add(&mut self, classes: &Classes, node: usize) -> Result<usize, NoMemory>
+        requires { AreNames (name_at (indexed_of classes.now)) self.old }
+        ensures names { OnOk result (AreNames (name_at (indexed_of classes.now)) self.new) }
+        ensures front { OnOk result (IsFront self.old.texts self.new.texts) }
+        ensures number { IfOk result (IsNumberOf self.new.texts (name_at (indexed_of classes.now) node)) }
+    {
+        let number = self.texts.len();
+        self.texts.push(classes.name(node))?;
+        if node < self.numbers.len() {
+            self.numbers[node] = Some(number);
+        }
+        Ok(number)
+    }
+
+    /// An answer by the numbers of names.
+    fn entry(&mut self, classes: &Classes, entry: Entry) -> Result<Entry, NoMemory>
+        requires { AreNames (name_at (indexed_of classes.now)) self.old }
+        ensures names { OnOk result (AreNames (name_at (indexed_of classes.now)) self.new) }
+        ensures front { OnOk result (IsFront self.old.texts self.new.texts) }
+        ensures within { IfOk result (IsWithin (length self.new.texts)) }
+        ensures same { IfOk result (λ named. (r : Refers) → entry_shown (text_at self.new.texts) r named ≡ entry_shown (name_at (indexed_of classes.now)) r entry) }
+    {
+        match entry {
+            Entry::ToMember(node) => Ok(Entry::ToMember(self.number(classes, node)?)),
+            Entry::ToPolymorphic(node) => Ok(Entry::ToPolymorphic(self.number(classes, node)?)),
+            Entry::Outside(node) => Ok(Entry::Outside(self.number(classes, node)?)),
+            Entry::Error(error, node) => Ok(Entry::Error(error, self.number(classes, node)?)),
+            Entry::ToClass | Entry::NotLoaded | Entry::OwnError(_) => Ok(entry),
+        }
+    }
 }
 
 impl Answers {
-    /// None, with room for so many.
-    pub(crate) fn new(alloc: Global, count: usize) -> Result<Answers, NoMemory>
-        ensures { IfOk result (λ answers. answers ≡ []) }
-    {
-        let texts = TextList::with_room(alloc, count.saturating_mul(2), count.saturating_mul(40))?;
-        let entries = Vec::with_capacity(alloc, count)?;
-        Ok(Answers { texts, entries })
-    }
-
-    /// Puts an answer behind the others.
-    pub(crate) fn push(&mut self, answer: Answer<'_>) -> Result<(), NoMemory>
-        ensures { OnOk result (self.new ≡ self.old ++ answer_of answer.entry ∷ []) }
-    {
-        let entry = keep(&mut self.texts, answer)?;
-        self.entries.push(entry)?;
-        Ok(())
-    }
-
-    /// The answers with no room to spare. No memory.
-    pub(crate) fn fitted(self) -> Answers
-        ensures { result ≡ self }
+    /// None, of a name without a record.
+    pub(crate) fn none(alloc: Global) -> Answers
+        ensures { result ≡ [] }
     {
         Answers {
-            texts: self.texts.fitted(),
-            entries: self.entries,
+            references: None,
+            names: TextList::new(alloc),
+            entries: Vec::new(alloc),
         }
+    }
+
+    /// The answers to these references, of which each stands by the numbers of classes.
+    pub(crate) fn of(
+        alloc: Global,
+        classes: &Classes,
+        references: References,
+        entries: &[Entry],
+    ) -> Result<Answers, NoMemory>
+        requires { length entries.now ≡ length references }
+        ensures { IfOk result (λ answers. answers ≡ entries_shown (name_at (indexed_of classes.now)) references entries.now) }
+    {
+        let named = name_entries(alloc, classes, entries)?;
+        Ok(Answers {
+            references: Some(references),
+            names: named.texts.fitted(),
+            entries: named.entries,
+        })
     }
 
     /// How many there are.
@@ -82,63 +148,70 @@ impl Answers {
         requires { number < length self.now }
         ensures { slice_get self.now number ≡ Some (answer_of result) }
     {
-        lend(&self.texts, self.entries[number])
+        match reference_at(&self.references, number) {
+            Some(reference) => lend(&self.names, reference, self.entries[number]),
+            None => Answer::NotLoaded,
+        }
     }
 }
 
-/// Puts a text into a list, and tells its number.
-fn put(texts: &mut TextList, text: &[u8]) -> Result<usize, NoMemory>
-    ensures number { IfOk result (λ number. number ≡ length texts.old) }
-    ensures ok { OnOk result (texts.new ≡ texts.old ++ text.now ∷ []) }
-    ensures err { OnErr result (texts.new ≡ texts.old) }
+/// The number that a class has.
+fn known(numbers: &[Option<usize>], node: usize) -> Option<usize>
+    ensures { (number : ℕ) → result ≡ Some number → slice_get numbers.now node ≡ Some (Some number) }
 {
-    let number = texts.len();
-    texts.push(text)?;
-    Ok(number)
+    *numbers.get(node)?
 }
 
-/// Puts the texts of an answer into a list.
-fn keep(texts: &mut TextList, answer: Answer<'_>) -> Result<Entry, NoMemory>
-    ensures shown { IfOk result (λ entry. entry_shown texts.new entry ≡ answer_of answer.entry) }
-    ensures within { IfOk result (IsWithin (length texts.new)) }
-    ensures front { IsFront texts.old texts.new }
+/// Answers by the numbers of names, and these.
+#[derive(Drop)]
+struct Named {
+    texts: TextList,
+    entries: Vec<Entry>,
+}
+
+/// Numbers the names that answers tell.
+fn name_entries(alloc: Global, classes: &Classes, entries: &[Entry]) -> Result<Named, NoMemory>
+    ensures { IfOk result (λ named. AreSame (text_at named.texts) (name_at (indexed_of classes.now)) named.entries.items entries.now) }
 {
-    match answer {
-        Answer::ToClass(class) => Ok(Entry::ToClass(put(texts, class)?)),
-        Answer::ToMember(class, key) => Ok(Entry::ToMember(put_member(texts, class, key)?)),
-        Answer::Outside(name) => Ok(Entry::Outside(put(texts, name)?)),
-        Answer::NotLoaded => Ok(Entry::NotLoaded),
-        Answer::Error(error, name) => Ok(Entry::Error(error, put(texts, name)?)),
+    let mut names = Naming::new(alloc, classes.len())?;
+    let mut named = Vec::with_capacity(alloc, entries.len())?;
+    for entry in entries {
+        let answer = names.entry(classes, *entry)?;
+        named.push(answer)?;
     }
+    Ok(Named {
+        texts: names.texts,
+        entries: named,
+    })
 }
 
-/// Puts a class and the name and the descriptor of its member into a list, and tells the last number.
-fn put_member(texts: &mut TextList, class: &[u8], key: Key<'_>) -> Result<usize, NoMemory>
-    ensures number { IfOk result (λ number. number ≡ length texts.old + 2) }
-    ensures ok { OnOk result (texts.new ≡ texts.old ++ class.now ∷ key.entry.name.now ∷ key.entry.descriptor.now ∷ []) }
-    ensures front { IsFront texts.old texts.new }
+/// The reference of a number.
+fn reference_at(references: &Option<References>, number: usize) -> Option<Reference<'_>>
+    ensures { option_map reference_lent result ≡ slice_get (references_in references.now) number }
 {
-    texts.push(class)?;
-    texts.push(key.name)?;
-    put(texts, key.descriptor)
+    match references {
+        Some(references) => references.at(number),
+        None => None,
+    }
 }
 
 /// An answer, with its texts.
-fn lend(texts: &TextList, entry: Entry) -> Answer<'_>
-    requires { IsWithin (length texts.now) entry }
-    ensures { answer_of result ≡ entry_shown texts.now entry }
+fn lend<'a>(names: &'a TextList, reference: Reference<'a>, entry: Entry) -> Answer<'a>
+    ensures { answer_of result ≡ entry_shown (text_at names.now) (reference_lent reference.entry) entry }
 {
     match entry {
-        Entry::ToClass(class) => Answer::ToClass(texts.text(class)),
-        Entry::ToMember(descriptor) => {
+        Entry::ToClass => Answer::ToClass(reference.class),
+        Entry::ToMember(class) => Answer::ToMember(names.text(class), reference.key),
+        Entry::ToPolymorphic(class) => {
             let key = Key {
-                name: texts.text(descriptor - 1),
-                descriptor: texts.text(descriptor),
+                name: reference.key.name,
+                descriptor: b"([Ljava/lang/Object;)Ljava/lang/Object;",
             };
-            Answer::ToMember(texts.text(descriptor - 2), key)
+            Answer::ToMember(names.text(class), key)
         }
-        Entry::Outside(name) => Answer::Outside(texts.text(name)),
+        Entry::Outside(name) => Answer::Outside(names.text(name)),
         Entry::NotLoaded => Answer::NotLoaded,
-        Entry::Error(error, name) => Answer::Error(error, texts.text(name)),
+        Entry::Error(error, name) => Answer::Error(error, names.text(name)),
+        Entry::OwnError(error) => Answer::Error(error, reference.class),
     }
 }

@@ -4,7 +4,8 @@ ghost use Rattle.std.specs.Prelude.{◌≡◌, ◌<◌, length, IfOk, OnOk, true
 ghost use Rattle.std.specs.Option.{IfSome};
 ghost use Rattle.jc_classes.specs.Worlds.{World};
 ghost use Rattle.jc_classes.specs.FieldLookup.{FindsField};
-ghost use Rattle.jc_classes.specs.Lent.{key_lent};
+ghost use Rattle.jc_classes.specs.Lent.{key_lent, member_lent};
+ghost use Rattle.jc_resolve.specs.inside.Entries.{IsKeyed};
 ghost use Rattle.jc_lookup.specs.inside.Indexed.{name_at, good_at, IsIndexed};
 ghost use Rattle.jc_lookup.specs.inside.Shown.{indexed_of, found_at};
 
@@ -25,6 +26,7 @@ pub(crate) fn find_field<'a>(
     requires start { start < length classes.now.standing.now }
     requires good { good_at (indexed_of classes.now) start ≡ true }
     requires seen { length seen.old.flags ≡ length classes.now.standing.now }
+    ensures keyed { IfOk result (λ r. IfSome r (λ h. IsKeyed (key_lent key.entry) (member_lent h.member))) }
     ensures within { IfOk result (λ r. IfSome r (λ h. h.node < length classes.now.standing.now)) }
     ensures seen { OnOk result (length seen.new.flags ≡ length classes.now.standing.now) }
     ensures found { IfOk result (λ r. (m : World) → IsIndexed m (indexed_of classes.now) → FindsField m (key_lent key.entry) (name_at (indexed_of classes.now) start) (option_map (found_at (indexed_of classes.now)) r)) }

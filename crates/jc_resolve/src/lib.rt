@@ -6,6 +6,7 @@ mod all_answers;
 mod all_loads;
 mod answer_list;
 mod answers;
+mod entry;
 mod fields;
 mod hierarchy;
 mod loaded;

@@ -12,7 +12,7 @@ use crate::all_loads::{good_all, load_all, rank_all};
 use jc_base::NoMemory;
 use jc_classes::Standing;
 use jc_graph::sort_nodes;
-use jc_lookup::{Classes, Load};
+use jc_lookup::{Classes, Load, package_ends};
 use std::alloc::Global;
 
 /// Classes with how each loads, and whether it is circular.
@@ -55,11 +55,13 @@ pub(crate) fn load_classes<'c, 't>(
         object,
         rank: Vec::new(alloc),
         good: unset(alloc, standing.len())?,
+        package_ends: package_ends(alloc, names)?,
     };
     let sorted = sort_nodes(alloc, ups)?;
     let loads = load_all(alloc, &unloaded, &sorted)?;
     let rank = rank_all(alloc, sorted.order.as_slice(), standing.len())?;
     let good = good_all(alloc, loads.as_slice())?;
+    let Classes { package_ends, .. } = unloaded;
     let classes = Classes {
         names,
         standing,
@@ -67,6 +69,7 @@ pub(crate) fn load_classes<'c, 't>(
         object,
         rank,
         good,
+        package_ends,
     };
     Ok(Loaded {
         classes,

@@ -11,7 +11,9 @@ ghost use Rattle.std.specs.Prelude.{Some};
 ghost use Rattle.jc_classes.specs.Lent.{key_lent};
 ghost use Rattle.jc_lookup.specs.inside.Indexed.{Indexed, name_at, good_at, IsIndexed};
 ghost use Rattle.jc_lookup.specs.inside.Shown.{indexed_of};
+ghost use Rattle.jc_lookup.specs.inside.Above.{Knows};
 ghost use Rattle.jc_lookup.specs.inside.Access.{named_at, IsTarget};
+ghost use Rattle.jc_resolve.specs.inside.Entries.{IsKeyedOutcome};
 ghost use Rattle.jc_resolve.specs.inside.Resolved.{loading_of, begun_of, named_of, element_of, target_at, outcome_of, IsWithinAll, TellsLoads, TellsGood};
 
 use crate::fields::find_field;
@@ -21,7 +23,7 @@ use jc_classes::{Key, LinkageError};
 use jc_file::AccessFlag;
 use jc_graph::Seen;
 use jc_lookup::settle::{Settled, settle};
-use jc_lookup::{Classes, Load, Target, can_see};
+use jc_lookup::{Above, Classes, Load, Target, can_see};
 use std::alloc::Global;
 
 /// What a Class constant names: a class, or an array with its innermost class.
@@ -140,7 +142,8 @@ pub(crate) fn resolve_field<'a>(
     alloc: Global,
     classes: &'a Classes,
     loads: &[Load],
-    seen: &mut Seen,
+    above: &mut Above,
+    covered: &mut Seen,
     class: usize,
     reference: NamedNode,
     key: Key,
@@ -150,17 +153,20 @@ pub(crate) fn resolve_field<'a>(
     requires class_good { good_at (indexed_of classes.now) class ≡ true }
     requires loads { length loads.now ≡ length classes.now.standing.now }
     requires good { TellsGood (indexed_of classes.now) loads.now }
-    requires seen { length seen.old.flags ≡ length classes.now.standing.now }
-    ensures seen { OnOk result (length seen.new.flags ≡ length classes.now.standing.now) }
+    requires above { Knows (length classes.now.standing.now) (indexed_of classes.now) above.old }
+    requires covered { length covered.old.flags ≡ length classes.now.standing.now }
+    ensures above { OnOk result (Knows (length classes.now.standing.now) (indexed_of classes.now) above.new) }
+    ensures keyed { IfOk result (IsKeyedOutcome (key_lent key.entry)) }
+    ensures covered { OnOk result (length covered.new.flags ≡ length classes.now.standing.now) }
     ensures found { IfOk result (λ r. (m : World) (text : Name) → TellsLoads m (indexed_of classes.now) (length classes.now.standing.now) loads.now
         → IsIndexed m (indexed_of classes.now)
         → ResolvesField m (name_at (indexed_of classes.now) class) (named_of (indexed_of classes.now) reference text) (key_lent key.entry) (outcome_of (indexed_of classes.now) (named_of (indexed_of classes.now) reference text) NoField r)) }
 {
     match begin(classes, loads, class, reference) {
         Begun::At(start) => {
-            let found = find_field(alloc, classes, seen, start, key)?;
+            let found = find_field(alloc, classes, covered, start, key)?;
             let target = target_of(reference);
-            let settled = settle(alloc, classes, seen, class, target, start, found)?;
+            let settled = settle(alloc, classes, above, class, target, start, found)?;
             Ok(Outcome::Settled(settled))
         }
         other => Ok(Outcome::Ends(other)),
@@ -172,7 +178,7 @@ pub(crate) fn resolve_method<'a>(
     alloc: Global,
     classes: &'a Classes,
     loads: &[Load],
-    above: &mut Seen,
+    above: &mut Above,
     covered: &mut Seen,
     class: usize,
     reference: NamedNode,
@@ -183,9 +189,10 @@ pub(crate) fn resolve_method<'a>(
     requires class_good { good_at (indexed_of classes.now) class ≡ true }
     requires loads { length loads.now ≡ length classes.now.standing.now }
     requires good { TellsGood (indexed_of classes.now) loads.now }
-    requires above { length above.old.flags ≡ length classes.now.standing.now }
+    requires above { Knows (length classes.now.standing.now) (indexed_of classes.now) above.old }
     requires covered { length covered.old.flags ≡ length classes.now.standing.now }
-    ensures above { OnOk result (length above.new.flags ≡ length classes.now.standing.now) }
+    ensures above { OnOk result (Knows (length classes.now.standing.now) (indexed_of classes.now) above.new) }
+    ensures keyed { IfOk result (IsKeyedOutcome (key_lent key.entry)) }
     ensures covered { OnOk result (length covered.new.flags ≡ length classes.now.standing.now) }
     ensures found { IfOk result (λ r. (m : World) (text : Name) → TellsLoads m (indexed_of classes.now) (length classes.now.standing.now) loads.now
         → IsIndexed m (indexed_of classes.now)
@@ -210,7 +217,7 @@ pub(crate) fn resolve_interface_method<'a>(
     alloc: Global,
     classes: &'a Classes,
     loads: &[Load],
-    above: &mut Seen,
+    above: &mut Above,
     covered: &mut Seen,
     class: usize,
     reference: NamedNode,
@@ -221,9 +228,10 @@ pub(crate) fn resolve_interface_method<'a>(
     requires class_good { good_at (indexed_of classes.now) class ≡ true }
     requires loads { length loads.now ≡ length classes.now.standing.now }
     requires good { TellsGood (indexed_of classes.now) loads.now }
-    requires above { length above.old.flags ≡ length classes.now.standing.now }
+    requires above { Knows (length classes.now.standing.now) (indexed_of classes.now) above.old }
     requires covered { length covered.old.flags ≡ length classes.now.standing.now }
-    ensures above { OnOk result (length above.new.flags ≡ length classes.now.standing.now) }
+    ensures above { OnOk result (Knows (length classes.now.standing.now) (indexed_of classes.now) above.new) }
+    ensures keyed { IfOk result (IsKeyedOutcome (key_lent key.entry)) }
     ensures covered { OnOk result (length covered.new.flags ≡ length classes.now.standing.now) }
     ensures found { IfOk result (λ r. (m : World) (text : Name) → TellsLoads m (indexed_of classes.now) (length classes.now.standing.now) loads.now
         → IsIndexed m (indexed_of classes.now)

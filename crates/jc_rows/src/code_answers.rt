@@ -120,6 +120,12 @@ fn write_each<W: Output>(out: &mut TextWriter<'_, W>, faults: &[CodeFault]) {
         out.text(b"none");
     }
     for (number, fault) in faults.iter().enumerate() {
-        write_fault(out, number > 0, b"S", fault.rule.number(), fault.place);
+        write_fault(
+            out,
+            number > 0,
+            b"S",
+            fault.rule.number(),
+            fault.place as usize,
+        );
     }
 }

@@ -152,6 +152,9 @@ both {a} {b} {d} p q = record {
 pub so : {a b : KeptTexts} {P Q : List (List ℕ) → Type 0} → Tells a b P → ((ts : List (List ℕ)) → P ts → Q ts) → Tells a b Q
 so p g = record { class = p.class; front = p.front; holds = λ ts f. g ts (p.holds ts f) }
 
+pub with_front : {a b : KeptTexts} {P : List (List ℕ) → Type 0} → Tells a b P → Tells a b (λ ts. P ts × IsFront b.texts ts)
+with_front p = record { class = p.class; front = p.front; holds = λ ts f. (p.holds ts f, f) }
+
 pub at_once : (a : KeptTexts) {P : List (List ℕ) → Type 0} → ((ts : List (List ℕ)) → P ts) → Tells a a P
 at_once a g = record { class = refl; front = front_refl a.texts; holds = λ ts f. g ts }
 

@@ -18,13 +18,13 @@ reference_shown texts entry = record { index = entry.index; kind = entry.kind; n
 abbrev pub facts_shown : Inside → Facts
 facts_shown a = record {
   path = a.path.items;
-  name = text_at a.texts a.name;
+  name = text_at a.texts.value a.name;
   flags = a.flags;
-  superclass = option_map (text_at a.texts) a.superclass;
-  interfaces = map (text_at a.texts) a.interfaces.items;
-  fields = map (member_shown a.texts) a.fields.items;
-  methods = map (member_shown a.texts) a.methods.items;
-  references = map (reference_shown a.texts) a.references.items;
-  format_faults = a.format_faults.items;
-  code_faults = a.code_faults.items;
+  superclass = option_map (text_at a.texts.value) a.superclass;
+  interfaces = map (text_at a.texts.value) a.interfaces.items;
+  fields = map (member_shown a.texts.value) a.fields.items;
+  methods = map (member_shown a.texts.value) a.methods.items;
+  references = map (reference_shown a.texts.value) a.references.value.items;
+  format_faults = a.faults.value.format.items;
+  code_faults = a.faults.value.code.items;
 }

@@ -1,18 +1,16 @@
 //! The rules over the constants that instructions name, and over other operands.
 
 ghost use Rattle.std.specs.Prelude.{◌≡◌, ◌+◌, ◌==◌, ◌&&◌, not};
-ghost use Rattle.std.specs.Option.{option_map};
-ghost use Rattle.jc_view.specs.ClassFile.{class_text_at};
-ghost use Rattle.jc_view.specs.Lookups.{fails, passes};
+ghost use Rattle.jc_view.specs.declared.constant_pool.ConstantKind.TheVariants as kinds;
+ghost use Rattle.jc_view.specs.Lookups.{fails, is_entry, passes};
 ghost use Rattle.jc_code.specs.declared.insn.Insn.TheVariants as insns;
 ghost use Rattle.jc_code.specs.Insns.{invokespecial};
-ghost use Rattle.jc_code.specs.CodeRules.{dimensions_of, is_init, is_special, referred_name, slots_at, breaks_s6, breaks_s7, breaks_s8, breaks_s9, breaks_s10, breaks_s11, breaks_s12, breaks_s13, breaks_s14, breaks_s15, breaks_s16, breaks_s17, breaks_s18, breaks_s19, breaks_s20, breaks_s21};
+ghost use Rattle.jc_code.specs.CodeRules.{is_init, is_special, referred_name, slots_at, breaks_s6, breaks_s7, breaks_s8, breaks_s9, breaks_s10, breaks_s11, breaks_s12, breaks_s13, breaks_s14, breaks_s15, breaks_s16, breaks_s17, breaks_s18, breaks_s19, breaks_s20, breaks_s21};
 
 use crate::insn::Insn;
 use crate::opcode::Opcode;
 use crate::rules::lookups::{
-    dimensions_of, is_double, is_either_method, is_init, is_single, is_special, referred_name,
-    slots_at,
+    is_double, is_either_method, is_init, is_single, is_special, referred_name,
 };
 use crate::scope::Scope;
 use jc_view::{ConstantIndex, ConstantKind};
@@ -22,7 +20,7 @@ pub(crate) fn breaks_s6(scope: &Scope, insn: &Insn) -> bool
 {
     match insn {
         Insn::Load { opcode, index } => {
-            *opcode != Opcode::LDC2_W && !is_single(scope.class, *index)
+            *opcode != Opcode::LDC2_W && !is_single(scope.class(), *index)
         }
         _ => false,
     }
@@ -33,7 +31,7 @@ pub(crate) fn breaks_s7(scope: &Scope, insn: &Insn) -> bool
 {
     match insn {
         Insn::Load { opcode, index } => {
-            *opcode == Opcode::LDC2_W && !is_double(scope.class, *index)
+            *opcode == Opcode::LDC2_W && !is_double(scope.class(), *index)
         }
         _ => false,
     }
@@ -43,7 +41,7 @@ pub(crate) fn breaks_s8(scope: &Scope, insn: &Insn) -> bool
     ensures { result ≡ breaks_s8 scope.now insn.now }
 {
     match insn {
-        Insn::Field { index, .. } => !scope.class.is_entry(ConstantKind::Fieldref, *index),
+        Insn::Field { index, .. } => !scope.class().is_entry(ConstantKind::Fieldref, *index),
         _ => false,
     }
 }
@@ -54,7 +52,7 @@ pub(crate) fn breaks_s9(scope: &Scope, insn: &Insn) -> bool
     match insn {
         Insn::Invoke { opcode, index } => {
             *opcode == Opcode::INVOKEVIRTUAL
-                && !scope.class.is_entry(ConstantKind::Methodref, *index)
+                && !scope.class().is_entry(ConstantKind::Methodref, *index)
         }
         _ => false,
     }
@@ -65,7 +63,7 @@ pub(crate) fn breaks_s10(scope: &Scope, insn: &Insn) -> bool
 {
     match insn {
         Insn::Invoke { opcode, index } => {
-            *opcode != Opcode::INVOKEVIRTUAL && !is_either_method(scope.class, *index)
+            *opcode != Opcode::INVOKEVIRTUAL && !is_either_method(scope.class(), *index)
         }
         _ => false,
     }
@@ -77,7 +75,7 @@ pub(crate) fn breaks_s11(scope: &Scope, insn: &Insn) -> bool
     match insn {
         Insn::InvokeInterface { index, .. } => {
             !scope
-                .class
+                .class()
                 .is_entry(ConstantKind::InterfaceMethodref, *index)
         }
         _ => false,
@@ -88,21 +86,16 @@ pub(crate) fn breaks_s12(scope: &Scope, insn: &Insn) -> bool
     ensures { result ≡ breaks_s12 scope.now insn.now }
 {
     match insn {
-        Insn::InvokeInterface { index, count, .. } => {
-            scope
-                .class
-                .is_entry(ConstantKind::InterfaceMethodref, *index)
-                && is_other_count(scope, *index, *count)
-        }
+        Insn::InvokeInterface { index, count, .. } => is_other_count(scope, *index, *count),
         _ => false,
     }
 }
 
-/// Whether the method takes another number of slots, with the receiver.
+/// Whether the method of an interface takes another number of slots, with the receiver.
 pub(crate) fn is_other_count(scope: &Scope, index: ConstantIndex, count: u8) -> bool
-    ensures { result ≡ fails (λ slots. count == slots + 1) (slots_at scope.now.class index) }
+    ensures { result ≡ (is_entry scope.now.class kinds.InterfaceMethodref index && fails (λ slots. count == slots + 1) (slots_at scope.now.class index)) }
 {
-    match slots_at(scope.class, index) {
+    match scope.sizes.slots(index) {
         Some(slots) => u16::from(count) != u16::from(slots) + 1,
         None => false,
     }
@@ -122,7 +115,7 @@ pub(crate) fn breaks_s14(scope: &Scope, insn: &Insn) -> bool
 {
     match insn {
         Insn::InvokeDynamic { index, .. } => {
-            !scope.class.is_entry(ConstantKind::InvokeDynamic, *index)
+            !scope.class().is_entry(ConstantKind::InvokeDynamic, *index)
         }
         _ => false,
     }
@@ -146,7 +139,7 @@ pub(crate) fn breaks_s16(scope: &Scope, insn: &Insn) -> bool
         }
         Insn::InvokeInterface { index, .. } => {
             scope
-                .class
+                .class()
                 .is_entry(ConstantKind::InterfaceMethodref, *index)
                 && names_special(scope, *index)
         }
@@ -159,9 +152,9 @@ pub(crate) fn is_right_entry(scope: &Scope, opcode: Opcode, index: ConstantIndex
     ensures { result ≡ not (breaks_s9 scope.now (insns.Invoke opcode index)) && not (breaks_s10 scope.now (insns.Invoke opcode index)) }
 {
     if opcode == Opcode::INVOKEVIRTUAL {
-        scope.class.is_entry(ConstantKind::Methodref, index)
+        scope.class().is_entry(ConstantKind::Methodref, index)
     } else {
-        is_either_method(scope.class, index)
+        is_either_method(scope.class(), index)
     }
 }
 
@@ -169,7 +162,7 @@ pub(crate) fn is_right_entry(scope: &Scope, opcode: Opcode, index: ConstantIndex
 pub(crate) fn is_bad_special(scope: &Scope, opcode: Opcode, index: ConstantIndex) -> bool
     ensures { result ≡ passes (λ name. is_special name && not (opcode == invokespecial && is_init name)) (referred_name scope.now.class index) }
 {
-    match referred_name(scope.class, index) {
+    match referred_name(scope.class(), index) {
         Some(name) => is_special(name) && !(opcode == Opcode::INVOKESPECIAL && is_init(name)),
         None => false,
     }
@@ -178,7 +171,7 @@ pub(crate) fn is_bad_special(scope: &Scope, opcode: Opcode, index: ConstantIndex
 pub(crate) fn names_special(scope: &Scope, index: ConstantIndex) -> bool
     ensures { result ≡ passes is_special (referred_name scope.now.class index) }
 {
-    match referred_name(scope.class, index) {
+    match referred_name(scope.class(), index) {
         Some(name) => is_special(name),
         None => false,
     }
@@ -189,17 +182,10 @@ pub(crate) fn breaks_s17(scope: &Scope, insn: &Insn) -> bool
 {
     match insn {
         Insn::Type { index, .. } | Insn::MultiNewArray { index, .. } => {
-            !scope.class.is_entry(ConstantKind::Class, *index)
+            !scope.class().is_entry(ConstantKind::Class, *index)
         }
         _ => false,
     }
-}
-
-/// How many dimensions the class of an index has, if it is there.
-fn dimensions_at(scope: &Scope, index: ConstantIndex) -> Option<u8>
-    ensures { result ≡ option_map dimensions_of (class_text_at scope.now.class index) }
-{
-    Some(dimensions_of(scope.class.class_text(index)?))
 }
 
 pub(crate) fn breaks_s18(scope: &Scope, insn: &Insn) -> bool
@@ -207,7 +193,11 @@ pub(crate) fn breaks_s18(scope: &Scope, insn: &Insn) -> bool
 {
     match insn {
         Insn::Type { opcode, index } => {
-            *opcode == Opcode::NEW && dimensions_at(scope, *index).is_some_and(|count| count > 0)
+            *opcode == Opcode::NEW
+                && scope
+                    .sizes
+                    .dimensions(*index)
+                    .is_some_and(|count| count > 0)
         }
         _ => false,
     }
@@ -219,7 +209,10 @@ pub(crate) fn breaks_s19(scope: &Scope, insn: &Insn) -> bool
     match insn {
         Insn::Type { opcode, index } => {
             *opcode == Opcode::ANEWARRAY
-                && dimensions_at(scope, *index).is_some_and(|count| count == 255)
+                && scope
+                    .sizes
+                    .dimensions(*index)
+                    .is_some_and(|count| count == 255)
         }
         _ => false,
     }
@@ -231,7 +224,11 @@ pub(crate) fn breaks_s20(scope: &Scope, insn: &Insn) -> bool
     match insn {
         Insn::MultiNewArray { index, dimensions } => {
             let made = *dimensions;
-            made == 0 || dimensions_at(scope, *index).is_some_and(|count| count < made)
+            made == 0
+                || scope
+                    .sizes
+                    .dimensions(*index)
+                    .is_some_and(|count| count < made)
         }
         _ => false,
     }

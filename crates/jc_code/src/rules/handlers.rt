@@ -23,6 +23,6 @@ pub(crate) fn breaks_s24(scope: &Scope, handler: ExceptionHandler) -> bool
 {
     handler.catch_type.0 != 0
         && !scope
-            .class
+            .class()
             .is_entry(ConstantKind::Class, handler.catch_type)
 }

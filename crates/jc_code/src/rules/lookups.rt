@@ -5,9 +5,8 @@ ghost use Rattle.std.specs.Option.{option_copied};
 ghost use Rattle.jc_base.specs.DescriptorTests.{begins_with};
 ghost use Rattle.jc_view.specs.ClassFile.{constant_at};
 ghost use Rattle.jc_view.specs.Lookups.{signature_entry};
-ghost use Rattle.jc_code.specs.CodeRules.{dimensions_of, double_kinds, is_either_method, is_init, is_one_of, is_special, referred_descriptor, referred_name, single_kinds, slots_at};
+ghost use Rattle.jc_code.specs.CodeRules.{double_kinds, is_either_method, is_init, is_one_of, is_special, referred_name, single_kinds};
 
-use jc_base::{FieldDesc, MethodDesc};
 use jc_view::{ClassView, Constant, ConstantIndex};
 
 /// Whether it is a constant that takes one slot.
@@ -68,31 +67,6 @@ pub(crate) fn referred_name<'a>(class: &ClassView<'a>, index: ConstantIndex) -> 
     ensures { option_copied result ≡ referred_name class.now index }
 {
     class.name_at(signature_entry(class, index)?)
-}
-
-/// Its descriptor.
-fn referred_descriptor<'a>(class: &ClassView<'a>, index: ConstantIndex) -> Option<&'a [u8]>
-    ensures { option_copied result ≡ referred_descriptor class.now index }
-{
-    class.descriptor_at(signature_entry(class, index)?)
-}
-
-/// How many slots the parameters of the method take to which an entry refers.
-pub(crate) fn slots_at(class: &ClassView, index: ConstantIndex) -> Option<u8>
-    ensures { result ≡ slots_at class.now index }
-{
-    let descriptor = MethodDesc::read(referred_descriptor(class, index)?)?;
-    Some(descriptor.slots())
-}
-
-/// How many dimensions the class of a text has: none, unless the text is the descriptor of an array.
-pub(crate) fn dimensions_of(text: &[u8]) -> u8
-    ensures { result ≡ dimensions_of text.now }
-{
-    match FieldDesc::read(text) {
-        Some(descriptor) => descriptor.dims(),
-        None => 0,
-    }
 }
 
 /// Whether a method's name begins with `<`.

@@ -2,13 +2,11 @@
 use Rattle.std.proofs.Common.{◌≡◌, ℕ, Bool, true, false, ◌||◌, cond, List, Option, refl, sym, ap, subst, ◌∙◌}
 use Rattle.std.specs.FinMap as fin
 use Rattle.jc_base.proofs.maps.FiniteMaps.{get-remove_same}
-use Rattle.jc_classes.specs.Laws.{Differ, Hits}
 use Rattle.jc_classes.specs.Names.{Name}
 use Rattle.jc_classes.proofs.worlds.Parts.{hits_either}
-use Rattle.jc_held.specs.Steps.{is_class}
 use Rattle.jc_link.specs.Prefixes.{is_outside}
 use Rattle.jc_link.specs.Tables.{or_built_in, stands_by}
-use Rattle.jc_input.specs.Changes.{Change, bytes_of, path_of}
+use Rattle.jc_input.specs.Changes.{bytes_of, path_of}
 use Rattle.jc_report.specs.Files.{Files}
 use Rattle.jc_report.specs.FileRows.{winner}
 use Rattle.jc_report.specs.Reports.{facts_at, world_of}

@@ -108,7 +108,7 @@ module _ (f : Files) (a : Linkage) (meets : (name : Name) → class_at a.classes
   worlds = λ i name. stands_by (or_built_in (meets name i) name) (is_outside a.prefixes name)
 
   pub plain_held : RowsArePlain → HasPlainRows a
-  plain_held law = λ name c p row h. law f name c p row (sym (meets name) ∙ h)
+  plain_held law = λ name c p row h. (law f name c p row (sym (meets name) ∙ h)).1
 
   class_of : (c : Class) → IsHeldClass a c → IsClassOf f a.prefixes c
   class_of c h = record {
@@ -130,11 +130,17 @@ module _ (f : Files) (a : Linkage) (meets : (name : Name) → class_at a.classes
     complete = λ name c h. is.complete name c (sym (meets name) ∙ h);
   }
 
+  plain_class : RowsArePlain → (classes : List Class) → AreHeldClasses a classes → (row : Row) (c : Class) → Contains classes c
+      → (Contains (provided_rows c.facts c.part) row → IsPlain row) × (Contains (required_rows c.facts c.part) row → IsPlain row)
+  plain_class law classes held row c among =
+      let is = all_has (IsHeldClass a) classes c held.sound (has_from classes c among) in
+      law f (name_of c) c.facts c.part row (sym (meets (name_of c)) ∙ is.facts)
+
   plain_given : RowsArePlain → (classes : List Class) → AreHeldClasses a classes → (row : Row)
       → (GivesRow provided_rows classes row → IsPlain row) × (GivesRow required_rows classes row → IsPlain row)
   plain_given law classes held row = (
-    λ g. (plain_held law (name_of g.class) g.class.facts g.class.part row (all_has (IsHeldClass a) classes g.class held.sound (has_from classes g.class g.among)).facts).0 g.gives,
-    λ g. (plain_held law (name_of g.class) g.class.facts g.class.part row (all_has (IsHeldClass a) classes g.class held.sound (has_from classes g.class g.among)).facts).1 g.gives,
+    λ g. (plain_class law classes held row g.class g.among).0 g.gives,
+    λ g. (plain_class law classes held row g.class g.among).1 g.gives,
   )
 
   -- there is a report with the classes that are held

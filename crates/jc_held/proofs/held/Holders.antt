@@ -24,7 +24,7 @@ use Rattle.jc_held.specs.inside.Holding.{IsHeld}
 use Rattle.jc_held.specs.inside.Kept.{KeptMap, names_kept}
 use Rattle.jc_held.specs.inside.Kept.Relation.{Requires}
 use Rattle.jc_held.proofs.held.Places.{kept_by}
-use Rattle.jc_held.proofs.held.Provided.{keys_required, rows_required}
+use Rattle.jc_held.proofs.held.Required.{keys_required, rows_required}
 use Rattle.jc_held.proofs.held.Rows.{class_given, key_given}
 
 module _ (a : Linkage) (kept : KeptMap) (links : Links) (held : IsHeld a.classes a.prefixes kept links) (plain : HasPlainRows a) (classes : List Class) (h : AreHeldClasses a classes) where
@@ -40,7 +40,7 @@ module _ (a : Linkage) (kept : KeptMap) (links : Links) (held : IsHeld a.classes
       let c = found.0 in
       let row = found.1 in
       let is = All-contains (IsHeldClass a) classes c h.sound found.2 in
-      let same : row ≡ row_of key = sym (row_back row ((plain (name_of c) c.facts c.part row is.facts).1 found.4)) ∙ ap row_of found.5 in
+      let same : row ≡ row_of key = sym (row_back row (plain (name_of c) c.facts c.part row is.facts found.4)) ∙ ap row_of found.5 in
       record {
         holder = record { class = c; among = found.2; named = found.3; gives = subst (Contains (required_rows c.facts c.part)) same found.4 };
         back = ap row_key (sym same) ∙ found.5;

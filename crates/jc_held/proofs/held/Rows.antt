@@ -22,11 +22,26 @@ use Rattle.jc_held.specs.declared.kept.Kept.{Kept}
 use Rattle.jc_held.specs.inside.Kept.{AreKeys, IsKept, IsKeptOf, KeptMap}
 use Rattle.jc_held.proofs.held.Places.{facts_of, kept_of, record_given, some_one}
 
+-- a class that is held, by its name
+pub class_of : (a : Linkage) (classes : List Class) → AreHeldClasses a classes → (d : Name) (f : Facts) (p : Part) → class_at a.classes d ≡ Some f → IsPart (world_held a) d p
+    → (c : Class) × Contains classes c × (name_of c ≡ d) × (c.facts ≡ f) × (c.part ≡ p)
+class_of a classes h d f p e part =
+    let found = has-from_map name_of classes d (has_from (map name_of classes) d (h.complete d f e)) in
+    let c = found.0 in
+    let there = from_has classes c found.1 in
+    let is = All-contains (IsHeldClass a) classes c h.sound there in (
+      c,
+      there,
+      found.2,
+      some_one (sym is.facts ∙ ap (class_at a.classes) found.2 ∙ e),
+      part_one (world_held a) d c.part p (subst (λ (n : Name). IsPart (world_held a) n c.part) found.2 is.part) part,
+    )
+
 module _ (a : Linkage) (kept : KeptMap) (held : IsKept (given a) (world_held a) kept)
     (rows : Facts → Part → List Row) (keys : Kept → List Name)
     (are : (d : Name) (f : Facts) (k : Kept) → IsKeptOf (world_held a) d k → record_of (world_held a d) ≡ Some f → AreKeys (keys k) (rows f k.part)) where
   -- a key that is kept of a class is that of a row that the class gives
-  pub row_kept : (d : Name) (k : Kept) → fin.get kept d ≡ Some k → (key : Name) → has (keys k) key ≡ true
+  row_kept : (d : Name) (k : Kept) → fin.get kept d ≡ Some k → (key : Name) → has (keys k) key ≡ true
       → (f : Facts) × (class_at a.classes d ≡ Some f) × ((row : Row) × Has (rows f k.part) row × (row_key row ≡ key))
   row_kept d k e key there =
       let f = facts_of a kept held d k e in
@@ -35,19 +50,6 @@ module _ (a : Linkage) (kept : KeptMap) (held : IsKept (given a) (world_held a) 
       (f.0, f.1, has-from_map row_key (rows f.0 k.part) key (has_from all key (contains_of all key (sym (ks.same key) ∙ there))))
 
   module _ (classes : List Class) (h : AreHeldClasses a classes) where
-    class_of : (d : Name) (f : Facts) (p : Part) → class_at a.classes d ≡ Some f → IsPart (world_held a) d p → (c : Class) × Contains classes c × (name_of c ≡ d) × (c.facts ≡ f) × (c.part ≡ p)
-    class_of d f p e part =
-        let found = has-from_map name_of classes d (has_from (map name_of classes) d (h.complete d f e)) in
-        let c = found.0 in
-        let there = from_has classes c found.1 in
-        let is = All-contains (IsHeldClass a) classes c h.sound there in (
-          c,
-          there,
-          found.2,
-          some_one (sym is.facts ∙ ap (class_at a.classes) found.2 ∙ e),
-          part_one (world_held a) d c.part p (subst (λ (n : Name). IsPart (world_held a) n c.part) found.2 is.part) part,
-        )
-
     -- a key that is kept with a name is that of a row that the class of the name gives
     pub class_given : (d : Name) (k : Kept) → fin.get kept d ≡ Some k → (key : Name) → has (keys k) key ≡ true
         → (c : Class) × (row : Row) × Contains classes c × (name_of c ≡ d) × Contains (rows c.facts c.part) row × (row_key row ≡ key)
@@ -55,7 +57,7 @@ module _ (a : Linkage) (kept : KeptMap) (held : IsKept (given a) (world_held a) 
         let found = row_kept d k e key there in
         let f = found.0 in
         let row = found.2.0 in
-        let c = class_of d f k.part found.1 (held.sound d k e).part in
+        let c = class_of a classes h d f k.part found.1 (held.sound d k e).part in
         let same : rows f k.part ≡ rows c.0.facts c.0.part = (λ i. rows (sym c.3 i) (sym c.4 i)) in
         (c.0, row, c.1, c.2, subst (λ rs. Contains rs row) same (from_has (rows f k.part) row found.2.1), found.2.2)
 

@@ -9,7 +9,7 @@ use Rattle.jc_classes.specs.Parts.{IsPart, Part, Reach}
 use Rattle.jc_classes.specs.Worlds.{World}
 use Rattle.jc_index.specs.Indexes.{UserLists, users_of}
 use Rattle.jc_link.specs.Closures.{record_of}
-use Rattle.jc_report.specs.ClassRows.{provided_rows, required_rows}
+use Rattle.jc_report.specs.ClassRows.{required_rows}
 use Rattle.jc_report.specs.RowKeys.{row_key}
 use Rattle.jc_report.specs.Rows.{Row}
 use Rattle.jc_held.specs.declared.kept.Kept.{Kept}
@@ -17,10 +17,6 @@ use Rattle.jc_held.specs.declared.kept.Fresh.{Fresh}
 use Rattle.jc_held.specs.declared.links.Links.{Links}
 
 -- ---- what is kept of a class
-
-abbrev pub provided_by : Option Facts → Part → List Row
-provided_by (Some f) p = provided_rows f p
-provided_by None p = []
 
 abbrev pub required_by : Option Facts → Part → List Row
 required_by (Some f) p = required_rows f p
@@ -34,7 +30,6 @@ pub record AreKeys (keys : List Name) (rows : List Row) : Type 0 where
 pub record IsKeptOf (m : World) (d : Name) (k : Kept) : Type 0 where
   pub part : IsPart m d k.part
   pub reach : Lists k.reach (Reach m d)
-  pub provided : AreKeys k.provided (provided_by (record_of (m d)) k.part)
   pub required : AreKeys k.required (required_by (record_of (m d)) k.part)
 
 abbrev pub KeptMap : Type 0

@@ -28,7 +28,7 @@ names_before (y ∷ classes) (suc n) c lt is rises x (inl e) =
     subst (λ (z : Class). name_cmp (name_of z) (name_of c) ≡ Less) e (by_all (λ q. name_cmp (name_of y) q ≡ Less) (map name_of classes) rises.0 (name_of c) there)
 names_before (y ∷ classes) (suc n) c lt is rises x (inr h) = names_before classes n c (omega (arith, lt)) is rises.1 x h
 
-by_class : (a b : Row) → name_cmp a.class b.class ≡ Less → row_cmp a b ≡ Less
+pub by_class : (a b : Row) → name_cmp a.class b.class ≡ Less → row_cmp a b ≡ Less
 by_class a b e = ap (λ o. ordering_then o (ordering_then (nat_cmp (kind_number a.kind) (kind_number b.kind)) (ordering_then (name_cmp a.key.name b.key.name) (name_cmp a.key.descriptor b.key.descriptor)))) e
 
 module _ (rows : Facts → Part → List Row) (own : (c : Class) (row : Row) → Contains (rows c.facts c.part) row → row.class ≡ name_of c) where

@@ -1,49 +1,145 @@
--- Answers by the numbers of their texts, as more texts come behind.
-use Rattle.std.proofs.Common.{◌≡◌, ◌∙◌, ℕ, zero, suc, ◌-◌, ◌<◌, List, [], ◌∷◌, ◌++◌, length, map, refl, ap, arith, get_or}
-use Rattle.std.specs.List.{All}
-use Rattle.std.proofs.lemmas.List.{length-append, map-append}
-use Rattle.std.proofs.lemmas.List.Elements.{All-append}
+-- Answers by numbers are those of the references.
+use Rattle.std.proofs.Common.{◌≡◌, ◌≢◌, ◌<◌, ℕ, zero, suc, List, [], ◌∷◌, ◌++◌, length, map, set, ◌⊎◌, inl, inr, refl, sym, ap, subst, ◌∙◌, arith}
+use Rattle.std.proofs.lemmas.List.{length-append}
 use Rattle.std.proofs.Math.ListN.{get_or-append}
+use Rattle.std.specs.List.{slice_get}
+use Rattle.std.proofs.Common.{Some}
+use Rattle.jc_classes.specs.Facts.{Reference}
+use Rattle.jc_classes.specs.Names.{Name, polymorphic_descriptor}
+use Rattle.jc_classes.specs.Parts.{AreAnswers}
 use Rattle.jc_classes.specs.Resolution.{Answer as answer}
-use Rattle.jc_resolve.specs.declared.answer_list.Entry.{Entry}
-use Rattle.jc_resolve.specs.declared.answer_list.Entry.TheVariants as entry
-use Rattle.jc_resolve.specs.inside.AnswersShown.{IsFront, IsWithin, entry_shown, text_at}
+use Rattle.jc_classes.specs.Worlds.{World}
+use Rattle.jc_lookup.specs.declared.loads.Load.{Load}
+use Rattle.jc_lookup.specs.inside.Indexed.{Indexed, name_at, IsIndexed}
+use Rattle.jc_lookup.specs.inside.Loading.{load_at}
+use Rattle.jc_resolve.specs.declared.entry.Entry.{Entry}
+use Rattle.jc_resolve.specs.declared.entry.Entry.TheVariants as entry
+use Rattle.jc_resolve.specs.inside.Answered.{IsAnsweredAt, IsAnsweredBy}
+use Rattle.jc_resolve.specs.inside.Entries.{IsFront, IsWithin, entries_shown, entry_shown, text_at}
+use Rattle.jc_resolve.specs.inside.Naming.{AreSame}
+use Rattle.jc_resolve.specs.inside.Resolved.{loading_of, TellsLoads}
 
-stays : (a b : List (List ℕ)) (n : ℕ) → IsFront a b → n < length a → text_at b n ≡ text_at a n
+some_is : {X : Type 0} {x y : X} → Some x ≡ Some y → x ≡ y
+some_is e = cc
+
+-- ---- one for each reference
+
+pub answered_all : (x : Indexed) (loads : List Load) (class : ℕ) (rs : List Reference) (es : List Entry) → length es ≡ length rs
+    → ((at : ℕ) → at < length rs → IsAnsweredAt x loads class rs es at) → (m : World) → TellsLoads m x (length x.names) loads → IsIndexed m x
+    → AreAnswers m (name_at x class) (loading_of x (load_at loads class)) rs (entries_shown (name_at x) rs es)
+answered_all x loads class [] es size h m told index = tt
+answered_all x loads class (r ∷ rs) [] size h m told index = absurd (omega arith)
+answered_all x loads class (r ∷ rs) (e ∷ es) size h m told index =
+    (h 0 (omega arith) r e refl refl m told index, answered_all x loads class rs es (omega (arith, size)) (λ at l. h (suc at) (omega (arith, l))) m told index)
+
+pub same_or : (i j : ℕ) → (i ≡ j) ⊎ (i ≢ j)
+same_or i j = grind arith
+
+pub get_set_other : {X : Type 0} (es : List X) (i j : ℕ) (e f : X) → j ≢ i → slice_get (set es i e) j ≡ Some f → slice_get es j ≡ Some f
+get_set_other [] i j e f n g = g
+get_set_other (d ∷ es) zero zero e f n g = absurd (n refl)
+get_set_other (d ∷ es) zero (suc j) e f n g = g
+get_set_other (d ∷ es) (suc i) zero e f n g = g
+get_set_other (d ∷ es) (suc i) (suc j) e f n g = get_set_other es i j e f (λ q. n (ap suc q)) g
+
+pub get_set_same : {X : Type 0} (es : List X) (i : ℕ) (e f : X) → slice_get (set es i e) i ≡ Some f → f ≡ e
+get_set_same [] i e f g = absurd cc
+get_set_same (d ∷ es) zero e f g = sym (some_is g)
+get_set_same (d ∷ es) (suc i) e f g = get_set_same es i e f g
+
+-- one more has its answer, and those that had one still have it
+pub answered_set : (x : Indexed) (loads : List Load) (class : ℕ) (rs : List Reference) (es : List Entry) (number : ℕ) (r : Reference) (e : Entry) → slice_get rs number ≡ Some r
+    → IsAnsweredBy x loads class r e → (at : ℕ) → (at ≢ number → IsAnsweredAt x loads class rs es at) → IsAnsweredAt x loads class rs (set es number e) at
+answered_set x loads class rs es number r e got new at old = by (same_or at number)
+  where
+    by : (at ≡ number) ⊎ (at ≢ number) → IsAnsweredAt x loads class rs (set es number e) at
+    by (inl q) s f p g =
+        let same_entry = get_set_same es number e f (subst (λ z. slice_get (set es number e) z ≡ Some f) q g) in
+        let same_reference = some_is (sym got ∙ subst (λ z. slice_get rs z ≡ Some s) q p) in
+        subst (λ z. IsAnsweredBy x loads class z f) same_reference (subst (IsAnsweredBy x loads class r) (sym same_entry) new)
+    by (inr n) s f p g = old n s f p (get_set_other es number at e f n g)
+
+-- ---- as names come behind
+
+stays : (a b : List Name) (n : ℕ) → IsFront a b → n < length a → text_at b n ≡ text_at a n
 stays a b n f l = ap (λ x. text_at x n) f.1 ∙ get_or-append a f.0 [] n l
 
-entry_stays : (a b : List (List ℕ)) (e : Entry) → IsFront a b → IsWithin (length a) e → entry_shown b e ≡ entry_shown a e
-entry_stays a b (entry.ToClass n) f l = ap answer.ToClass (stays a b n f l)
-entry_stays a b (entry.ToMember n) f l =
-    let class = stays a b (n - 2) f (omega (arith, l.1)) in
-    let name = stays a b (n - 1) f (omega (arith, l.1)) in
-    let descriptor = stays a b n f l.1 in
-    λ i. answer.ToMember (class i) (record { name = name i; descriptor = descriptor i })
-entry_stays a b (entry.Outside n) f l = ap answer.Beyond (stays a b n f l)
-entry_stays a b entry.NotLoaded f l = refl
-entry_stays a b (entry.Error e n) f l = ap (answer.Wrong e) (stays a b n f l)
+entry_stays : (a b : List Name) (r : Reference) (e : Entry) → IsFront a b → IsWithin (length a) e → entry_shown (text_at b) r e ≡ entry_shown (text_at a) r e
+entry_stays a b r entry.ToClass f l = refl
+entry_stays a b r (entry.ToMember n) f l = ap (λ z. answer.ToMember z r.key) (stays a b n f l)
+entry_stays a b r (entry.ToPolymorphic n) f l = ap (λ z. answer.ToMember z (record { name = r.key.name; descriptor = polymorphic_descriptor })) (stays a b n f l)
+entry_stays a b r (entry.Outside n) f l = ap answer.Beyond (stays a b n f l)
+entry_stays a b r entry.NotLoaded f l = refl
+entry_stays a b r (entry.Error e n) f l = ap (answer.Wrong e) (stays a b n f l)
+entry_stays a b r (entry.OwnError e) f l = refl
 
-entries_stay : (a b : List (List ℕ)) (es : List Entry) → IsFront a b → ((i : ℕ) (d : Entry) → i < length es → IsWithin (length a) (get_or es i d)) → map (entry_shown b) es ≡ map (entry_shown a) es
-entries_stay a b [] f h = refl
-entries_stay a b (e ∷ es) f h =
-    let first = entry_stays a b e f (h 0 e (omega arith)) in
-    let rest = entries_stay a b es f (λ i d l. h (suc i) d (omega (arith, l))) in
+pub within_more : (a b : List Name) (e : Entry) → IsFront a b → IsWithin (length a) e → IsWithin (length b) e
+within_more a b entry.ToClass f l = tt
+within_more a b (entry.ToMember n) f l = omega (arith, l, ap length f.1, length-append a f.0)
+within_more a b (entry.ToPolymorphic n) f l = omega (arith, l, ap length f.1, length-append a f.0)
+within_more a b (entry.Outside n) f l = omega (arith, l, ap length f.1, length-append a f.0)
+within_more a b entry.NotLoaded f l = tt
+within_more a b (entry.Error e n) f l = omega (arith, l, ap length f.1, length-append a f.0)
+within_more a b (entry.OwnError e) f l = tt
+
+-- these tell the same as those, and so many texts hold their names
+abbrev pub AreNamed : (ℕ → Name) → List Name → List Entry → List Entry → Type 0
+AreNamed g texts [] [] = Unit {0}
+AreNamed g texts (a ∷ as1) (b ∷ bs) = (IsWithin (length texts) a × ((r : Reference) → entry_shown (text_at texts) r a ≡ entry_shown g r b)) × AreNamed g texts as1 bs
+AreNamed g texts [] (b ∷ bs) = ⊥
+AreNamed g texts (a ∷ as1) [] = ⊥
+
+pub named_push : (g : ℕ → Name) (a b : List Name) (as1 bs : List Entry) (e f : Entry) → IsFront a b → AreNamed g a as1 bs
+    → IsWithin (length b) e → ((r : Reference) → entry_shown (text_at b) r e ≡ entry_shown g r f) → AreNamed g b (as1 ++ e ∷ []) (bs ++ f ∷ [])
+named_push g a b [] [] e f front h l s = ((l, s), tt)
+named_push g a b [] (y ∷ bs) e f front h l s = absurd h
+named_push g a b (x ∷ as1) [] e f front h l s = absurd h
+named_push g a b (x ∷ as1) (y ∷ bs) e f front h l s =
+    ((within_more a b x front h.0.0, λ r. entry_stays a b r x front h.0.0 ∙ h.0.1 r), named_push g a b as1 bs e f front h.1 l s)
+
+pub named_same : (g : ℕ → Name) (texts : List Name) (as1 bs : List Entry) → AreNamed g texts as1 bs → AreSame (text_at texts) g as1 bs
+named_same g texts [] [] h = tt
+named_same g texts [] (y ∷ bs) h = absurd h
+named_same g texts (x ∷ as1) [] h = absurd h
+named_same g texts (x ∷ as1) (y ∷ bs) h = (h.0.1, named_same g texts as1 bs h.1)
+
+-- ---- the same answers
+
+pub same_size : (f g : ℕ → Name) (as1 bs : List Entry) → AreSame f g as1 bs → length as1 ≡ length bs
+same_size f g [] [] h = refl
+same_size f g [] (b ∷ bs) h = absurd h
+same_size f g (a ∷ as1) [] h = absurd h
+same_size f g (a ∷ as1) (b ∷ bs) h = ap suc (same_size f g as1 bs h.1)
+
+pub same_shown : (f g : ℕ → Name) (rs : List Reference) (as1 bs : List Entry) → AreSame f g as1 bs → entries_shown f rs as1 ≡ entries_shown g rs bs
+same_shown f g [] as1 bs h = refl
+same_shown f g (r ∷ rs) [] [] h = refl
+same_shown f g (r ∷ rs) [] (b ∷ bs) h = absurd h
+same_shown f g (r ∷ rs) (a ∷ as1) [] h = absurd h
+same_shown f g (r ∷ rs) (a ∷ as1) (b ∷ bs) h =
+    let first = h.0 r in
+    let rest = same_shown f g rs as1 bs h.1 in
     λ i. first i ∷ rest i
 
-within_more : (a b : List (List ℕ)) (e : Entry) → IsFront a b → IsWithin (length a) e → IsWithin (length b) e
-within_more a b (entry.ToClass n) f l = omega (arith, l, ap length f.1, length-append a f.0)
-within_more a b (entry.ToMember n) f l = (l.0, omega (arith, l.1, ap length f.1, length-append a f.0))
-within_more a b (entry.Outside n) f l = omega (arith, l, ap length f.1, length-append a f.0)
-within_more a b entry.NotLoaded f l = refl
-within_more a b (entry.Error e n) f l = omega (arith, l, ap length f.1, length-append a f.0)
+-- ---- the list that is shown
 
-one_within : (count : ℕ) (e : Entry) → IsWithin count e → All (IsWithin count) (e ∷ [])
-one_within count e h zero d l = h
-one_within count e h (suc i) d l = absurd (omega (arith, l))
+pub shown_size : (f : ℕ → Name) (rs : List Reference) (es : List Entry) → length es ≡ length rs → length (entries_shown f rs es) ≡ length es
+shown_size f [] [] e = refl
+shown_size f [] (x ∷ es) e = absurd (omega arith)
+shown_size f (r ∷ rs) [] e = refl
+shown_size f (r ∷ rs) (x ∷ es) e = ap suc (shown_size f rs es (omega (arith, e)))
 
--- one more entry
-pub all_within : (a b : List (List ℕ)) (es : List Entry) (e : Entry) → IsFront a b → All (IsWithin (length a)) es → IsWithin (length b) e → All (IsWithin (length b)) (es ++ e ∷ [])
-all_within a b es e f h one = All-append (IsWithin (length b)) es (e ∷ []) (λ i d l. within_more a b (get_or es i d) f (h i d l)) (one_within (length b) e one)
+pub shown_at : (f : ℕ → Name) (rs : List Reference) (es : List Entry) (i : ℕ) (r : Reference) (e : Entry) → slice_get rs i ≡ Some r → slice_get es i ≡ Some e → slice_get (entries_shown f rs es) i ≡ Some (entry_shown f r e)
+shown_at f [] es i r e p q = absurd cc
+shown_at f (s ∷ rs) [] i r e p q = absurd cc
+shown_at f (s ∷ rs) (d ∷ es) zero r e p q =
+    let a = some_is p in
+    let b = some_is q in
+    λ i. Some (entry_shown f (a i) (b i))
+shown_at f (s ∷ rs) (d ∷ es) (suc i) r e p q = shown_at f rs es i r e p q
 
-pub shown_more : (a b : List (List ℕ)) (es : List Entry) (e : Entry) → IsFront a b → All (IsWithin (length a)) es → map (entry_shown b) (es ++ e ∷ []) ≡ map (entry_shown a) es ++ entry_shown b e ∷ []
-shown_more a b es e f h = map-append (entry_shown b) es (e ∷ []) ∙ ap (λ xs. xs ++ entry_shown b e ∷ []) (entries_stay a b es f h)
+-- ---- none
+
+pub none_shown : (f : ℕ → Name) (rs : List Reference) → entries_shown f rs (map (λ (r : Reference). entry.NotLoaded) rs) ≡ map (λ (r : Reference). answer.NotLoaded) rs
+none_shown f [] = refl
+none_shown f (r ∷ rs) = ap (λ z. answer.NotLoaded ∷ z) (none_shown f rs)

@@ -1,4 +1,5 @@
-use Rattle.std.proofs.Common.{map, ap, ◌∙◌}
+use Rattle.std.proofs.Common.{map, ap, subst, sym, ◌∙◌}
+use Rattle.jc_classes.specs.MemberOrder.{IsOrder}
 use Rattle.std.specs.Prelude.{option_map}
 use Rattle.jc_classes.specs.FactsOf.{sound_facts}
 use Rattle.jc_classes.specs.inside.FactsShown.{member_shown, reference_shown, text_at}
@@ -11,7 +12,9 @@ returns c =
     let class = c.args.class.now in
     let e = c.in_ok-entries.entries in
     let h = c.in_ok-entries.ensures.holds _ (front_refl _) in
-    let t = c.into_list.ensures in
+    let t = c.in_ok-texts_shared.ensures.ok ∙ c.into_list.ensures in
+    let r = c.in_ok-references.ensures.ok in
+    let f = c.in_ok-faults.ensures in
     facts_eta _ (sound_facts c.args.path.now class)
     c.in_ok-path.ensures.items
     (ap (λ ts. text_at ts e.name) t ∙ h.name)
@@ -20,6 +23,16 @@ returns c =
     (ap (λ ts. map (text_at ts) e.interfaces.items) t ∙ h.interfaces)
     (ap (λ ts. map (member_shown ts) e.fields.items) t ∙ h.fields)
     (ap (λ ts. map (member_shown ts) e.methods.items) t ∙ h.methods)
-    (ap (λ ts. map (reference_shown ts) e.references.items) t ∙ h.references)
-    c.new-2.ensures.items
-    c.in_ok-code_faults.ensures
+    (ap (λ rs. map (reference_shown c.in_ok-texts_shared.texts_shared.value) rs.items) r ∙ ap (λ ts. map (reference_shown ts) e.references.items) t ∙ h.references)
+    (ap (λ v. v.items) f.format ∙ c.new-4.ensures.items)
+    (ap (λ v. v.items) f.code ∙ c.in_ok-code_faults.ensures)
+
+pub invariant_of-result : goal.invariant_of-result
+invariant_of-result c =
+    let e = c.in_ok-entries.entries in
+    let h = c.in_ok-entries.ensures.holds _ (front_refl _) in
+    let t = sym (c.in_ok-texts_shared.ensures.ok ∙ c.into_list.ensures) in
+    record {
+      fields = subst (λ ts. IsOrder (map (member_shown ts) e.fields.items) e.field_order.items) t h.field_order;
+      methods = subst (λ ts. IsOrder (map (member_shown ts) e.methods.items) e.method_order.items) t h.method_order;
+    }

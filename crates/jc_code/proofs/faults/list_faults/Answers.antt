@@ -15,7 +15,7 @@ use Rattle.jc_code.proofs.faults.list_faults.Goals.{then-end-size+in_ok-push, el
 
 pub returns : goal.returns
 returns c =
-    let class : ClassFile = c.args.class.now in
+    let class : ClassFile = c.args.sizes.now in
     let k : Code = c.args.code.now.code in
     let read = c.bytes-bytes.result.now in
     let found = c.in_ok-found.found in

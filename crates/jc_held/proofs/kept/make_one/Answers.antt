@@ -13,6 +13,5 @@ returns-clause-kept c =
     record {
       part = made.part m d closed;
       reach = subst (λ names. Lists names (Reach m d)) (sym c.into_names.ensures) closed.names;
-      provided = made.provided m d closed;
       required = made.required m d closed;
     }

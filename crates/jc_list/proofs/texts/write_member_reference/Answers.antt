@@ -1,7 +1,5 @@
 use Rattle.std.proofs.Common.{◌++◌, ap, append_assoc, codes}
 use Rattle.jc_text.proofs.Sending.{◌⟫◌, sends_equal}
-use Rattle.jc_view.specs.ClassFile.{class_text_at}
-use Rattle.jc_view.specs.Lookups.{descriptor_at, name_at}
 use Rattle.jc_list.specs.Texts.{shown_text}
 use Rattle.jc_list.proofs.texts.write_member_reference.Goals as goal
 

@@ -1,4 +1,4 @@
-use Rattle.std.proofs.Common.{sym, subst, Option, option_map}
+use Rattle.std.proofs.Common.{sym, subst, Option, option_map, ◌∙◌}
 use Rattle.std.proofs.lemmas.Bool.Decides.{not_from_Decides}
 use Rattle.jc_classes.specs.Lent.{member_lent}
 use Rattle.jc_classes.specs.Worlds.{key_of, text_of}
@@ -27,16 +27,16 @@ returns-else-can_use-clause-found c = let x = indexed_of c.args.classes.now in �
     subst (λ (f : Option Hit). Settles m d t (name_at x c.args.start) missing (option_map (found_at x) f) (Wrong IllegalAccess (name_at x c.in-Some.hit.node))) (sym c.in-Some.is)
     (hidden (not_from_Decides c.can_use.result (c.can_use.ensures m text e h) c.if-can_use.false))
 
-pub returns-in-Some-2-clause-found : goal.returns-in-Some-2-clause-found
-returns-in-Some-2-clause-found c = let x = indexed_of c.args.classes.now in λ m text e missing h.
+pub returns-in-Some-beyond-clause-found : goal.returns-in-Some-beyond-clause-found
+returns-in-Some-beyond-clause-found c = let x = indexed_of c.args.classes.now in λ m text e missing h.
     let d = name_at x c.args.class in
     let t = named_at x c.args.target text e in
-    let b = subst (λ r. TellsBeyond m x (name_at x c.args.start) r) c.in-Some-2.is (c.in_ok-node-in-None.ensures.found m h) in
-    subst (λ (f : Option Hit). Settles m d t (name_at x c.args.start) missing (option_map (found_at x) f) (Beyond (name_at x c.in-Some-2.node))) (sym c.in-None.is) (beyond b.0 b.1)
+    let b = subst (λ r. TellsBeyond m x (name_at x c.args.start) r) (sym c.beyond.ensures ∙ c.in-Some-beyond.is) (c.in_ok-see-in-None.ensures.seen.beyond m h) in
+    subst (λ (f : Option Hit). Settles m d t (name_at x c.args.start) missing (option_map (found_at x) f) (Beyond (name_at x c.in-Some-beyond.node))) (sym c.in-None.is) (beyond b.0 b.1)
 
-pub returns-in-None-2-clause-found : goal.returns-in-None-2-clause-found
-returns-in-None-2-clause-found c = let x = indexed_of c.args.classes.now in λ m text e missing h.
+pub returns-in-None-beyond-clause-found : goal.returns-in-None-beyond-clause-found
+returns-in-None-beyond-clause-found c = let x = indexed_of c.args.classes.now in λ m text e missing h.
     let d = name_at x c.args.class in
     let t = named_at x c.args.target text e in
-    let b = subst (λ r. TellsBeyond m x (name_at x c.args.start) r) c.in-None-2.is (c.in_ok-node-in-None.ensures.found m h) in
+    let b = subst (λ r. TellsBeyond m x (name_at x c.args.start) r) (sym c.beyond.ensures ∙ c.in-None-beyond.is) (c.in_ok-see-in-None.ensures.seen.beyond m h) in
     subst (λ (f : Option Hit). Settles m d t (name_at x c.args.start) missing (option_map (found_at x) f) (Wrong missing (text_of t))) (sym c.in-None.is) (nowhere b)

@@ -6,7 +6,7 @@ use Rattle.jc_resolve.specs.Answers.{answer_of}
 use Rattle.jc_report.specs.ClassRows.{reference_row, rows_required}
 use Rattle.jc_report.specs.RowView.{row_lent}
 use Rattle.jc_report.proofs.reports.AnswersLeft.{next_answer}
-use Rattle.jc_report.proofs.rows.MemberRows.{added, left_required, left_resolved, no_answers, past_references}
+use Rattle.jc_report.proofs.rows.ReferenceRows.{added, left_required, left_resolved, no_answers, past_references}
 use Rattle.jc_report.proofs.class_rows.push_required.Goals as goal
 use Rattle.jc_report.proofs.class_rows.push_required.Goals.{then-is_required+in_ok-push-in-Some, else-is_required}
 

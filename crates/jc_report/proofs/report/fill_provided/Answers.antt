@@ -1,6 +1,6 @@
-use Rattle.std.proofs.Common.{◌≡◌, ◌∙◌, ◌+◌, ◌++◌, List, [], ap, map, subst, sym, take}
+use Rattle.std.proofs.Common.{◌≡◌, ◌+◌, List, [], map, subst, sym, take}
 use Rattle.std.specs.List.{Contains}
-use Rattle.std.proofs.lemmas.List.{map-append, take_all}
+use Rattle.std.proofs.lemmas.List.{take_all}
 use Rattle.jc_base.proofs.Membership.{has_from}
 use Rattle.jc_report.specs.ClassRows.{provided_rows}
 use Rattle.jc_report.specs.Reports.{Class, GivesRow, name_of}
@@ -20,15 +20,8 @@ pub loop-class-preserved : goal.loop-class-preserved
 loop-class-preserved c = λ rises.
     let classes = c.args.classes.now in
     let at = c.loop-class.class-index in
-    let rows = c.loop-class.rows.items in
-    let put = c.put_in_order.new.rows.items in
-    let gives = provided_rows c.class.inside.facts.now c.class.inside.part in
-    let pushed : map row_lent c.push_provided.new.rows.items ≡ gives = c.in_ok-push_provided.ensures ∙ ap (λ xs. map row_lent xs ++ gives) c.clear.ensures.items in
-    let mine : AreRows (map row_lent put) (Contains gives) = subst (λ (ys : List Row). AreRows (map row_lent put) (Contains ys)) pushed c.put_in_order.ensures in
-    let all : map row_lent c.extend_from_slice.new.self.items ≡ map row_lent rows ++ map row_lent put =
-    ap (map row_lent) (c.in_ok-extend_from_slice.ensures.items ∙ ap (λ xs. rows ++ xs) c.deref.ensures.value) ∙ map-append row_lent rows put in
-    subst (λ (xs : List Row). AreRows xs (GivesRow provided_rows (take (at + 1) classes))) (sym all)
-    (one_class_more provided_rows own classes at c.class-item.result _ _ _ c.loop-class-test.true c.class-item.is c.class.view_is rises (c.loop-class.invariant rises) mine)
+    subst (λ (xs : List Row). AreRows xs (GivesRow provided_rows (take (at + 1) classes))) (sym c.in_ok-push_all.ensures)
+    (one_class_more provided_rows own classes at c.class-item.result _ _ _ c.loop-class-test.true c.class-item.is c.class.view_is rises (c.loop-class.invariant rises) c.provided_in_order.ensures)
 
 pub returns : goal.returns
 returns c = λ rises.

@@ -1,66 +1,42 @@
-use Rattle.std.proofs.Common.{◌≡◌, ◌<◌, ◌+◌, option_map, Some, arith, ◌++◌, ◌∷◌, [], take, length, sym, ap, subst, ◌∙◌}
-use Rattle.std.proofs.lemmas.List.{take_more}
-use Rattle.std.proofs.lemmas.Option.{slice_get_within, get_or_from_slice_get}
-use Rattle.std.specs.List.{slice_get}
-use Rattle.jc_classes.specs.Facts.{Reference}
-use Rattle.jc_classes.specs.Lent.{reference_lent}
-use Rattle.jc_resolve.proofs.answering.Lists.{past}
-use Rattle.jc_resolve.proofs.lookups.Look.{none_of}
-use Rattle.jc_classes.specs.Loading.Loading.{Loaded}
-use Rattle.jc_classes.specs.Parts.{AreAnswers, class_of}
-use Rattle.jc_lookup.specs.inside.Indexed.{name_at}
+use Rattle.std.proofs.Common.{ℕ, List, length, get_or, None, refl, sym, subst, arith}
+use Rattle.std.proofs.lemmas.Option.{slice_get-get_or}
 use Rattle.jc_lookup.specs.inside.Shown.{indexed_of}
-use Rattle.jc_resolve.specs.Answers.{answer_of}
-use Rattle.jc_resolve.proofs.loading.Nets.{answers_push, node_of_ref, node_within, take_whole}
+use Rattle.jc_resolve.specs.declared.all_answers.Asked.{Asked}
+use Rattle.jc_resolve.specs.declared.entry.Entry.{Entry}
+use Rattle.jc_resolve.specs.inside.Answered.{AreNumbered, IsAnsweredAt}
+use Rattle.jc_resolve.proofs.answering.Asking.{done_before, done_each, number_within}
 use Rattle.jc_resolve.proofs.all_answers.answer_each.Goals as goal
 
-pub resolve-requires-clause-node : goal.resolve-requires-clause-node
-resolve-requires-clause-node c =
-    let refs = c.args.facts.now.references in
-    let at = c.loop-reference.at in
-    let r = reference_lent c.in-Some.reference in
-    let got : slice_get refs at ≡ Some r = sym c.reference.ensures ∙ ap (option_map reference_lent) c.in-Some.is in
-    sym (ap (λ (z : Reference). class_of z.named) (get_or_from_slice_get refs at r r got)) ∙ node_of_ref (name_at (indexed_of c.args.classes.now)) c.args.nodes.now refs at r c.requires.nodes (slice_get_within refs at r got)
-
-pub resolve-requires-clause-within : goal.resolve-requires-clause-within
-resolve-requires-clause-within c = node_within (length c.args.classes.now.standing.now) c.args.nodes.now c.loop-reference.at c.requires.within
-
-pub loop-reference-preserved : goal.loop-reference-preserved
-loop-reference-preserved c =
-    let refs = c.args.facts.now.references in
-    let at = c.loop-reference.at in
-    let r = reference_lent c.in-Some.reference in
-    let got : slice_get refs at ≡ Some r = sym c.reference.ensures ∙ ap (option_map reference_lent) c.in-Some.is in
-    let l : at < length refs = slice_get_within refs at r got in
+pub loop-asked-preserved : goal.loop-asked-preserved
+loop-asked-preserved c =
+    let n = c.in_ok-answer_next.ensures in
     let x = indexed_of c.args.classes.now in
-    let d = name_at x c.args.class in
-    let a = c.in_ok-answer.answer in
-    let answers = c.loop-reference.answers in
-    let e = take_more refs at r l ∙ ap (λ z. take at refs ++ z ∷ []) (get_or_from_slice_get refs at r r got) in
-    let n = c.in_ok-answer.ensures in
+    let order = c.deref-asked-items.result.now in
+    let none : Asked = record { node = None; place = 0; number = 0 } in
+    let index = c.loop-asked.asked-index in
+    let answered = λ (entries : List Entry) (at : ℕ). IsAnsweredAt x c.args.loads.now c.args.class c.args.facts.now.references entries at in
     record {
       above = n.above;
       covered = n.covered;
-      within = omega (arith, l);
-      answered = λ m told index.
-          subst (λ z. AreAnswers m d Loaded (take (at + 1) refs) z) (sym c.in_ok-push.ensures)
-          (subst (λ z. AreAnswers m d Loaded z (answers ++ answer_of a ∷ [])) (sym e)
-          (answers_push m d Loaded (take at refs) answers r (answer_of a) (c.loop-reference.invariant.answered m told index) (n.found m told index)));
+      room = n.room;
+      before = (
+        number_within (length c.args.facts.now.references) order index none (subst (AreNumbered (length c.args.facts.now.references)) (sym c.deref-asked-items.ensures.value) c.in_ok-order.ensures) c.loop-asked-test.true,
+        n.answered (get_or order index none).number (λ ne. absurd (ne refl)),
+      );
+      answered = done_before order index (answered c.loop-asked.entries.items) (answered c.answer_next.new.entries.items) (get_or order index none)
+          (slice_get-get_or order index none c.loop-asked-test.true) n.answered c.loop-asked.invariant.answered;
     }
 
-pub loop-reference-smaller : goal.loop-reference-smaller
-loop-reference-smaller c =
+pub returns-clause-answered : goal.returns-clause-answered
+returns-clause-answered c =
+    let x = indexed_of c.args.classes.now in
     let refs = c.args.facts.now.references in
-    let at = c.loop-reference.at in
-    let r = reference_lent c.in-Some.reference in
-    let got : slice_get refs at ≡ Some r = sym c.reference.ensures ∙ ap (option_map reference_lent) c.in-Some.is in
-    let l = slice_get_within refs at r got in
-    omega (arith, l)
+    let order = c.deref-asked-items.result.now in
+    let each : AreNumbered (length refs) order = subst (AreNumbered (length refs)) (sym c.deref-asked-items.ensures.value) c.in_ok-order.ensures in
+    done_each (length refs) order (λ at. IsAnsweredAt x c.args.loads.now c.args.class refs c.loop-asked.entries.items at) each
+    (λ i a l g. c.loop-asked.invariant.answered i a (omega (arith, l, c.loop-asked-test.false)) g)
 
-pub returns : goal.returns
-returns c = λ m told index.
-    let refs = c.args.facts.now.references in
-    let at = c.loop-reference.at in
-    let e = past refs at (none_of reference_lent (slice_get refs at) c.reference.result c.reference.ensures c.in_default.not-Some) in
-    let d = name_at (indexed_of c.args.classes.now) c.args.class in
-    subst (λ z. AreAnswers m d Loaded z c.loop-reference.answers) (take_whole refs at e) (c.loop-reference.invariant.answered m told index)
+pub answer_next-requires-clause-number : goal.answer_next-requires-clause-number
+answer_next-requires-clause-number c =
+    let order = c.deref-asked-items.result.now in
+    number_within (length c.args.facts.now.references) order c.loop-asked.asked-index (record { node = None; place = 0; number = 0 }) (subst (AreNumbered (length c.args.facts.now.references)) (sym c.deref-asked-items.ensures.value) c.in_ok-order.ensures) c.loop-asked-test.true

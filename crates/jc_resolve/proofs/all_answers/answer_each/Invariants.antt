@@ -1,21 +1,16 @@
-use Rattle.std.proofs.Common.{◌≡◌, ◌≤◌, ◌-◌, take, length}
-use Rattle.jc_classes.specs.Worlds.{World}
-use Rattle.jc_classes.specs.Loading.Loading.{Loaded}
-use Rattle.jc_classes.specs.Parts.{AreAnswers}
-use Rattle.jc_lookup.specs.inside.Indexed.{name_at, IsIndexed}
+use Rattle.std.proofs.Common.{◌≡◌, ◌<◌, ℕ, IfSome, Some, length}
+use Rattle.std.specs.List.{slice_get}
+use Rattle.jc_lookup.specs.inside.Above.{Knows}
 use Rattle.jc_lookup.specs.inside.Shown.{indexed_of}
-use Rattle.jc_resolve.specs.inside.Resolved.{TellsLoads}
+use Rattle.jc_resolve.specs.declared.all_answers.Asked.{Asked}
+use Rattle.jc_resolve.specs.inside.Answered.{IsAnsweredAt}
 use Rattle.jc_resolve.proofs.all_answers.answer_each.Given as goal
 
-abbrev pub invariant-loop-reference : goal.invariant-loop-reference
-invariant-loop-reference l = record {
-  above : length l.above.flags ≡ length l.classes.standing.now;
+abbrev pub invariant-loop-asked : goal.invariant-loop-asked
+invariant-loop-asked l = record {
+  above : Knows (length l.classes.standing.now) (indexed_of l.classes) l.above;
   covered : length l.covered.flags ≡ length l.classes.standing.now;
-  within : l.at ≤ length l.facts.references;
-  answered : (m : World) → TellsLoads m (indexed_of l.classes) (length l.classes.standing.now) l.loads
-      → IsIndexed m (indexed_of l.classes)
-      → AreAnswers m (name_at (indexed_of l.classes) l.class) Loaded (take l.at l.facts.references) l.answers;
+  room : length l.entries.items ≡ length l.facts.references;
+  before : IfSome l.before (λ b. (b < length l.facts.references) × IsAnsweredAt (indexed_of l.classes) l.loads l.class l.facts.references l.entries.items b);
+  answered : (i : ℕ) (a : Asked) → i < l.asked-index → slice_get l.asked-items i ≡ Some a → IsAnsweredAt (indexed_of l.classes) l.loads l.class l.facts.references l.entries.items a.number;
 }
-
-abbrev pub decreases-loop-reference : goal.decreases-loop-reference
-decreases-loop-reference l = length l.facts.references - l.at

@@ -1,12 +1,14 @@
 use Rattle.std.proofs.Common.{◌≡◌, ◌∷◌, [], ◌++◌, length, reverse, sym, ap, subst, ◌∙◌, arith}
-use Rattle.jc_classes.specs.Lent.{member_lent}
 use Rattle.jc_graph.specs.Seen.{unseen}
 use Rattle.jc_classes.specs.Lent.{key_lent}
-use Rattle.jc_lookup.specs.inside.Indexed.{onward_row}
+use Rattle.jc_classes.specs.Worlds.{fields_of}
+use Rattle.jc_lookup.specs.inside.Indexed.{onward_row, record_at}
 use Rattle.jc_lookup.specs.inside.Shown.{indexed_of}
 use Rattle.jc_resolve.specs.inside.Looking.{Going}
 use Rattle.jc_graph.proofs.marked.SeenLemmas.{unseen_set}
 use Rattle.jc_resolve.proofs.lookups.Look.{going_start, going_skip, going_add, going_found, going_end, none_of, no_items, popped_going, popped_less}
+use Rattle.jc_classes.specs.Lent.{member_lent}
+use Rattle.jc_resolve.proofs.answering.Keys.{member_keyed}
 use Rattle.jc_resolve.proofs.fields.find_field.Goals as goal
 
 pub loop-node-init : goal.loop-node-init
@@ -85,3 +87,6 @@ returns-in-Some-field-clause-seen c = c.loop-node.invariant.size
 
 pub returns-clause-seen : goal.returns-clause-seen
 returns-clause-seen c = c.loop-node.invariant.size
+
+pub returns-in-Some-field-clause-keyed : goal.returns-in-Some-field-clause-keyed
+returns-in-Some-field-clause-keyed c = member_keyed (fields_of (record_at (indexed_of c.args.classes.now) c.in-Some.node)) (key_lent c.args.key) (member_lent c.in-Some-field.member) (sym c.in-Some-field.ensures)

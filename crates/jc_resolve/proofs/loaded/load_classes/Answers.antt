@@ -27,6 +27,7 @@ invariant_of-unloaded c =
       rows_size = c.requires.size;
       object_within = c.requires.object;
       object_name = c.requires.object_name;
+      packages = c.in_ok-package_ends.ensures;
       graph = graph_first (length s) (filled n s u rank good) (net_again n s u [] rank [] good c.requires.net) c.in_ok-unset.ensures.size c.in_ok-unset.ensures.none;
     }
 
@@ -59,6 +60,7 @@ invariant_of-classes c =
       rows_size = c.requires.size;
       object_within = c.requires.object;
       object_name = c.requires.object_name;
+      packages = c.in_ok-package_ends.ensures;
       graph = graph_last count x y net graph flags order rings ordered loads c.in_ok-loads.ensures.size (λ m i. c.in_ok-loads.ensures.loads m i) net2 refl goods ranked;
     }
 

@@ -10,6 +10,8 @@ use Rattle.jc_resolve.specs.inside.Resolved.{named_of, element_of, begun_of}
 use Rattle.jc_lookup.specs.declared.access.Target.{Target}
 use Rattle.jc_resolve.specs.declared.resolve.Begun.{Begun}
 use Rattle.jc_resolve.proofs.answering.Begins.{begun_ends}
+use Rattle.jc_classes.specs.Lent.{key_lent}
+use Rattle.jc_resolve.proofs.answering.Keys.{settled_keyed}
 use Rattle.jc_resolve.proofs.resolve.resolve_field.Goals as goal
 
 pub find_field-requires-clause-start : goal.find_field-requires-clause-start
@@ -40,3 +42,6 @@ pub returns-in_default-clause-found : goal.returns-in_default-clause-found
 returns-in_default-clause-found c =
     let x = indexed_of c.args.classes.now in
     λ m text t h. ends (subst (λ s. Starts m (name_at x c.args.class) (named_of x c.args.reference text) s) (begun_ends x c.begin.result c.in_default.not-At) (c.begin.ensures.starts m text t h))
+
+pub returns-in_ok-settled-in-At-clause-keyed : goal.returns-in_ok-settled-in-At-clause-keyed
+returns-in_ok-settled-in-At-clause-keyed c = settled_keyed (key_lent c.args.key) c.in_ok-found-in-At.found c.in_ok-settled-in-At.settled c.in_ok-settled-in-At.ensures.hit c.in_ok-found-in-At.ensures.keyed

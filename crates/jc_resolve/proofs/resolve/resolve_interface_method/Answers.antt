@@ -14,6 +14,8 @@ use Rattle.jc_classes.specs.Worlds.{is_interface}
 use Rattle.jc_rules.specs.AccessFlags.{has, interface as interface_flag}
 use Rattle.jc_lookup.proofs.lookups.Bridge.{record_is}
 use Rattle.jc_resolve.proofs.answering.Begins.{begun_ends}
+use Rattle.jc_classes.specs.Lent.{key_lent}
+use Rattle.jc_resolve.proofs.answering.Keys.{settled_keyed}
 use Rattle.jc_resolve.proofs.resolve.resolve_interface_method.Goals as goal
 
 pub find_interface_method-requires-clause-start : goal.find_interface_method-requires-clause-start
@@ -55,3 +57,6 @@ returns-then-not-is_in-clause-found c =
     (subst (λ (b : Begun). Starts m d (named_of x r text) (begun_of x b)) c.in-At.is (c.begin.ensures.starts m text t h))
     (record_is m (length c.args.classes.now.standing.now) x c.args.classes.now.graph h (λ r. is_interface r) c.in-At.start false (c.begin.ensures.at c.in-At.start c.in-At.is).0 (ap (λ f. has f interface_flag) (sym c.flags.ensures) ∙ sym c.is_in.ensures ∙ c.if-not-is_in.true))
     refl
+
+pub returns-in_ok-settled-in-At-clause-keyed : goal.returns-in_ok-settled-in-At-clause-keyed
+returns-in_ok-settled-in-At-clause-keyed c = settled_keyed (key_lent c.args.key) c.in_ok-found-in-At.found c.in_ok-settled-in-At.settled c.in_ok-settled-in-At.ensures.hit c.in_ok-found-in-At.ensures.keyed

@@ -1,5 +1,5 @@
 use Rattle.jc_held.proofs.held.Holding.{held_of}
-use Rattle.jc_held.proofs.held.Provided.{rows_required}
+use Rattle.jc_held.proofs.held.Required.{rows_required}
 use Rattle.jc_held.proofs.linkage.Linkage.required.Goals as goal
 
 pub returns : goal.returns

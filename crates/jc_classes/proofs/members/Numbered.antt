@@ -1,0 +1,93 @@
+-- The numbers of texts that were told are those of texts that are there.
+use Rattle.std.proofs.Common.{◌≡◌, ◌∙◌, ℕ, suc, ◌-◌, ◌<◌, ◌≤◌, List, [], ◌∷◌, ◌++◌, length, map, Option, Some, None, replicate, slice_index_or, refl, sym, ap, subst, arith, ⊎_elim}
+use Rattle.std.specs.List.{All, flat_map}
+use Rattle.std.specs.Option.{option_to_list}
+use Rattle.std.proofs.lemmas.Bool.{cases_lt}
+use Rattle.std.proofs.lemmas.List.{get_or-append_right, get_or-map, get_or_default, get_or-replicate, get_or_past, length-append, length-map}
+use Rattle.jc_classes.specs.Facts.{Member}
+use Rattle.jc_classes.specs.FactsOf.{once}
+use Rattle.jc_classes.specs.Names.{Name}
+use Rattle.jc_classes.specs.MemberOrder.{IsOrder}
+use Rattle.jc_classes.specs.declared.facts.MemberEntry.{MemberEntry}
+use Rattle.jc_classes.specs.inside.ClassTexts.{IsFront}
+use Rattle.jc_classes.specs.inside.FactsShown.{member_shown, text_at}
+use Rattle.jc_classes.specs.inside.Ranks.{AreBelow, AreRanks}
+use Rattle.jc_classes.proofs.texts.AskedTexts.{front_refl, text_stays}
+
+empty_is_not : (text : List ℕ) → [] ≡ text → 1 ∷ [] ≡ text → ⊥
+empty_is_not text e f = cc
+
+-- else another text could get the number
+pub number_below : (texts : List (List ℕ)) (number : ℕ) (text : List ℕ) → ((ts : List (List ℕ)) → IsFront texts ts → text_at ts number ≡ text) → number < length texts
+number_below texts number text h = ⊎_elim
+    (λ l. l)
+    (λ l.
+    let other : List ℕ = 1 ∷ [] in
+    let more = replicate (suc number) other in
+    let past = get_or-append_right texts more (length texts) number [] refl l ∙ get_or-replicate (suc number) (number - length texts) other [] (omega arith) in
+    absurd (empty_is_not text (sym (get_or_past texts number [] l) ∙ h texts (front_refl texts)) (sym past ∙ h (texts ++ more) (more, refl))))
+    (cases_lt number (length texts))
+
+abbrev no_member : Member
+no_member = record { name = []; descriptor = []; flags = 0 }
+
+pub members_below : (texts : List (List ℕ)) (entries : List MemberEntry) (members : List Member) → ((ts : List (List ℕ)) → IsFront texts ts → map (member_shown ts) entries ≡ members) → AreBelow (length texts) entries
+members_below texts entries members h k d l =
+    let at = λ (ts : List (List ℕ)) (f : IsFront texts ts). sym (get_or-map (member_shown ts) entries k d no_member l) ∙ ap (λ (ms : List Member). slice_index_or ms k no_member) (h ts f) in (
+      number_below texts (slice_index_or entries k d).name (slice_index_or members k no_member).name (λ ts f. ap (λ (m : Member). m.name) (at ts f)),
+      number_below texts (slice_index_or entries k d).descriptor (slice_index_or members k no_member).descriptor (λ ts f. ap (λ (m : Member). m.descriptor) (at ts f)),
+    )
+
+pub names_below : (texts : List (List ℕ)) (numbers : List ℕ) (names : List Name) → ((ts : List (List ℕ)) → IsFront texts ts → map (text_at ts) numbers ≡ names) → All (λ n. n < length texts) numbers
+names_below texts numbers names h k d l =
+    number_below texts (slice_index_or numbers k d) (slice_index_or names k [])
+    (λ ts f. sym (get_or-map (text_at ts) numbers k d [] l) ∙ ap (λ (ns : List Name). slice_index_or ns k []) (h ts f))
+
+-- texts behind them change no name
+pub names_stay : (texts all : List (List ℕ)) → IsFront texts all → (numbers : List ℕ) → All (λ n. n < length texts) numbers → map (text_at all) numbers ≡ map (text_at texts) numbers
+names_stay texts all f [] h = refl
+names_stay texts all f (n ∷ numbers) h = λ i. text_stays texts all n f (h 0 0 (omega arith)) i ∷ names_stay texts all f numbers (λ k d l. h (suc k) d (omega (arith, l))) i
+
+one_at_most : {X : Type 0} (o : Option X) → length (option_to_list o) ≤ 1
+one_at_most None = omega arith
+one_at_most (Some x) = omega arith
+
+found_few : {X Y : Type 0} (f : X → Option Y) (xs : List X) → length (flat_map (λ x. option_to_list (f x)) xs) ≤ length xs
+found_few f [] = omega arith
+found_few f (x ∷ xs) = omega (arith, length-append (option_to_list (f x)) (flat_map (λ y. option_to_list (f y)) xs), one_at_most (f x), found_few f xs)
+
+-- no more than what they are made of
+pub shown_few : {X : Type 0} (texts : List (List ℕ)) (entries : List MemberEntry) (f : X → Option Member) (xs : List X) → map (member_shown texts) entries ≡ flat_map (λ x. option_to_list (f x)) xs → length entries ≤ length xs
+shown_few texts entries f xs e = omega (arith, length-map entries (member_shown texts), ap length e, found_few f xs)
+
+-- ---- ranks and members that are lent
+
+module _ (texts : List (List ℕ)) (ranks made : List ℕ) (members entries : List MemberEntry) (lent : ranks ≡ made) (same : members ≡ entries) (r : AreRanks texts made) where
+  pub ranked_below : AreBelow (length texts) entries → AreBelow (length ranks) members
+  ranked_below below =
+      let size : length texts ≡ length ranks = sym (ap length lent ∙ r.size) in
+      subst (λ (ms : List MemberEntry). AreBelow (length ranks) ms) (sym same) (subst (λ n. AreBelow n entries) size below)
+
+-- an order made by the ranks of the first texts
+pub order_of : (texts : List (List ℕ)) (ranks made : List ℕ) (members entries : List MemberEntry) (order : List ℕ) → ranks ≡ made → members ≡ entries → AreRanks texts made
+    → ((ts : List (List ℕ)) → AreRanks ts ranks → IsOrder (map (member_shown ts) members) order) → (all : List (List ℕ)) → map (member_shown texts) entries ≡ map (member_shown all) entries → IsOrder (map (member_shown all) entries) order
+order_of texts ranks made members entries order lent same r h all e =
+    subst (λ ms. IsOrder ms order) e (subst (λ (ms : List MemberEntry). IsOrder (map (member_shown texts) ms) order) same (h texts (subst (AreRanks texts) (sym lent) r)))
+
+-- names that were kept by the ranks of the first texts
+module _ (texts : List (List ℕ)) (ranks made names kept : List ℕ) (lent : ranks ≡ made) (r : AreRanks texts made) where
+  lent_ranks : AreRanks texts ranks
+  lent_ranks = subst (AreRanks texts) (sym lent) r
+
+  pub once_of : All (λ n. n < length ranks) kept → ((ts : List (List ℕ)) → AreRanks ts ranks → map (text_at ts) kept ≡ once (map (text_at ts) names)) → (all : List (List ℕ)) → IsFront texts all → map (text_at all) kept ≡ once (map (text_at texts) names)
+  once_of below h all f =
+      let size : length ranks ≡ length texts = ap length lent ∙ r.size in
+      names_stay texts all f kept (subst (λ n. All (λ k. k < n) kept) size below) ∙ h texts lent_ranks
+
+  pub once_below : All (λ n. n < length texts) names → All (λ n. n < length ranks) names
+  once_below below = subst (λ n. All (λ k. k < n) names) (sym (ap length lent ∙ r.size)) below
+
+  pub ranks_below : All (λ rank. rank < length ranks) ranks
+  ranks_below k d l =
+      let s = lent_ranks in
+      subst (λ x. x < length ranks) (get_or_default ranks k 0 d l) (omega (arith, s.within k (omega (arith, l, s.size)), s.size))

@@ -1,0 +1,8 @@
+-- Members that are lent with the order by which they are found.
+use Rattle.std.specs.Prelude.{List, map}
+use Rattle.jc_classes.specs.Facts.{Member}
+use Rattle.jc_classes.specs.declared.member_lookup.OrderedMembers.{OrderedMembers}
+use Rattle.jc_classes.specs.inside.FactsShown.{member_shown}
+
+abbrev pub shown : OrderedMembers → List Member
+shown ordered = map (member_shown ordered.texts.now) ordered.members.now

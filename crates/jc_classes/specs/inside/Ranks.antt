@@ -1,0 +1,42 @@
+-- Texts by number, and members by the ranks of their texts.
+use Rattle.std.specs.Prelude.{◌≡◌, ℕ, ◌+◌, ◌<◌, ◌≤◌, true, false, List, [], ◌∷◌, length, map, slice_index}
+use Rattle.std.specs.Borrow.{Bor}
+use Rattle.std.specs.List.{All, Contains}
+use Rattle.std.specs.List.Sorted.{IsSorted}
+use Rattle.std.specs.Ordering.{is_lt, nat_cmp}
+use Rattle.jc_classes.specs.Names.{Name, name_cmp}
+use Rattle.jc_classes.specs.declared.facts.MemberEntry.{MemberEntry}
+use Rattle.jc_classes.specs.inside.FactsShown.{text_at}
+
+-- the same texts in the order of their bytes
+pub record AreSorted (texts sorted : List Name) : Type 0 where
+  pub rises : IsSorted name_cmp sorted
+  pub size : length sorted ≡ length texts
+  pub complete : (number : ℕ) → number < length texts → Contains sorted (text_at texts number)
+
+-- so many of the sorted texts are less than this one
+pub record IsRank (sorted : List Name) (text : Name) (rank : ℕ) : Type 0 where
+  pub fits : rank ≤ length sorted
+  pub below : (place : ℕ) → place < rank → is_lt (name_cmp (text_at sorted place) text) ≡ true
+  pub above : (place : ℕ) → rank ≤ place → place < length sorted → is_lt (name_cmp (text_at sorted place) text) ≡ false
+
+-- ranks of texts, by their numbers, that are in the order of the texts' bytes
+pub record AreRanks (texts : List Name) (ranks : List ℕ) : Type 0 where
+  pub size : length ranks ≡ length texts
+  pub within : (number : ℕ) → number < length texts → slice_index ranks number < length texts
+  pub order : (a b : ℕ) → a < length texts → b < length texts → nat_cmp (slice_index ranks a) (slice_index ranks b) ≡ name_cmp (text_at texts a) (text_at texts b)
+
+-- the numbers of the members' texts are below a bound
+abbrev pub AreBelow : ℕ → List MemberEntry → Type 0
+AreBelow bound members = All (λ (entry : MemberEntry). (entry.name < bound) × (entry.descriptor < bound)) members
+
+abbrev pub texts_lent : List (Bor (List ℕ)) → List Name
+texts_lent texts = map (λ (text : Bor (List ℕ)). text.now) texts
+
+-- the ranks of each member's name and descriptor, and its number, of which the first is this
+abbrev pub ranked_from : List ℕ → ℕ → List MemberEntry → List (ℕ × ℕ × ℕ)
+ranked_from ranks number [] = []
+ranked_from ranks number (entry ∷ members) = (slice_index ranks entry.name, slice_index ranks entry.descriptor, number) ∷ ranked_from ranks (number + 1) members
+
+abbrev pub number_of : ℕ × ℕ × ℕ → ℕ
+number_of one = one.2

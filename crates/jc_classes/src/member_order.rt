@@ -1,0 +1,92 @@
+//! The order by which members are found. Texts are compared once, to rank them, and members then by the ranks:
+//! many members may share a long text.
+
+ghost use Rattle.std.specs.Prelude.{◌≡◌, ◌<◌, ◌^◌, List, length, map, IfOk};
+ghost use Rattle.std.specs.List.Sorted.{IsSorted};
+ghost use Rattle.jc_classes.specs.MemberOrder.{IsOrder};
+ghost use Rattle.jc_classes.specs.Names.{Name, name_cmp};
+ghost use Rattle.jc_classes.specs.inside.FactsShown.{member_shown};
+ghost use Rattle.jc_classes.specs.inside.Ranks.{AreBelow, AreRanks, AreSorted, IsRank, number_of, ranked_from, texts_lent};
+
+use crate::facts::MemberEntry;
+use crate::names::less;
+use crate::text_list::TextList;
+use jc_base::NoMemory;
+use std::alloc::Global;
+
+/// The ranks of texts by their bytes, each at the text's number. Texts of the same bytes have the same rank.
+pub(crate) fn rank_texts(alloc: Global, texts: &TextList) -> Result<Vec<usize>, NoMemory>
+    ensures { IfOk result (λ ranks. AreRanks texts.now ranks.items) }
+{
+    let sorted = sort_texts(alloc, texts)?;
+    let mut ranks = Vec::with_capacity(alloc, texts.len())?;
+    for number in 0..texts.len() {
+        ranks.push(rank(sorted.as_slice(), texts.text(number)))?;
+    }
+    Ok(ranks)
+}
+
+/// The texts in the order of their bytes.
+fn sort_texts<'a>(alloc: Global, texts: &'a TextList) -> Result<Vec<&'a [u8]>, NoMemory>
+    ensures { IfOk result (λ sorted. AreSorted texts.now (texts_lent sorted.items)) }
+{
+    let mut sorted = Vec::with_capacity(alloc, texts.len())?;
+    for number in 0..texts.len() {
+        sorted.push(texts.text(number))?;
+    }
+    sorted.sort_unstable();
+    Ok(sorted)
+}
+
+/// How many of these texts are less than a text.
+fn rank(sorted: &[&[u8]], text: &[u8]) -> usize
+    requires { IsSorted name_cmp (texts_lent sorted.now) }
+    ensures { IsRank (texts_lent sorted.now) text.now result }
+{
+    sorted.partition_point(|other| less(other, text))
+}
+
+/// The numbers of members in the order by which they are found, by the ranks of their texts.
+pub(crate) fn order_members(
+    alloc: Global,
+    ranks: &[usize],
+    members: &[MemberEntry],
+) -> Result<Vec<u16>, NoMemory>
+    requires few { length members.now < 2 ^ 16 }
+    requires below { AreBelow (length ranks.now) members.now }
+    ensures { IfOk result (λ order. (texts : List Name) → AreRanks texts ranks.now → IsOrder (map (member_shown texts) members.now) order.items) }
+{
+    let mut ranked = rank_members(alloc, ranks, members)?;
+    ranked.sort_unstable();
+    numbers(alloc, ranked.as_slice())
+}
+
+/// The ranks of each member's name and descriptor, and its number.
+fn rank_members(
+    alloc: Global,
+    ranks: &[usize],
+    members: &[MemberEntry],
+) -> Result<Vec<(usize, usize, u16)>, NoMemory>
+    requires few { length members.now < 2 ^ 16 }
+    requires below { AreBelow (length ranks.now) members.now }
+    ensures { IfOk result (λ ranked. ranked.items ≡ ranked_from ranks.now 0 members.now) }
+{
+    let mut ranked = Vec::with_capacity(alloc, members.len())?;
+    for (number, entry) in members.iter().enumerate() {
+        let name = ranks[entry.name as usize];
+        let descriptor = ranks[entry.descriptor as usize];
+        ranked.push((name, descriptor, number as u16))?;
+    }
+    Ok(ranked)
+}
+
+/// The numbers alone.
+fn numbers(alloc: Global, ranked: &[(usize, usize, u16)]) -> Result<Vec<u16>, NoMemory>
+    ensures { IfOk result (λ numbers. numbers.items ≡ map number_of ranked.now) }
+{
+    let mut numbers = Vec::with_capacity(alloc, ranked.len())?;
+    for (_, _, number) in ranked {
+        numbers.push(*number)?;
+    }
+    Ok(numbers)
+}

@@ -1,0 +1,36 @@
+//! Names that are given several times.
+
+ghost use Rattle.std.specs.Prelude.{◌≡◌, ◌<◌, List, length, map, IfOk};
+ghost use Rattle.std.specs.List.{All};
+ghost use Rattle.jc_classes.specs.FactsOf.{once};
+ghost use Rattle.jc_classes.specs.Names.{Name};
+ghost use Rattle.jc_classes.specs.inside.FactsShown.{text_at};
+ghost use Rattle.jc_classes.specs.inside.Ranks.{AreRanks};
+
+use jc_base::NoMemory;
+use std::alloc::Global;
+
+/// The numbers of each name where it stands first, by the ranks of the texts: texts of the same bytes have the
+/// same rank.
+pub(crate) fn once(alloc: Global, ranks: &[usize], names: Vec<u16>) -> Result<Vec<u16>, NoMemory>
+    requires names { All (λ name. name < length ranks.now) names.items }
+    requires ranks { All (λ rank. rank < length ranks.now) ranks.now }
+    ensures below { IfOk result (λ kept. All (λ name. name < length ranks.now) kept.items) }
+    ensures once { IfOk result (λ kept. (texts : List Name) → AreRanks texts ranks.now → map (text_at texts) kept.items ≡ once (map (text_at texts) names.items)) }
+{
+    if names.len() < 2 {
+        return Ok(names);
+    }
+    let mut seen = vec![in alloc; false; ranks.len()]?;
+    let mut kept = Vec::new(alloc);
+    for name in &names {
+        let rank = ranks[*name as usize];
+        if seen[rank] {
+            continue;
+        }
+        seen[rank] = true;
+        kept.push(*name)?;
+    }
+    kept.shrink_to_fit();
+    Ok(kept)
+}

@@ -1,0 +1,47 @@
+//! The references of a class, shared with its facts.
+
+ghost use Rattle.std.specs.Prelude.{◌≡◌, length, option_map, slice_get};
+ghost use Rattle.jc_classes.specs.Lent.{reference_lent};
+
+use crate::facts::ReferenceEntry;
+use crate::reference::Reference;
+use crate::text_list::TextList;
+use std::marker::Model;
+use std::rc::Rc;
+
+/// The references of a class by rising index of their constants, with their texts, which they share with its
+/// facts. Seen as the list of them.
+#[derive(Drop)]
+pub struct References {
+    pub(crate) texts: Rc<TextList>,
+    pub(crate) entries: Rc<Vec<ReferenceEntry>>,
+}
+
+impl Model for References {
+    ghost use Rattle.std.specs.Prelude.{List, map};
+    ghost use Rattle.jc_classes.specs.Facts as specs;
+    ghost use Rattle.jc_classes.specs.inside.FactsShown.{reference_shown};
+
+    ghost Value = { List specs.Reference };
+
+    ghost view = { λ a. map (reference_shown a.texts.value) a.entries.value.items };
+}
+
+impl References {
+    /// How many there are. No memory.
+    pub fn len(&self) -> usize
+        ensures { result ≡ length self.now }
+    {
+        self.entries.as_ref().len()
+    }
+
+    /// The reference of a number. No memory.
+    pub fn at(&self, number: usize) -> Option<Reference<'_>>
+        ensures { option_map reference_lent result ≡ slice_get self.now number }
+    {
+        match self.entries.as_ref().get(number) {
+            Some(entry) => Some(entry.lend(self.texts.as_ref())),
+            None => None,
+        }
+    }
+}

@@ -1,0 +1,2 @@
+pub mod FilledLists
+pub mod SizesAt

@@ -1,0 +1,173 @@
+//! The sizes that texts of a class give: the dimensions of arrays, and the slots of parameters.
+
+ghost use Rattle.std.specs.Prelude.{◌≡◌, ◌+◌, ℕ, Option, None, [], slice_index_or, IfOk, OnOk};
+ghost use Rattle.std.specs.Option.{option_map};
+ghost use Rattle.jc_base.specs.DescriptorTests.{begins_with};
+ghost use Rattle.jc_view.specs.ClassFile.{class_text_at};
+ghost use Rattle.jc_code.specs.CodeRules.{dimensions_of};
+ghost use Rattle.jc_code.specs.inside.TextSizes.{AreSizes, AreSizesBefore, Fills, interface_slots};
+
+use crate::known_slots::KnownSlots;
+use jc_base::{FieldDesc, NoMemory};
+use jc_view::{ClassView, Constant, ConstantIndex};
+use std::alloc::Global;
+use std::marker::Model;
+
+/// How many dimensions the arrays have that a class names, and how many slots the parameters take of the
+/// methods of interfaces. Any number of constants and instructions may name the same long text, so each
+/// is read here, at most once as an array and once as a descriptor of a method, and no more when a size
+/// is asked for.
+///
+/// Seen as the class file.
+#[derive(Drop)]
+pub struct TextSizes<'c, 'a> {
+    class: &'c ClassView<'a>,
+    sizes: Sizes,
+}
+
+/// Sizes by the indexes of constants. Behind the end of a list there are none.
+#[derive(Drop)]
+struct Sizes {
+    /// At a text, the dimensions of the array whose descriptor it is, or 0.
+    dims: Vec<u8>,
+    /// At an `InterfaceMethodref`, the slots by its method's descriptor.
+    slots: Vec<Option<u8>>,
+}
+
+impl<'c, 'a> Model for TextSizes<'c, 'a> {
+    ghost use Rattle.jc_view.specs.ClassFile.{ClassFile};
+
+    ghost Value = { ClassFile };
+
+    ghost use Rattle.jc_code.specs.inside.TextSizes.{AreSizes};
+
+    ghost view = { λ s. s.class.now };
+
+    ghost invariant = { λ s. AreSizes s.class.now s.sizes };
+}
+
+impl<'c, 'a> TextSizes<'c, 'a> {
+    /// The sizes of all texts of a class. This takes no memory where no text begins with `[` and no
+    /// method of an interface is named.
+    ///
+    /// Answers `NoMemory` only where memory was refused.
+    pub fn of(alloc: Global, class: &'c ClassView<'a>) -> Result<TextSizes<'c, 'a>, NoMemory>
+        ensures { IfOk result (λ sizes. sizes ≡ class.now) }
+    {
+        let mut sizes = Sizes {
+            dims: Vec::new(alloc),
+            slots: Vec::new(alloc),
+        };
+        read_all(alloc, class, &mut sizes)?;
+        Ok(TextSizes { class, sizes })
+    }
+
+    /// The class whose texts they are of.
+    pub fn class(&self) -> &'c ClassView<'a>
+        ensures { result.now ≡ self.now }
+    {
+        self.class
+    }
+
+    /// How many dimensions the class of an index has, if it is there.
+    pub(crate) fn dimensions(&self, index: ConstantIndex) -> Option<u8>
+        ensures { result ≡ option_map dimensions_of (class_text_at self.now index) }
+    {
+        let Some(Constant::Class(text)) = self.class.constant(index.0) else {
+            return None;
+        };
+        self.class.utf8(text)?;
+        Some(dims_at(&self.sizes.dims, text))
+    }
+
+    /// How many slots the parameters of the method take that the `InterfaceMethodref` of an index names.
+    pub(crate) fn slots(&self, index: ConstantIndex) -> Option<u8>
+        ensures { result ≡ interface_slots self.now index.0 }
+    {
+        *self.sizes.slots.get(index.0 as usize)?
+    }
+}
+
+/// Reads the sizes of all texts of a class.
+fn read_all(alloc: Global, class: &ClassView, sizes: &mut Sizes) -> Result<(), NoMemory>
+    requires dims { sizes.old.dims.items ≡ [] }
+    requires slots { sizes.old.slots.items ≡ [] }
+    ensures { OnOk result (AreSizes class.now sizes.new) }
+{
+    let mut known = KnownSlots::new(alloc, class);
+    for index in 0..class.constant_count() {
+        read_at(&mut known, index, sizes)?;
+    }
+    Ok(())
+}
+
+/// Reads the size that the constant of an index gives, behind those of all before it.
+fn read_at(known: &mut KnownSlots, index: u16, sizes: &mut Sizes) -> Result<(), NoMemory>
+    requires { AreSizesBefore known.old index sizes.old }
+    ensures class { known.new ≡ known.old }
+    ensures sizes { OnOk result (AreSizesBefore known.old (index + 1) sizes.new) }
+{
+    let Some(constant) = known.class().constant(index) else {
+        return Ok(());
+    };
+    match constant {
+        Constant::Utf8(text) => add_dimensions(&mut sizes.dims, index, text),
+        Constant::InterfaceMethodref(_, entry) => {
+            let slots = known.by_entry(entry)?;
+            add_slots(&mut sizes.slots, index, slots)
+        }
+        _ => Ok(()),
+    }
+}
+
+/// Adds the dimensions of a text at its index, where it can be the descriptor of an array.
+fn add_dimensions(dims: &mut Vec<u8>, index: u16, text: &[u8]) -> Result<(), NoMemory>
+    ensures { (at : ℕ → ℕ) → Fills 0 at index dims.old.items → at index ≡ dimensions_of text.now → OnOk result (Fills 0 at (index + 1) dims.new.items) }
+{
+    if is_array(text) {
+        dims.resize(index as usize, 0)?;
+        dims.push(dimensions_of(text))?;
+    }
+    Ok(())
+}
+
+/// Whether a text is no descriptor unless it is an array's.
+fn is_array(text: &[u8]) -> bool
+    ensures { result ≡ begins_with 91 text.now }
+{
+    match text {
+        [first, ..] => *first == b'[',
+        [] => false,
+    }
+}
+
+/// Adds slots at an index, where there are some.
+fn add_slots(slots: &mut Vec<Option<u8>>, index: u16, more: Option<u8>) -> Result<(), NoMemory>
+    ensures { (at : ℕ → Option ℕ) → Fills None at index slots.old.items → at index ≡ more → OnOk result (Fills None at (index + 1) slots.new.items) }
+{
+    if more.is_some() {
+        slots.resize(index as usize, None)?;
+        slots.push(more)?;
+    }
+    Ok(())
+}
+
+/// How many dimensions the class of a text has: none, unless the text is the descriptor of an array.
+fn dimensions_of(text: &[u8]) -> u8
+    ensures { result ≡ dimensions_of text.now }
+{
+    match FieldDesc::read(text) {
+        Some(descriptor) => descriptor.dims(),
+        None => 0,
+    }
+}
+
+/// The dimensions at an index.
+fn dims_at(dims: &[u8], index: ConstantIndex) -> u8
+    ensures { result ≡ slice_index_or dims.now index.0 0 }
+{
+    match dims.get(index.0 as usize) {
+        Some(count) => *count,
+        None => 0,
+    }
+}

@@ -1,0 +1,51 @@
+-- The rows of the open members of a class, by the numbers of the members.
+use Rattle.std.specs.Prelude.{ℕ, Bool, false, ◌&&◌, List, [], ◌∷◌, map, Option, Some, None, slice_get, if◌then◌else◌}
+use Rattle.std.specs.List.{flat_map}
+use Rattle.std.specs.Option.{option_to_list}
+use Rattle.jc_classes.specs.Facts.{Facts, Key, Member}
+use Rattle.jc_classes.specs.Names.{Name, same_name}
+use Rattle.jc_classes.specs.Worlds.{key_of}
+use Rattle.jc_classes.specs.declared.reference_kind.ReferenceKind.{ReferenceKind}
+use Rattle.jc_classes.specs.declared.reference_kind.ReferenceKind.TheVariants as kinds
+use Rattle.jc_report.specs.ClassRows.{is_open, is_open_method}
+use Rattle.jc_report.specs.Rows.{Row}
+
+-- the fields, and by any other kind the methods
+abbrev pub members_by : ReferenceKind → Facts → List Member
+members_by kinds.Class f = f.methods
+members_by kinds.Field f = f.fields
+members_by kinds.Method f = f.methods
+members_by kinds.InterfaceMethod f = f.methods
+
+abbrev pub is_open_by : ReferenceKind → Member → Bool
+is_open_by kinds.Class m = is_open_method m
+is_open_by kinds.Field m = is_open m
+is_open_by kinds.Method m = is_open_method m
+is_open_by kinds.InterfaceMethod m = is_open_method m
+
+abbrev pub key_if : (Member → Bool) → Option Member → Option Key
+key_if keeps None = None
+key_if keeps (Some m) = if keeps m then Some (key_of m) else None
+
+-- the key of the member of a number, where it is open
+abbrev pub open_key : ReferenceKind → Facts → ℕ → Option Key
+open_key kind f number = key_if (is_open_by kind) (slice_get (members_by kind f) number)
+
+abbrev pub open_keys : ReferenceKind → Facts → List ℕ → List Key
+open_keys kind f numbers = flat_map (λ n. option_to_list (open_key kind f n)) numbers
+
+abbrev pub is_last : Option Key → Key → Bool
+is_last None key = false
+is_last (Some last) key = same_name last.name key.name && same_name last.descriptor key.descriptor
+
+-- behind a key, of keys side by side that are the same the first
+abbrev pub keys_after : Option Key → List Key → List Key
+keys_after last [] = []
+keys_after last (key ∷ keys) = if is_last last key then keys_after last keys else key ∷ keys_after (Some key) keys
+
+abbrev pub key_row : Name → ReferenceKind → Key → Row
+key_row class kind key = record { class = class; kind = kind; key = key }
+
+-- the rows of the open members of these numbers
+abbrev pub rows_by : ReferenceKind → Facts → List ℕ → List Row
+rows_by kind f numbers = map (key_row f.name kind) (keys_after None (open_keys kind f numbers))

@@ -1,0 +1,37 @@
+use Rattle.std.proofs.Common.{◌≡◌, get_or, length, map, sym, subst, ◌∙◌, arith}
+use Rattle.std.proofs.lemmas.List.{get_or_default, length-map}
+use Rattle.std.specs.declared.vec.Vec.{Vec}
+use Rattle.std.specs.declared.alloc.Global.{Global}
+use Rattle.jc_classes.specs.Facts.{Reference}
+use Rattle.jc_classes.specs.Parts.{AreAnswers}
+use Rattle.jc_classes.specs.Worlds.{World}
+use Rattle.jc_classes.specs.declared.linkage_error.LinkageError.TheVariants as fault
+use Rattle.jc_lookup.specs.declared.loads.Load.{Load}
+use Rattle.jc_lookup.specs.declared.loads.Load.TheVariants as code
+use Rattle.jc_lookup.specs.inside.Indexed.{name_at, IsIndexed}
+use Rattle.jc_lookup.specs.inside.Shown.{indexed_of}
+use Rattle.jc_lookup.specs.inside.Loading.{load_at}
+use Rattle.jc_resolve.specs.declared.entry.Entry.{Entry}
+use Rattle.jc_resolve.specs.declared.entry.Entry.TheVariants.{NotLoaded}
+use Rattle.jc_resolve.specs.inside.Answered.{AreAnswered}
+use Rattle.jc_resolve.specs.inside.Resolved.{loading_of, TellsLoads}
+use Rattle.jc_resolve.proofs.answering.Entries.{none_shown}
+use Rattle.jc_resolve.proofs.lookups.IfOks.{if_ok_map}
+use Rattle.jc_resolve.proofs.loading.Nets.{none_answers}
+use Rattle.jc_resolve.proofs.all_answers.entries_of.Goals as goal
+
+pub returns-in_default : goal.returns-in_default
+returns-in_default c =
+    let x = indexed_of c.args.classes.now in
+    let l : Load = load_at c.args.loads.now c.args.class in
+    let d = name_at x c.args.class in
+    let refs = c.args.facts.now.references in
+    let is : get_or c.args.loads.now c.args.class code.Loaded ≡ l = get_or_default c.args.loads.now c.args.class code.Loaded (code.Fails fault.NoClass 0) (omega (arith, c.requires.class, c.requires.loads)) in
+    let not : l ≡ code.Loaded → ⊥ = λ e. c.in_default.not-Loaded (is ∙ e) in
+    let f = λ (v : Vec Entry Global) (e : v.items ≡ map (λ (r : Reference). NotLoaded) refs).
+    subst (AreAnswered x c.args.loads.now c.args.class refs) (sym e) (
+      length-map refs (λ (r : Reference). NotLoaded),
+      λ (m : World) (told : TellsLoads m x (length x.names) c.args.loads.now) (index : IsIndexed m x).
+          subst (AreAnswers m d (loading_of x l) refs) (sym (none_shown (name_at x) refs)) (none_answers m d x l not refs),
+    ) in
+    if_ok_map _ _ _ f c.none_loaded.ensures

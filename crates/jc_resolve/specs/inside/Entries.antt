@@ -1,0 +1,64 @@
+-- Answers by numbers.
+use Rattle.std.specs.Prelude.{◌≡◌, ◌⊎◌, ℕ, ◌<◌, List, [], ◌∷◌, ◌++◌, slice_index_or}
+use Rattle.jc_classes.specs.Facts.{Key, Member, Reference}
+use Rattle.jc_classes.specs.Lent.{member_lent}
+use Rattle.jc_classes.specs.Names.{Name, polymorphic_descriptor}
+use Rattle.jc_classes.specs.Resolution as defs
+use Rattle.jc_classes.specs.Resolution.{Answer as answer}
+use Rattle.jc_classes.specs.Worlds.{text_of}
+use Rattle.jc_lookup.specs.declared.settle.Settled.{Settled}
+use Rattle.jc_lookup.specs.declared.settle.Settled.TheVariants as settled
+use Rattle.jc_resolve.specs.declared.entry.Entry.{Entry}
+use Rattle.jc_resolve.specs.declared.entry.Entry.TheVariants as entry
+use Rattle.jc_resolve.specs.declared.resolve.Outcome.{Outcome}
+use Rattle.jc_resolve.specs.declared.resolve.Outcome.TheVariants as outcome
+
+-- the answer of a reference, where numbers have these names
+abbrev pub entry_shown : (ℕ → Name) → Reference → Entry → defs.Answer
+entry_shown name r entry.ToClass = answer.ToClass (text_of r.named)
+entry_shown name r (entry.ToMember n) = answer.ToMember (name n) r.key
+entry_shown name r (entry.ToPolymorphic n) = answer.ToMember (name n) (record { name = r.key.name; descriptor = polymorphic_descriptor })
+entry_shown name r (entry.Outside n) = answer.Beyond (name n)
+entry_shown name r entry.NotLoaded = answer.NotLoaded
+entry_shown name r (entry.Error e n) = answer.Wrong e (name n)
+entry_shown name r (entry.OwnError e) = answer.Wrong e (text_of r.named)
+
+-- the answer to each reference, in order
+abbrev pub entries_shown : (ℕ → Name) → List Reference → List Entry → List defs.Answer
+entries_shown name [] entries = []
+entries_shown name (r ∷ rs) [] = []
+entries_shown name (r ∷ rs) (e ∷ entries) = entry_shown name r e ∷ entries_shown name rs entries
+
+-- a member has the name that a reference asks for, and its descriptor, or that of signature polymorphic methods (JVMS 2.9)
+abbrev pub IsKeyed : Key → Member → Type 0
+IsKeyed k x = (x.name ≡ k.name) × ((x.descriptor ≡ k.descriptor) ⊎ (x.descriptor ≡ polymorphic_descriptor))
+
+-- so has what is found
+abbrev pub HasKey : Key → Settled → Type 0
+HasKey k (settled.To hit) = IsKeyed k (member_lent hit.member)
+HasKey k (settled.Beyond v) = Unit {0}
+HasKey k (settled.Hidden v) = Unit {0}
+HasKey k settled.Missing = Unit {0}
+
+abbrev pub IsKeyedOutcome : Key → Outcome → Type 0
+IsKeyedOutcome k (outcome.Ends b) = Unit {0}
+IsKeyedOutcome k (outcome.Settled s) = HasKey k s
+IsKeyedOutcome k outcome.NoInterface = Unit {0}
+
+-- ---- by the numbers of texts
+
+abbrev pub text_at : List Name → ℕ → Name
+text_at texts number = slice_index_or texts number []
+
+-- so many texts hold those of an answer
+abbrev pub IsWithin : ℕ → Entry → Type 0
+IsWithin count entry.ToClass = Unit {0}
+IsWithin count (entry.ToMember n) = n < count
+IsWithin count (entry.ToPolymorphic n) = n < count
+IsWithin count (entry.Outside n) = n < count
+IsWithin count entry.NotLoaded = Unit {0}
+IsWithin count (entry.Error e n) = n < count
+IsWithin count (entry.OwnError e) = Unit {0}
+
+abbrev pub IsFront : List Name → List Name → Type 0
+IsFront front texts = (more : List Name) × (texts ≡ front ++ more)

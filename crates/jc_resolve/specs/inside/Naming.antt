@@ -1,0 +1,25 @@
+-- Names of classes by numbers of their own.
+use Rattle.std.specs.Prelude.{◌≡◌, ℕ, ◌<◌, List, [], ◌∷◌, length, None, Some, Option, slice_get}
+use Rattle.jc_classes.specs.Facts.{Reference}
+use Rattle.jc_classes.specs.Names.{Name}
+use Rattle.jc_resolve.specs.declared.answer_list.Naming.{Naming}
+use Rattle.jc_resolve.specs.declared.entry.Entry.{Entry}
+use Rattle.jc_resolve.specs.inside.Entries.{entry_shown, text_at}
+
+abbrev pub references_in : Option (List Reference) → List Reference
+references_in None = []
+references_in (Some references) = references
+
+abbrev pub IsNumberOf : List Name → Name → ℕ → Type 0
+IsNumberOf texts name number = (number < length texts) × (text_at texts number ≡ name)
+
+-- the number that is kept of a class is that of its name
+abbrev pub AreNames : (ℕ → Name) → Naming → Type 0
+AreNames name a = (node number : ℕ) → slice_get a.numbers.items node ≡ Some (Some number) → IsNumberOf a.texts (name node) number
+
+-- answers that tell the same of any references, by the numbers of these texts and of those classes
+abbrev pub AreSame : (ℕ → Name) → (ℕ → Name) → List Entry → List Entry → Type 0
+AreSame f g [] [] = Unit {0}
+AreSame f g (a ∷ as1) (b ∷ bs) = ((r : Reference) → entry_shown f r a ≡ entry_shown g r b) × AreSame f g as1 bs
+AreSame f g [] (b ∷ bs) = ⊥
+AreSame f g (a ∷ as1) [] = ⊥

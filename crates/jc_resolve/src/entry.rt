@@ -1,0 +1,80 @@
+//! Answers by numbers.
+
+ghost use Rattle.std.specs.Prelude.{◌≡◌};
+ghost use Rattle.jc_classes.specs.Facts.{Reference};
+ghost use Rattle.jc_classes.specs.Lent.{key_lent, member_lent};
+ghost use Rattle.jc_lookup.specs.inside.Indexed.{Indexed, name_at};
+ghost use Rattle.jc_lookup.specs.inside.Settled.{answer_of};
+ghost use Rattle.jc_resolve.specs.inside.Entries.{HasKey, IsKeyed, IsKeyedOutcome, entry_shown};
+ghost use Rattle.jc_resolve.specs.inside.Resolved.{begun_of, ended_of, outcome_of};
+ghost use Rattle.jc_classes.specs.Worlds.{key_of};
+ghost use Rattle.jc_classes.specs.Resolution.Answer.{ToMember};
+
+use crate::resolve::{Begun, Outcome};
+use jc_classes::{Key, LinkageError, same};
+use jc_lookup::Hit;
+use jc_lookup::settle::Settled;
+
+/// The answer of a reference. Its texts are the reference's own, or the name of a class by its number.
+#[derive(Clone, Copy)]
+pub(crate) enum Entry {
+    /// The class or the array that the reference names is there.
+    ToClass,
+    /// The class of this number declares the member that the reference names.
+    ToMember(usize),
+    /// The class of this number declares a signature polymorphic method of the name (JVMS 2.9).
+    ToPolymorphic(usize),
+    /// It depends on the outside class of this number.
+    Outside(usize),
+    /// The class that has the reference does not load.
+    NotLoaded,
+    /// It fails, for what is known of the class of this number.
+    Error(LinkageError, usize),
+    /// It fails, for what is known of what the reference names.
+    OwnError(LinkageError),
+}
+
+/// The answer of a reference for which look-up did not begin.
+fn begun_entry(begun: Begun) -> Entry
+    ensures { (x : Indexed) (r : Reference) → entry_shown (name_at x) r result ≡ ended_of x (begun_of x begun) }
+{
+    match begun {
+        Begun::At(_) => Entry::NotLoaded,
+        Begun::Beyond(node) => Entry::Outside(node),
+        Begun::Fails(error, node) => Entry::Error(error, node),
+    }
+}
+
+/// The answer of a reference that finds a member.
+fn hit_entry(hit: Hit<'_>, key: Key<'_>) -> Entry
+    ensures { (x : Indexed) (r : Reference) → r.key ≡ key_lent key.entry → IsKeyed r.key (member_lent hit.entry.member) → entry_shown (name_at x) r result ≡ ToMember (name_at x hit.entry.node) (key_of (member_lent hit.entry.member)) }
+{
+    if same(hit.member.descriptor, key.descriptor) {
+        Entry::ToMember(hit.node)
+    } else {
+        Entry::ToPolymorphic(hit.node)
+    }
+}
+
+/// The answer of a reference for which look-up began. `missing` is the error where nothing is there.
+fn settled_entry(settled: Settled<'_>, missing: LinkageError, key: Key<'_>) -> Entry
+    ensures { (x : Indexed) (r : Reference) → r.key ≡ key_lent key.entry → HasKey r.key settled.entry → entry_shown (name_at x) r result ≡ answer_of x r.named missing settled.entry }
+{
+    match settled {
+        Settled::To(hit) => hit_entry(hit, key),
+        Settled::Beyond(node) => Entry::Outside(node),
+        Settled::Hidden(node) => Entry::Error(LinkageError::IllegalAccess, node),
+        Settled::Missing => Entry::OwnError(missing),
+    }
+}
+
+/// The answer of a reference to a member.
+pub(crate) fn outcome_entry(outcome: Outcome<'_>, missing: LinkageError, key: Key<'_>) -> Entry
+    ensures { (x : Indexed) (r : Reference) → r.key ≡ key_lent key.entry → IsKeyedOutcome r.key outcome.entry → entry_shown (name_at x) r result ≡ outcome_of x r.named missing outcome.entry }
+{
+    match outcome {
+        Outcome::Ends(begun) => begun_entry(begun),
+        Outcome::Settled(settled) => settled_entry(settled, missing, key),
+        Outcome::NoInterface => Entry::OwnError(LinkageError::Incompatible),
+    }
+}
