@@ -4,7 +4,7 @@ ghost use Rattle.std.specs.Prelude.{◌≡◌, map, IfOk};
 ghost use Rattle.jc_classes.specs.BuiltIn.{object_facts};
 
 use crate::facts::{Facts, Faults, MemberEntry};
-use crate::member_order::{order_members, rank_texts};
+use crate::member_order::order_members;
 use crate::text_list::TextList;
 use jc_base::NoMemory;
 use std::alloc::Global;
@@ -106,8 +106,7 @@ impl Facts {
     {
         let texts = list_of(alloc, &TEXTS)?;
         let methods = Vec::from_slice(alloc, &METHODS)?;
-        let ranks = rank_texts(alloc, &texts)?;
-        let method_order = order_members(alloc, &ranks, &methods)?;
+        let method_order = order_members(alloc, &texts, &methods)?;
         let texts_shared = Rc::new(alloc, texts)?;
         Ok(Facts {
             path: Vec::new(alloc),

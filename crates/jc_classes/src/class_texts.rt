@@ -1,16 +1,18 @@
 //! The texts of a class file that linking asks for.
 
-ghost use Rattle.std.specs.Prelude.{◌≡◌, IfOk, None, map, option_map, slice_index_or};
-ghost use Rattle.std.specs.List.{flat_map};
+ghost use Rattle.std.specs.Prelude.{◌≡◌, ◌<◌, ◌^◌, IfOk, None, length, map, option_map, slice_index_or};
+ghost use Rattle.std.specs.List.{All, flat_map};
 ghost use Rattle.std.specs.Option.{option_to_list};
-ghost use Rattle.jc_classes.specs.FactsOf.{interfaces_in, member_of, references_in};
+ghost use Rattle.jc_classes.specs.FactsOf.{interfaces_in, member_of, once, references_in};
+ghost use Rattle.jc_classes.specs.MemberOrder.{IsOrder};
 ghost use Rattle.jc_classes.specs.inside.ClassTexts.{Tells};
 ghost use Rattle.jc_classes.specs.inside.ConstantTexts.{texts_of};
 ghost use Rattle.jc_classes.specs.inside.FactsShown.{member_shown, reference_shown, text_at};
-ghost use Rattle.jc_classes.specs.inside.Ranks.{AreRanks};
+ghost use Rattle.jc_classes.specs.inside.Ranks.{AreBelow};
 
 use crate::facts::{MemberEntry, ReferenceEntry};
-use crate::member_order::rank_texts;
+use crate::member_order::order_members;
+use crate::once::once;
 use crate::read_facts::{member_entry, name_index, push_some, reference_entry};
 use crate::text_list::TextList;
 use jc_base::NoMemory;
@@ -121,11 +123,22 @@ impl<'c, 'a> ClassTexts<'c, 'a> {
         Ok(entries)
     }
 
-    /// The ranks of the texts so far by their bytes.
-    pub(crate) fn ranks(&self) -> Result<Vec<usize>, NoMemory>
-        ensures { IfOk result (λ ranks. AreRanks self.now.texts ranks.items) }
+    /// The numbers of members in the order by which they are found.
+    pub(crate) fn order(&self, members: &[MemberEntry]) -> Result<Vec<u16>, NoMemory>
+        requires few { length members.now < 2 ^ 16 }
+        requires below { AreBelow (length self.now.texts) members.now }
+        ensures { IfOk result (λ order. IsOrder (map (member_shown self.now.texts) members.now) order.items) }
     {
-        rank_texts(self.alloc, &self.texts)
+        order_members(self.alloc, &self.texts, members)
+    }
+
+    /// The numbers of each name where it stands first.
+    pub(crate) fn once(&self, names: Vec<u16>) -> Result<Vec<u16>, NoMemory>
+        requires { All (λ name. name < length self.now.texts) names.items }
+        ensures below { IfOk result (λ kept. All (λ name. name < length self.now.texts) kept.items) }
+        ensures once { IfOk result (λ kept. map (text_at self.now.texts) kept.items ≡ once (map (text_at self.now.texts) names.items)) }
+    {
+        once(self.alloc, &self.texts, names)
     }
 
     /// A member by the numbers of its texts, from one by indexes, where there is one.

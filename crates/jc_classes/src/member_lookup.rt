@@ -16,6 +16,9 @@ use crate::names::same;
 use crate::text_list::TextList;
 use jc_file::AccessFlag;
 
+/// Of fewer members than these one after another is looked at.
+const FEW: usize = 16;
+
 impl Facts {
     /// Its own field with a name and a descriptor.
     pub fn field(&self, key: Key) -> Option<Member<'_>>
@@ -100,6 +103,31 @@ struct OrderedMembers<'a> {
 impl<'a> OrderedMembers<'a> {
     /// The first in the file that has a name and a descriptor.
     fn find(self, key: Key) -> Option<Member<'a>>
+        requires { IsOrder (shown self) self.order.now }
+        ensures { option_map member_lent result ≡ member (shown self.entry) (key_lent key.entry) }
+    {
+        if self.members.len() < FEW {
+            self.find_in_turn(key)
+        } else {
+            self.find_in_order(key)
+        }
+    }
+
+    /// The same, looking at one after another.
+    fn find_in_turn(self, key: Key) -> Option<Member<'a>>
+        ensures { option_map member_lent result ≡ member (shown self.entry) (key_lent key.entry) }
+    {
+        for entry in self.members {
+            let member = entry.lend(self.texts);
+            if member.is_at(key) {
+                return Some(member);
+            }
+        }
+        None
+    }
+
+    /// The same, by the order.
+    fn find_in_order(self, key: Key) -> Option<Member<'a>>
         requires { IsOrder (shown self) self.order.now }
         ensures { option_map member_lent result ≡ member (shown self.entry) (key_lent key.entry) }
     {

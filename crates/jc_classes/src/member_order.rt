@@ -1,18 +1,76 @@
-//! The order by which members are found. Texts are compared once, to rank them, and members then by the ranks:
-//! many members may share a long text.
+//! The order by which members are found. Of many members the texts are compared once, to rank them, and the members
+//! then by the ranks: many members may share a long text.
 
-ghost use Rattle.std.specs.Prelude.{◌≡◌, ◌<◌, ◌^◌, List, length, map, IfOk};
+ghost use Rattle.std.specs.Prelude.{◌≡◌, ◌<◌, ◌^◌, List, length, map, slice_index, IfOk};
 ghost use Rattle.std.specs.List.Sorted.{IsSorted};
 ghost use Rattle.jc_classes.specs.MemberOrder.{IsOrder};
 ghost use Rattle.jc_classes.specs.Names.{Name, name_cmp};
-ghost use Rattle.jc_classes.specs.inside.FactsShown.{member_shown};
-ghost use Rattle.jc_classes.specs.inside.Ranks.{AreBelow, AreRanks, AreSorted, IsRank, number_of, ranked_from, texts_lent};
+ghost use Rattle.jc_classes.specs.inside.FactsShown.{member_shown, text_at};
+ghost use Rattle.jc_classes.specs.inside.Ranks.{AreBelow, AreRanks, AreSorted, IsRank, named_lent, number_of, placed_from, texts_lent};
 
 use crate::facts::MemberEntry;
 use crate::names::less;
 use crate::text_list::TextList;
 use jc_base::NoMemory;
 use std::alloc::Global;
+
+/// Of fewer members than these the texts themselves are compared.
+const FEW: usize = 64;
+
+/// The numbers of members in the order by which they are found.
+pub(crate) fn order_members(
+    alloc: Global,
+    texts: &TextList,
+    members: &[MemberEntry],
+) -> Result<Vec<u16>, NoMemory>
+    requires few { length members.now < 2 ^ 16 }
+    requires below { AreBelow (length texts.now) members.now }
+    ensures { IfOk result (λ order. IsOrder (map (member_shown texts.now) members.now) order.items) }
+{
+    if members.len() < FEW {
+        return order_by_texts(alloc, texts, members);
+    }
+    let ranks = rank_texts(alloc, texts)?;
+    order_by_ranks(alloc, &ranks, members)
+}
+
+/// The same, by the texts of names and descriptors.
+fn order_by_texts(
+    alloc: Global,
+    texts: &TextList,
+    members: &[MemberEntry],
+) -> Result<Vec<u16>, NoMemory>
+    requires few { length members.now < 2 ^ 16 }
+    requires below { AreBelow (length texts.now) members.now }
+    ensures { IfOk result (λ order. IsOrder (map (member_shown texts.now) members.now) order.items) }
+{
+    let mut named = name_members(alloc, texts, members)?;
+    named.sort_unstable();
+    let mut numbers = Vec::with_capacity(alloc, members.len())?;
+    for (_, _, number) in &named {
+        numbers.push(*number)?;
+    }
+    Ok(numbers)
+}
+
+/// Each member's name and descriptor, and its number.
+fn name_members<'a>(
+    alloc: Global,
+    texts: &'a TextList,
+    members: &[MemberEntry],
+) -> Result<Vec<(&'a [u8], &'a [u8], u16)>, NoMemory>
+    requires few { length members.now < 2 ^ 16 }
+    requires below { AreBelow (length texts.now) members.now }
+    ensures { IfOk result (λ named. map named_lent named.items ≡ placed_from (text_at texts.now) 0 members.now) }
+{
+    let mut named = Vec::with_capacity(alloc, members.len())?;
+    for (number, entry) in members.iter().enumerate() {
+        let name = texts.text(entry.name as usize);
+        let descriptor = texts.text(entry.descriptor as usize);
+        named.push((name, descriptor, number as u16))?;
+    }
+    Ok(named)
+}
 
 /// The ranks of texts by their bytes, each at the text's number. Texts of the same bytes have the same rank.
 pub(crate) fn rank_texts(alloc: Global, texts: &TextList) -> Result<Vec<usize>, NoMemory>
@@ -47,7 +105,7 @@ fn rank(sorted: &[&[u8]], text: &[u8]) -> usize
 }
 
 /// The numbers of members in the order by which they are found, by the ranks of their texts.
-pub(crate) fn order_members(
+fn order_by_ranks(
     alloc: Global,
     ranks: &[usize],
     members: &[MemberEntry],
@@ -69,7 +127,7 @@ fn rank_members(
 ) -> Result<Vec<(usize, usize, u16)>, NoMemory>
     requires few { length members.now < 2 ^ 16 }
     requires below { AreBelow (length ranks.now) members.now }
-    ensures { IfOk result (λ ranked. ranked.items ≡ ranked_from ranks.now 0 members.now) }
+    ensures { IfOk result (λ ranked. ranked.items ≡ placed_from (slice_index ranks.now) 0 members.now) }
 {
     let mut ranked = Vec::with_capacity(alloc, members.len())?;
     for (number, entry) in members.iter().enumerate() {

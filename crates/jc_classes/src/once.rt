@@ -7,23 +7,34 @@ ghost use Rattle.jc_classes.specs.Names.{Name};
 ghost use Rattle.jc_classes.specs.inside.FactsShown.{text_at};
 ghost use Rattle.jc_classes.specs.inside.Ranks.{AreRanks};
 
+use crate::member_order::rank_texts;
+use crate::text_list::TextList;
 use jc_base::NoMemory;
 use std::alloc::Global;
 
-/// The numbers of each name where it stands first, by the ranks of the texts: texts of the same bytes have the
-/// same rank.
-pub(crate) fn once(alloc: Global, ranks: &[usize], names: Vec<u16>) -> Result<Vec<u16>, NoMemory>
-    requires names { All (λ name. name < length ranks.now) names.items }
-    requires ranks { All (λ rank. rank < length ranks.now) ranks.now }
-    ensures below { IfOk result (λ kept. All (λ name. name < length ranks.now) kept.items) }
-    ensures once { IfOk result (λ kept. (texts : List Name) → AreRanks texts ranks.now → map (text_at texts) kept.items ≡ once (map (text_at texts) names.items)) }
+/// The numbers of each name where it stands first.
+pub(crate) fn once(alloc: Global, texts: &TextList, names: Vec<u16>) -> Result<Vec<u16>, NoMemory>
+    requires { All (λ name. name < length texts.now) names.items }
+    ensures below { IfOk result (λ kept. All (λ name. name < length texts.now) kept.items) }
+    ensures once { IfOk result (λ kept. map (text_at texts.now) kept.items ≡ once (map (text_at texts.now) names.items)) }
 {
     if names.len() < 2 {
         return Ok(names);
     }
+    let ranks = rank_texts(alloc, texts)?;
+    once_by_ranks(alloc, &ranks, &names)
+}
+
+/// The same, by the ranks of the texts: texts of the same bytes have the same rank.
+fn once_by_ranks(alloc: Global, ranks: &[usize], names: &[u16]) -> Result<Vec<u16>, NoMemory>
+    requires names { All (λ name. name < length ranks.now) names.now }
+    requires ranks { All (λ rank. rank < length ranks.now) ranks.now }
+    ensures below { IfOk result (λ kept. All (λ name. name < length ranks.now) kept.items) }
+    ensures once { IfOk result (λ kept. (texts : List Name) → AreRanks texts ranks.now → map (text_at texts) kept.items ≡ once (map (text_at texts) names.now)) }
+{
     let mut seen = vec![in alloc; false; ranks.len()]?;
     let mut kept = Vec::new(alloc);
-    for name in &names {
+    for name in names {
         let rank = ranks[*name as usize];
         if seen[rank] {
             continue;

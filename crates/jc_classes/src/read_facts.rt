@@ -16,8 +16,6 @@ ghost use Rattle.jc_classes.specs.inside.ConstantTexts.{key_at, key_shown, texts
 
 use crate::class_texts::ClassTexts;
 use crate::facts::{Facts, Faults, MemberEntry, ReferenceEntry};
-use crate::member_order::order_members;
-use crate::once::once;
 use crate::reference_kind::ReferenceKind;
 use crate::text_list::TextList;
 use jc_base::NoMemory;
@@ -63,7 +61,7 @@ fn sound_facts(alloc: Global, class: &ClassView, path: &[u8]) -> Result<Facts, N
 {
     let path = Vec::from_slice(alloc, path)?;
     let mut texts = ClassTexts::new(alloc, class)?;
-    let entries = read_entries(alloc, &mut texts, class)?;
+    let entries = read_entries(&mut texts, class)?;
     let code_faults = all_code_faults(alloc, class)?;
     let texts_shared = Rc::new(alloc, texts.into_list())?;
     let references = Rc::new(alloc, entries.references)?;
@@ -85,11 +83,7 @@ fn sound_facts(alloc: Global, class: &ClassView, path: &[u8]) -> Result<Facts, N
 }
 
 /// Reads the entries of a class file, and numbers their texts.
-fn read_entries(
-    alloc: Global,
-    texts: &mut ClassTexts,
-    class: &ClassView,
-) -> Result<Entries, NoMemory>
+fn read_entries(texts: &mut ClassTexts, class: &ClassView) -> Result<Entries, NoMemory>
     requires { texts.old.class ≡ class.now }
     ensures { IfOk result (λ entries. Tells texts.old texts.new (λ numbered. AreEntries class.now numbered entries)) }
 {
@@ -98,10 +92,9 @@ fn read_entries(
     let interfaces = texts.interfaces()?;
     let fields = texts.members(class.fields())?;
     let methods = texts.members(class.methods())?;
-    let ranks = texts.ranks()?;
-    let interfaces = once(alloc, &ranks, interfaces)?;
-    let field_order = order_members(alloc, &ranks, &fields)?;
-    let method_order = order_members(alloc, &ranks, &methods)?;
+    let interfaces = texts.once(interfaces)?;
+    let field_order = texts.order(&fields)?;
+    let method_order = texts.order(&methods)?;
     let references = texts.references()?;
     Ok(Entries {
         name,

@@ -3,15 +3,14 @@ use Rattle.std.proofs.Common.{◌≡◌, ◌∙◌, ℕ, suc, ◌-◌, ◌<◌, 
 use Rattle.std.specs.List.{All, flat_map}
 use Rattle.std.specs.Option.{option_to_list}
 use Rattle.std.proofs.lemmas.Bool.{cases_lt}
-use Rattle.std.proofs.lemmas.List.{get_or-append_right, get_or-map, get_or_default, get_or-replicate, get_or_past, length-append, length-map}
+use Rattle.std.proofs.lemmas.List.{get_or-append_right, get_or-map, get_or-replicate, get_or_past, length-append, length-map}
 use Rattle.jc_classes.specs.Facts.{Member}
-use Rattle.jc_classes.specs.FactsOf.{once}
 use Rattle.jc_classes.specs.Names.{Name}
 use Rattle.jc_classes.specs.MemberOrder.{IsOrder}
 use Rattle.jc_classes.specs.declared.facts.MemberEntry.{MemberEntry}
 use Rattle.jc_classes.specs.inside.ClassTexts.{IsFront}
 use Rattle.jc_classes.specs.inside.FactsShown.{member_shown, text_at}
-use Rattle.jc_classes.specs.inside.Ranks.{AreBelow, AreRanks}
+use Rattle.jc_classes.specs.inside.Ranks.{AreBelow}
 use Rattle.jc_classes.proofs.texts.AskedTexts.{front_refl, text_stays}
 
 empty_is_not : (text : List ℕ) → [] ≡ text → 1 ∷ [] ≡ text → ⊥
@@ -60,34 +59,6 @@ found_few f (x ∷ xs) = omega (arith, length-append (option_to_list (f x)) (fla
 pub shown_few : {X : Type 0} (texts : List (List ℕ)) (entries : List MemberEntry) (f : X → Option Member) (xs : List X) → map (member_shown texts) entries ≡ flat_map (λ x. option_to_list (f x)) xs → length entries ≤ length xs
 shown_few texts entries f xs e = omega (arith, length-map entries (member_shown texts), ap length e, found_few f xs)
 
--- ---- ranks and members that are lent
-
-module _ (texts : List (List ℕ)) (ranks made : List ℕ) (members entries : List MemberEntry) (lent : ranks ≡ made) (same : members ≡ entries) (r : AreRanks texts made) where
-  pub ranked_below : AreBelow (length texts) entries → AreBelow (length ranks) members
-  ranked_below below =
-      let size : length texts ≡ length ranks = sym (ap length lent ∙ r.size) in
-      subst (λ (ms : List MemberEntry). AreBelow (length ranks) ms) (sym same) (subst (λ n. AreBelow n entries) size below)
-
--- an order made by the ranks of the first texts
-pub order_of : (texts : List (List ℕ)) (ranks made : List ℕ) (members entries : List MemberEntry) (order : List ℕ) → ranks ≡ made → members ≡ entries → AreRanks texts made
-    → ((ts : List (List ℕ)) → AreRanks ts ranks → IsOrder (map (member_shown ts) members) order) → (all : List (List ℕ)) → map (member_shown texts) entries ≡ map (member_shown all) entries → IsOrder (map (member_shown all) entries) order
-order_of texts ranks made members entries order lent same r h all e =
-    subst (λ ms. IsOrder ms order) e (subst (λ (ms : List MemberEntry). IsOrder (map (member_shown texts) ms) order) same (h texts (subst (AreRanks texts) (sym lent) r)))
-
--- names that were kept by the ranks of the first texts
-module _ (texts : List (List ℕ)) (ranks made names kept : List ℕ) (lent : ranks ≡ made) (r : AreRanks texts made) where
-  lent_ranks : AreRanks texts ranks
-  lent_ranks = subst (AreRanks texts) (sym lent) r
-
-  pub once_of : All (λ n. n < length ranks) kept → ((ts : List (List ℕ)) → AreRanks ts ranks → map (text_at ts) kept ≡ once (map (text_at ts) names)) → (all : List (List ℕ)) → IsFront texts all → map (text_at all) kept ≡ once (map (text_at texts) names)
-  once_of below h all f =
-      let size : length ranks ≡ length texts = ap length lent ∙ r.size in
-      names_stay texts all f kept (subst (λ n. All (λ k. k < n) kept) size below) ∙ h texts lent_ranks
-
-  pub once_below : All (λ n. n < length texts) names → All (λ n. n < length ranks) names
-  once_below below = subst (λ n. All (λ k. k < n) names) (sym (ap length lent ∙ r.size)) below
-
-  pub ranks_below : All (λ rank. rank < length ranks) ranks
-  ranks_below k d l =
-      let s = lent_ranks in
-      subst (λ x. x < length ranks) (get_or_default ranks k 0 d l) (omega (arith, s.within k (omega (arith, l, s.size)), s.size))
+-- the order of members that were lent is theirs
+pub order_of : (texts : List (List ℕ)) (members entries : List MemberEntry) (order : List ℕ) → members ≡ entries → IsOrder (map (member_shown texts) members) order → IsOrder (map (member_shown texts) entries) order
+order_of texts members entries order same h = subst (λ (ms : List MemberEntry). IsOrder (map (member_shown texts) ms) order) same h

@@ -33,10 +33,13 @@ AreBelow bound members = All (λ (entry : MemberEntry). (entry.name < bound) × 
 abbrev pub texts_lent : List (Bor (List ℕ)) → List Name
 texts_lent texts = map (λ (text : Bor (List ℕ)). text.now) texts
 
--- the ranks of each member's name and descriptor, and its number, of which the first is this
-abbrev pub ranked_from : List ℕ → ℕ → List MemberEntry → List (ℕ × ℕ × ℕ)
-ranked_from ranks number [] = []
-ranked_from ranks number (entry ∷ members) = (slice_index ranks entry.name, slice_index ranks entry.descriptor, number) ∷ ranked_from ranks (number + 1) members
+abbrev pub named_lent : Bor (List ℕ) × Bor (List ℕ) × ℕ → Name × Name × ℕ
+named_lent named = (named.0.now, named.1.now, named.2)
 
-abbrev pub number_of : ℕ × ℕ × ℕ → ℕ
+-- what is at each member's name and descriptor, and its number, of which the first is this
+abbrev pub placed_from : {K : Type 0} → (ℕ → K) → ℕ → List MemberEntry → List (K × K × ℕ)
+placed_from at number [] = []
+placed_from at number (entry ∷ members) = (at entry.name, at entry.descriptor, number) ∷ placed_from at (number + 1) members
+
+abbrev pub number_of : {K : Type 0} → K × K × ℕ → ℕ
 number_of one = one.2

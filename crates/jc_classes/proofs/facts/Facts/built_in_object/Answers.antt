@@ -1,7 +1,6 @@
 use Rattle.std.proofs.Common.{map, subst, sym}
 use Rattle.jc_classes.specs.MemberOrder.{IsOrder}
 use Rattle.jc_classes.specs.inside.FactsShown.{member_shown}
-use Rattle.jc_classes.specs.inside.Ranks.{AreRanks}
 use Rattle.jc_classes.proofs.members.Ordering.{no_members}
 use Rattle.jc_classes.proofs.facts.Facts.built_in_object.Goals as goal
 
@@ -9,8 +8,7 @@ pub invariant_of-result : goal.invariant_of-result
 invariant_of-result c =
     let texts = c.in_ok-texts.texts in
     let order = c.in_ok-method_order.method_order.items in
-    let ranks = subst (AreRanks texts) (sym c.deref.ensures.value) c.in_ok-ranks.ensures in
     record {
       fields = no_members _ _ _ c.new-4.ensures.items c.new-5.ensures.items;
-      methods = subst (λ ts. IsOrder (map (member_shown ts) c.in_ok-methods.methods.items) order) (sym c.in_ok-texts_shared.ensures.ok) (subst (λ members. IsOrder (map (member_shown texts) members) order) c.deref-2.ensures.value (c.in_ok-method_order.ensures texts ranks));
+      methods = subst (λ ts. IsOrder (map (member_shown ts) c.in_ok-methods.methods.items) order) (sym c.in_ok-texts_shared.ensures.ok) (subst (λ members. IsOrder (map (member_shown texts) members) order) c.deref.ensures.value c.in_ok-method_order.ensures);
     }

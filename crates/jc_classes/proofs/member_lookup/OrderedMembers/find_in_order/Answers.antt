@@ -5,7 +5,7 @@ use Rattle.jc_classes.specs.Lent.{key_lent, member_lent}
 use Rattle.jc_classes.specs.Worlds.{is_at}
 use Rattle.jc_classes.specs.inside.OrderedMembers.{shown}
 use Rattle.jc_classes.proofs.members.Found.{found, if_at}
-use Rattle.jc_classes.proofs.member_lookup.OrderedMembers.find.Goals as goal
+use Rattle.jc_classes.proofs.member_lookup.OrderedMembers.find_in_order.Goals as goal
 
 pub returns-in_err-member : goal.returns-in_err-member
 returns-in_err-member c =
