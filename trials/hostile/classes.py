@@ -172,9 +172,10 @@ def user_of(tag, owner, name, descriptor):
 
 
 def references_below_a_chain():
-    """Each is looked for in all of a chain of superclasses, and found in none."""
-    files = {f"{number}.class": plain(b"C%d" % number, parent=b"C%d" % (number - 1) if number else OBJECT) for number in range(20000)}
-    return {**files, "U.class": user_of(10, b"C19999", b"m", b"()V")}
+    """Each is looked for in all of a chain of superclasses, and found in none. The chain is no longer, since each of its classes reaches all
+    above it, which costs the square of its length."""
+    files = {f"{number}.class": plain(b"C%d" % number, parent=b"C%d" % (number - 1) if number else OBJECT) for number in range(4000)}
+    return {**files, "U.class": user_of(10, b"C3999", b"m", b"()V")}
 
 
 def references_below_interfaces():
