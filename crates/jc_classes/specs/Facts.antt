@@ -33,7 +33,7 @@ pub record Reference : Type 0 where
 abbrev pub AreAlike : List Reference → ℕ → ℕ → Type 0
 AreAlike rs a b = (r s : Reference) → slice_get rs a ≡ Some r → slice_get rs b ≡ Some s → (r.kind ≡ s.kind) × (r.named ≡ s.named) × (r.key ≡ s.key)
 
--- the numbers below a count, in some order
+-- all numbers below a count and no others, in some order; one may stand several times
 pub record AreNumbers (count : ℕ) (numbers : List ℕ) : Type 0 where
   pub within : All (λ n. n < count) numbers
   pub each : (n : ℕ) → n < count → Contains numbers n
