@@ -11,7 +11,7 @@ use jc_base::NoMemory;
 use std::alloc::Global;
 
 /// With fewer references than these none is looked for that asks for the same.
-const FEW: usize = 64;
+const FEW: usize = 256;
 
 /// What a reference asks for, by the numbers of its texts, and its own number.
 #[derive(Clone, Copy, PartialEq, Eq, PartialOrd, Ord)]
@@ -43,7 +43,11 @@ impl Facts {
     pub fn alike_references(&self, alloc: Global) -> Result<Vec<usize>, NoMemory>
         ensures { IfOk result (λ numbers. AreNumbers (length self.now.references) numbers.items) }
     {
-        let asked = ask_in_order(alloc, self.references.as_ref().as_slice())?;
+        let entries = self.references.as_ref().as_slice();
+        if entries.len() < FEW {
+            return in_turn(alloc, entries.len());
+        }
+        let asked = ask_in_order(alloc, entries)?;
         let mut numbers = Vec::with_capacity(alloc, asked.len())?;
         for one in &asked {
             numbers.push(one.number)?;
@@ -62,7 +66,18 @@ fn ask_alike(one: &ReferenceEntry, other: &ReferenceEntry) -> bool
         && one.descriptor == other.descriptor
 }
 
-/// What each reference asks for, in the order of that where they are many.
+/// The numbers below a count.
+fn in_turn(alloc: Global, count: usize) -> Result<Vec<usize>, NoMemory>
+    ensures { IfOk result (λ numbers. AreNumbers count numbers.items) }
+{
+    let mut numbers = Vec::with_capacity(alloc, count)?;
+    for number in 0..count {
+        numbers.push(number)?;
+    }
+    Ok(numbers)
+}
+
+/// What each reference asks for, in the order of that.
 fn ask_in_order(alloc: Global, entries: &[ReferenceEntry]) -> Result<Vec<Asked>, NoMemory>
     ensures { IfOk result (λ asked. AreNumbers (length entries.now) (map (λ (a : AskedValue). a.number) asked.items)) }
 {
@@ -76,9 +91,6 @@ fn ask_in_order(alloc: Global, entries: &[ReferenceEntry]) -> Result<Vec<Asked>,
             descriptor: entry.descriptor,
             number,
         })?;
-    }
-    if asked.len() < FEW {
-        return Ok(asked);
     }
     asked.sort_unstable();
     Ok(asked)

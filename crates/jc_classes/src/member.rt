@@ -4,15 +4,12 @@ ghost use Rattle.std.specs.Prelude.{◌≡◌, ◌&&◌, codes, not};
 ghost use Rattle.jc_rules.specs.AccessFlags.{has, mask_of};
 ghost use Rattle.jc_classes.specs.Names.{same_name};
 ghost use Rattle.jc_classes.specs.Access.{is_package_private};
-ghost use Rattle.std.specs.Ordering.{is_lt};
-ghost use Rattle.jc_classes.specs.MemberOrder.{key_cmp};
 ghost use Rattle.jc_classes.specs.MethodLookup.{is_polymorphic};
-ghost use Rattle.jc_classes.specs.Worlds.{is_at, key_of};
+ghost use Rattle.jc_classes.specs.Worlds.{is_at};
 ghost use Rattle.jc_classes.specs.Lent.{key_lent, member_lent};
 
-use crate::names::{less, same};
+use crate::names::same;
 use jc_file::AccessFlag;
-use std::cmp::Ordering;
 
 /// What a reference to a member asks for.
 #[derive(Clone, Copy)]
@@ -42,17 +39,6 @@ impl<'a> Member<'a> {
         ensures { result ≡ is_at (key_lent key.entry) (member_lent self.entry) }
     {
         same(self.name, key.name) && same(self.descriptor, key.descriptor)
-    }
-
-    /// Whether it stands before a key: by name, then by descriptor.
-    pub(crate) fn is_before(self, key: Key) -> bool
-        ensures { result ≡ is_lt (key_cmp (key_of (member_lent self.entry)) (key_lent key.entry)) }
-    {
-        match self.name.cmp(key.name) {
-            Ordering::Less => true,
-            Ordering::Equal => less(self.descriptor, key.descriptor),
-            Ordering::Greater => false,
-        }
     }
 
     /// Whether it has the name and the descriptor of `clone` of `java/lang/Object`.

@@ -1,10 +1,11 @@
 //! Look-up of members in one class.
 
 ghost use Rattle.std.specs.Prelude.{◌≡◌, option_map};
+ghost use Rattle.std.specs.Ordering.{is_lt};
 ghost use Rattle.jc_classes.specs.Lent.{key_lent, member_lent};
-ghost use Rattle.jc_classes.specs.MemberOrder.{IsOrder};
+ghost use Rattle.jc_classes.specs.MemberOrder.{IsOrder, key_cmp};
 ghost use Rattle.jc_classes.specs.MethodLookup.{given_by, sole_named};
-ghost use Rattle.jc_classes.specs.Worlds.{member};
+ghost use Rattle.jc_classes.specs.Worlds.{is_at, key_of, member};
 ghost use Rattle.jc_classes.specs.Worlds.Stands.{Record};
 ghost use Rattle.jc_classes.specs.inside.FactsShown.{member_shown};
 ghost use Rattle.jc_classes.specs.inside.Ordered.{IsPlace, member_there, named_there};
@@ -12,9 +13,10 @@ ghost use Rattle.jc_classes.specs.inside.OrderedMembers.{shown};
 
 use crate::facts::{Facts, MemberEntry};
 use crate::member::{Key, Member};
-use crate::names::same;
+use crate::names::{less, same};
 use crate::text_list::TextList;
 use jc_file::AccessFlag;
+use std::cmp::Ordering;
 
 /// Of fewer members than these one after another is looked at.
 const FEW: usize = 16;
@@ -92,6 +94,27 @@ impl MemberEntry {
     }
 }
 
+impl MemberEntry {
+    /// Whether it has the name and the descriptor. Of most members the name tells.
+    fn is_at(self, texts: &TextList, key: Key) -> bool
+        ensures { result ≡ is_at (key_lent key.entry) (member_shown texts.now self) }
+    {
+        same(texts.text(self.name as usize), key.name)
+            && same(texts.text(self.descriptor as usize), key.descriptor)
+    }
+
+    /// Whether it stands before a key: by name, then by descriptor.
+    fn is_before(self, texts: &TextList, key: Key) -> bool
+        ensures { result ≡ is_lt (key_cmp (key_of (member_shown texts.now self)) (key_lent key.entry)) }
+    {
+        match texts.text(self.name as usize).cmp(key.name) {
+            Ordering::Less => true,
+            Ordering::Equal => less(texts.text(self.descriptor as usize), key.descriptor),
+            Ordering::Greater => false,
+        }
+    }
+}
+
 /// Fields or methods, with the order by which they are found.
 #[derive(Clone, Copy)]
 struct OrderedMembers<'a> {
@@ -118,9 +141,8 @@ impl<'a> OrderedMembers<'a> {
         ensures { option_map member_lent result ≡ member (shown self.entry) (key_lent key.entry) }
     {
         for entry in self.members {
-            let member = entry.lend(self.texts);
-            if member.is_at(key) {
-                return Some(member);
+            if entry.is_at(self.texts, key) {
+                return Some(entry.lend(self.texts));
             }
         }
         None
@@ -188,7 +210,7 @@ impl<'a> OrderedMembers<'a> {
         while low < high {
             let middle = low + (high - low) / 2;
             let number = self.order[middle] as usize;
-            if self.members[number].lend(self.texts).is_before(key) {
+            if self.members[number].is_before(self.texts, key) {
                 low = middle + 1;
             } else {
                 high = middle;

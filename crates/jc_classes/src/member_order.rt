@@ -15,7 +15,7 @@ use jc_base::NoMemory;
 use std::alloc::Global;
 
 /// Of fewer members than these the texts themselves are compared.
-const FEW: usize = 64;
+const FEW: usize = 256;
 
 /// The numbers of members in the order by which they are found.
 pub(crate) fn order_members(

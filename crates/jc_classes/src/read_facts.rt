@@ -12,7 +12,7 @@ ghost use Rattle.jc_classes.specs.FactsOf.{class_name, class_reference, facts_of
 ghost use Rattle.jc_classes.specs.inside.ClassTexts.{Tells};
 ghost use Rattle.jc_classes.specs.inside.Entries.{AreEntries};
 ghost use Rattle.jc_classes.specs.inside.FactsShown.{member_shown, reference_shown, text_at};
-ghost use Rattle.jc_classes.specs.inside.ConstantTexts.{key_at, key_shown, texts_of};
+ghost use Rattle.jc_classes.specs.inside.ConstantTexts.{is_reference, key_at, key_shown, texts_of};
 
 use crate::class_texts::ClassTexts;
 use crate::facts::{Facts, Faults, MemberEntry, ReferenceEntry};
@@ -21,7 +21,7 @@ use crate::text_list::TextList;
 use jc_base::NoMemory;
 use jc_code::{CodeFault, TextSizes, faults_in, method_code};
 use jc_file::{Fault, format_faults};
-use jc_view::{ClassView, Constant, ConstantIndex, Member, Members};
+use jc_view::{ClassView, Constant, ConstantIndex, ConstantKind, Member, Members};
 use std::alloc::Global;
 use std::rc::Rc;
 
@@ -172,8 +172,11 @@ pub(crate) fn name_index(class: &ClassView, index: ConstantIndex) -> Option<u16>
 fn text_index(class: &ClassView, index: ConstantIndex) -> Option<u16>
     ensures { option_map (text_at (texts_of class.now)) result ≡ utf8_at class.now index }
 {
-    let _text = class.utf8(index)?;
-    Some(index.0)
+    if class.is_entry(ConstantKind::Utf8, index) {
+        Some(index.0)
+    } else {
+        None
+    }
 }
 
 /// The indexes of the texts of a NameAndType.
@@ -205,6 +208,9 @@ pub(crate) fn member_entry(class: &ClassView, member: &Member) -> Option<MemberE
 pub(crate) fn reference_entry(class: &ClassView, index: u16) -> Option<ReferenceEntry>
     ensures { option_map (reference_shown (texts_of class.now)) result ≡ reference_at class.now index }
 {
+    if !is_reference(class.kind(ConstantIndex(index))?) {
+        return None;
+    }
     match class.constant(index)? {
         Constant::Class(name) => class_entry(class, index, name),
         Constant::Fieldref(owner, entry) => {
@@ -218,6 +224,19 @@ pub(crate) fn reference_entry(class: &ClassView, index: u16) -> Option<Reference
         }
         _ => None,
     }
+}
+
+/// Whether constants of a kind are references to classes or to members (JVMS 4.4.1, 4.4.2).
+fn is_reference(kind: ConstantKind) -> bool
+    ensures { result ≡ is_reference kind }
+{
+    matches!(
+        kind,
+        ConstantKind::Class
+            | ConstantKind::Fieldref
+            | ConstantKind::Methodref
+            | ConstantKind::InterfaceMethodref
+    )
 }
 
 /// A reference to a class.

@@ -9,7 +9,7 @@ ghost use Rattle.jc_code.specs.inside.TextSizes.{AreSizes, AreSizesBefore, Fills
 
 use crate::known_slots::KnownSlots;
 use jc_base::{FieldDesc, NoMemory};
-use jc_view::{ClassView, Constant, ConstantIndex};
+use jc_view::{ClassView, Constant, ConstantIndex, ConstantKind};
 use std::alloc::Global;
 use std::marker::Model;
 
@@ -101,20 +101,42 @@ fn read_all(alloc: Global, class: &ClassView, sizes: &mut Sizes) -> Result<(), N
     Ok(())
 }
 
-/// Reads the size that the constant of an index gives, behind those of all before it.
+/// Reads the size that the constant of an index gives, behind those of all before it. Of a text the first byte is
+/// looked at, and of most other constants the kind alone.
 fn read_at(known: &mut KnownSlots, index: u16, sizes: &mut Sizes) -> Result<(), NoMemory>
     requires { AreSizesBefore known.old index sizes.old }
     ensures class { known.new ≡ known.old }
     ensures sizes { OnOk result (AreSizesBefore known.old (index + 1) sizes.new) }
 {
+    let class = known.class();
+    let at = ConstantIndex(index);
+    if let Some(text) = class.utf8(at) {
+        add_dimensions(&mut sizes.dims, index, text)
+    } else if class.is_entry(ConstantKind::InterfaceMethodref, at) {
+        read_slots(known, index, &mut sizes.slots)
+    } else {
+        Ok(())
+    }
+}
+
+/// Reads the slots that the constant of an index gives, where it is an `InterfaceMethodref`, behind those of all
+/// before it.
+fn read_slots(
+    known: &mut KnownSlots,
+    index: u16,
+    slots: &mut Vec<Option<u8>>,
+) -> Result<(), NoMemory>
+    requires { Fills None (interface_slots known.old) index slots.old.items }
+    ensures class { known.new ≡ known.old }
+    ensures slots { OnOk result (Fills None (interface_slots known.old) (index + 1) slots.new.items) }
+{
     let Some(constant) = known.class().constant(index) else {
         return Ok(());
     };
     match constant {
-        Constant::Utf8(text) => add_dimensions(&mut sizes.dims, index, text),
         Constant::InterfaceMethodref(_, entry) => {
-            let slots = known.by_entry(entry)?;
-            add_slots(&mut sizes.slots, index, slots)
+            let more = known.by_entry(entry)?;
+            add_slots(slots, index, more)
         }
         _ => Ok(()),
     }

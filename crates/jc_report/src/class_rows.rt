@@ -3,7 +3,8 @@
 ghost use Rattle.std.specs.Prelude.{◌≡◌, ◌&&◌, ◌++◌, OnOk, map};
 ghost use Rattle.jc_rules.specs.AccessFlags.{has, public};
 ghost use Rattle.jc_classes.specs.Lent.{member_lent, reference_lent};
-ghost use Rattle.jc_resolve.specs.Answers.{answer_of, loading_of};
+ghost use Rattle.jc_classes.specs.Resolution.{Answer};
+ghost use Rattle.jc_resolve.specs.Answers.{kind_of, loading_of};
 ghost use Rattle.jc_report.specs.ClassRows as class_rows;
 ghost use Rattle.jc_report.specs.ClassRows.{is_loaded, is_missing, is_open, is_open_method, reference_row, required_rows};
 ghost use Rattle.jc_report.specs.RowView.{row_lent};
@@ -13,7 +14,7 @@ use jc_base::NoMemory;
 use jc_classes::{Facts, LinkageError, Member, Reference, ReferenceKind, same};
 use jc_file::AccessFlag;
 use jc_link::Part;
-use jc_resolve::{Answer, Loading};
+use jc_resolve::{AnswerKind, Loading};
 
 /// Whether a class provides rows: it is public and loads.
 pub(crate) fn provides(facts: &Facts, part: &Part) -> bool
@@ -66,26 +67,24 @@ pub(crate) fn push_required<'t>(
 {
     let answers = part.answers();
     for number in 0..answers.len() {
-        match facts.reference(number) {
-            Some(reference) => {
-                if is_required(answers.at(number)) {
-                    rows.push(reference_row(reference))?;
-                }
+        if is_required(answers.kind(number)) {
+            match facts.reference(number) {
+                Some(reference) => rows.push(reference_row(reference))?,
+                None => return Ok(()),
             }
-            None => return Ok(()),
         }
     }
     Ok(())
 }
 
 /// Whether an answer says that what is referred to is outside, or that nothing gives it.
-fn is_required(answer: Answer<'_>) -> bool
-    ensures { result ≡ class_rows.is_required (answer_of answer.entry) }
+fn is_required(kind: AnswerKind) -> bool
+    ensures { (a : Answer) → kind_of a ≡ kind → class_rows.is_required a ≡ result }
 {
-    match answer {
-        Answer::Outside(_) => true,
-        Answer::Error(error, _) => is_missing(error),
-        Answer::ToClass(_) | Answer::ToMember(_, _) | Answer::NotLoaded => false,
+    match kind {
+        AnswerKind::Outside => true,
+        AnswerKind::Error(error) => is_missing(error),
+        AnswerKind::Found | AnswerKind::NotLoaded => false,
     }
 }
 

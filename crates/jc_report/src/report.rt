@@ -7,7 +7,7 @@ ghost use Rattle.jc_classes.specs.Names.{name_cmp};
 ghost use Rattle.jc_classes.specs.Parts.{IsPart};
 ghost use Rattle.jc_link.specs.Meters.{counted};
 ghost use Rattle.jc_link.specs.Tables.{world};
-ghost use Rattle.jc_resolve.specs.Answers.{answer_of, loading_of};
+ghost use Rattle.jc_resolve.specs.Answers.{kind_of, loading_of};
 ghost use Rattle.jc_report.specs.ClassRows.{provided_rows, required_rows};
 ghost use Rattle.jc_report.specs.Files.{Files};
 ghost use Rattle.jc_report.specs.FileRows.{is_unreadable, rows};
@@ -27,7 +27,7 @@ use crate::tree::Tree;
 use jc_base::NoMemory;
 use jc_classes::Facts;
 use jc_link::{Meter, Outside, Part, Table, gather, make_part};
-use jc_resolve::{Answer, Answers, Loading};
+use jc_resolve::{AnswerKind, Answers, Loading};
 use std::alloc::Global;
 use std::marker::Model;
 
@@ -310,7 +310,7 @@ fn has_error(answers: &Answers) -> bool
     ensures { result ≡ list_any is_error answers.now }
 {
     for number in 0..answers.len() {
-        if let Answer::Error(_, _) = answers.at(number) {
+        if let AnswerKind::Error(_) = answers.kind(number) {
             return true;
         }
     }

@@ -8,6 +8,8 @@ use Rattle.jc_classes.specs.Resolution as defs
 use Rattle.jc_classes.specs.Resolution.{Answer as answer}
 use Rattle.jc_resolve.specs.declared.answers.Answer.{Answer}
 use Rattle.jc_resolve.specs.declared.answers.Answer.TheVariants as made
+use Rattle.jc_resolve.specs.declared.answers.AnswerKind.{AnswerKind}
+use Rattle.jc_resolve.specs.declared.answers.AnswerKind.TheVariants as kinds
 
 abbrev pub answer_of : Answer → defs.Answer
 answer_of (made.ToClass n) = answer.ToClass n.now
@@ -15,6 +17,14 @@ answer_of (made.ToMember n k) = answer.ToMember n.now (key_lent k)
 answer_of (made.Outside n) = answer.Beyond n.now
 answer_of made.NotLoaded = answer.NotLoaded
 answer_of (made.Error e n) = answer.Wrong e n.now
+
+-- what an answer says, without its texts
+abbrev pub kind_of : defs.Answer → AnswerKind
+kind_of (answer.ToClass n) = kinds.Found
+kind_of (answer.ToMember n k) = kinds.Found
+kind_of (answer.Beyond n) = kinds.Outside
+kind_of answer.NotLoaded = kinds.NotLoaded
+kind_of (answer.Wrong e n) = kinds.Error e
 
 abbrev pub loading_of : Loading → How
 loading_of loading.Loaded = how.Loaded

@@ -30,7 +30,12 @@ struct Asked {
     number: usize,
 }
 
-/// The references, those that name one class side by side, and of these those that ask for the same.
+/// With fewer references than these none is looked for that names the same class as another: what is above a class
+/// may then be walked once for each of them.
+const FEW: usize = 256;
+
+/// The references; where they are many, those that name one class side by side, and of these those that ask for the
+/// same.
 fn by_class(alloc: Global, facts: &Facts, nodes: &[Option<usize>]) -> Result<Vec<Asked>, NoMemory>
     requires { length nodes.now ≡ length facts.now.references }
     ensures { IfOk result (λ order. AreNumbered (length facts.now.references) order.items) }
@@ -45,7 +50,9 @@ fn by_class(alloc: Global, facts: &Facts, nodes: &[Option<usize>]) -> Result<Vec
             number,
         })?;
     }
-    order.sort_unstable();
+    if order.len() >= FEW {
+        order.sort_unstable();
+    }
     Ok(order)
 }
 

@@ -6,11 +6,11 @@ ghost use Rattle.jc_classes.specs.Lent.{reference_lent};
 ghost use Rattle.jc_classes.specs.Names.{Name};
 ghost use Rattle.jc_lookup.specs.inside.Indexed.{name_at};
 ghost use Rattle.jc_lookup.specs.inside.Shown.{indexed_of};
-ghost use Rattle.jc_resolve.specs.Answers.{answer_of};
+ghost use Rattle.jc_resolve.specs.Answers.{answer_of, kind_of};
 ghost use Rattle.jc_resolve.specs.inside.Entries.{IsFront, IsWithin, entries_shown, entry_shown, text_at};
 ghost use Rattle.jc_resolve.specs.inside.Naming.{AreNames, AreSame, IsNumberOf, references_in};
 
-use crate::answers::Answer;
+use crate::answers::{Answer, AnswerKind};
 use crate::entry::Entry;
 use jc_base::NoMemory;
 use jc_classes::{Key, Reference, References, TextList};
@@ -41,6 +41,11 @@ impl Model for Answers {
     ghost invariant = { λ a. length a.entries.items ≡ length (references_in a.references) };
 }
 
+/// So many names of so many bytes together have room at once. Most classes need no more.
+const FEW_NAMES: usize = 32;
+
+const FEW_BYTES: usize = 1024;
+
 /// Names of classes, each once, by numbers of their own.
 #[derive(Drop)]
 struct Naming {
@@ -55,7 +60,7 @@ impl Naming {
         ensures { (name : ℕ → Name) → IfOk result (AreNames name) }
     {
         Ok(Naming {
-            texts: TextList::new(alloc),
+            texts: TextList::with_room(alloc, FEW_NAMES, FEW_BYTES)?,
             numbers: vec![in alloc; None; count]?,
         })
     }
@@ -143,6 +148,14 @@ impl Answers {
         self.entries.len()
     }
 
+    /// What the answer to the reference of a number says, without its texts. No memory.
+    pub fn kind(&self, number: usize) -> AnswerKind
+        requires { number < length self.now }
+        ensures { option_map kind_of (slice_get self.now number) ≡ Some result }
+    {
+        kind_of(self.entries[number])
+    }
+
     /// The answer to the reference of a number. No memory.
     pub fn at(&self, number: usize) -> Answer<'_>
         requires { number < length self.now }
@@ -152,6 +165,18 @@ impl Answers {
             Some(reference) => lend(&self.names, reference, self.entries[number]),
             None => Answer::NotLoaded,
         }
+    }
+}
+
+/// What an answer says, without its texts.
+fn kind_of(entry: Entry) -> AnswerKind
+    ensures { (name : ℕ → Name) (r : Refers) → kind_of (entry_shown name r entry) ≡ result }
+{
+    match entry {
+        Entry::ToClass | Entry::ToMember(_) | Entry::ToPolymorphic(_) => AnswerKind::Found,
+        Entry::Outside(_) => AnswerKind::Outside,
+        Entry::NotLoaded => AnswerKind::NotLoaded,
+        Entry::Error(error, _) | Entry::OwnError(error) => AnswerKind::Error(error),
     }
 }
 

@@ -30,6 +30,19 @@ pub enum Answer<'a> {
     Error(LinkageError, &'a [u8]),
 }
 
+/// What an answer says, without its texts.
+#[derive(Clone, Copy)]
+pub enum AnswerKind {
+    /// What the reference names is there.
+    Found,
+    /// It depends on an outside name.
+    Outside,
+    /// The class that has the reference does not load.
+    NotLoaded,
+    /// It fails.
+    Error(LinkageError),
+}
+
 /// The answer of a reference to the class of a node, or to an array of it.
 fn node_entry(classes: &Classes, loads: &[Load], class: usize, node: usize) -> Entry
     requires class { class < length classes.now.standing.now }

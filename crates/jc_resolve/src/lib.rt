@@ -16,5 +16,5 @@ mod resolve;
 mod superinterfaces;
 
 pub use answer_list::Answers;
-pub use answers::Answer;
+pub use answers::{Answer, AnswerKind};
 pub use hierarchy::{Hierarchy, Loading};

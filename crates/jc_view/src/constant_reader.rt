@@ -3,8 +3,8 @@
 ghost use Rattle.std.specs.Prelude.{◌≡◌, ◌+◌, ◌≤◌, drop, length, option_and_then};
 ghost use Rattle.std.specs.Option.{option_copied, option_map};
 ghost use Rattle.jc_view.specs.Reading.{after, after_body, after_sized, body_value, sized_value};
-ghost use Rattle.jc_view.specs.inside.ConstantRead.{constant_read};
-ghost use Rattle.jc_view.specs.ConstantPool.{index_value, utf8_text};
+ghost use Rattle.jc_view.specs.inside.ConstantRead.{constant_read, kind_read};
+ghost use Rattle.jc_view.specs.ConstantPool.{index_value, kind_of, utf8_text};
 ghost use Rattle.jc_base.specs.Endian.{big_number};
 ghost use Rattle.jc_view.specs.Moves.{Lends};
 ghost use Rattle.jc_view.specs.ClassFile.{ClassFile, constant_at};
@@ -33,6 +33,24 @@ pub(crate) fn entry<'a>(
     ensures { (c : ClassFile) → Holds bytes.now offsets.now c → option_map constant_of result ≡ constant_at c index }
 {
     constant_at(bytes, place_at(offsets, index)?)
+}
+
+/// The kind of the constant of an index, if a usable one has it. Behind the tag nothing is read.
+pub(crate) fn kind_entry(
+    bytes: &[u8],
+    offsets: &[Option<usize>],
+    index: ConstantIndex,
+) -> Option<ConstantKind>
+    ensures { (c : ClassFile) → Holds bytes.now offsets.now c → result ≡ option_map kind_of (constant_at c index) }
+{
+    kind_at(bytes, place_at(offsets, index)?)
+}
+
+/// The kind of the constant that begins at a place, by its tag.
+fn kind_at(bytes: &[u8], place: usize) -> Option<ConstantKind>
+    ensures { result ≡ kind_read place bytes.now }
+{
+    ConstantKind::of_tag(*bytes.get(place)?)
 }
 
 /// The text of the Utf8 constant of an index; the constants of other kinds are not read.

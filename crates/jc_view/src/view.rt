@@ -4,6 +4,7 @@ ghost use Rattle.std.specs.Prelude.{◌≡◌, ◌⊎◌, ◌+◌, ◌<◌, ◌^
 ghost use Rattle.jc_view.specs.declared.parse_error.ParseError.TheVariants.{NoMemory};
 ghost use Rattle.std.specs.Option.{option_copied, option_map};
 ghost use Rattle.jc_view.specs.ClassFile.{ClassFile, all_slots, class_text_at, constant_at};
+ghost use Rattle.jc_view.specs.ConstantPool.{kind_of};
 ghost use Rattle.jc_view.specs.Lookups.{descriptor_at, is_entry, name_at, utf8_at};
 ghost use Rattle.jc_view.specs.Places.{fields_in, methods_in, attributes_in, IsLent};
 ghost use Rattle.jc_view.specs.Lent.{constant_of};
@@ -14,7 +15,7 @@ ghost use Rattle.jc_view.specs.Refusal.{HasHead, IsLayoutOf, IsNamed, IsReadable
 use crate::attribute_kind::Holder;
 use crate::attributes::Attributes;
 use crate::constant_pool::{Constant, ConstantIndex, ConstantKind};
-use crate::constant_reader::{entry, text_entry};
+use crate::constant_reader::{entry, kind_entry, text_entry};
 use crate::indexes::Indexes;
 use crate::interfaces::Interfaces;
 use crate::layout_reader::{ClassNumbers, ClassTables, skip_class};
@@ -207,12 +208,20 @@ impl<'a> ClassView<'a> {
         self.utf8(descriptor)
     }
 
+    /// The kind of the constant of an index; `None` where [`ClassView::constant`] answers `None`. Behind the
+    /// tag nothing is read.
+    pub fn kind(&self, index: ConstantIndex) -> Option<ConstantKind>
+        ensures { result ≡ option_map kind_of (constant_at self.now index) }
+    {
+        kind_entry(self.bytes, &self.offsets, index)
+    }
+
     /// Whether the usable constant of an index is of a kind.
     pub fn is_entry(&self, kind: ConstantKind, index: ConstantIndex) -> bool
         ensures { result ≡ is_entry self.now kind index }
     {
-        self.constant(index.0)
-            .is_some_and(|constant| constant.kind().tag() == kind.tag())
+        self.kind(index)
+            .is_some_and(|found| found.tag() == kind.tag())
     }
 
     /// The constant of an index; `None` for 0, for one past the last, and for the second index of a

@@ -1,5 +1,5 @@
 -- The text of a Utf8 constant by its index.
-use Rattle.std.proofs.Common.{◌≡◌, ℕ, zero, suc, ◌+◌, ◌-◌, ◌<◌, ◌≤◌, List, [], ◌∷◌, ◌++◌, length, Option, Some, None, refl, ap, ◌∙◌, arith}
+use Rattle.std.proofs.Common.{◌≡◌, ℕ, zero, suc, ◌+◌, ◌-◌, ◌<◌, ◌≤◌, true, false, List, [], ◌∷◌, ◌++◌, length, Option, Some, None, refl, ap, ◌∙◌, arith}
 use Rattle.std.specs.Option.{option_map_or}
 use Rattle.std.specs.Prelude.{option_and_then}
 use Rattle.std.specs.List.{flat_map, range_with_len}
@@ -7,9 +7,11 @@ use Rattle.std.proofs.lemmas.List.FromFn.{get_or-map-range_with_len, length-map-
 use Rattle.std.proofs.lemmas.Grind.{flat_map-append}
 use Rattle.std.proofs.lemmas.List.{append-nil}
 use Rattle.jc_view.specs.declared.constant_pool.ConstantIndex.{ConstantIndex}
+use Rattle.jc_view.specs.declared.constant_pool.ConstantKind.TheVariants as kinds
+use Rattle.jc_view.specs.ConstantPool as pool
 use Rattle.jc_view.specs.ConstantPool.{Constant, utf8_text}
 use Rattle.jc_view.specs.ClassFile.{ClassFile, all_slots, constant_at}
-use Rattle.jc_view.specs.Lookups.{utf8_at}
+use Rattle.jc_view.specs.Lookups.{is_entry, is_kind, utf8_at}
 use Rattle.jc_rules.proofs.violations.Constants.{usable_within}
 use Rattle.jc_classes.specs.inside.ConstantTexts.{text_or_empty, texts_of}
 use Rattle.jc_classes.specs.inside.FactsShown.{text_at}
@@ -26,6 +28,27 @@ unfolding texts_of
 text_there c index text h =
     get_or-map-range_with_len (text_or_empty c) 0 (1 + all_slots c.constants) index.0 index.0 [] (text_within c index text h) (omega arith)
     ∙ ap (λ o. option_map_or (λ t. t) o []) h
+
+text_of_kind : (o : Option Constant) → option_map_or (is_kind kinds.Utf8) o false ≡ true → (text : List ℕ) × (option_and_then utf8_text o ≡ Some text)
+text_of_kind None e = absurd cc
+text_of_kind (Some (pool.Utf8 text)) e = (text, refl)
+text_of_kind (Some (pool.Integer bits)) e = absurd cc
+text_of_kind (Some (pool.Float bits)) e = absurd cc
+text_of_kind (Some (pool.Long bits)) e = absurd cc
+text_of_kind (Some (pool.Double bits)) e = absurd cc
+text_of_kind (Some (pool.Class name)) e = absurd cc
+text_of_kind (Some (pool.String text)) e = absurd cc
+text_of_kind (Some (pool.Fieldref class entry)) e = absurd cc
+text_of_kind (Some (pool.Methodref class entry)) e = absurd cc
+text_of_kind (Some (pool.InterfaceMethodref class entry)) e = absurd cc
+text_of_kind (Some (pool.NameAndType name descriptor)) e = absurd cc
+text_of_kind (Some (pool.MethodHandle kind reference)) e = absurd cc
+text_of_kind (Some (pool.MethodType descriptor)) e = absurd cc
+text_of_kind (Some (pool.InvokeDynamic bootstrap entry)) e = absurd cc
+
+-- a Utf8 constant has a text
+pub utf8_there : (c : ClassFile) (index : ConstantIndex) → is_entry c kinds.Utf8 index ≡ true → (text : List ℕ) × (utf8_at c index ≡ Some text)
+utf8_there c index e = text_of_kind (constant_at c index) e
 
 -- index 0 is of no constant
 pub no_text : (c : ClassFile) → text_at (texts_of c) 0 ≡ []

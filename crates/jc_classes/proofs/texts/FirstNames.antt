@@ -12,6 +12,7 @@ use Rattle.jc_classes.specs.NameLists.{has}
 use Rattle.jc_classes.specs.Names.{Name, same_name}
 use Rattle.jc_classes.specs.inside.FactsShown.{text_at}
 use Rattle.jc_classes.specs.inside.Ranks.{AreRanks}
+use Rattle.jc_classes.proofs.worlds.NameTests.{same_is}
 
 -- ---- one more name
 
@@ -38,6 +39,49 @@ pub once_short : (ns : List Name) → length ns < 2 → ns ≡ once ns
 once_short [] l = refl
 once_short (x ∷ []) l = refl
 once_short (x ∷ y ∷ ns) l = absurd (omega (arith, l))
+
+-- ---- in turn
+
+not_it : (n x m : Name) → same_name n x ≡ false → same_name m x ≡ true → same_name n m ≡ false
+not_it n x m e f = subst (λ y. same_name n y ≡ false) (sym (same_is m x f)) e
+
+has_others : (x n : Name) → same_name n x ≡ false → (ns : List Name) → has (filter (others x) ns) n ≡ has ns n
+has_others x n e [] = refl
+has_others x n e (m ∷ ns) = ⊎_elim
+    (λ t. ap (λ l. has l n) (cond-false (others x m) (m ∷ filter (others x) ns) (filter (others x) ns) (ap not t)) ∙ has_others x n e ns ∙ ap (λ b. b || has ns n) (sym (not_it n x m e t)))
+    (λ f. ap (λ l. has l n) (cond-true (others x m) (m ∷ filter (others x) ns) (filter (others x) ns) (ap not f)) ∙ ap (λ b. same_name n m || b) (has_others x n e ns))
+    (cases_Bool (same_name m x))
+
+-- the first of each are the same names
+has_once : (ns : List Name) (n : Name) → has (once ns) n ≡ has ns n
+has_once [] n = refl
+has_once (x ∷ ns) n = ⊎_elim
+    (λ t. ap (λ b. b || has (filter (others x) (once ns)) n) t ∙ sym (ap (λ b. b || has ns n) t))
+    (λ f. ap (λ b. same_name n x || b) (has_others x n f (once ns) ∙ has_once ns n))
+    (cases_Bool (same_name n x))
+
+module _ (texts : List Name) (names : List ℕ) (i : ℕ) (l : i < length names) (kept : List ℕ) (done : map (text_at texts) kept ≡ once (map (text_at texts) (take i names))) where
+  text : Name
+  text = text_at texts (slice_index names i)
+
+  taken : map (text_at texts) (take (i + 1) names) ≡ map (text_at texts) (take i names) ++ text ∷ []
+  unfolding text
+  taken = ap (map (text_at texts)) (take_more names i 0 l) ∙ map-append (text_at texts) (take i names) (slice_index names i ∷ [])
+
+  test : (b : Bool) → b ≡ has (map (text_at texts) kept) text → once (map (text_at texts) (take (i + 1) names)) ≡ cond b (map (text_at texts) kept) (map (text_at texts) kept ++ text ∷ [])
+  test b e =
+      let asked : has (map (text_at texts) (take i names)) text ≡ b = sym (has_once (map (text_at texts) (take i names)) text) ∙ sym (ap (λ ns. has ns text) done) ∙ sym e in
+      ap once taken ∙ once_push (map (text_at texts) (take i names)) text
+      ∙ ap (λ z. cond z (once (map (text_at texts) (take i names))) (once (map (text_at texts) (take i names)) ++ text ∷ [])) asked
+      ∙ ap (λ ns. cond b ns (ns ++ text ∷ [])) (sym done)
+
+  pub turn_again : true ≡ has (map (text_at texts) kept) (text_at texts (slice_index names i)) → map (text_at texts) kept ≡ once (map (text_at texts) (take (i + 1) names))
+  unfolding text
+  turn_again e = sym (test true e)
+
+  pub turn_first : false ≡ has (map (text_at texts) kept) (text_at texts (slice_index names i)) → map (text_at texts) (kept ++ slice_index names i ∷ []) ≡ once (map (text_at texts) (take (i + 1) names))
+  unfolding text
+  turn_first e = map-append (text_at texts) kept (slice_index names i ∷ []) ∙ sym (test false e)
 
 -- ---- by ranks
 

@@ -42,6 +42,12 @@ within_of count xs h = λ i d l. h (get_or xs i d) (i, l, get_or_again xs i d l)
     get_or_again (y ∷ ys) zero d l = refl
     get_or_again (y ∷ ys) (suc i) d l = get_or_again ys i d (omega (arith, l))
 
+pub numbers_in_turn : (count : ℕ) (numbers : List ℕ) → length numbers ≡ count → AreInTurn 0 numbers → AreNumbers count numbers
+numbers_in_turn count numbers size turn = record {
+  within = within_of count numbers (λ n c. let t = turn_at 0 numbers c.0 n turn c.1 in omega (arith, t, c.2, c.1, size));
+  each = λ n l. let t = turn_at 0 numbers n n turn (omega (arith, l, size)) in (n, omega (arith, l, size), omega (arith, t));
+}
+
 pub numbers_sorted : (count : ℕ) (asked sorted : List Asked) → IsPermutation asked sorted → length asked ≡ count → AreInTurn 0 (map number_of asked) → AreNumbers count (map number_of sorted)
 numbers_sorted count asked sorted p size turn =
     let len = length-map asked number_of in

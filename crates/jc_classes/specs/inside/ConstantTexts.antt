@@ -1,8 +1,10 @@
 -- The texts of the constants by their indexes.
-use Rattle.std.specs.Prelude.{ℕ, ◌+◌, List, [], map, Option, Some, option_and_then}
+use Rattle.std.specs.Prelude.{ℕ, ◌+◌, Bool, true, false, List, [], map, Option, Some, option_and_then}
 use Rattle.std.specs.Option.{option_map_or}
 use Rattle.std.specs.List.{range_with_len}
 use Rattle.jc_view.specs.declared.constant_pool.ConstantIndex.{ConstantIndex}
+use Rattle.jc_view.specs.declared.constant_pool.ConstantKind.{ConstantKind}
+use Rattle.jc_view.specs.declared.constant_pool.ConstantKind.TheVariants as kinds
 use Rattle.jc_view.specs.ClassFile.{ClassFile, all_slots}
 use Rattle.jc_view.specs.Lookups.{descriptor_at, name_at, utf8_at}
 use Rattle.jc_classes.specs.Facts.{Key}
@@ -22,3 +24,11 @@ key_shown texts pair = record { name = text_at texts pair.0; descriptor = text_a
 -- the name and the descriptor that the NameAndType of an index gives
 abbrev pub key_at : ClassFile → ConstantIndex → Option Key
 key_at c entry = option_and_then (λ name. option_and_then (λ descriptor. Some (record { name = name; descriptor = descriptor })) (descriptor_at c entry)) (name_at c entry)
+
+-- constants of the kind are references to classes or to members (JVMS 4.4.1, 4.4.2)
+abbrev pub is_reference : ConstantKind → Bool
+is_reference kinds.Class = true
+is_reference kinds.Fieldref = true
+is_reference kinds.Methodref = true
+is_reference kinds.InterfaceMethodref = true
+is_reference _ = false

@@ -1,5 +1,5 @@
 -- The sizes that a constant gives, by its kind.
-use Rattle.std.proofs.Common.{◌≡◌, ◌∙◌, ◌⊎◌, inl, inr, ℕ, zero, suc, ◌+◌, ◌-◌, ◌≤◌, Bool, true, false, Bor, List, [], ◌∷◌, ◌++◌, Option, Some, None, refl, ap, sym, replicate, arith, slice_index_or, slice_set}
+use Rattle.std.proofs.Common.{◌≡◌, ◌∙◌, ◌⊎◌, inl, inr, ℕ, zero, suc, ◌+◌, ◌-◌, ◌≤◌, Bool, true, false, List, [], ◌∷◌, ◌++◌, Option, Some, None, refl, ap, sym, replicate, arith, slice_index_or, slice_set}
 use Rattle.std.specs.Prelude.{if◌then◌else◌, nat_lt, option_and_then, sum_by}
 use Rattle.std.specs.Option.{option_map, option_map_or}
 use Rattle.std.proofs.lemmas.Bool.{ne_eqb, le-ltb}
@@ -9,12 +9,13 @@ use Rattle.jc_view.specs.declared.constant_pool.Constant.{Constant as Lent}
 use Rattle.jc_view.specs.declared.constant_pool.Constant.TheVariants as lent
 use Rattle.jc_view.specs.declared.constant_pool.ConstantIndex.{ConstantIndex}
 use Rattle.jc_view.specs.declared.constant_pool.ConstantKind.TheVariants as kinds
-use Rattle.jc_view.specs.ConstantPool.{Constant, utf8_text}
+use Rattle.jc_view.specs.ConstantPool as pool
+use Rattle.jc_view.specs.ConstantPool.{Constant, kind_of, utf8_text}
 use Rattle.jc_view.specs.ClassFile.{ClassFile, slots, all_slots, constant_at, constant_from_first}
 use Rattle.jc_view.specs.Lent.{constant_of}
-use Rattle.jc_view.specs.Lookups.{descriptor_at, is_kind, signature_entry}
+use Rattle.jc_view.specs.Lookups.{descriptor_at, is_entry, is_kind, signature_entry, utf8_at}
 use Rattle.jc_view.proofs.reading.Pools.{slots_is}
-use Rattle.jc_code.specs.CodeRules.{dimensions_of}
+use Rattle.jc_code.specs.CodeRules.{dimensions_of, slots_at}
 use Rattle.jc_code.specs.inside.TextSizes.{AreKnown, at_index, dimensions_in, entry_slots, interface_slots, slots_in, slots_of_text}
 use Rattle.jc_code.proofs.sizes.FilledLists.{padded}
 
@@ -38,57 +39,74 @@ no_constant c i le =
 
 -- ---- by the constant
 
-abbrev dims_by : Option Constant → ℕ
-dims_by o = option_map_or dimensions_of (option_and_then utf8_text o) 0
-
-abbrev slots_by : ClassFile → Option Constant → Option ℕ
-slots_by c o =
-    if option_map_or (is_kind kinds.InterfaceMethodref) o false
-    then option_map (λ type. sum_by slots_of type.params) (option_and_then method_type_of (option_and_then (λ entry. option_and_then (descriptor_at c) (signature_entry entry)) o))
-    else None
-
-pub record SizesAre (c : ClassFile) (i count : ℕ) (taken : Option ℕ) : Type 0 where
-  pub dims : dimensions_in c i ≡ count
-  pub slots : interface_slots c i ≡ taken
-
-sizes_by : (c : ClassFile) (i : ℕ) (o : Option Constant) → o ≡ constant_at c (at_index i) → SizesAre c i (dims_by o) (slots_by c o)
-sizes_by c i o is = record { dims = ap dims_by (sym is); slots = ap (slots_by c) (sym is) }
-
-as_read : (o : Option (List ℕ)) → option_map (λ type. sum_by slots_of type.params) (option_and_then method_type_of o) ≡ option_and_then slots_of_text o
-as_read None = refl
-as_read (Some text) = refl
-
 module _ (c : ClassFile) (i : ℕ) where
-  pub none_gives : None ≡ constant_at c (at_index i) → SizesAre c i 0 None
-  none_gives is = sizes_by c i None is
+  pub dims_none : None ≡ utf8_at c (at_index i) → dimensions_in c i ≡ 0
+  dims_none e = ap (λ o. option_map_or dimensions_of o 0) (sym e)
 
-  pub past_gives : 1 + all_slots c.constants ≤ i → SizesAre c i 0 None
-  past_gives le = none_gives (sym (no_constant c i le))
+  pub dims_text : (text : List ℕ) → Some text ≡ utf8_at c (at_index i) → dimensions_in c i ≡ dimensions_of text
+  dims_text text e = ap (λ o. option_map_or dimensions_of o 0) (sym e)
 
-  module _ (k : Lent) (is : Some (constant_of k) ≡ constant_at c (at_index i)) where
-    pub text_gives : (text : Bor (List ℕ)) → k ≡ lent.Utf8 text → SizesAre c i (dimensions_of text.now) None
-    text_gives text e = sizes_by c i (Some (constant_of (lent.Utf8 text))) (ap (λ x. Some (constant_of x)) (sym e) ∙ is)
+  pub slots_none : is_entry c kinds.InterfaceMethodref (at_index i) ≡ false → interface_slots c i ≡ None
+  slots_none e = ap (λ b. if b then slots_at c (at_index i) else None) e
 
-    pub method_gives : (class entry : ConstantIndex) → k ≡ lent.InterfaceMethodref class entry → SizesAre c i 0 (entry_slots c entry)
-    method_gives class entry e =
-        let by = sizes_by c i (Some (constant_of (lent.InterfaceMethodref class entry))) (ap (λ x. Some (constant_of x)) (sym e) ∙ is) in
-        record { dims = by.dims; slots = by.slots ∙ as_read (descriptor_at c entry) }
+  -- behind the last
+  pub past_dims : 1 + all_slots c.constants ≤ i → dimensions_in c i ≡ 0
+  past_dims le = dims_none (sym (ap (option_and_then utf8_text) (no_constant c i le)))
 
-  pub other_gives : (k : Lent) → Some (constant_of k) ≡ constant_at c (at_index i) → ((text : Bor (List ℕ)) → k ≡ lent.Utf8 text → ⊥) → ((class entry : ConstantIndex) → k ≡ lent.InterfaceMethodref class entry → ⊥) → SizesAre c i 0 None
-  other_gives (lent.Utf8 text) is no_text no_method = absurd (no_text text refl)
-  other_gives (lent.Integer bits) is no_text no_method = sizes_by c i _ is
-  other_gives (lent.Float bits) is no_text no_method = sizes_by c i _ is
-  other_gives (lent.Long bits) is no_text no_method = sizes_by c i _ is
-  other_gives (lent.Double bits) is no_text no_method = sizes_by c i _ is
-  other_gives (lent.Class name) is no_text no_method = sizes_by c i _ is
-  other_gives (lent.String text) is no_text no_method = sizes_by c i _ is
-  other_gives (lent.Fieldref class entry) is no_text no_method = sizes_by c i _ is
-  other_gives (lent.Methodref class entry) is no_text no_method = sizes_by c i _ is
-  other_gives (lent.InterfaceMethodref class entry) is no_text no_method = absurd (no_method class entry refl)
-  other_gives (lent.NameAndType name descriptor) is no_text no_method = sizes_by c i _ is
-  other_gives (lent.MethodHandle kind reference) is no_text no_method = sizes_by c i _ is
-  other_gives (lent.MethodType descriptor) is no_text no_method = sizes_by c i _ is
-  other_gives (lent.InvokeDynamic bootstrap entry) is no_text no_method = sizes_by c i _ is
+  pub past_slots : 1 + all_slots c.constants ≤ i → interface_slots c i ≡ None
+  past_slots le = slots_none (ap (λ o. option_map_or (is_kind kinds.InterfaceMethodref) o false) (no_constant c i le))
+
+  slots_text_in : (o : Option Constant) (text : List ℕ) → Some text ≡ option_and_then utf8_text o → option_map_or (is_kind kinds.InterfaceMethodref) o false ≡ false
+  slots_text_in None text e = refl
+  slots_text_in (Some (pool.Utf8 t)) text e = refl
+  slots_text_in (Some (pool.Integer bits)) text e = refl
+  slots_text_in (Some (pool.Float bits)) text e = refl
+  slots_text_in (Some (pool.Long bits)) text e = refl
+  slots_text_in (Some (pool.Double bits)) text e = refl
+  slots_text_in (Some (pool.Class name)) text e = refl
+  slots_text_in (Some (pool.String s)) text e = refl
+  slots_text_in (Some (pool.Fieldref class entry)) text e = refl
+  slots_text_in (Some (pool.Methodref class entry)) text e = refl
+  slots_text_in (Some (pool.InterfaceMethodref class entry)) text e = absurd cc
+  slots_text_in (Some (pool.NameAndType name descriptor)) text e = refl
+  slots_text_in (Some (pool.MethodHandle kind reference)) text e = refl
+  slots_text_in (Some (pool.MethodType descriptor)) text e = refl
+  slots_text_in (Some (pool.InvokeDynamic bootstrap entry)) text e = refl
+
+  pub slots_text : (text : List ℕ) → Some text ≡ utf8_at c (at_index i) → interface_slots c i ≡ None
+  slots_text text e = slots_none (slots_text_in (constant_at c (at_index i)) text e)
+
+  as_read : (o : Option (List ℕ)) → option_map (λ type. sum_by slots_of type.params) (option_and_then method_type_of o) ≡ option_and_then slots_of_text o
+  as_read None = refl
+  as_read (Some text) = refl
+
+  abbrev slots_by : Option Constant → Option ℕ
+  slots_by o =
+      if option_map_or (is_kind kinds.InterfaceMethodref) o false
+      then option_map (λ type. sum_by slots_of type.params) (option_and_then method_type_of (option_and_then (λ entry. option_and_then (descriptor_at c) (signature_entry entry)) o))
+      else None
+
+  pub slots_missing : None ≡ constant_at c (at_index i) → interface_slots c i ≡ None
+  slots_missing is = ap slots_by (sym is)
+
+  pub slots_other : (k : Lent) → Some (constant_of k) ≡ constant_at c (at_index i) → ((class entry : ConstantIndex) → k ≡ lent.InterfaceMethodref class entry → ⊥) → interface_slots c i ≡ None
+  slots_other (lent.Utf8 text) is no_method = ap slots_by (sym is)
+  slots_other (lent.Integer bits) is no_method = ap slots_by (sym is)
+  slots_other (lent.Float bits) is no_method = ap slots_by (sym is)
+  slots_other (lent.Long bits) is no_method = ap slots_by (sym is)
+  slots_other (lent.Double bits) is no_method = ap slots_by (sym is)
+  slots_other (lent.Class name) is no_method = ap slots_by (sym is)
+  slots_other (lent.String text) is no_method = ap slots_by (sym is)
+  slots_other (lent.Fieldref class entry) is no_method = ap slots_by (sym is)
+  slots_other (lent.Methodref class entry) is no_method = ap slots_by (sym is)
+  slots_other (lent.InterfaceMethodref class entry) is no_method = absurd (no_method class entry refl)
+  slots_other (lent.NameAndType name descriptor) is no_method = ap slots_by (sym is)
+  slots_other (lent.MethodHandle kind reference) is no_method = ap slots_by (sym is)
+  slots_other (lent.MethodType descriptor) is no_method = ap slots_by (sym is)
+  slots_other (lent.InvokeDynamic bootstrap entry) is no_method = ap slots_by (sym is)
+
+  pub slots_method : (k : Lent) → Some (constant_of k) ≡ constant_at c (at_index i) → (class entry : ConstantIndex) → k ≡ lent.InterfaceMethodref class entry → interface_slots c i ≡ entry_slots c entry
+  slots_method k is class entry e = ap slots_by (sym is ∙ ap (λ x. Some (constant_of x)) e) ∙ as_read (descriptor_at c entry)
 
 -- ---- a text that begins with another byte than `[`
 

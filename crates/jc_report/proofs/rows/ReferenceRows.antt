@@ -1,7 +1,7 @@
 -- The rows of references, one more at a time.
 use Rattle.std.proofs.Common.{◌≡◌, ◌∙◌, ℕ, zero, suc, ◌+◌, true, false, List, [], ◌∷◌, ◌++◌, drop, map, Some, None, refl, ap, append_assoc}
-use Rattle.std.specs.Prelude.{slice_get, if◌then◌else◌}
-use Rattle.std.proofs.lemmas.List.{drop_more, map-append}
+use Rattle.std.specs.Prelude.{slice_get}
+use Rattle.std.proofs.lemmas.List.{drop-drop, drop_more, map-append}
 use Rattle.std.proofs.lemmas.Bool.{cond-true, cond-false}
 use Rattle.std.proofs.lemmas.Option.{get_or_from_slice_get, slice_get_within}
 use Rattle.jc_classes.specs.Facts.{Reference}
@@ -22,15 +22,18 @@ added done grown r row left e f =
     ∙ append_assoc (map row_lent done) (row_lent r ∷ []) left
     ∙ ap (λ x. map row_lent done ++ (x ∷ left)) f
 
-module _ (refs : List Reference) (n : ℕ) (r : Reference) (at : slice_get refs n ≡ Some r) (a : Answer) (answers : List Answer) where
-  next_reference : rows_required (drop n refs) (a ∷ answers) ≡ (if is_required a then reference_row r ∷ rows_required (drop (n + 1) refs) answers else rows_required (drop (n + 1) refs) answers)
-  next_reference = ap (λ xs. rows_required xs (a ∷ answers)) (first_of refs n r at)
+pub left_required : (refs : List Reference) (n : ℕ) (r : Reference) → slice_get refs n ≡ Some r → (a : Answer) (answers : List Answer) → is_required a ≡ true
+    → rows_required (drop n refs) (a ∷ answers) ≡ reference_row r ∷ rows_required (drop (n + 1) refs) answers
+left_required refs n r at a answers is =
+    ap (λ xs. rows_required xs (a ∷ answers)) (first_of refs n r at)
+    ∙ cond-true (is_required a) (reference_row r ∷ rows_required (drop (n + 1) refs) answers) (rows_required (drop (n + 1) refs) answers) is
 
-  pub left_required : is_required a ≡ true → rows_required (drop n refs) (a ∷ answers) ≡ reference_row r ∷ rows_required (drop (n + 1) refs) answers
-  left_required is = next_reference ∙ cond-true (is_required a) (reference_row r ∷ rows_required (drop (n + 1) refs) answers) (rows_required (drop (n + 1) refs) answers) is
+passed_over : (refs : List Reference) (a : Answer) (answers : List Answer) → is_required a ≡ false → rows_required refs (a ∷ answers) ≡ rows_required (drop 1 refs) answers
+passed_over [] a answers is = refl
+passed_over (r ∷ refs) a answers is = cond-false (is_required a) (reference_row r ∷ rows_required refs answers) (rows_required refs answers) is
 
-  pub left_resolved : is_required a ≡ false → rows_required (drop n refs) (a ∷ answers) ≡ rows_required (drop (n + 1) refs) answers
-  left_resolved is = next_reference ∙ cond-false (is_required a) (reference_row r ∷ rows_required (drop (n + 1) refs) answers) (rows_required (drop (n + 1) refs) answers) is
+pub left_resolved : (refs : List Reference) (n : ℕ) (a : Answer) (answers : List Answer) → is_required a ≡ false → rows_required (drop n refs) (a ∷ answers) ≡ rows_required (drop (n + 1) refs) answers
+left_resolved refs n a answers is = passed_over (drop n refs) a answers is ∙ ap (λ xs. rows_required xs answers) (drop-drop 1 n refs)
 
 pub past_references : (refs : List Reference) (answers : List Answer) (n : ℕ) → slice_get refs n ≡ None → rows_required (drop n refs) answers ≡ []
 past_references [] answers zero e = refl

@@ -3,6 +3,7 @@ use Rattle.std.proofs.Common.{◌≡◌, ◌≢◌, ◌<◌, ℕ, zero, suc, Lis
 use Rattle.std.proofs.lemmas.List.{length-append}
 use Rattle.std.proofs.Math.ListN.{get_or-append}
 use Rattle.std.specs.List.{slice_get}
+use Rattle.std.specs.Option.{option_map}
 use Rattle.std.proofs.Common.{Some}
 use Rattle.jc_classes.specs.Facts.{Reference}
 use Rattle.jc_classes.specs.Names.{Name, polymorphic_descriptor}
@@ -12,6 +13,8 @@ use Rattle.jc_classes.specs.Worlds.{World}
 use Rattle.jc_lookup.specs.declared.loads.Load.{Load}
 use Rattle.jc_lookup.specs.inside.Indexed.{Indexed, name_at, IsIndexed}
 use Rattle.jc_lookup.specs.inside.Loading.{load_at}
+use Rattle.jc_resolve.specs.Answers.{kind_of}
+use Rattle.jc_resolve.specs.declared.answers.AnswerKind.{AnswerKind}
 use Rattle.jc_resolve.specs.declared.entry.Entry.{Entry}
 use Rattle.jc_resolve.specs.declared.entry.Entry.TheVariants as entry
 use Rattle.jc_resolve.specs.inside.Answered.{IsAnsweredAt, IsAnsweredBy}
@@ -137,6 +140,14 @@ shown_at f (s ∷ rs) (d ∷ es) zero r e p q =
     let b = some_is q in
     λ i. Some (entry_shown f (a i) (b i))
 shown_at f (s ∷ rs) (d ∷ es) (suc i) r e p q = shown_at f rs es i r e p q
+
+pub kind_shown : (f : ℕ → Name) (rs : List Reference) (es : List Entry) (i : ℕ) (e : Entry) (k : AnswerKind) → length es ≡ length rs → slice_get es i ≡ Some e
+    → ((r : Reference) → kind_of (entry_shown f r e) ≡ k) → option_map kind_of (slice_get (entries_shown f rs es) i) ≡ Some k
+kind_shown f [] [] i e k size at kind = absurd cc
+kind_shown f [] (x ∷ es) i e k size at kind = absurd (omega (arith, size))
+kind_shown f (r ∷ rs) [] i e k size at kind = absurd cc
+kind_shown f (r ∷ rs) (x ∷ es) zero e k size at kind = ap Some (ap (λ y. kind_of (entry_shown f r y)) (some_is at) ∙ kind r)
+kind_shown f (r ∷ rs) (x ∷ es) (suc i) e k size at kind = kind_shown f rs es i e k (omega (arith, size)) at kind
 
 -- ---- none
 

@@ -1,6 +1,7 @@
 -- The constant that is read at a place.
-use Rattle.std.specs.Prelude.{ℕ, List, Option, Some, option_and_then}
+use Rattle.std.specs.Prelude.{ℕ, List, Option, Some, option_and_then, slice_get}
 use Rattle.jc_base.specs.Endian.{big_number}
+use Rattle.jc_view.specs.declared.constant_pool.ConstantKind.{ConstantKind}
 use Rattle.jc_view.specs.ConstantPool.{Constant, kind_of_tag}
 use Rattle.jc_view.specs.Reading.{after, after_body, body_value}
 
@@ -16,3 +17,7 @@ constant_read place bytes = do
   kind ← kind_of_tag (big_number 1 front)
   rest ← after_body kind body
   Some (body_value kind body)
+
+-- its kind, by the tag
+abbrev pub kind_read : ℕ → List ℕ → Option ConstantKind
+kind_read place bytes = option_and_then kind_of_tag (slice_get bytes place)

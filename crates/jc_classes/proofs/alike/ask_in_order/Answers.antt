@@ -1,5 +1,4 @@
 use Rattle.std.proofs.Common.{◌≡◌, ◌+◌, List, length, map, sym, ap, subst, ◌∙◌, arith}
-use Rattle.std.proofs.lemmas.List.Sorted.{IsPermutation-refl}
 use Rattle.std.proofs.lemmas.List.{length-append, length-map, map-append}
 use Rattle.jc_classes.specs.declared.alike.Asked.{Asked}
 use Rattle.jc_classes.proofs.texts.Numbering.{AreInTurn, numbers_sorted, turn_push}
@@ -29,8 +28,3 @@ pub returns : goal.returns
 returns c =
     let s = c.loop-number.invariant.size in
     numbers_sorted (length c.args.entries.now) c.loop-number.asked.items c.sort_unstable.new.self.items c.sort_unstable.ensures.permutation (omega (arith, s, c.loop-number-test.false, c.loop-number.auto.number-end)) c.loop-number.invariant.turn
-
-pub returns-then-len-lt-FEW : goal.returns-then-len-lt-FEW
-returns-then-len-lt-FEW c =
-    let s = c.loop-number.invariant.size in
-    numbers_sorted (length c.args.entries.now) c.loop-number.asked.items c.loop-number.asked.items (IsPermutation-refl c.loop-number.asked.items) (omega (arith, s, c.loop-number-test.false, c.loop-number.auto.number-end)) c.loop-number.invariant.turn

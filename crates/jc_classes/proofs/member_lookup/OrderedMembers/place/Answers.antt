@@ -3,7 +3,6 @@ use Rattle.std.proofs.lemmas.List.{length-map}
 use Rattle.std.specs.Ordering.{is_lt}
 use Rattle.jc_classes.specs.Lent.{key_lent}
 use Rattle.jc_classes.specs.MemberOrder.{key_cmp}
-use Rattle.jc_classes.specs.Worlds.{key_of}
 use Rattle.jc_classes.specs.inside.FactsShown.{member_shown}
 use Rattle.jc_classes.specs.inside.OrderedMembers.{shown}
 use Rattle.jc_classes.proofs.members.Searching.{key_shown_at, less_of, narrowed_down, narrowed_up, number_within}
@@ -24,7 +23,7 @@ loop-low-preserved-then-is_before c =
     let less : middle < c.loop-low.high = omega (arith, c.loop-low-test.true) in
     let within : slice_index order middle < length members.members.now =
     omega (arith, number_within (shown members) order c.requires middle (omega (arith, less, c.loop-low.invariant.fits)), length-map members.members.now (member_shown members.texts.now)) in
-    let here = key_shown_at members.texts.now members.members.now (slice_index order middle) _ within ∙ sym (ap key_of c.lend.ensures) in
+    let here = key_shown_at members.texts.now members.members.now (slice_index order middle) _ within in
     narrowed_up (shown members) order c.requires (key_lent c.args.key) c.loop-low.low c.loop-low.high middle c.loop-low.invariant less
     (less_of _ (ap (λ k. is_lt (key_cmp k (key_lent c.args.key))) here ∙ sym c.is_before.ensures ∙ c.if-is_before.true))
 
@@ -37,6 +36,6 @@ loop-low-preserved c =
     let least : c.loop-low.low ≤ middle = omega arith in
     let within : slice_index order middle < length members.members.now =
     omega (arith, number_within (shown members) order c.requires middle (omega (arith, less, c.loop-low.invariant.fits)), length-map members.members.now (member_shown members.texts.now)) in
-    let here = key_shown_at members.texts.now members.members.now (slice_index order middle) _ within ∙ sym (ap key_of c.lend.ensures) in
+    let here = key_shown_at members.texts.now members.members.now (slice_index order middle) _ within in
     narrowed_down (shown members) order c.requires (key_lent c.args.key) c.loop-low.low c.loop-low.high middle c.loop-low.invariant less least
     (ap (λ k. is_lt (key_cmp k (key_lent c.args.key))) here ∙ sym c.is_before.ensures ∙ c.if-is_before.false)
