@@ -18,7 +18,7 @@ is not proved: such an edit is tried again in the next round. An edit is refused
 that the edited function itself is not proved. Where all that it says is that the proof names what the
 edit took away, it has refused only a name: such an edit has to be written anew.
 
-Behind each crate stands a row for trials/RESULTS.md: crate, edits, refused, refused only by a name,
+Behind each crate stands a row: crate, edits, refused, refused only by a name,
 seconds. The last line says `N edits, each refused`, or else how many were not, and the status is then 1.
 """
 import argparse

@@ -104,6 +104,16 @@ def methods_of_one_name():
     return {"A.class": class_file(pool, b"A", methods=methods)}
 
 
+def few_methods_of_one_name():
+    """So few that one after another is looked at."""
+    pool, name, methods = Pool(), b"n" * LONGEST, []
+    for descriptor in itertools.islice(descriptors(), MOST // 3 - 20):
+        if len(methods) < 15:
+            methods.append(native(pool, name, descriptor))
+        pool.reference(10, b"A", name, descriptor)
+    return {"A.class": class_file(pool, b"A", methods=methods)}
+
+
 def fields_and_references():
     pool, fields = Pool(), []
     for name in itertools.islice(names(), MOST // 3 - 20):
@@ -176,6 +186,17 @@ def references_below_a_chain():
     above it, which costs the square of its length."""
     files = {f"{number}.class": plain(b"C%d" % number, parent=b"C%d" % (number - 1) if number else OBJECT) for number in range(4000)}
     return {**files, "U.class": user_of(10, b"C3999", b"m", b"()V")}
+
+
+def few_references_each_below_a_chain():
+    """Each class of a chain has so few that those that name one class are not looked for, and names the two above it in turn."""
+    files = {}
+    for number in range(2000):
+        pool = Pool()
+        for at in range(250 if number > 1 else 0):
+            pool.reference(10, b"C%d" % (number - 1 - at % 2), b"m%d" % at, b"()V")
+        files[f"{number}.class"] = class_file(pool, b"C%d" % number, parent=b"C%d" % (number - 1) if number else OBJECT)
+    return files
 
 
 def references_below_interfaces():
@@ -295,7 +316,8 @@ def format_faults():
     return {"A.class": class_file(pool, b"A", fields=fields)}
 
 
-KINDS = [methods_of_one_name, fields_and_references, references_to_one_member, constants_of_one_missing_class, calls_of_method_handles,
-         provided_by_a_long_name, an_interface_many_times, an_interface_by_many_constants, references_below_a_chain, references_below_interfaces,
+KINDS = [methods_of_one_name, few_methods_of_one_name, fields_and_references, references_to_one_member, constants_of_one_missing_class, calls_of_method_handles,
+         provided_by_a_long_name, an_interface_many_times, an_interface_by_many_constants, references_below_a_chain,
+         few_references_each_below_a_chain, references_below_interfaces,
          interfaces_that_give_one_method, packages_of_long_names, members_of_a_long_missing_name, one_signature, one_descriptor, one_array_type,
          one_array_type_and_a_fault, one_interface_method, code_faults, handlers, format_faults]
