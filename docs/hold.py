@@ -5,12 +5,14 @@ Usage: hold.py JCLINK FOLDER [PREFIX]...
 
 One `jclink session` runs as a coprocess with FOLDER as its working folder. Every second the files are compared with
 those of the second before, by size and time, each that came, changed or went is one line, and the lines of the report
-that came or went are printed. Names with a PREFIX that no file gives are outside (none: java/ and javax/).
+that came or went are printed. Names with a PREFIX that no file gives are outside (none: java/ and javax/); lines of
+standard input, `outside add PREFIX` and `outside drop PREFIX`, change which.
 """
+import os
 import pathlib
+import select
 import subprocess
 import sys
-import time
 
 
 class Session:
@@ -32,14 +34,17 @@ class Session:
         return self.answer()
 
     def report(self):
-        """Its lines, each with its section. The answer to an empty line stands behind a report as a mark."""
+        """Its lines, each with its section and a part's class. The answer to an empty line stands behind a report as a mark."""
         self.send(b"report")
         self.send(b"")
-        section, lines = b"", set()
+        section, part, lines = b"", b"", set()
         for line in iter(self.answer, b"bad line"):
             if line.startswith(b"["):
                 section = line
+            elif line.startswith(b"  "):
+                lines.add(section + part + line)
             else:
+                part = b" " + line.partition(b": ")[0]
                 lines.add(section + b" " + line)
         return lines
 
@@ -66,27 +71,61 @@ def edits(old, new):
             yield b"replace", path
 
 
+class Lines:
+    """Whole lines of standard input as they come."""
+
+    def __init__(self):
+        self.rest, self.waits_on = b"", [sys.stdin.fileno()]
+
+    def within_a_second(self):
+        if not select.select(self.waits_on, [], [], 1)[0]:
+            return []
+        given = os.read(sys.stdin.fileno(), 65536)
+        if not given:
+            self.waits_on = []
+        *lines, self.rest = (self.rest + given).split(b"\n")
+        return lines
+
+
+def make(session, changes, files):
+    """Makes the edits; a file whose edit is not made is left as it was, to be tried again."""
+    for word, path in changes:
+        answer = session.edit(word, path)
+        if answer != b"ok":
+            print(answer.decode(), flush=True)
+            files.pop(path, None)
+            if word == b"replace":
+                files[path] = None
+
+
+def turn(session, lines):
+    """Passes edits of prefixes on."""
+    for line in lines:
+        if not line.startswith((b"outside add ", b"outside drop ")):
+            print("no edit of a prefix:", line.decode(errors="replace"), flush=True)
+            continue
+        session.send(line)
+        answer = session.answer()
+        if answer != b"ok":
+            print(answer.decode(), flush=True)
+
+
 def main():
     program, folder, *prefixes = sys.argv[1:]
     folder, session = pathlib.Path(folder), Session(program, folder, prefixes)
-    files, report = {}, session.report()
+    files, report, given, lines = {}, session.report(), Lines(), []
     while True:
         now = files_of(folder)
         changes = list(edits(files, now))
-        for word, path in changes:
-            answer = session.edit(word, path)
-            if answer != b"ok":
-                print(answer.decode(), flush=True)
-                now.pop(path, None)  # to be tried again
-                if word == b"replace":
-                    now[path] = None
-        if changes:
+        make(session, changes, now)
+        turn(session, lines)
+        if changes or lines:
             files, old, report = now, report, session.report()
             for line in sorted(old - report):
                 print("-", line.decode())
             for line in sorted(report - old):
                 print("+", line.decode(), flush=True)
-        time.sleep(1)
+        lines = given.within_a_second()
 
 
 if __name__ == "__main__":

@@ -3,19 +3,20 @@ import struct
 
 import common
 
-links, reader, opcodes = common.load("link/worlds.py"), common.load("parse/reader.py"), common.load("code/judge.py").LENGTH
+links, reader, views = common.load("link/worlds.py"), common.load("parse/reader.py"), common.load("views/judge.py")
+opcodes = common.load("code/judge.py").LENGTH
 
 DENSE = [b"A", b"B", b"C", b"D", b"E", b"p/A", b"p/B", b"p/C", b"java/lang/A"]
-HANDLE = b"java/lang/invoke/MethodHandle"
 CLONE = (b"clone", b"()Ljava/lang/Object;")
 LOOKED_UP = [(9, b"x", b"I"), (10, b"m", b"()V"), (11, b"m", b"()V"), (10, *CLONE), (11, b"hashCode", b"()I"), (10, b"finalize", b"()V")]
 OF_INTERFACE = [0x401, 0x401, 1, 1, 1, 9, 2]
 OF_CLASS = [1, 2, 4, 4, 0, 12, 8, 12]
+OF_FIELD = [*OF_CLASS, 0x11, 0x14, 0x10, 0x19, 0x1c]
+INIT, CLINIT = (b"<init>", b"()V"), (b"<clinit>", b"()V")
 
 TEXTS = [b"Code", b"ConstantValue", b"Exceptions", b"BootstrapMethods", b"SourceFile", b"EnclosingMethod", b"Signature",
          b"Deprecated", b"I", b"J", b"Ljava/lang/String;", b"()V", b"()I", b"x", b"<init>", b"<clinit>", b"[I", b"\xc1\x81", b"a;b"]
 BODIES = {3: 4, 4: 4, 7: 2, 8: 2, 9: 4, 10: 4, 11: 4, 12: 4, 15: 3, 16: 2, 18: 4}
-PLAIN_CODE = struct.pack(">IHHIBHH", 13, 2, 8, 1, 0xb1, 0, 0)
 # The opcodes of which rules tell, the rarer ones twice, and what a class with code refers to.
 TOLD = [18, 19, 20, 22, 58, 132, 153, 167, 168, 169, 170, 171, *range(178, 190), 192, 193, 196, 197, 200, 187, 189, 189]
 ENTRIES = [(10, b"A", b"<init>", b"()V"), (11, b"B", b"m", b"(IJ)V"), (11, b"B", b"m", b"()V"), (9, b"A", b"x", b"I"),
@@ -55,28 +56,77 @@ def dense_references(rng, interfaces, names):
     return references
 
 
-def dense_classes(rng):
+def dense_interface(rng):
+    fields, methods = now_and_then(rng, 0.3, [0x19], (b"x", b"I")), now_and_then(rng, 0.7, OF_INTERFACE, (b"m", b"()V"))
+    return fields, methods + now_and_then(rng, 0.1, [1, 2], INIT) + now_and_then(rng, 0.2, [8], CLINIT)
+
+
+def dense_class(rng):
+    fields, methods = now_and_then(rng, 0.4, OF_FIELD, (b"x", b"I")), now_and_then(rng, 0.4, OF_CLASS, (b"m", b"()V"))
+    methods += now_and_then(rng, 0.1, OF_CLASS, CLONE) + now_and_then(rng, 0.3, [1, 1, 4, 0, 2], INIT)
+    return fields, methods + now_and_then(rng, 0.2, [8], CLINIT)
+
+
+def dense_shapes(rng, names, interfaces):
     """Interfaces below interfaces and classes below both, in the order in which they may extend one another."""
-    names = rng.sample(DENSE, rng.randrange(4, 10))
-    interfaces, made = names[:rng.randrange(1, 5)], []
     for at, name in enumerate(names):
         ups = [one for one in names[:at] if one in interfaces]
         ups = rng.sample(ups, min(len(ups), rng.randrange(4))) + [b"java/util/List"] * (rng.random() < 0.05)
-        user = dense_references(rng, interfaces, [*names, links.OBJECT]) + [(10, HANDLE, b"invoke", b"(I)V")] * (rng.random() < 0.1)
         public = rng.random() < 0.9
         if name in interfaces:
-            fields, methods = now_and_then(rng, 0.3, [0x19], (b"x", b"I")), now_and_then(rng, 0.7, OF_INTERFACE, (b"m", b"()V"))
-            made.append(links.class_file(name, 0x600 + public, links.OBJECT, ups, fields, methods, user))
+            yield name, (0x600 + public, links.OBJECT, ups, *dense_interface(rng))
         else:
             parent = rng.choice([links.OBJECT, b"java/Top", *names[len(interfaces):at] * 3])
-            fields, methods = now_and_then(rng, 0.3, OF_CLASS, (b"x", b"I")), now_and_then(rng, 0.4, OF_CLASS, (b"m", b"()V"))
-            methods += now_and_then(rng, 0.1, OF_CLASS, CLONE)
-            made.append(links.class_file(name, 0x20 + public, parent, ups, fields, methods, user))
+            yield name, (rng.choice([0x20, 0x20, 0x420]) + public, parent, ups, *dense_class(rng))
+
+
+def dense_codes(rng, name, methods, members, names, interfaces):
+    codes = links.make_codes(rng, name, 52, methods, members, names)
+    for code in codes.values():
+        if rng.random() < 0.1:
+            code.append((links.INVOKESPECIAL, (11, rng.choice(interfaces), *INIT)))
+    return codes
+
+
+def dense_classes(rng):
+    names = rng.sample(DENSE, rng.randrange(4, 10))
+    interfaces = names[:rng.randrange(1, 5)]
+    shapes, made = list(dense_shapes(rng, names, interfaces)), []
+    invoke = (10, links.HANDLE, b"invoke", b"(I)V")
+    members = [*links.declared(shapes), invoke]
+    for name, shape in shapes:
+        references = dense_references(rng, interfaces, [*names, links.OBJECT]) + [invoke] * (rng.random() < 0.1)
+        codes = dense_codes(rng, name, shape[-1], members, [*names, links.OBJECT], interfaces)
+        made.append(links.class_file(name, *shape, references, codes=codes))
     made += [links.handle_class(rng)] * (rng.random() < 0.3)
     return made + [links.object_class(rng)] * (rng.random() < 0.1)
 
 
 # ---- code
+
+def codes_of(data):
+    """The Code of each method that has one, by the method's number."""
+    view = views.ClassFile(data)
+    found = {number: view.of(method.attributes, b"Code") for number, method in enumerate(view.methods)}
+    return {number: codes[0] for number, codes in found.items() if codes}
+
+
+def without(data, uses):
+    """The class with nothing in the place of these instructions: the method's number, the offset and the opcode."""
+    codes = codes_of(data)
+    for method, offset, opcode in uses:
+        data = put(data, codes[method].place + 14 + offset, bytes(opcodes[opcode]))
+    return data
+
+
+def one_instruction(rng, name):
+    """A class with an instruction on its field or on itself, which links or doesn't."""
+    fields, instructions = [(rng.choice([1, 9, 0x11, 0x19]), b"x", b"I")], [(187, (7, name))]
+    instructions += [(opcode, (9, name, b"x", b"I")) for opcode in range(178, 182)]
+    codes = {0: [rng.choice(instructions)]}
+    methods = [(rng.choice([1, 9]), *rng.choice([(b"m", b"()V"), CLINIT]))]
+    return links.class_file(name, rng.choice([0x21, 0x421]), links.OBJECT, [], fields, methods, [], codes=codes)
+
 
 def instruction(rng, at, indexes):
     """An instruction at an offset, which names one of these constants; other operands are small numbers."""
@@ -109,9 +159,10 @@ def code_body(rng, indexes):
 def with_code(rng, data):
     """The class with other code in each of its methods."""
     indexes = [0, *(index for index, piece in by_parts(data)[1].items() if piece[0] != 1)]
-    first, *rest = data.split(PLAIN_CODE)
-    bodies = [code_body(rng, indexes) for _ in rest]
-    return first + b"".join(common.number(4, len(body)) + body + piece for body, piece in zip(bodies, rest))
+    for code in reversed(list(codes_of(data).values())):
+        body = code_body(rng, indexes)
+        data = data[:code.place + 2] + common.number(4, len(body)) + body + data[code.place + 6 + len(code.body):]
+    return data
 
 
 def code_class(rng, name):

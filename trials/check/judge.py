@@ -82,7 +82,7 @@ class Report:
 
     def is_wrong(self, name):
         record = self.world.given[name]
-        return bool(name not in self.loaded or record.faults or record.code_faults
+        return bool(name not in self.loaded or record.faults or record.code_faults or any(self.world.unlinked(name))
                     or any(answer[0] == "error" for _, answer in self.resolved(name)))
 
     def wrong(self):

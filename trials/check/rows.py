@@ -31,8 +31,8 @@ NAMELESS = A.replace(b"\x01\0\x01A", bytes.fromhex("010002c181"))
 BAD_TEXT = A[:9] + b"\x06" + A[10:-14] + bytes.fromhex("010002c181") + A[-14:]
 
 
-def made(name, parent=OBJECT, references=(), flags=0x21, interfaces=(), methods=()):
-    return links.class_file(name, flags, parent, interfaces, [], methods, references)
+def made(name, parent=OBJECT, references=(), flags=0x21, interfaces=(), methods=(), fields=(), codes=None):
+    return links.class_file(name, flags, parent, interfaces, fields, methods, references, codes=codes)
 
 
 def interface(name, bits, interfaces=()):
@@ -117,8 +117,172 @@ RIGHT = [{}, {b"A.class": A}, {b"x/A.class": A, b"a/A.class": A}, ring(OBJECT), 
 WRONG = [{b"f": A, b"g": b""}, {b"f": BAD_TEXT}, {b"f": with_code(b"\xff")}, {b"D": D_OF_X}, {b"f": made(b"A", b"B")}]
 
 
+# ---- instructions
+
+GETSTATIC, PUTSTATIC, GETFIELD, PUTFIELD = 178, 179, 180, 181
+INVOKEVIRTUAL, INVOKESPECIAL, INVOKESTATIC, INVOKEINTERFACE, NEW = 182, 183, 184, 185, 187
+M, INIT, CLINIT = (1, b"m", b"()V"), (1, b"<init>", b"()V"), (8, b"<clinit>", b"()V")
+ABSTRACT, IS_INTERFACE, ALOAD_200 = 0x421, 0x601, (25, b"\xc8")
+
+
+def user(opcode, reference, method=M, **more):
+    """A class with one method of one instruction."""
+    return made(b"U", methods=[method], codes={0: [(opcode, reference)]}, **more)
+
+
+def at_field(opcode, flags, method=M):
+    return {b"U": user(opcode, (9, b"F", b"x", b"I"), method), b"F": made(b"F", fields=[(flags, b"x", b"I")])}
+
+
+def at_own(opcode, flags, method=M):
+    return {b"U": user(opcode, (9, b"U", b"x", b"I"), method, fields=[(flags, b"x", b"I")])}
+
+
+def at_inherited(opcode, flags, method=M):
+    """The same of a field that the class has from its superclass."""
+    return {**at_field(opcode, flags), b"U": user(opcode, (9, b"U", b"x", b"I"), method, parent=b"F")}
+
+
+def at_method(opcode, tag, flags, name=b"m"):
+    """An instruction that names a method of another class, or of an interface."""
+    other = made(b"F", flags=IS_INTERFACE if tag == 11 else 0x21, methods=[(flags, name, b"()V")])
+    return {b"U": user(opcode, (tag, b"F", name, b"()V")), b"F": other}
+
+
+def at_inherited_method(opcode, tag, flags, name=b"m"):
+    """The same by the name of a class or an interface right below."""
+    low = made(b"G", b"F") if tag == 10 else made(b"G", flags=IS_INTERFACE, interfaces=[b"F"])
+    return {**at_method(opcode, tag, flags, name), b"U": user(opcode, (tag, b"G", name, b"()V")), b"G": low}
+
+
+def at_own_method(opcode, flags):
+    """An interface one of whose methods names another."""
+    methods, codes = [M, (flags, b"n", b"()V")], {0: [(opcode, (11, b"U", b"n", b"()V"))]}
+    return {b"U": made(b"U", flags=IS_INTERFACE, methods=methods, codes=codes)}
+
+
+def at_handle(opcode):
+    handle = made(links.HANDLE, methods=[(0x181, b"invoke", b"([Ljava/lang/Object;)Ljava/lang/Object;")])
+    return {b"U": user(opcode, (10, links.HANDLE, b"invoke", b"(I)V")), b"H": handle}
+
+
+def at_init(tag, owner, **more):
+    return {b"U": user(INVOKESPECIAL, (tag, owner, *INIT[1:])), b"F": made(b"F", **more)}
+
+
+def at_class(flags, opcode=NEW):
+    return {b"U": user(opcode, (7, b"F")), b"F": made(b"F", flags=flags)}
+
+
+def two_methods(first, second, **more):
+    """Two methods, each with these instructions; the class's own field is not STATIC."""
+    methods, fields = [M, (1, b"n", b"()V")], [(1, b"x", b"I")]
+    return {b"U": made(b"U", methods=methods, fields=fields, codes={0: first, 1: second}, **more)}
+
+
+OWN = (GETSTATIC, (9, b"U", b"x", b"I"))
+FAULTY_AND_UNLINKED = two_methods([OWN, ALOAD_200], [OWN])
+LINES_OF_IT = """part U: loaded
+  code S22 0 3
+  link 1 0 error 4 Incompatible U
+  #2 class U -> To U
+"""
+# Worlds, and the rows of U's instructions; the other classes have none.
+UNLINKED = [
+    (at_field(GETSTATIC, 1), ["0 0 error 4 Incompatible F"]),
+    (at_field(GETSTATIC, 0x11), ["0 0 error 4 Incompatible F"]),
+    (at_inherited(GETSTATIC, 1), ["0 0 error 4 Incompatible F"]),
+    (at_field(PUTSTATIC, 1), ["0 0 error 4 Incompatible F"]),
+    (at_own(PUTSTATIC, 0x11, CLINIT), ["0 0 error 4 Incompatible U"]),
+    (at_own(PUTSTATIC, 0x11), ["0 0 error 4 Incompatible U"]),
+    (at_field(GETFIELD, 9), ["0 0 error 4 Incompatible F"]),
+    (at_field(PUTFIELD, 9), ["0 0 error 4 Incompatible F"]),
+    (at_inherited(PUTFIELD, 9), ["0 0 error 4 Incompatible F"]),
+    (at_own(PUTFIELD, 0x19, INIT), ["0 0 error 4 Incompatible U"]),
+    (at_own(PUTFIELD, 0x19), ["0 0 error 4 Incompatible U"]),
+    (at_own(PUTSTATIC, 0x19), ["0 0 error 5 IllegalAccess U"]),
+    (at_own(PUTSTATIC, 0x19, INIT), ["0 0 error 5 IllegalAccess U"]),
+    (at_field(PUTSTATIC, 0x19), ["0 0 error 5 IllegalAccess F"]),
+    (at_field(PUTSTATIC, 0x19, CLINIT), ["0 0 error 5 IllegalAccess F"]),
+    (at_inherited(PUTSTATIC, 0x19, CLINIT), ["0 0 error 5 IllegalAccess F"]),
+    (at_own(PUTFIELD, 0x11), ["0 0 error 5 IllegalAccess U"]),
+    (at_own(PUTFIELD, 0x11, CLINIT), ["0 0 error 5 IllegalAccess U"]),
+    (at_field(PUTFIELD, 0x11), ["0 0 error 5 IllegalAccess F"]),
+    (at_field(PUTFIELD, 0x11, INIT), ["0 0 error 5 IllegalAccess F"]),
+    (at_inherited(PUTFIELD, 0x11, INIT), ["0 0 error 5 IllegalAccess F"]),
+    (at_init(10, b"F"), ["0 0 error 7 NoMethod F"]),
+    (at_init(10, b"[LF;"), ["0 0 error 7 NoMethod [LF;"]),
+    (at_init(10, b"[[I"), ["0 0 error 7 NoMethod [[I"]),
+    (at_init(11, b"F", flags=IS_INTERFACE), ["0 0 error 7 NoMethod F"]),
+    (at_inherited_method(INVOKESPECIAL, 10, 1, b"<init>"), ["0 0 error 7 NoMethod G"]),
+    (at_method(INVOKEVIRTUAL, 10, 9), ["0 0 error 4 Incompatible F"]),
+    (at_inherited_method(INVOKEVIRTUAL, 10, 9), ["0 0 error 4 Incompatible F"]),
+    (at_method(INVOKESPECIAL, 10, 9), ["0 0 error 4 Incompatible F"]),
+    (at_method(INVOKESPECIAL, 11, 9), ["0 0 error 4 Incompatible F"]),
+    (at_own_method(INVOKESPECIAL, 10), ["0 0 error 4 Incompatible U"]),
+    (at_method(INVOKESTATIC, 10, 1), ["0 0 error 4 Incompatible F"]),
+    (at_method(INVOKESTATIC, 11, 1), ["0 0 error 4 Incompatible F"]),
+    (at_inherited_method(INVOKESTATIC, 11, 0x401), ["0 0 error 4 Incompatible F"]),
+    (at_handle(INVOKESTATIC), ["0 0 error 4 Incompatible java/lang/invoke/MethodHandle"]),
+    (at_method(INVOKEINTERFACE, 11, 9), ["0 0 error 4 Incompatible F"]),
+    (at_own_method(INVOKEINTERFACE, 2), ["0 0 error 4 Incompatible U"]),
+    (at_own_method(INVOKEINTERFACE, 10), ["0 0 error 4 Incompatible U"]),
+    (at_class(ABSTRACT), ["0 0 error 8 Instantiation F"]),
+    (at_class(IS_INTERFACE), ["0 0 error 8 Instantiation F"]),
+    ({b"U": user(NEW, (7, b"U"), flags=ABSTRACT)}, ["0 0 error 8 Instantiation U"]),
+    (two_methods([(16, b"\xb2"), (170,), OWN, (0,), OWN], [(196, b"\x15\0\1"), OWN]),
+     ["0 20 error 4 Incompatible U", "0 24 error 4 Incompatible U", "1 4 error 4 Incompatible U"]),
+    (FAULTY_AND_UNLINKED, ["1 0 error 4 Incompatible U"]),
+    ({**at_own(GETSTATIC, 1), b"V": at_own(GETFIELD, 9)[b"U"]}, ["0 0 error 4 Incompatible U"]),
+]
+LINKED = [
+    at_field(GETSTATIC, 9), at_field(GETSTATIC, 0x19), at_field(PUTSTATIC, 9), at_inherited(PUTSTATIC, 9),
+    at_field(GETFIELD, 1), at_field(GETFIELD, 0x11), at_field(PUTFIELD, 1), at_inherited(PUTFIELD, 1),
+    at_own(PUTSTATIC, 0x19, CLINIT), at_own(PUTSTATIC, 0x19, (1, b"<clinit>", b"(I)V")),
+    at_own(PUTFIELD, 0x11, INIT), at_own(PUTFIELD, 0x11, (2, b"<init>", b"(I)I")),
+    at_init(10, b"F", methods=[INIT]), at_init(10, OBJECT), at_init(11, b"F", flags=IS_INTERFACE, methods=[INIT]),
+    at_method(INVOKEVIRTUAL, 10, 1), at_inherited_method(INVOKEVIRTUAL, 10, 1), at_handle(INVOKEVIRTUAL),
+    at_method(INVOKESPECIAL, 10, 1), at_inherited_method(INVOKESPECIAL, 10, 1), at_method(INVOKESPECIAL, 11, 1),
+    at_own_method(INVOKESPECIAL, 2), at_method(INVOKESTATIC, 10, 9), at_inherited_method(INVOKESTATIC, 10, 9),
+    at_method(INVOKESTATIC, 11, 9), at_own_method(INVOKESTATIC, 10), at_method(INVOKEINTERFACE, 11, 1),
+    at_inherited_method(INVOKEINTERFACE, 11, 0x401), {b"U": user(INVOKEINTERFACE, (11, b"F", b"hashCode", b"()I")),
+                                                     b"F": made(b"F", flags=IS_INTERFACE)},
+    at_class(0x21), {b"U": user(NEW, (7, OBJECT))}, *(at_class(ABSTRACT, opcode) for opcode in (19, 189, 192, 193)),
+    {b"U": user(GETSTATIC, (9, b"java/util/List", b"x", b"I"))}, {b"U": user(NEW, (7, b"java/util/List"))},
+]
+# Worlds that are wrong, and not by an instruction.
+UNTOLD = [
+    two_methods([OWN, ALOAD_200], []), two_methods([OWN], [], parent=b"X"), two_methods([OWN], [], flags=0x431),
+    {b"U": user(GETSTATIC, (9, b"X", b"x", b"I"))}, {b"U": user(NEW, (7, b"X"))}, at_field(GETSTATIC, 2),
+    {b"U": user(GETSTATIC, (9, b"U", b"y", b"I"), fields=[(1, b"x", b"I")])}, at_method(INVOKESTATIC, 10, 2),
+    at_inherited_method(INVOKEINTERFACE, 11, 9), at_class(0x420 | 0x10), at_class(0x211),
+]
+
+
+def link_rows(files):
+    """What the report says of instructions, of classes but U with their names."""
+    found, name = [], ""
+    for line in judge.report(files)[0].splitlines():
+        name = line.split(" ")[1][:-1] if line.startswith("part ") else name
+        if line.startswith("  link "):
+            found.append(line[len("  link "):] if name == "U" else f"{name}: {line}")
+    return found
+
+
+def missed_links():
+    """The worlds with other rows of instructions, or another status."""
+    if LINES_OF_IT not in judge.report(FAULTY_AND_UNLINKED)[0]:
+        yield LINES_OF_IT, judge.report(FAULTY_AND_UNLINKED)[0]
+    told = [*((files, wanted, True) for files, wanted in UNLINKED), *((files, [], False) for files in LINKED),
+            *((files, [], True) for files in UNTOLD)]
+    for files, wanted, wrong in told:
+        if link_rows(files) != wanted or judge.report(files)[1] != wrong:
+            yield (wanted, wrong), judge.report(files)[0]
+
+
 def missed():
     """What the judge says otherwise."""
+    yield from missed_links()
     for data, wanted in UNREADABLE:
         if answer_row(data) != f"unreadable {wanted}":
             yield wanted, answer_row(data)
@@ -133,7 +297,8 @@ def main():
     found = list(missed())
     for wanted, text in found:
         print(f"wanted {wanted!r} in\n{text}")
-    print(f"{len(UNREADABLE) + len(WORLDS) + len(RIGHT) + len(WRONG)} worlds, {len(found)} texts missed")
+    count = sum(map(len, (UNREADABLE, WORLDS, RIGHT, WRONG, UNLINKED, LINKED, UNTOLD)))
+    print(f"{count} worlds, {len(found)} texts missed")
     sys.exit(1 if found else 0)
 
 

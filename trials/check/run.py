@@ -29,7 +29,8 @@ import worlds
 # What a line tells without its names, by section.
 SORTS = {
     "files": re.compile(r".*?: (class|shadowed|unreadable \d \w+)"),
-    "parts": re.compile(r"(?:part .*?: (loaded|error \d \w+)|  (format F\d+|code S\d+)|  #\d+ (\w+) .* -> (To|Outside|NotLoaded|error \d \w+))"),
+    "parts": re.compile(r"(?:part .*?: (loaded|error \d \w+)|  (format F\d+|code S\d+)|  (link) \d+ \d+ (error \d \w+)"
+                        r"|  #\d+ (\w+) .* -> (To|Outside|NotLoaded|error \d \w+))"),
     "circular": re.compile(r"()"),
     "provided": re.compile(r"(\w+) "),
     "required": re.compile(r"(\w+) "),
@@ -44,6 +45,7 @@ EXPECTED = [
     *(f"parts {what}" for what in ["loaded", *ERRORS[:5]]),
     *(f"parts {kind} {answer}" for kind, answers in ANSWERS.items() for answer in answers),
     *(f"parts format F{rule}" for rule in range(1, 31)), *(f"parts code S{rule}" for rule in range(1, 25)),
+    *(f"parts link {ERRORS[at]}" for at in (3, 4, 6, 7)),
     "circular", *(f"provided {kind}" for kind in ("class", "field", "method")),
     *(f"required {kind}" for kind in ("class", "field", "method", "imethod")), *ENDS.values(),
 ]

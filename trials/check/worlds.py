@@ -67,36 +67,50 @@ def prefixes_of(rng, table):
     return [rng.choice(own)] if own and rng.random() < 0.2 else rng.choice(PREFIXES)
 
 
-def bad_references(report, path):
-    """The indexes of the members that the class of a file refers to in vain."""
-    name, world = report.names.get(path), report.world
-    if name not in report.loaded or any(other < path for other, same in report.names.items() if same == name):
-        return []
+def bad_references(report, name):
+    """The indexes of the members that a class refers to in vain."""
     return [index for index, tag, text, key in report.loaded[name].references
-            if tag != judge.CLASS and world.resolve(name, tag, text, key)[0] == "error"]
+            if tag != judge.CLASS and report.world.resolve(name, tag, text, key)[0] == "error"]
+
+
+def bad_instructions(report, name, bad):
+    """The instructions that don't link, and those that name one of these references."""
+    unlinked = {(use.method, use.offset) for use, _ in report.world.unlinked(name)}
+    return [(method, offset, opcode) for method, offset, opcode, index in report.loaded[name].uses
+            if index in bad or (method, offset) in unlinked]
+
+
+def without_bad(report, path, data):
+    """The class of a file with numbers in the place of bad references, and nothing in that of bad instructions."""
+    name = report.names.get(path)
+    if name not in report.loaded or any(other < path for other, same in report.names.items() if same == name):
+        return data
+    bad = bad_references(report, name)
+    head, constants, rest = classes.by_parts(classes.without(data, bad_instructions(report, name, bad)))
+    return head + b"".join(b"\3" + piece[1:] if index in bad else piece for index, piece in constants.items()) + rest
 
 
 def mended(rng, files):
-    """A world that is not wrong: bad references become numbers, wrong files go, and missing names are outside."""
+    """A world that is not wrong: bad references and instructions go, else wrong files, and missing names are outside."""
     while True:
         report = judge.Report(files, EVERYTHING)
         wrong = [path for path in sorted(files) if path not in report.names or report.is_wrong(report.names[path])]
         if not wrong:
             return files
         path = rng.choice(wrong)
-        bad = bad_references(report, path)
-        if not bad:
-            del files[path]
+        data = without_bad(report, path, files[path])
+        if data == files.pop(path):
             continue
-        head, constants, rest = classes.by_parts(files[path])
-        files[path] = head + b"".join(b"\3" + piece[1:] if index in bad else piece for index, piece in constants.items()) + rest
+        files[path] = data
 
 
 def with_one_more(rng, files):
     """A world with one file more, which may be all that makes it wrong, or be shadowed."""
-    name = rng.choice([b"A", *sorted(set(judge.Report(files, EVERYTHING).names.values()))])
-    with_code = classes.code_class(rng, name)
-    files[new_path(rng, files)] = rng.choice([classes.unreadable(rng, PLAIN), with_code, with_code, classes.wild_class(rng, name)])
+    names = sorted(set(judge.Report(files, EVERYTHING).names.values()))
+    name = rng.choice([*names, *[b"One"] * (len(names) + 1)])
+    with_code, with_one = classes.code_class(rng, name), classes.one_instruction(rng, name)
+    others = [classes.unreadable(rng, PLAIN), classes.wild_class(rng, name)]
+    files[new_path(rng, files)] = rng.choice([*others, *[with_code] * 2, *[with_one] * 4])
     return files
 
 

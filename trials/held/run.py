@@ -1,10 +1,11 @@
 #!/usr/bin/env python3
-"""Compares sessions with a plain judge over random lists of edits: after each edit the report, the parts that were made
-and the names asked for, and the dependants of every name.
+"""Compares sessions with a plain judge over random lists of edits, of files and of outside prefixes: after each edit the
+report, the parts that were made and the names asked for, the dependants of every name, and which prefixes are held.
 
-The judge (trials/check, trials/link) makes the whole report afresh from the files that remain and shares no code with
-the library. An edit has to make just the parts of the classes behind it whose reach held a name that it touched, or
-that it brought, and may ask for their reaches' names, and two more.
+The judge (trials/check, trials/link) makes the whole report afresh from the files and prefixes that remain and shares
+no code with the library. An edit has to make just the parts of the classes behind it whose reach held a name that it
+touched, or that it brought, and may ask for their reaches' names, and two more. An edit of prefixes touches the names
+for which there is no class and which it puts outside, or no longer outside.
 
 Usage: run.py [SEED [COUNT]], seed 1 and 2,000 lists where none is given. It builds jc_asked.
 """
@@ -25,6 +26,8 @@ import worlds
 
 links = judge.links
 BATCH = 50
+# Of edits of prefixes: one is added, one is dropped.
+PREFIX_WORDS = (b"p", b"x")
 
 
 def framed(piece):
@@ -35,7 +38,7 @@ class Held:
     """What is owed of the files that remain, all of it made afresh at each edit."""
 
     def __init__(self, prefixes):
-        self.files, self.prefixes = {}, prefixes
+        self.files, self.prefixes = {}, tuple(dict.fromkeys(prefixes))
         self.made()
 
     def made(self):
@@ -59,6 +62,26 @@ class Held:
                     waiting.append(parent)
         return found
 
+    def prefix_refusal(self, word, prefix):
+        if not 0 < len(prefix) <= 256:
+            return "BadPrefix"
+        if word == b"x":
+            return None if prefix in self.prefixes else "NoSuchPrefix"
+        if prefix in self.prefixes:
+            return "PrefixThere"
+        return "TooManyPrefixes" if len(self.prefixes) >= 64 else None
+
+    def edit_prefixes(self, word, prefix):
+        refusal = self.prefix_refusal(word, prefix)
+        if refusal:
+            return f"refused {refusal}"
+        old = self.prefixes
+        self.prefixes = (*(one for one in old if one != prefix), *([prefix] if word == b"p" else []))
+        self.made()
+        turned = lambda name: name not in self.report.world.records and name.startswith(old) != name.startswith(self.prefixes)
+        affected = [name for name, reach in self.reaches.items() if any(map(turned, reach))]
+        return len(affected), 2 + sum(len(self.reaches[name]) for name in affected)
+
     def refusal(self, word, path, data):
         if not 0 < len(path) <= 4096:
             return "BadPath"
@@ -70,6 +93,8 @@ class Held:
 
     def edit(self, word, path, data):
         """The answer's line, or for an accepted edit how many parts have to be made and the most asks."""
+        if word in PREFIX_WORDS:
+            return self.edit_prefixes(word, path)
         refusal = self.refusal(word, path, data)
         if refusal:
             return f"refused {refusal}"
@@ -100,12 +125,46 @@ def random_steps(rng):
         steps.append((word, path, b"" if word == b"d" else rng.choice(datas)))
         if word == b"d" and rng.random() < 0.5:
             steps.append((b"a", path, rng.choice(datas)))
+    steps = mixed(rng, steps, prefix_steps(rng, files, prefixes or judge.STANDARD))
     return steps, [prefix for prefix in prefixes or []]
+
+
+def prefix_steps(rng, files, prefixes):
+    """Edits of prefixes that cover nothing, all names, each other, names that files give, and the first ones."""
+    held = Held(tuple(prefixes))
+    held.files = files
+    held.made()
+    names = sorted(set().union(*held.reaches.values(), held.report.world.given)) or [b"A"]
+    fronts = [name[:rng.randrange(1, len(name) + 1)] for name in rng.choices(names, k=4)] + [name + b"/" for name in names[:1]]
+    pool = [*prefixes, *judge.STANDARD, b"java/lang/Object", b"j", b"org/", b"org/x/", b"nothing/", *fronts]
+    steps = []
+    for _ in range(rng.randrange(0, 10)):
+        prefix = rng.choice(pool) if rng.random() < 0.9 else rng.choice([b"", b"p" * 256, b"p" * 257])
+        steps.append((rng.choice(PREFIX_WORDS), prefix, b""))
+    if rng.random() < 0.2:
+        steps += [(word, prefix, b"") for word in (b"x", b"p") for prefix in prefixes]
+    if rng.random() < 0.02:
+        steps += [(b"p", b"full%d" % number, b"") for number in range(64)]
+    return steps
+
+
+def mixed(rng, first, second):
+    """Both lists, each in its order."""
+    whole = []
+    while first or second:
+        taken = first if rng.random() * (len(first) + len(second)) < len(first) else second
+        whole.append(taken[0])
+        del taken[0]
+    return whole
 
 
 def names_of(held, steps):
     names = set().union(*held.reaches.values()) if held.reaches else set()
     return sorted(names)[:40] + [b"nothing", links.OBJECT]
+
+
+def prefixes_of(steps, prefixes):
+    return sorted({*(prefix for word, prefix, _ in steps if word in PREFIX_WORDS), *prefixes, *judge.STANDARD})[:12]
 
 
 def script_of(steps, prefixes):
@@ -116,6 +175,9 @@ def script_of(steps, prefixes):
         owed.append(held.edit(word, path, data))
         frames += [framed(b"t"), framed(b"")]
         owed += [*held.report.text().splitlines(), "end"]
+        for prefix in prefixes_of(steps, prefixes):
+            frames += [framed(b"h" + prefix), framed(b"")]
+            owed.append("held" if prefix in held.prefixes else "not held")
         for name in names_of(held, steps):
             frames += [framed(b"q" + name), framed(b"")]
             owed.append(held.dependants(name))

@@ -292,6 +292,34 @@ def one_interface_method():
     return with_code((b"\xb9" + u2(method) + bytes([202, 0])) * (CODE // 5), pool=pool)
 
 
+# ---- instructions that don't link
+
+def instructions_that_do_not_link():
+    """As many as there is room for, of which a class with a long name is at fault."""
+    name, owner, pool = b"f" * LONGEST, Pool(), Pool()
+    field = PUBLIC, owner.text(b"x"), owner.text(b"I"), []
+    files = {"F.class": class_file(owner, name, flags=PUBLIC | SUPER | ABSTRACT, fields=[field])}
+    pair = b"\xb2" + u2(pool.reference(9, name, b"x", b"I")) + b"\xbb" + u2(pool.of_class(name))
+    return {**files, **with_code((pair * (CODE // 6 + 1))[:CODE], pool=pool)}
+
+
+def many_methods_of_few_instructions():
+    """As many methods as there may be, and instructions with each of as many references; none of them links."""
+    pool, fields, loads = Pool(), [], []
+    texts, types = list(itertools.islice(names(), 256)), list(itertools.islice(descriptors(), 256))
+    keys = [(pool.text(name), pool.text(descriptor)) for name in texts for descriptor in types][:MOST]
+    pool.of_class(b"A"), pool.of_class(OBJECT), pool.text(b"Code"), pool.text(b"I")
+    for name in itertools.islice(names(), pool.room() // 3):
+        fields.append((PUBLIC, pool.text(name), pool.text(b"I"), []))
+        loads.append(b"\xb2" + u2(pool.reference(9, b"A", name, b"I")))
+    three, methods = itertools.cycle(loads), []
+    for key in keys:
+        code = next(three) + next(three) + next(three) + b"\xb1"
+        body = u2(0, 0) + struct.pack(">I", len(code)) + code + u2(0, 0)
+        methods.append((PUBLIC, *key, [attribute(pool, b"Code", body)]))
+    return {"A.class": class_file(pool, b"A", fields=fields, methods=methods)}
+
+
 # ---- faults
 
 def code_faults():
@@ -320,4 +348,5 @@ KINDS = [methods_of_one_name, few_methods_of_one_name, fields_and_references, re
          provided_by_a_long_name, an_interface_many_times, an_interface_by_many_constants, references_below_a_chain,
          few_references_each_below_a_chain, references_below_interfaces,
          interfaces_that_give_one_method, packages_of_long_names, members_of_a_long_missing_name, one_signature, one_descriptor, one_array_type,
-         one_array_type_and_a_fault, one_interface_method, code_faults, handlers, format_faults]
+         one_array_type_and_a_fault, one_interface_method, instructions_that_do_not_link,
+         many_methods_of_few_instructions, code_faults, handlers, format_faults]

@@ -1,12 +1,13 @@
-"""Compares the answers of a report with those of the virtual machine, reference by reference.
+"""Compares a report with what the virtual machine finds, reference by reference and instruction by instruction.
 
 read_report and read_resolved take the lines of `jclink check` and of Resolve.java; Comparison(files, prefixes).tell
-says of each class and each reference in which way both agree or differ: a sort that begins with "differs" has
+says of each class, reference and instruction in which way both agree or differ: a sort that begins with "differs" has
 no explanation. What is explained or not compared has to be what the plain judge of trials/link says. Run by run.py.
 """
 import importlib.util
 import pathlib
 import re
+import typing
 
 PATH = pathlib.Path(__file__).resolve().parent.parent / "link" / "judge.py"
 spec = importlib.util.spec_from_file_location("link_judge", PATH)
@@ -15,44 +16,75 @@ spec.loader.exec_module(judge)
 
 ERRORS = {"NoClass": "NoClassDefFoundError", "Format": "ClassFormatError", "Circular": "ClassCircularityError",
           "Incompatible": "IncompatibleClassChangeError", "IllegalAccess": "IllegalAccessError",
-          "NoField": "NoSuchFieldError", "NoMethod": "NoSuchMethodError"}
+          "NoField": "NoSuchFieldError", "NoMethod": "NoSuchMethodError", "Instantiation": "InstantiationError"}
 # Where the machine's messages name the class at fault.
 FAULTS = [re.compile(text) for text in (
     r"failed to access class (\S+) from class", r"cannot access its super(?:class|interface) (\S+) \(",
     r"Found (?:class|interface) (\S+), but", r"has interface (\S+) as super class", r"can not implement (\S+), because",
-    r"tried to access (?:\S+ )*field (\S+)\.[^.\s]+ \(", r"tried to access (?:\S+ )*method '(?:\S+ )?([^\s(]+)\.[^.(]+\(")]
+    r"tried to access (?:\S+ )*field (\S+)\.[^.\s]+ \(",
+    r"tried to access (?:\S+ )*method '(?:\S+ )?([^\s(]+)\.[^.(]+\(")]
+# Of an instruction's error they name the class of the reference (OF_FIELD, OF_CLASS), or that which has the method.
+OF_FIELD = re.compile(
+    r"(?:Expected (?:non-)?static|Update to (?:non-)?static final) field (\S+)\.[^.\s]+(?: attempted .*)?")
+OF_METHOD = re.compile(r"Expect(?:ed|ing) (?:(?:non-)?static|instance not static) method '\S+ ([^\s(]+)\.[^.(]+\(.*")
+OF_CLASS = re.compile(r"(\S+?)(?:: method '.*' not found)?")
 FORMAT = "error 2 Format "
 FINAL = "cannot inherit from final class"
 ADDED = "a method that the machine itself adds below interfaces with defaults"
+LINKS, NOT_ASKED = "links", "not asked"
+
+
+class Part(typing.NamedTuple):
+    """What the report says of a class: by index its references and their answers, by method and offset the errors of
+    its instructions, and the methods that have faults of code."""
+    state: str
+    answers: dict
+    errors: dict
+    faulty: set
+
+
+class Found(typing.NamedTuple):
+    """What the machine says of a class: by index what became of its references, by method and offset its instructions,
+    each the opcode, the index and what became of it."""
+    state: str
+    outcomes: dict
+    instructions: dict
 
 
 def read_report(lines):
-    """The state of each class, and by index its references and their answers."""
-    classes, answers = {}, {}
+    """What the report says of each class."""
+    classes, part = {}, None
     for line in lines[lines.index("[parts]") + 1 if "[parts]" in lines else 0:]:
         if line == "[circular]":
             break
         if found := re.fullmatch(r"part (.*): (loaded|error .*)", line):
-            answers = {}
-            classes[found[1]] = found[2], answers
+            part = classes[found[1]] = Part(found[2], {}, {}, set())
         elif found := re.fullmatch(r"  #(\d+) (.*) -> (.*)", line):
-            answers[int(found[1])] = found[2], found[3]
+            part.answers[int(found[1])] = found[2], found[3]
+        elif found := re.fullmatch(r"  link (\d+) (\d+) (error .*)", line):
+            part.errors[int(found[1]), int(found[2])] = found[3]
+        elif found := re.fullmatch(r"  code S\d+ (\d+) \d+", line):
+            part.faulty.add(int(found[1]))
     return classes
 
 
 def read_resolved(lines):
-    """For each tree the state of each class, and by index what became of its references."""
-    trees, classes, outcomes = {}, {}, {}
+    """For each tree what the machine says of each class."""
+    trees, classes, now = {}, {}, None
     for line in lines:
         if line.startswith("tree "):
             classes = trees.setdefault(line[5:], {})
         elif line.startswith("class "):
             name, state = line[6:].split(": ", 1)
-            outcomes = {}
-            classes[name] = state, outcomes
-        else:
+            now = classes[name] = Found(state, {}, {})
+        elif line.startswith("  #"):
             index, outcome = line[3:].split(" ", 1)
-            outcomes[int(index)] = outcome
+            now.outcomes[int(index)] = outcome
+        else:
+            opcode, index, places, outcome = re.fullmatch(r"  (\d+) #(\d+) at (\S+): (.*)", line).groups()
+            for place in places.split(","):
+                method, offset = place.split(":")
+                now.instructions[int(method), int(offset)] = int(opcode), int(index), outcome
     return trees
 
 
@@ -65,10 +97,28 @@ def broken(outcome):
     return error, found[1].replace(".", "/") if found else None
 
 
+def points_at(message, named, home):
+    """Whether an instruction's error is at the class that the report says, as far as the message tells."""
+    for pattern, wanted in ((OF_FIELD, named), (OF_METHOD, home), (OF_CLASS, named)):
+        if found := pattern.fullmatch(message):
+            return found[1].replace(".", "/") == wanted
+    return False
+
+
 def inner(name):
     """The class that a name is of, of an array the innermost one."""
     element = name.lstrip("[")
     return element[1:-1] if name.startswith("[") and element.startswith("L") else element
+
+
+def named_in(reference):
+    """The class or array that a reference names."""
+    return reference.split(" ", 1)[1].split(".", 1)[0]
+
+
+def home_of(answer):
+    """The class that an answer To finds, or that declares what it finds."""
+    return answer[3:].split(".", 1)[0]
 
 
 def key_of(reference):
@@ -79,7 +129,7 @@ def key_of(reference):
 
 class Comparison:
     def __init__(self, files, prefixes):
-        self.files, self.prefixes, self.made, self.ruled = files, prefixes, None, None
+        self.files, self.prefixes, self.made, self.ruled, self.unlinked = files, prefixes, None, None, set()
 
     def world(self):
         """The judge's view of the tree, for differences alone."""
@@ -95,12 +145,11 @@ class Comparison:
     def outside(self, name):
         return name is not None and self.world().outside(self.raw(name))
 
-    def judged(self, name, index, said):
-        """Whether the judge says the same of a class or, where there is an index, of its reference."""
+    def judged(self, name):
+        """What the judge says of a class."""
         if self.ruled is None:
             self.ruled = read_report(self.world().parts())
-        state, answers = self.ruled.get(name, ("", {}))
-        return said == (state if index is None else answers.get(index))
+        return self.ruled.get(name, Part("", {}, {}, set()))
 
     def declares(self, home, reference):
         """Whether a class's file has the member that a reference names, or the reference names none."""
@@ -156,13 +205,13 @@ class Comparison:
         return self.of_loading(name, name, state, theirs) or f"differs: {theirs.split(' ')[1]} of loading"
 
     def of_reference(self, user, reference, answer, outcome):
-        named = reference.split(" ", 1)[1].split(".", 1)[0]
+        named = named_in(reference)
         if answer.startswith(FORMAT):
             return "not compared: class with a format fault"
         if answer.startswith("Outside "):
             if not outcome.startswith("To "):
                 return f"outside: {outcome.split(' ')[1]}"
-            home = self.raw(inner(outcome[3:].split(".", 1)[0]))
+            home = self.raw(inner(home_of(outcome)))
             if home not in self.world().given:
                 return "outside: found"
             return f"outside: found as {ADDED}" if not self.declares(home, reference) else "differs: found in the tree"
@@ -176,55 +225,142 @@ class Comparison:
 
     def refused(self, user, _named, reference, answer, outcome):
         """Why the machine refuses a member that the report found."""
-        if ".<init>:" in reference and answer.startswith("To ") and " NoSuchMethodError " in outcome:
-            return "explained: <init> of a superclass, an error of invokespecial"
         if answer.startswith("To java/lang/Object.") and "tried to access protected" in outcome:
             if self.world().records[self.raw(user)].interface():
                 return "explained: an interface is no subclass of java/lang/Object to the machine"
+        if outcome.startswith("undeclared error AbstractMethodError ") and ".clone:()Ljava/lang/Object;" in reference:
+            return "not compared: the machine doesn't tell which interface declares an abstract clone"
         return None
 
     def found_elsewhere(self, _user, named, reference, answer, outcome):
         """Why the machine finds a member in another class."""
-        home, start, world = self.raw(outcome[3:].split(".", 1)[0]), self.raw(named), self.world()
+        home, start, world = self.raw(home_of(outcome)), self.raw(named), self.world()
         if world.outside(home) and any(world.outside(name) for name in world.above(start)):
             return "explained: found in a class outside, which look-up passes over"
         if not answer.startswith("To ") or reference.startswith("field "):
             return None
         key = key_of(reference)
-        ours = self.raw(answer[3:].split(".", 1)[0])
+        ours = self.raw(home_of(answer))
         search = world.method if reference.startswith("method ") else world.interface_method
         among = [one for one in world.above(start) if one in world.records and world.records[one].interface()
-                 and any(method[:2] == key and not method[2] & (judge.PRIVATE | judge.STATIC) for method in world.records[one].methods)]
+                 and any(method[:2] == key and not method[2] & (judge.PRIVATE | judge.STATIC)
+                         for method in world.records[one].methods)]
         if ours not in among or search(start, key)[0] != ours:
             return None
         if home in among:
             return "explained: another of several superinterfaces"
         return f"explained: {ADDED}" if home in world.records and not self.declares(home, reference) else None
 
-    def checked(self, sort, name, index, said):
+    def of_instruction(self, user, kind, reference, answer, outcome, error, theirs):
+        """How the error of an instruction, or that it links, agrees with what became of it and of its reference."""
+        if theirs == NOT_ASKED:
+            return "not compared: the machine finds nothing of the tree by its reference"
+        if theirs == LINKS and kind == "invokeinterface" and self.of_private(user, reference, answer):
+            return "explained: version 17 invokes private methods by invokeinterface"
+        if error == theirs:
+            return "agrees: links"
+        if theirs == LINKS or error == LINKS:
+            sort = self.of_one_side(user, kind, reference, answer, theirs)
+        else:
+            sort = self.of_both_sides(named_in(reference), answer, outcome, error, theirs)
+        both = re.sub(r"error (?:\d+ )?(\S+) .*", r"\1", error), re.sub(r"error (\S+) .*", r"\1", theirs)
+        return sort or f"differs: {kind}, {' and '.join(both)}"
+
+    @staticmethod
+    def of_both_sides(named, answer, outcome, error, theirs):
+        """How an instruction's errors on both sides agree, or that they don't."""
+        _, _, ours, fault = error.split(" ", 3)
+        newer = theirs.startswith("links but ")
+        _, name, message = theirs.removeprefix("links but ").split(" ", 2)
+        if fault != (named if ours == "NoMethod" else home_of(answer)):
+            return "differs: class at fault"
+        if ERRORS[ours] != name or not points_at(message, named, home_of(outcome)):
+            return None
+        if newer and "attempted from a different method" in message:
+            return "explained: version 17 looks at the method of a store from class files of version 53 on"
+        return None if newer else f"agrees: {ours}"
+
+    def of_one_side(self, user, kind, reference, answer, theirs):
+        """Why an instruction links on one side and on the other it does not."""
+        if theirs == LINKS:
+            return None
+        if "loader constraint" in theirs:
+            return "explained: loader constraint, not looked at"
+        if home_of(answer) in self.unlinked:
+            return "not compared: a class that the machine can't link"
+        if kind != "invokespecial":
+            return None
+        if theirs.startswith("error AbstractMethodError "):
+            return "explained: invokespecial of an abstract method, an error of running"
+        direct = [self.raw(user), *self.world().records[self.raw(user)].interfaces]
+        if "direct superinterface of" in theirs and self.raw(named_in(reference)) not in direct:
+            return "explained: invokespecial of an interface that is no direct superinterface, an error of verifying"
+        return None
+
+    def of_private(self, user, reference, answer):
+        """Whether a class refers to a private method of its own."""
+        if home_of(answer) != user:
+            return False
+        methods = self.world().records[self.raw(user)].methods
+        return any(method[:2] == key_of(reference) and method[2] & judge.PRIVATE for method in methods)
+
+    def checked(self, sort, name, agrees):
         """A sort; where the machine doesn't speak for what was said, the judge has to."""
         told = sort.startswith(("agrees", "differs")) or sort == "outside: found"
-        return sort if told or self.judged(name, index, said) else f"differs: from the judge ({sort})"
+        return sort if told or agrees(self.judged(name)) else f"differs: from the judge ({sort})"
 
     def tell(self, ours, theirs):
-        """For each class and reference its sort and what was said."""
+        """For each class, reference and instruction its sort and what was said."""
+        self.unlinked = {name for name, found in theirs.items() if found.state.startswith("loaded but ")}
         for name in sorted(ours.keys() | theirs.keys()):
             if name not in ours or name not in theirs:
                 yield "differs: class of one side alone", name
                 continue
-            (state, answers), (their_state, outcomes) = ours[name], theirs[name]
-            sort = self.of_class(name, state, their_state)
-            yield "class " + self.checked(sort, name, None, state), f"{name}: {state} | {their_state}"
-            for index in sorted(answers.keys() | outcomes.keys()):
-                reference, answer = answers.get(index, ("", "missing"))
-                outcome = outcomes.get(index, "missing")
-                line = f"{name} #{index} {reference} -> {answer} | {outcome}"
-                if state == their_state == "loaded" and "missing" not in (answer, outcome):
-                    told = self.of_reference(name, reference, answer, outcome)
-                    yield "reference " + self.checked(told, name, index, (reference, answer)), line
-                elif state == "loaded" and outcome == "missing" and not sort.startswith("differs"):
-                    yield "reference not compared: the machine can't load or link its class", line
-                elif state != "loaded" and answer == "NotLoaded" and outcome == "missing":
-                    yield "reference agrees: NotLoaded", line
-                elif not sort.startswith("not compared"):
-                    yield "reference differs: of one side alone", line
+            part, found = ours[name], theirs[name]
+            sort = self.of_class(name, part.state, found.state)
+            checked = self.checked(sort, name, lambda judged: judged.state == part.state)
+            yield "class " + checked, f"{name}: {part.state} | {found.state}"
+            for told, line in self.references(name, part, found, sort):
+                yield "reference " + told, line
+            for told, line in self.instructions(name, part, found):
+                yield "instruction " + told, line
+
+    def references(self, name, part, found, sort):
+        for index in sorted(part.answers.keys() | found.outcomes.keys()):
+            reference, answer = part.answers.get(index, ("", "missing"))
+            outcome = found.outcomes.get(index, "missing")
+            line = f"{name} #{index} {reference} -> {answer} | {outcome}"
+            if part.state == found.state == "loaded" and "missing" not in (answer, outcome):
+                told = self.of_reference(name, reference, answer, outcome)
+                yield self.checked(told, name, lambda judged: judged.answers.get(index) == (reference, answer)), line
+            elif part.state == "loaded" and outcome == "missing" and not sort.startswith("differs"):
+                yield "not compared: the machine can't load or link its class", line
+            elif part.state != "loaded" and answer == "NotLoaded" and outcome == "missing":
+                yield "agrees: NotLoaded", line
+            elif not sort.startswith("not compared"):
+                yield "differs: of one side alone", line
+
+    def instructions(self, name, part, found):
+        if part.state == "loaded" and found.state != "loaded":
+            yield from self.unasked(name, part)
+            return
+        for place in sorted(part.errors.keys() | found.instructions.keys()):
+            error = part.errors.get(place, LINKS)
+            opcode, index, theirs = found.instructions.get(place, (0, 0, "missing"))
+            reference, answer = part.answers.get(index, ("", "missing"))
+            kind = judge.INSTRUCTIONS.get(opcode, "no instruction")
+            line = f"{name} {place[0]}:{place[1]} {kind} {reference} -> {error} | {theirs}"
+            if answer.startswith("To ") and place[0] not in part.faulty:
+                told = self.of_instruction(name, kind, reference, answer, found.outcomes[index], error, theirs)
+                yield self.checked(told, name, lambda judged: judged.errors.get(place, LINKS) == error), line
+            elif error != LINKS:
+                yield "differs: nothing links there", line
+
+    def unasked(self, name, part):
+        """The errors of instructions in a class that the report alone loads."""
+        for place, error in part.errors.items():
+            told = self.checked("not compared: the machine can't load or link its class", name,
+                                lambda judged: judged.errors.get(place) == error)
+            yield told, f"{name} {place[0]}:{place[1]} -> {error}"
+        for place in self.judged(name).errors.keys() - part.errors.keys():
+            yield "differs: from the judge", f"{name} {place[0]}:{place[1]}"

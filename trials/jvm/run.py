@@ -1,17 +1,21 @@
 #!/usr/bin/env python3
-"""Compares what jclink answers to the references of class files with what a virtual machine resolves them to.
+"""Compares what jclink says of the references and instructions of class files with what a virtual machine links.
 
-Usage: run.py [TREE..] [--worlds N] [--seed N] [--judge | --report FILE] [--program PATH] [--outside PREFIX].. [--show N]
-[--java PATH]. A TREE is a folder of class files, or a jar, of which the class files of versions 51 and 52 are taken.
---worlds adds random small worlds (trials/link/worlds.py). The answers are those of `jclink check`, once ./jclink is
-built; with --report those in a file, the text of a report over the one TREE; with --judge those of the plain judge
-of trials/link. It needs a java from version 17 on, and uses private calls of it (Resolve.java). Status 1: something
-differs without an explanation.
+Usage: run.py [TREE..] [--worlds N] [--seed N] [--judge | --report FILE] [--program PATH] [--outside PREFIX]..
+[--show N] [--java PATH]. A TREE is a folder of class files, or a jar, of which the class files of versions 51 and 52
+are taken. --worlds adds random small worlds (trials/link/worlds.py). The answers are those of `jclink check`,
+once ./jclink is built; with --report those in a file, the text of a report over the one TREE; with --judge those of
+the plain judge of trials/link. It needs a java from version 17 on, and uses private calls of it (Resolve.java).
+Status 1: something differs without an explanation.
 
 Compared: of each class whether it loads, or the error; of each Class, Fieldref, Methodref and InterfaceMethodref of
 a class that loads, the class that is found, with a member the class that declares it, or the error; and
 the class at fault as far as the machine's message names it (not of NoField, NoMethod, which name what was asked).
 An answer Outside is compared in this alone, that nothing of the tree is found; errors there are counted by kind.
+Of each getstatic, putstatic, getfield, putfield, invokevirtual, invokespecial, invokestatic, invokeinterface and new
+whose reference is answered To, in methods without a fault of code: that it links, or the error and the class at
+fault. Of fields the message names the class of the reference: there the class at fault has to be that of the answer.
+The machine links each different instruction once in each class. Of other references the report may say nothing.
 
 Not compared, or told apart as explained:
 - format faults: the machine runs without its verifier, which also reads less of the format;
@@ -21,10 +25,18 @@ Not compared, or told apart as explained:
 - methods that the machine adds to a class for the interfaces above it, where one of these has a default method:
   look-up ends there, and whose method it would have found isn't seen;
 - the protected methods of java/lang/Object in an interface: the machine takes no interface for its subclass;
+- which interface declares an abstract clone that another one inherits: the machine doesn't tell;
 - classes below or at one that the machine can't load for the sake of a class outside;
 - classes named java/..: only the platform may have these, so they are left out of jars, and a folder has none;
-- that <init> has to be the named class's own: that is looked at by the instruction, in the machine while it resolves;
-- whether a found member is static: the machine says so after look-up and access, and jclink with the instructions.
+- whether a found member is static: the machine says so after look-up and access, and jclink with the instructions;
+- the method in which a final field is stored into: the machine looks at it only in class files of version 53 on,
+  so where such a store links, it is linked again in the same class as of version 53, and has the error there;
+- invokeinterface of a private method: the machine links it, as newer editions of the standard have it;
+- invokespecial of an interface that is neither the class's own nor a direct superinterface: the machine says so
+  while it links, the standard has it verified;
+- invokespecial of an abstract method: an AbstractMethodError of running, which comes while the machine links;
+- instructions whose receiver is another than null, and what they would run: methods of the tree have lost their code;
+- instructions where the machine finds nothing of the tree by the reference, or can't link the class that is found.
 Where an answer is not compared, or a difference is explained, it still has to be that of the plain judge.
 """
 import argparse
@@ -71,6 +83,7 @@ def readable(data):
 
 def unpack(jar, folder):
     """The class files of a jar that jclink reads, each once."""
+    folder.mkdir()
     with zipfile.ZipFile(jar) as archive:
         for name in archive.namelist():
             if name.endswith(".class") and not name.startswith(("META-INF/", "java/")) and ".." not in name:
@@ -126,7 +139,8 @@ def resolve(options, folders):
 
 def show(name, told, examples):
     print(f"{name}: {sum(number for sort, number in told.items() if sort.startswith('class '))} classes, "
-          f"{sum(number for sort, number in told.items() if sort.startswith('reference '))} references")
+          f"{sum(number for sort, number in told.items() if sort.startswith('reference '))} references, "
+          f"{sum(number for sort, number in told.items() if sort.startswith('instruction '))} instructions")
     for sort, number in sorted(told.items()):
         print(f"  {number} {sort}")
         for line in examples.get(sort, ()):
@@ -136,7 +150,8 @@ def show(name, told, examples):
 def main():
     options, different = read_options(), 0
     with common.Workplace() as work:
-        folders = [(tree.name, tree if tree.is_dir() else unpack(tree, work / str(at))) for at, tree in enumerate(options.trees)]
+        folders = [(tree.name, tree if tree.is_dir() else unpack(tree, work / str(at)))
+                   for at, tree in enumerate(options.trees)]
         folders += [("random worlds", folder) for folder in write_worlds(options, work)]
         found, told, examples = resolve(options, [str(folder) for _, folder in folders]), {}, {}
         for name, folder in folders:

@@ -1,10 +1,13 @@
 """A plain judge of linking, written from `docs/RULES.md`: how each class of a world loads, which names are
-circular, and what each symbolic reference resolves to. It asks the whole world at every question.
+circular, what each symbolic reference resolves to, and which instructions don't link. It asks the whole world at
+every question.
 
-World(files, prefixes) takes pairs of a path and a file's bytes; parts() gives the lines of the parts.
+World(files, prefixes) takes pairs of a path and a file's bytes; parts() gives the lines of the parts, uses(name)
+the instructions of a class that are looked at, and deciding(use) the line of the table that says it doesn't link.
 """
 import importlib.util
 import pathlib
+import typing
 
 PATH = pathlib.Path(__file__).resolve().parent.parent / "code" / "judge.py"
 spec = importlib.util.spec_from_file_location("code_judge", PATH)
@@ -14,9 +17,13 @@ rules = code_rules.format_judge
 
 OBJECT, HANDLE = b"java/lang/Object", b"java/lang/invoke/MethodHandle"
 POLYMORPHIC = b"([Ljava/lang/Object;)Ljava/lang/Object;"
-PUBLIC, PRIVATE, PROTECTED, STATIC, VARARGS, NATIVE, INTERFACE, ABSTRACT = 1, 2, 4, 8, 0x80, 0x100, 0x200, 0x400
-ERRORS = {"NoClass": 1, "Format": 2, "Circular": 3, "Incompatible": 4, "IllegalAccess": 5, "NoField": 6, "NoMethod": 7}
+PUBLIC, PRIVATE, PROTECTED, STATIC, FINAL = 1, 2, 4, 8, 0x10
+VARARGS, NATIVE, INTERFACE, ABSTRACT = 0x80, 0x100, 0x200, 0x400
+ERRORS = {"NoClass": 1, "Format": 2, "Circular": 3, "Incompatible": 4, "IllegalAccess": 5, "NoField": 6, "NoMethod": 7,
+          "Instantiation": 8}
 KINDS = {7: "class", 9: "field", 10: "method", 11: "imethod"}
+INSTRUCTIONS = {178: "getstatic", 179: "putstatic", 180: "getfield", 181: "putfield", 182: "invokevirtual",
+                183: "invokespecial", 184: "invokestatic", 185: "invokeinterface", 187: "new"}
 OK, OUTSIDE = ("ok",), ("outside",)
 
 
@@ -31,10 +38,12 @@ class Record:
         file = rules.ClassFile(data)
         self.name, self.flags = file.class_text(file.this), file.flags
         self.faults = [(f"F{rule}", place) for rule, place in rules.faults(data)]
-        self.code_faults, self.parent, self.interfaces, self.fields, self.methods, self.references = [], None, [], [], [], []
+        self.code_faults, self.uses, self.parent, self.references = [], [], None, []
+        self.interfaces, self.fields, self.methods = [], [], []
         if self.faults:
             return
         self.code_faults = code_rules.faults(data)
+        self.uses = list(uses_of(file, {method for method, _, _ in self.code_faults}))
         self.parent = file.class_text(file.parent)
         self.interfaces = [file.class_text(index) for index in file.interfaces]
         self.fields = [self.member(file, field) for field in file.fields]
@@ -59,12 +68,71 @@ class Record:
 class BuiltIn(Record):
     def __init__(self):
         self.name, self.flags, self.faults, self.code_faults, self.parent = OBJECT, PUBLIC, [], [], None
-        self.interfaces, self.fields, self.references = [], [], []
+        self.interfaces, self.fields, self.references, self.uses = [], [], [], []
         public = [(b"<init>", b"()V"), (b"getClass", b"()Ljava/lang/Class;"), (b"hashCode", b"()I"),
                   (b"equals", b"(Ljava/lang/Object;)Z"), (b"toString", b"()Ljava/lang/String;"), (b"notify", b"()V"),
                   (b"notifyAll", b"()V"), (b"wait", b"()V"), (b"wait", b"(J)V"), (b"wait", b"(JI)V")]
         self.methods = [(*key, PUBLIC) for key in public]
         self.methods += [(b"clone", b"()Ljava/lang/Object;", PROTECTED), (b"finalize", b"()V", PROTECTED)]
+
+
+def uses_of(file, faulty):
+    """Each of the nine instructions, but those of faulty methods: the method's number, the offset, the opcode and the
+    constant's index."""
+    for number, method in enumerate(file.methods):
+        codes = code_rules.codes_of(file, method)
+        if len(codes) != 1 or number in faulty:
+            continue
+        _, code, _ = codes[0]
+        at = 0
+        while at < len(code):
+            if code[at] in INSTRUCTIONS:
+                yield number, at, code[at], code_rules.unsigned(code, at + 1, 2)
+            at += code_rules.length_at(code, at)
+
+
+class Use(typing.NamedTuple):
+    """An instruction whose reference is answered To: where it stands, what it names, and what is found at which home.
+    Of a class the home is that class, and there is no member."""
+    user: bytes
+    method: int
+    method_name: bytes
+    offset: int
+    instruction: str
+    tag: int
+    named: bytes
+    home: bytes
+    member: tuple
+    flags: int
+
+    def has(self, flags):
+        return bool(self.flags & flags)
+
+    def stands_in(self, name):
+        """Whether its class declares the member, and its method has this name."""
+        return self.user == self.home and self.method_name == name
+
+    def makes_another(self):
+        return self.member[0] == b"<init>" and self.home != self.named
+
+
+# The instructions, where they don't link, the same as a test, the error, and which class is at fault.
+LINES = [
+    (["getstatic", "putstatic"], "not STATIC", lambda use: not use.has(STATIC), "Incompatible", "home"),
+    (["getfield", "putfield"], "STATIC", lambda use: use.has(STATIC), "Incompatible", "home"),
+    (["putstatic"], "FINAL", lambda use: use.has(FINAL) and not use.stands_in(b"<clinit>"), "IllegalAccess", "home"),
+    (["putfield"], "FINAL", lambda use: use.has(FINAL) and not use.stands_in(b"<init>"), "IllegalAccess", "home"),
+    (["invokespecial"], "<init> of another", lambda use: use.makes_another(), "NoMethod", "named"),
+    (["invokevirtual", "invokespecial"], "STATIC", lambda use: use.has(STATIC), "Incompatible", "home"),
+    (["invokestatic"], "not STATIC", lambda use: not use.has(STATIC), "Incompatible", "home"),
+    (["invokeinterface"], "STATIC or PRIVATE", lambda use: use.has(STATIC | PRIVATE), "Incompatible", "home"),
+    (["new"], "INTERFACE or ABSTRACT", lambda use: use.has(INTERFACE | ABSTRACT), "Instantiation", "home"),
+]
+
+
+def deciding(use):
+    """The first line that applies, or None where the instruction links."""
+    return next((line for line in LINES if use.instruction in line[0] and line[2](use)), None)
 
 
 def innermost(text):
@@ -225,6 +293,32 @@ class World:
         home, member = found
         return ("To", home, member) if self.usable(user, text, home, member) else ("error", "IllegalAccess", home)
 
+    # ---- instructions
+
+    def uses(self, name):
+        """The instructions of a class whose references are answered To."""
+        if self.load(name) != OK:
+            return
+        record, answers = self.records[name], {}
+        references = {index: reference for index, *reference in record.references}
+        for method, offset, opcode, index in record.uses:
+            tag, text, _ = references[index]
+            if index not in answers:
+                answers[index] = self.resolve(name, *references[index])
+            if answers[index][0] == "To":
+                _, home, found = answers[index]
+                flags = self.records[home].flags if found is None else found[2]
+                name_of_method = record.methods[method][0]
+                yield Use(name, method, name_of_method, offset, INSTRUCTIONS[opcode], tag, text, home, found, flags)
+
+    def unlinked(self, name):
+        """The instructions of a class that don't link, each with the error and the class at fault."""
+        for use in self.uses(name):
+            line = deciding(use)
+            if line:
+                _, _, _, error, fault = line
+                yield use, ("error", error, getattr(use, fault))
+
     # ---- access
 
     def below(self, name, other):
@@ -256,6 +350,8 @@ class World:
             yield f"  format {rule} {place}"
         for method, rule, place in record.code_faults:
             yield f"  code S{rule} {method} {place}"
+        for use, error in self.unlinked(name):
+            yield f"  link {use.method} {use.offset} {answered(error)}"
         for index, tag, text, key in record.references:
             answer = self.resolve(name, tag, text, key) if state == OK else ("NotLoaded",)
             yield f"  #{index} {KINDS[tag]} {shown(text)}{member(key)} -> {answered(answer)}"

@@ -2,6 +2,7 @@
 """Compares the parts of classes with those that a plain judge finds (judge.py), over random small worlds.
 
 With --jars also over trees: the class files of versions 51 and 52 in the jars of a folder, a world for each jar.
+It tells how often each sort of line is owed, and how often each line of the table of instructions decides.
 
 Usage: run.py [--worlds N] [--seed N] [--jars FOLDER]. It wants `./jclink` built.
 """
@@ -37,10 +38,52 @@ def sort_of(line):
     words = line.split(" ")
     if line.startswith("part "):
         return "part " + (words[4] if words[2] == "error" else words[2])
+    if line.startswith("  link "):
+        return "link " + words[7]
     if " -> " in line:
         answer = line.split(" -> ")[1].split(" ")
         return f"{words[3]} {answer[2] if answer[0] == 'error' else answer[0]}"
     return words[2] if line.startswith("  ") else "other"
+
+
+def flags_of(use, names):
+    return " ".join(name for name in names if use.has(getattr(judge, name)))
+
+
+def kind_of(use):
+    """What tells apart instructions of one opcode."""
+    if use.instruction == "new":
+        return flags_of(use, ["INTERFACE"]) or flags_of(use, ["ABSTRACT"])
+    if use.instruction == "invokeinterface":
+        return flags_of(use, ["STATIC", "PRIVATE"])
+    if use.instruction in ("putstatic", "putfield") and use.has(judge.FINAL):
+        place = use.method_name.decode() if use.method_name.startswith(b"<") else "a method"
+        return f"{'own' if use.home == use.user else 'other'} FINAL in {place}"
+    if use.instruction in ("invokespecial", "invokestatic"):
+        kind = "<init>" if use.member[0] == b"<init>" else judge.KINDS[use.tag]
+        return kind + " of array" * use.named.startswith(b"[")
+    return ""
+
+
+def sorts_of_uses(world):
+    """Each instruction whose reference is answered To: its name, where the table has it as an error, and its kind."""
+    for name in world.given:
+        for use in world.uses(name):
+            line = judge.deciding(use)
+            yield use.instruction, line[1] if line else "", kind_of(use)
+
+
+def tell_uses(uses):
+    """How often each line of the table decides, by instruction and kind, and how often none."""
+    rows, others = [], []
+    for (name, where, kind), number in sorted(uses.items()):
+        told = " ".join(filter(None, [name, where, kind and f"({kind})", str(number)]))
+        (rows if where else others).append(told)
+    print("link rows:", ", ".join(rows))
+    print("instructions that link:", ", ".join(others))
+    decided = {sort[:2] for sort in uses}
+    never = [f"{name} {where}" for names, where, *_ in judge.LINES for name in names if (name, where) not in decided]
+    print("lines of the table that never decide:", ", ".join(never) or "none")
 
 
 def worlds_of(folder):
@@ -56,9 +99,11 @@ def worlds_of(folder):
             yield files
 
 
-def differs(files, told):
-    ours, wanted = answer(files), judge.World(files, STANDARD).parts()
+def differs(files, told, uses):
+    world = judge.World(files, STANDARD)
+    ours, wanted = answer(files), world.parts()
     told.update(sort_of(line) for line in wanted)
+    uses.update(sorts_of_uses(world))
     if ours != wanted:
         pairs = [pair for pair in zip(ours, wanted) if pair[0] != pair[1]]
         print(f"{len(ours)} lines and {len(wanted)}: {pairs[:2]}")
@@ -71,13 +116,14 @@ def main():
     parser.add_argument("--seed", type=int, default=1)
     parser.add_argument("--jars")
     options = parser.parse_args()
-    rng, told, different, count = random.Random(options.seed), Counter(), 0, options.worlds
+    rng, told, uses, different, count = random.Random(options.seed), Counter(), Counter(), 0, options.worlds
     for _ in range(options.worlds):
-        different += differs(worlds.make_world(rng), told)
+        different += differs(worlds.make_world(rng), told, uses)
     for files in worlds_of(options.jars) if options.jars else ():
-        different += differs(files, told)
+        different += differs(files, told, uses)
         count += 1
     print(f"{count} worlds: " + ", ".join(f"{number} {what}" for what, number in sorted(told.items())))
+    tell_uses(uses)
     print(f"{different} worlds differ")
     sys.exit(1 if different else 0)
 

@@ -1,15 +1,29 @@
-"""Random small worlds: class files with supertypes, members and references, some of them faulty."""
+"""Random small worlds: class files with supertypes, members, references and instructions, some of them faulty."""
+import re
 import struct
 
-OBJECT = b"java/lang/Object"
+OBJECT, HANDLE = b"java/lang/Object", b"java/lang/invoke/MethodHandle"
 NAMES = [b"A", b"B", b"C", b"D", b"p/A", b"p/B", b"p/C", b"q/A", b"q/B", b"p/r/A", b"java/util/T", b"org/Y"]
 MISSING = [b"X", b"p/X", b"java/util/List", b"javax/Z", b"org/Z", b"java/Top"]
 MEMBERS = [b"m", b"n", b"clone", b"hashCode"]
 FIELDS = [b"x", b"y"]
 METHOD_TYPES = [b"()V", b"(I)V", b"()I", b"()Ljava/lang/Object;"]
 FIELD_TYPES = [b"I", b"LA;"]
-PUBLIC, PRIVATE, PROTECTED, STATIC, NATIVE, ABSTRACT, INTERFACE = 1, 2, 4, 8, 0x100, 0x400, 0x200
+PUBLIC, PRIVATE, PROTECTED, STATIC, FINAL, NATIVE, ABSTRACT, INTERFACE = 1, 2, 4, 8, 0x10, 0x100, 0x400, 0x200
 OF_METHOD = [PUBLIC, PUBLIC, PRIVATE, PROTECTED, PROTECTED, 0]
+CLASS, FIELDREF, METHODREF, INTERFACE_METHODREF = 7, 9, 10, 11
+# The instructions that may not link, and the kinds of constants that each names, of two the second at version 52 alone.
+NAMES_OF = {178: [9], 179: [9], 180: [9], 181: [9], 182: [10], 183: [10, 11], 184: [10, 11], 185: [11], 187: [7]}
+PUTFIELD, INVOKESPECIAL, INVOKEINTERFACE, TABLESWITCH, LOOKUPSWITCH = 181, 183, 185, 170, 171
+# Those that may not link in several ways stand here more often.
+OFTEN = [*NAMES_OF, PUTFIELD, INVOKESPECIAL, INVOKESPECIAL, INVOKEINTERFACE]
+# Other instructions, some of whose operands look like those; the last ones name a class.
+OTHERS = [(0,), (16, b"\xb2"), (17, b"\xbb\xb5"), (21, b"\3"), (132, b"\2\xb7"), (167, b"\0\3"), (196, b"\x15\0\2"),
+          (196, b"\x84\0\1\xb8\xb9"), (TABLESWITCH,), (LOOKUPSWITCH,)]
+NAMING_A_CLASS = [19, 189, 192, 193]
+# Instructions that break a rule: a local variable, a count, a name, a kind of constant, a class with dimensions.
+FAULTY = [(21, b"\xc8"), (185, (11, b"A", b"m", b"()V"), b"\0\0"), (182, (10, b"A", b"<init>", b"()V")),
+          (182, (11, b"A", b"m", b"()V")), (187, (7, b"[LA;"))]
 
 
 class Pool:
@@ -28,25 +42,56 @@ class Pool:
     def named(self, text):
         return self.entry(b"\x07" + struct.pack(">H", self.utf8(text)))
 
-    def reference(self, tag, owner, name, descriptor):
+    def refer(self, tag, owner, name=None, descriptor=None):
+        if tag == CLASS:
+            return self.named(owner)
         pair = self.entry(b"\x0c" + struct.pack(">HH", self.utf8(name), self.utf8(descriptor)))
         return self.entry(bytes([tag]) + struct.pack(">HH", self.named(owner), pair))
 
 
-def class_file(name, flags, parent, interfaces, fields, methods, references, major=52):
-    """A class file; members are (flags, name, descriptor), references (tag, class) or (tag, class, name, descriptor)."""
+def count_of(descriptor):
+    """The slots of the parameters, and one."""
+    parameters = re.findall(rb"\[*(?:[BCDFIJSZ]|L[^;]*;)", descriptor[1:descriptor.index(b")")])
+    return 1 + sum(2 if one in (b"J", b"D") else 1 for one in parameters)
+
+
+def instruction(pool, at, opcode, operand=b"", more=None):
+    """The bytes of an instruction at an offset. Its operand is bytes, or a reference with more bytes behind it; a
+    switch has one of its own, and only itself for a target."""
+    if opcode in (TABLESWITCH, LOOKUPSWITCH):
+        operand = bytes(3 - at % 4) + struct.pack(">iiii", 0, opcode == LOOKUPSWITCH, 0, 0)
+    if isinstance(operand, bytes):
+        return bytes([opcode]) + operand
+    if more is None:
+        more = bytes([count_of(operand[3]), 0]) if opcode == INVOKEINTERFACE else b""
+    return bytes([opcode]) + struct.pack(">H", pool.refer(*operand)) + more
+
+
+def code_of(pool, instructions):
+    """A Code with these instructions and a return."""
+    code = b""
+    for one in instructions:
+        code += instruction(pool, len(code), *one)
+    code += b"\xb1"
+    return struct.pack(">HIHHI", pool.utf8(b"Code"), 12 + len(code), 2, 8, len(code)) + code + bytes(4)
+
+
+def class_file(name, flags, parent, interfaces, fields, methods, references, major=52, codes=None):
+    """A class file; members are (flags, name, descriptor), references (tag, class) or (tag, class, name, descriptor).
+    The code of a method is a return, and before it the instructions that `codes` has for the method's number."""
     pool = Pool()
     head = struct.pack(">HHH", flags, pool.named(name), pool.named(parent) if parent is not None else 0)
     tables = struct.pack(">H", len(interfaces)) + b"".join(struct.pack(">H", pool.named(one)) for one in interfaces)
     for members in (fields, methods):
         tables += struct.pack(">H", len(members))
-        for bits, member, descriptor in members:
+        for number, (bits, member, descriptor) in enumerate(members):
             body = members is methods and not bits & (NATIVE | ABSTRACT)
-            code = struct.pack(">HIHHIBHH", pool.utf8(b"Code"), 13, 2, 8, 1, 0xb1, 0, 0) if body else b""
+            code = code_of(pool, (codes or {}).get(number, [])) if body else b""
             tables += struct.pack(">HHHH", bits, pool.utf8(member), pool.utf8(descriptor), int(body)) + code
     for reference in references:
-        pool.named(reference[1]) if reference[0] == 7 else pool.reference(*reference)
-    return (b"\xca\xfe\xba\xbe\0\0" + struct.pack(">HH", major, len(pool.places) + 1) + pool.bytes + head + tables + b"\0\0")
+        pool.refer(*reference)
+    version = struct.pack(">HH", major, len(pool.places) + 1)
+    return b"\xca\xfe\xba\xbe\0\0" + version + pool.bytes + head + tables + b"\0\0"
 
 
 def some(rng, things, most):
@@ -66,56 +111,110 @@ def make_interface(rng, name, names, major):
         else:
             bits = rng.choice([PUBLIC | ABSTRACT, PUBLIC, PUBLIC, PUBLIC | STATIC, PRIVATE, PRIVATE | STATIC])
         methods.append((bits, rng.choice(MEMBERS), rng.choice(METHOD_TYPES)))
+    methods += [(STATIC, b"<clinit>", b"()V")] * (rng.random() < 0.3)
     fields = [(0x19, rng.choice(FIELDS), rng.choice(FIELD_TYPES)) for _ in range(rng.randrange(3))]
     flags = INTERFACE | ABSTRACT | rng.choice([0, PUBLIC, PUBLIC, PUBLIC])
     return flags, OBJECT, some(rng, names, 2), once(fields), once(methods)
 
 
 def make_class(rng, name, names, supers):
-    methods = [(rng.choice(OF_METHOD) | rng.choice([0, 0, STATIC, NATIVE]), rng.choice(MEMBERS), rng.choice(METHOD_TYPES)) for _ in range(rng.randrange(4))]
-    methods += [(rng.choice(OF_METHOD), b"<init>", b"()V")] * (rng.random() < 0.3)
-    fields = [(rng.choice(OF_METHOD) | rng.choice([0, STATIC]), rng.choice(FIELDS), rng.choice(FIELD_TYPES)) for _ in range(rng.randrange(3))]
+    flags_of = lambda more: rng.choice(OF_METHOD) | rng.choice(more)
+    methods = [(flags_of([0, 0, STATIC, NATIVE]), rng.choice(MEMBERS), rng.choice(METHOD_TYPES))
+               for _ in range(rng.randrange(4))]
+    methods += [(flags_of([0]), b"<init>", one) for one in (b"()V", b"(I)V") if rng.random() < 0.4]
+    methods += [(STATIC, b"<clinit>", b"()V")] * (rng.random() < 0.4)
+    flags_of_field = lambda: flags_of([0, STATIC]) | rng.choice([0, FINAL])
+    fields = [(flags_of_field(), rng.choice(FIELDS), rng.choice(FIELD_TYPES)) for _ in range(rng.randrange(4))]
     flags = 0x20 | rng.choice([0, PUBLIC, PUBLIC, PUBLIC, PUBLIC | ABSTRACT])
     if rng.random() < 0.04:
-        flags |= 0x410
+        flags |= FINAL | ABSTRACT
     parent = rng.choice(supers) if rng.random() < 0.6 else OBJECT
     return flags, parent, some(rng, names, 2), once(fields), once(methods)
 
 
+def make_reference(rng, tag, names):
+    owner = rng.choice(names)
+    if rng.random() < 0.2:
+        owner = b"[" * rng.randrange(1, 3) + (b"I" if rng.random() < 0.3 else b"L" + owner + b";")
+    if tag == CLASS:
+        return CLASS, owner
+    if tag == FIELDREF:
+        return FIELDREF, owner, rng.choice(FIELDS), rng.choice(FIELD_TYPES)
+    return tag, owner, rng.choice(MEMBERS), rng.choice(METHOD_TYPES)
+
+
 def make_references(rng, names):
-    references = []
-    for _ in range(rng.randrange(10)):
-        owner = rng.choice(names)
-        if rng.random() < 0.2:
-            owner = b"[" * rng.randrange(1, 3) + (b"I" if rng.random() < 0.3 else b"L" + owner + b";")
-        tag = rng.choice([7, 9, 9, 10, 10, 11, 11])
-        if tag == 7:
-            references.append((7, owner))
-        elif tag == 9:
-            references.append((9, owner, rng.choice(FIELDS), rng.choice(FIELD_TYPES)))
+    return [make_reference(rng, rng.choice([7, 9, 9, 10, 10, 11, 11]), names) for _ in range(rng.randrange(10))]
+
+
+def declared(shapes):
+    """References to the members that classes declare, by these and by the classes right below them."""
+    for name, (_, _, _, fields, methods) in shapes:
+        for owner, (flags, parent, interfaces, _, _) in shapes:
+            if name in (owner, parent, *interfaces):
+                tag = INTERFACE_METHODREF if flags & INTERFACE else METHODREF
+                yield from ((FIELDREF, owner, *field[1:]) for field in fields)
+                yield from ((tag, owner, *method[1:]) for method in methods if method[1] != b"<clinit>")
+
+
+def named_by(rng, opcode, tag, user, members, names):
+    """What an instruction names: mostly a member that there is, often one of its class."""
+    if tag == CLASS:
+        return CLASS, rng.choice(names)
+    makes = opcode == INVOKESPECIAL and tag == METHODREF and rng.random() < 0.5
+    fitting = [one for one in members if one[0] == tag and (one[2] == b"<init>") == makes]
+    own = [one for one in fitting if one[1] == user]
+    chance = rng.random()
+    if fitting and chance < 0.75:
+        return rng.choice(own if own and chance < 0.4 else fitting)
+    reference = make_reference(rng, tag, names)
+    return (*reference[:2], b"<init>", b"()V") if makes else reference
+
+
+def make_code(rng, user, major, members, names):
+    code = []
+    for _ in range(rng.randrange(1, 12)):
+        chance = rng.random()
+        if chance < 0.8:
+            opcode = rng.choice(OFTEN)
+            tag = rng.choice(NAMES_OF[opcode] if major == 52 else NAMES_OF[opcode][:1])
+            code.append((opcode, named_by(rng, opcode, tag, user, members, names)))
+        elif chance < 0.95:
+            code.append(rng.choice(OTHERS))
         else:
-            references.append((tag, owner, rng.choice(MEMBERS), rng.choice(METHOD_TYPES)))
-    return references
+            code.append((rng.choice(NAMING_A_CLASS), make_reference(rng, CLASS, names)))
+    if rng.random() < 0.06:
+        code.insert(rng.randrange(len(code)), rng.choice(FAULTY))
+    return code
+
+
+def make_codes(rng, user, major, methods, members, names):
+    """Instructions for most methods, by their numbers."""
+    some_methods = [number for number in range(len(methods)) if rng.random() < 0.85]
+    return {number: make_code(rng, user, major, members, names) for number in some_methods}
 
 
 def handle_class(rng):
-    methods = [(0x191, b"invoke", b"([Ljava/lang/Object;)Ljava/lang/Object;")]
+    methods = [(0x191 | rng.choice([0, 0, STATIC]), b"invoke", b"([Ljava/lang/Object;)Ljava/lang/Object;")]
     if rng.random() < 0.4:
         methods.append((0x101, b"invoke", b"(I)I"))
-    return class_file(b"java/lang/invoke/MethodHandle", 0x31, OBJECT, [], [], methods, [])
+    return class_file(HANDLE, 0x31, OBJECT, [], [], methods, [])
 
 
 def object_class(rng):
-    methods = [(PUBLIC, b"<init>", b"()V"), (rng.choice([PUBLIC, PROTECTED]), b"clone", b"()Ljava/lang/Object;"), (PUBLIC, b"hashCode", b"()I")]
-    fields = [(PUBLIC, b"x", b"I")] * rng.randrange(2)
-    return class_file(OBJECT, rng.choice([0x21, 0x21, 0x20]), None, [], fields, methods, make_references(rng, [b"A", b"X"]))
+    clone = (rng.choice([PUBLIC, PROTECTED]), b"clone", b"()Ljava/lang/Object;")
+    methods = [(PUBLIC, b"<init>", b"()V"), clone, (PUBLIC | rng.choice([0, 0, STATIC]), b"hashCode", b"()I")]
+    fields = [(PUBLIC | rng.choice([0, STATIC]) | rng.choice([0, FINAL]), b"x", b"I")] * rng.randrange(2)
+    shape, names = (rng.choice([0x21, 0x21, 0x20]), None, [], fields, methods), [b"A", b"X"]
+    codes = make_codes(rng, OBJECT, 52, methods, list(declared([(OBJECT, shape)])), names)
+    return class_file(OBJECT, *shape, make_references(rng, names), 52, codes)
 
 
-def make_world(rng):
-    """Files of a world: pairs of a path and bytes, in the order of their paths."""
+def make_shapes(rng):
+    """For each file a name, a version, and flags, superclass, interfaces, fields and methods; and names to refer to."""
     given = rng.sample(NAMES, rng.randrange(2, 10))
     anything = given * 3 + MISSING + [OBJECT]
-    files, interfaces = [], set(rng.sample(given, rng.randrange(len(given))))
+    shapes, interfaces = [], set(rng.sample(given, rng.randrange(len(given))))
     for at, name in enumerate(given + some(rng, given, 1)):
         major = rng.choice([51, 52, 52])
         # Most supertypes are of the right kind and stand earlier, so that not all is circular.
@@ -126,11 +225,22 @@ def make_world(rng):
             made = make_interface(rng, name, ups, major)
         else:
             made = make_class(rng, name, ups, downs or [OBJECT])
+        shapes.append((name, major, made))
+    return shapes, anything
+
+
+def make_world(rng):
+    """Files of a world: pairs of a path and bytes, in the order of their paths."""
+    files, (shapes, anything), has_handle = [], make_shapes(rng), rng.random() < 0.1
+    members = list(declared([(name, made) for name, _, made in shapes]))
+    members += [(METHODREF, HANDLE, b"invoke", b"(I)V")] * 5 * has_handle
+    for at, (name, major, made) in enumerate(shapes):
         references = make_references(rng, anything)
         if rng.random() < 0.1:
-            references.append((10, b"java/lang/invoke/MethodHandle", b"invoke", b"(I)V"))
-        files.append((b"%02d.class" % at, class_file(name, *made, references, major)))
-    if rng.random() < 0.1:
+            references.append((METHODREF, HANDLE, b"invoke", b"(I)V"))
+        codes = make_codes(rng, name, major, made[-1], members, anything)
+        files.append((b"%02d.class" % at, class_file(name, *made, references, major, codes)))
+    if has_handle:
         files.append((b"handle.class", handle_class(rng)))
     if rng.random() < 0.1:
         files.append((b"object.class", object_class(rng)))

@@ -3,7 +3,7 @@
 
 Usage: edits.py, which builds jc_asked. It needs a C compiler.
 Each edit of a few lists is asked for twice. Before the first and behind each, the report, the dependants of the lists'
-names and the bytes of each file are asked for. An edit that is refused for want of memory has to leave all of them as
+names, which of the lists' prefixes are held, and the bytes of each file are asked for. An edit that is refused for want of memory has to leave all of them as
 they were, and the same edit then gives what it would have given. Last, how many requests the edit makes that adds one
 more class to 200, and to 400, that refer to no other: beside 400 at most 60 more. It ends with 1 where something differs.
 """
@@ -27,6 +27,7 @@ def named(name, parent=OBJECT, *references):
 
 
 A, B, C, X = (named(name) for name in (b"A", b"B", b"C", b"X"))
+D_OF_ORG, D_OF_LIST = named(b"D", OBJECT, b"org/Y"), named(b"D", b"java/util/ArrayList")
 D_OF_X, E_OF_X, X_OF_Y, Y = named(b"D", OBJECT, b"X"), named(b"E", OBJECT, b"X"), named(b"X", b"Y"), named(b"Y")
 LISTS = {
     "a class that is missed comes, and its superclass": [(b"a", b"D", D_OF_X), (b"a", b"X", X_OF_Y), (b"a", b"Y", Y), (b"d", b"D", b"")],
@@ -37,12 +38,17 @@ LISTS = {
     "two classes miss another": [(b"a", b"D", D_OF_X), (b"a", b"E", E_OF_X), (b"d", b"D", b""), (b"d", b"E", b"")],
     "the built-in class is replaced": [(b"a", b"A", A), (b"a", b"B", B), (b"a", b"C", C), (b"a", b"O", named(OBJECT, None)), (b"d", b"O", b"")],
     "a superclass goes and comes": [(b"a", b"A", A), (b"a", b"B", named(b"B", b"A")), (b"d", b"A", b""), (b"a", b"A", A)],
+    "a missing class is outside": [(b"a", b"D", D_OF_ORG), (b"p", b"org/", b""), (b"p", b"org/x/", b""), (b"x", b"org/", b"")],
+    "a superclass is outside": [(b"a", b"D", D_OF_LIST), (b"x", b"java/", b""), (b"p", b"java/", b"")],
 }
-NAMES = (b"A", b"B", b"X", b"Y", OBJECT)
+NAMES = (b"A", b"B", b"X", b"Y", b"org/Y", b"java/util/ArrayList", OBJECT)
+PREFIXES = (b"java/", b"javax/", b"org/", b"org/x/")
+# Of edits of prefixes: one is added, one is dropped.
+PREFIX_WORDS = (b"p", b"x")
 
 
 def frames_of(steps):
-    looks = [b"t", *(b"q" + name for name in NAMES), *(b"f" + path for path in paths_of(steps))]
+    looks = [b"t", *(b"q" + name for name in NAMES), *(b"h" + prefix for prefix in PREFIXES), *(b"f" + path for path in paths_of(steps))]
     said = [frame for look in looks for frame in (look, b"")]
     frames = [b"", *said]
     for word, path, data in steps:
@@ -51,7 +57,7 @@ def frames_of(steps):
 
 
 def paths_of(steps):
-    return sorted({path for _, path, _ in steps})
+    return sorted({path for word, path, _ in steps if word not in PREFIX_WORDS})
 
 
 def told_of(text, steps):
@@ -65,7 +71,7 @@ def told_of(text, steps):
             said.append(line)
             if line == "end":
                 break
-        pairs.append((answer, said + [next(lines) for _ in (*NAMES, *paths_of(steps))]))
+        pairs.append((answer, said + [next(lines) for _ in (*NAMES, *PREFIXES, *paths_of(steps))]))
     return pairs
 
 
@@ -74,7 +80,7 @@ def files_of(steps):
     files = dict.fromkeys(paths_of(steps), "none")
     found = [list(files.values())]
     for word, path, data in steps:
-        if (files[path] == "none") == (word == b"a"):
+        if word not in PREFIX_WORDS and (files[path] == "none") == (word == b"a"):
             files[path] = "none" if word == b"d" else data.hex()
         found += 2 * [list(files.values())]
     return found

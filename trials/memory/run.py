@@ -32,6 +32,11 @@ report
 replace x/A.class
 remove tree/p/C.class
 part p/D
+outside add q/
+outside add q/E
+outside drop java/
+report
+outside drop q/
 remove tree/I.class
 report
 wrong

@@ -43,12 +43,36 @@ def many_files(folder, same_class):
     return took
 
 
+def prefix_talk(given, lines_of):
+    """A class refers to another that is missing, outside, and missing again."""
+    files = {b"c": given}
+    return [
+        ("remove a", ["ok"]),
+        ("add c", ["ok"]),
+        ("report", lines_of(files)),
+        ("outside add org/", ["ok"]),
+        ("outside add org/", ["refused 8 PrefixThere"]),
+        ("report", lines_of(files, (*judge.STANDARD, b"org/"))),
+        ("outside add org/x/", ["ok"]),
+        ("outside drop org/", ["ok"]),
+        ("outside drop org/", ["refused 9 NoSuchPrefix"]),
+        ("outside add ", ["refused 7 BadPrefix"]),
+        ("outside add", ["bad line"]),
+        ("outside drop java/", ["ok"]),
+        ("report", lines_of(files, (b"javax/", b"org/x/"))),
+        *((f"outside add p{number}", ["ok"]) for number in range(62)),
+        ("outside add one more", ["refused 10 TooManyPrefixes"]),
+        ("remove c", ["ok"]),
+    ]
+
+
 def coprocess(folder):
     """Gives each line only when the one before is answered."""
     a, b = common.class_file(b"A"), common.class_file(b"A")[:-1]
     (folder / "a").write_bytes(a)
     (folder / "b").write_bytes(b)
-    lines_of = lambda files: judge.report(files)[0].splitlines()
+    (folder / "c").write_bytes(common.class_file(b"C", (b"\x07\0\x06", common.utf8(b"org/Base"))))
+    lines_of = lambda files, prefixes=judge.STANDARD: judge.report(files, prefixes)[0].splitlines()
     talk = [
         ("add a", ["ok"]),
         ("add a", ["refused 1 AlreadyThere"]),
@@ -60,6 +84,7 @@ def coprocess(folder):
         ("remove b", ["ok"]),
         ("remove b", ["refused 2 NoSuchFile"]),
         ("add gone", ["unread gone"]),
+        *prefix_talk((folder / "c").read_bytes(), lines_of),
     ]
     pipe = subprocess.PIPE
     with subprocess.Popen([common.JCLINK, "session"], cwd=folder, stdin=pipe, stdout=pipe, text=True, bufsize=1) as program:

@@ -87,7 +87,7 @@ def run(lanes, keep):
     with tempfile.TemporaryDirectory() as room:
         subprocess.run(["git", "clone", "--quiet", "--local", TOP, f"{room}/jclink"], check=True)
         began = time.time()
-        words = ["rt", "ci"]
+        words = ["rt", "ci", "--anew"]
         with open(keep, "wb") if keep else tempfile.TemporaryFile() as log:
             how = {"cwd": f"{room}/jclink", "stdin": subprocess.DEVNULL, "stdout": log, "stderr": subprocess.STDOUT}
             ran = subprocess.Popen(words, env={**os.environ, "RT_JOBS": str(lanes)}, **how)

@@ -36,6 +36,7 @@ object_facts = record {
   fields = [];
   methods = object_methods;
   references = [];
+  uses = [];
   format_faults = [];
   code_faults = [];
 }

@@ -3,6 +3,7 @@ use Rattle.std.specs.Prelude.{◌≡◌, ℕ, ◌<◌, Bool, List, Option, Some,
 use Rattle.std.specs.List.{All, Contains}
 use Rattle.jc_rules.specs.declared.fault.Fault.{Fault}
 use Rattle.jc_code.specs.declared.code_fault.CodeFault.{CodeFault}
+use Rattle.jc_code.specs.declared.method_use.MethodUse.{MethodUse}
 use Rattle.jc_classes.specs.Names.{Name}
 use Rattle.jc_classes.specs.declared.reference_kind.ReferenceKind.{ReferenceKind}
 
@@ -49,6 +50,8 @@ pub record Facts : Type 0 where
   pub methods : List Member
   -- by rising index
   pub references : List Reference
+  -- by method, then by offset
+  pub uses : List MethodUse
   pub format_faults : List Fault
   -- each with the number of its method
   pub code_faults : List (ℕ × CodeFault)

@@ -9,6 +9,7 @@ use Rattle.jc_view.specs.ClassFile.{ClassFile, all_slots, class_text_at, constan
 use Rattle.jc_view.specs.Lookups.{descriptor_at, name_at, utf8_at}
 use Rattle.jc_rules.specs.Faults.{faults}
 use Rattle.jc_code.specs.MethodFaults.{code_faults}
+use Rattle.jc_code.specs.MethodUses.{uses}
 use Rattle.jc_classes.specs.declared.reference_kind.ReferenceKind.{ReferenceKind}
 use Rattle.jc_classes.specs.declared.reference_kind.ReferenceKind.TheVariants as kinds
 use Rattle.jc_classes.specs.Facts.{Facts, Member, Reference}
@@ -82,6 +83,7 @@ sound_facts path c = record {
   fields = members_in c c.fields;
   methods = members_in c c.methods;
   references = references_in c;
+  uses = uses c;
   format_faults = [];
   code_faults = code_faults c;
 }
@@ -97,6 +99,7 @@ faulty_facts path c = record {
   fields = [];
   methods = [];
   references = [];
+  uses = [];
   format_faults = faults c;
   code_faults = [];
 }

@@ -5,6 +5,7 @@ pub mod FactsOf
 pub mod FieldLookup
 pub mod Laws
 pub mod Lent
+pub mod LinkErrors
 pub mod LinkageErrors
 pub mod Loading
 pub mod MemberOrder

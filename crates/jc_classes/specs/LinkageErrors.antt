@@ -11,6 +11,7 @@ error_code errors.Incompatible = 4
 error_code errors.IllegalAccess = 5
 error_code errors.NoField = 6
 error_code errors.NoMethod = 7
+error_code errors.Instantiation = 8
 
 abbrev pub error_name : LinkageError → List ℕ
 error_name errors.NoClass = codes "NoClass"
@@ -20,3 +21,4 @@ error_name errors.Incompatible = codes "Incompatible"
 error_name errors.IllegalAccess = codes "IllegalAccess"
 error_name errors.NoField = codes "NoField"
 error_name errors.NoMethod = codes "NoMethod"
+error_name errors.Instantiation = codes "Instantiation"

@@ -5,6 +5,7 @@ use Rattle.std.specs.Option.{option_to_list}
 use Rattle.jc_rules.specs.declared.fault.Fault.{Fault}
 use Rattle.jc_code.specs.declared.code_fault.CodeFault.{CodeFault}
 use Rattle.jc_classes.specs.Facts.{Named, Reference}
+use Rattle.jc_classes.specs.LinkErrors.{LinkFault, links_of}
 use Rattle.jc_classes.specs.Names.{Name, object}
 use Rattle.jc_classes.specs.declared.reference_kind.ReferenceKind.{ReferenceKind}
 use Rattle.jc_classes.specs.declared.reference_kind.ReferenceKind.TheVariants as kind
@@ -62,6 +63,8 @@ pub record Part : Type 0 where
   pub code_faults : List (ℕ × CodeFault)
   -- one for each reference, in their order
   pub answers : List Answer
+  -- of the instructions whose references are answered To
+  pub links : List LinkFault
 
 -- the part of a name, over the whole world
 pub record IsPart (m : World) (d : Name) (p : Part) : Type 0 where
@@ -71,3 +74,4 @@ pub record IsPart (m : World) (d : Name) (p : Part) : Type 0 where
   pub format_faults : p.format_faults ≡ format_faults_of (m d)
   pub code_faults : p.code_faults ≡ code_faults_of (m d)
   pub answers : AreAnswers m d p.load (references_of (m d)) p.answers
+  pub links : p.links ≡ links_of d (m d) p.answers

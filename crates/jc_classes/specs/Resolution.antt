@@ -1,8 +1,8 @@
 -- Resolution of references (JVMS 5.4.3.1 to 5.4.3.4).
-use Rattle.std.specs.Prelude.{◌≡◌, Bool, true, false, cond, Option, Some, None}
-use Rattle.jc_classes.specs.Facts.{Key, Named}
+use Rattle.std.specs.Prelude.{◌≡◌, ℕ, Bool, true, false, cond, Option, Some, None}
+use Rattle.jc_classes.specs.Facts.{Key, Member, Named}
 use Rattle.jc_classes.specs.Names.{Name, name_less, object}
-use Rattle.jc_classes.specs.Worlds.{World, Stands as stands, Above, is_interface, key_of, Found, text_of}
+use Rattle.jc_classes.specs.Worlds.{World, Stands as stands, Above, is_interface, flags_of, Found, text_of}
 use Rattle.jc_classes.specs.Facts.Named.{Class, Array}
 use Rattle.jc_classes.specs.FieldLookup.{FindsField}
 use Rattle.jc_classes.specs.MethodLookup.{FindsMethod, FindsInterfaceMethod}
@@ -13,22 +13,24 @@ use Rattle.jc_classes.specs.declared.linkage_error.LinkageError.TheVariants.{Inc
 use Rattle.jc_classes.specs.Access.{CanUse}
 
 pub data Answer : Type 0 where
-  ToClass : Name → Answer
-  ToMember : Name → Key → Answer
+  -- a class with its access flags; an array has none
+  ToClass : (text : Name) (flags : ℕ) → Answer
+  -- the class that declares a member, and the member as it is declared
+  ToMember : (home : Name) (found : Member) → Answer
   Beyond : Name → Answer
   NotLoaded : Answer
   Wrong : LinkageError → Name → Answer
 
--- the answer to the class or the array t, by how its class c loads and whether that is accessible (5.4.3.1)
-abbrev pub class_answer : Name → Name → Loading → Bool → Answer
-class_answer t c Loaded sees = cond sees (ToClass t) (Wrong IllegalAccess c)
-class_answer t c Outside sees = Beyond c
-class_answer t c (Fails e x) sees = Wrong e x
+-- the answer to the class or the array t of these flags, by how its class c loads and whether that is accessible (5.4.3.1)
+abbrev pub class_answer : Name → Name → Loading → Bool → ℕ → Answer
+class_answer t c Loaded sees flags = cond sees (ToClass t flags) (Wrong IllegalAccess c)
+class_answer t c Outside sees flags = Beyond c
+class_answer t c (Fails e x) sees flags = Wrong e x
 
 pub data ResolvesClass (m : World) (d : Name) : Named → Answer → Type 0 where
-  class : {c : Name} {l : Loading} {a : Answer} → Load m c l → a ≡ class_answer c c l (can_see d c (m c)) → ResolvesClass m d (Class c) a
-  primitives : {t : Name} → ResolvesClass m d (Array t None) (ToClass t)
-  array : {t e : Name} {l : Loading} {a : Answer} → Load m e l → a ≡ class_answer t e l (can_see d e (m e)) → ResolvesClass m d (Array t (Some e)) a
+  class : {c : Name} {l : Loading} {a : Answer} → Load m c l → a ≡ class_answer c c l (can_see d c (m c)) (flags_of (m c)) → ResolvesClass m d (Class c) a
+  primitives : {t : Name} → ResolvesClass m d (Array t None) (ToClass t 0)
+  array : {t e : Name} {l : Loading} {a : Answer} → Load m e l → a ≡ class_answer t e l (can_see d e (m e)) 0 → ResolvesClass m d (Array t (Some e)) a
 
 -- where look-up of a member begins, or the answer that there is without one
 pub data Start : Type 0 where
@@ -42,13 +44,13 @@ object_start (Fails e x) = Ends (Wrong e x)
 
 -- by the answer to what is named, and how java/lang/Object loads
 abbrev pub start_of : Named → Answer → Loading → Start
-start_of (Class c) (ToClass x) l = At c
-start_of (Class c) (ToMember x k) l = Ends (ToMember x k)
+start_of (Class c) (ToClass x f) l = At c
+start_of (Class c) (ToMember h x) l = Ends (ToMember h x)
 start_of (Class c) (Beyond x) l = Ends (Beyond x)
 start_of (Class c) NotLoaded l = Ends NotLoaded
 start_of (Class c) (Wrong e x) l = Ends (Wrong e x)
-start_of (Array t n) (ToClass x) l = object_start l
-start_of (Array t n) (ToMember x k) l = object_start l
+start_of (Array t n) (ToClass x f) l = object_start l
+start_of (Array t n) (ToMember h x) l = object_start l
 start_of (Array t n) (Beyond x) l = object_start l
 start_of (Array t n) NotLoaded l = object_start l
 start_of (Array t n) (Wrong e x) l = Ends (Wrong e x)
@@ -63,7 +65,7 @@ pub record IsBeyond (m : World) (c n : Name) : Type 0 where
 
 -- what becomes of what look-up from c found, where t was named
 pub data Settles (m : World) (d : Name) (t : Named) (c : Name) (missing : LinkageError) : Option Found → Answer → Type 0 where
-  found : {f : Found} → CanUse m d t f → Settles m d t c missing (Some f) (ToMember f.home (key_of f.member))
+  found : {f : Found} → CanUse m d t f → Settles m d t c missing (Some f) (ToMember f.home f.member)
   hidden : {f : Found} → (CanUse m d t f → ⊥) → Settles m d t c missing (Some f) (Wrong IllegalAccess f.home)
   beyond : {n : Name} → IsBeyond m c n → ((j : Name) → IsBeyond m c j → name_less j n ≡ false) → Settles m d t c missing None (Beyond n)
   nowhere : ((j : Name) → IsBeyond m c j → ⊥) → Settles m d t c missing None (Wrong missing (text_of t))

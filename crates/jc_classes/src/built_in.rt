@@ -120,6 +120,7 @@ impl Facts {
             field_order: Vec::new(alloc),
             method_order,
             references: Rc::new(alloc, Vec::new(alloc))?,
+            uses: Vec::new(alloc),
             faults: Faults::shared(alloc, Vec::new(alloc), Vec::new(alloc))?,
         })
     }

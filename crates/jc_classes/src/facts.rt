@@ -13,14 +13,14 @@ use crate::reference_kind::ReferenceKind;
 use crate::references::References;
 use crate::text_list::TextList;
 use jc_base::NoMemory;
-use jc_code::CodeFault;
+use jc_code::{CodeFault, MethodUse};
 use jc_file::Fault;
 use std::alloc::Global;
 use std::marker::Model;
 use std::rc::Rc;
 
 /// What linking keeps of a class file: its names and flags, what it declares and refers to, and its
-/// faults. A file with a format fault keeps no supertypes, members, references and code faults.
+/// faults. A file with a format fault keeps no supertypes, members, references, uses and code faults.
 #[derive(Drop)]
 pub struct Facts {
     pub(crate) path: Vec<u8>,
@@ -36,6 +36,7 @@ pub struct Facts {
     pub(crate) field_order: Vec<u16>,
     pub(crate) method_order: Vec<u16>,
     pub(crate) references: Rc<Vec<ReferenceEntry>>,
+    pub(crate) uses: Vec<MethodUse>,
     pub(crate) faults: Rc<Faults>,
 }
 
@@ -229,6 +230,14 @@ impl Facts {
         ensures { result ≡ length self.now.references }
     {
         self.references.as_ref().len()
+    }
+
+    /// What the instructions of its methods do with its references, by method, then by offset: of those methods
+    /// that have exactly one well-formed `Code` and no fault of it.
+    pub fn uses(&self) -> &[MethodUse]
+        ensures { result.now ≡ self.now.uses }
+    {
+        self.uses.as_slice()
     }
 
     /// Its references, which share their texts with it, so that they may outlive it.

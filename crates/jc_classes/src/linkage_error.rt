@@ -1,9 +1,9 @@
-//! The errors of loading and of resolution (JVMS 5.3.5, 5.4.3).
+//! The errors of loading, of resolution and of instructions (JVMS 5.3.5, 5.4.3, 6.5).
 
 ghost use Rattle.std.specs.Prelude.{◌≡◌};
 ghost use Rattle.jc_classes.specs.LinkageErrors.{error_code, error_name};
 
-/// Why a class does not load, or a reference has no class, field or method.
+/// Why a class does not load, a reference has no class, field or method, or an instruction does not link.
 #[derive(Clone, Copy)]
 pub enum LinkageError {
     /// No class has the name (`NoClassDefFoundError`, JVMS 5.3.5).
@@ -13,14 +13,18 @@ pub enum LinkageError {
     /// The class is its own superclass or superinterface (`ClassCircularityError`, JVMS 5.3.5).
     Circular,
     /// A class where an interface is wanted, or the other way round (`IncompatibleClassChangeError`,
-    /// JVMS 5.3.5, 5.4.3.3, 5.4.3.4).
+    /// JVMS 5.3.5, 5.4.3.3, 5.4.3.4); a static member where one of an instance is wanted, or the other way round
+    /// (JVMS 6.5).
     Incompatible,
-    /// The class or the member is not accessible (`IllegalAccessError`, JVMS 5.4.4).
+    /// The class or the member is not accessible (`IllegalAccessError`, JVMS 5.4.4), or the field is final (JVMS
+    /// 6.5).
     IllegalAccess,
     /// Look-up finds no field (`NoSuchFieldError`, JVMS 5.4.3.2).
     NoField,
     /// Look-up finds no method (`NoSuchMethodError`, JVMS 5.4.3.3, 5.4.3.4).
     NoMethod,
+    /// The class is an interface or abstract, and `new` names it (`InstantiationError`, JVMS 6.5).
+    Instantiation,
 }
 
 impl LinkageError {
@@ -36,6 +40,7 @@ impl LinkageError {
             LinkageError::IllegalAccess => 5,
             LinkageError::NoField => 6,
             LinkageError::NoMethod => 7,
+            LinkageError::Instantiation => 8,
         }
     }
 
@@ -51,6 +56,7 @@ impl LinkageError {
             LinkageError::IllegalAccess => "IllegalAccess",
             LinkageError::NoField => "NoField",
             LinkageError::NoMethod => "NoMethod",
+            LinkageError::Instantiation => "Instantiation",
         }
     }
 }

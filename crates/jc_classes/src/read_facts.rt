@@ -1,6 +1,6 @@
 //! What is kept of a class file, read from its view.
 
-ghost use Rattle.std.specs.Prelude.{◌≡◌, ◌++◌, map, option_map, IfOk, OnOk};
+ghost use Rattle.std.specs.Prelude.{◌≡◌, ◌<◌, ◌^◌, ◌++◌, map, option_map, IfOk, OnOk};
 ghost use Rattle.std.specs.List.{flat_map};
 ghost use Rattle.std.specs.Option.{option_to_list};
 ghost use Rattle.jc_view.specs.declared.attribute_kind.Holder.TheVariants as holders;
@@ -8,6 +8,7 @@ ghost use Rattle.jc_view.specs.ClassFile.{class_text_at};
 ghost use Rattle.jc_view.specs.Lookups.{utf8_at};
 ghost use Rattle.jc_rules.specs.Faults.{faults};
 ghost use Rattle.jc_code.specs.MethodFaults.{code_faults, method_faults};
+ghost use Rattle.jc_code.specs.MethodUses.{method_uses, uses};
 ghost use Rattle.jc_classes.specs.FactsOf.{class_name, class_reference, facts_of, faulty_facts, interfaces_in, member_of, member_reference, reference_at, references_in, sound_facts};
 ghost use Rattle.jc_classes.specs.inside.ClassTexts.{Tells};
 ghost use Rattle.jc_classes.specs.inside.Entries.{AreEntries};
@@ -19,7 +20,7 @@ use crate::facts::{Facts, Faults, MemberEntry, ReferenceEntry};
 use crate::reference_kind::ReferenceKind;
 use crate::text_list::TextList;
 use jc_base::NoMemory;
-use jc_code::{CodeFault, TextSizes, faults_in, method_code};
+use jc_code::{CodeFault, MethodUse, TextSizes, faults_and_uses, method_code};
 use jc_file::{Fault, format_faults};
 use jc_view::{ClassView, Constant, ConstantIndex, ConstantKind, Member, Members};
 use std::alloc::Global;
@@ -62,10 +63,10 @@ fn sound_facts(alloc: Global, class: &ClassView, path: &[u8]) -> Result<Facts, N
     let path = Vec::from_slice(alloc, path)?;
     let mut texts = ClassTexts::new(alloc, class)?;
     let entries = read_entries(&mut texts, class)?;
-    let code_faults = all_code_faults(alloc, class)?;
+    let codes = read_codes(alloc, class)?;
     let texts_shared = Rc::new(alloc, texts.into_list())?;
     let references = Rc::new(alloc, entries.references)?;
-    let faults = Faults::shared(alloc, Vec::new(alloc), code_faults)?;
+    let faults = Faults::shared(alloc, Vec::new(alloc), codes.faults)?;
     Ok(Facts {
         path,
         texts: texts_shared,
@@ -78,6 +79,7 @@ fn sound_facts(alloc: Global, class: &ClassView, path: &[u8]) -> Result<Facts, N
         field_order: entries.field_order,
         method_order: entries.method_order,
         references,
+        uses: codes.uses,
         faults,
     })
 }
@@ -134,6 +136,7 @@ fn faulty_facts(
         field_order: Vec::new(alloc),
         method_order: Vec::new(alloc),
         references: Rc::new(alloc, Vec::new(alloc))?,
+        uses: Vec::new(alloc),
         faults: Faults::shared(alloc, format_faults, Vec::new(alloc))?,
     })
 }
@@ -274,44 +277,58 @@ fn member_reference(
     })
 }
 
-/// The faults of the code of all methods, each with the number of its method.
-fn all_code_faults(alloc: Global, class: &ClassView) -> Result<Vec<(usize, CodeFault)>, NoMemory>
-    ensures { IfOk result (λ found. found.items ≡ code_faults class.now) }
-{
-    code_faults_by_method(alloc, &TextSizes::of(alloc, class)?)
+/// What is found in the code of all methods.
+#[derive(Drop)]
+struct Codes {
+    /// The faults, each with the number of its method.
+    faults: Vec<(usize, CodeFault)>,
+    /// What the instructions of methods without one do with the references that they name.
+    uses: Vec<MethodUse>,
 }
 
-/// Those of the class whose sizes these are.
-fn code_faults_by_method(
-    alloc: Global,
-    sizes: &TextSizes,
-) -> Result<Vec<(usize, CodeFault)>, NoMemory>
-    ensures { IfOk result (λ found. found.items ≡ code_faults sizes.now) }
+/// Looks at the code of all methods.
+fn read_codes(alloc: Global, class: &ClassView) -> Result<Codes, NoMemory>
+    ensures faults { IfOk result (λ codes. codes.faults.items ≡ code_faults class.now) }
+    ensures uses { IfOk result (λ codes. codes.uses.items ≡ uses class.now) }
 {
-    let mut found = Vec::new(alloc);
+    read_methods(alloc, &TextSizes::of(alloc, class)?)
+}
+
+/// The same of the class whose sizes these are.
+fn read_methods(alloc: Global, sizes: &TextSizes) -> Result<Codes, NoMemory>
+    ensures faults { IfOk result (λ codes. codes.faults.items ≡ code_faults sizes.now) }
+    ensures uses { IfOk result (λ codes. codes.uses.items ≡ uses sizes.now) }
+{
+    let mut codes = Codes {
+        faults: Vec::new(alloc),
+        uses: Vec::new(alloc),
+    };
     for (number, method) in sizes.class().methods().enumerate() {
-        add_code_faults(alloc, &mut found, sizes, &method, number)?;
+        read_code(alloc, &mut codes, sizes, &method, number)?;
     }
-    Ok(found)
+    codes.uses.shrink_to_fit();
+    Ok(codes)
 }
 
-/// Adds the faults of a method's code.
-fn add_code_faults(
+/// Adds what is found in the code of a method.
+fn read_code(
     alloc: Global,
-    found: &mut Vec<(usize, CodeFault)>,
+    codes: &mut Codes,
     sizes: &TextSizes,
     method: &Member,
     number: usize,
 ) -> Result<(), NoMemory>
     requires class { method.now.class ≡ sizes.now }
     requires holder { method.now.member.holder ≡ holders.Method }
-    ensures { OnOk result (found.new.items ≡ found.old.items ++ map (λ fault. (number, fault)) (method_faults sizes.now method.now.member.member)) }
+    requires few { number < 2 ^ 16 }
+    ensures faults { OnOk result (codes.new.faults.items ≡ codes.old.faults.items ++ map (λ fault. (number, fault)) (method_faults sizes.now method.now.member.member)) }
+    ensures uses { OnOk result (codes.new.uses.items ≡ codes.old.uses.items ++ method_uses sizes.now number method.now.member.member) }
 {
     let Some(code) = method_code(method) else {
         return Ok(());
     };
-    for fault in &faults_in(alloc, sizes, &code)? {
-        found.push((number, *fault))?;
+    for fault in &faults_and_uses(alloc, sizes, &code, number as u16, &mut codes.uses)? {
+        codes.faults.push((number, *fault))?;
     }
     Ok(())
 }

@@ -8,6 +8,7 @@ pub mod CodeFaults
 pub mod CodeFaultOrder
 pub mod CodeViolations
 pub mod MethodFaults
+pub mod MethodUses
 pub mod Examples
 pub mod inside
 pub use Rattle.jc_base.specs.Cursor

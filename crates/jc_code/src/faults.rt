@@ -13,6 +13,8 @@ ghost use Rattle.jc_code.specs.Insns.{IsCode};
 ghost use Rattle.jc_code.specs.CodeFaults.{AreFaultsOf, AreFaultsOfMethod, code_of_member, faults_against, faults_of, fault_at, handler_breaks, insn_breaks, numbers_of, places_of};
 ghost use Rattle.jc_code.specs.CodeFaultOrder.{fault_cmp};
 ghost use Rattle.jc_code.specs.CodeViolations.{BreaksCode, ViolatesCode};
+ghost use Rattle.jc_code.specs.InsnReading.{insns_of};
+ghost use Rattle.jc_code.specs.MethodUses.{code_uses, uses_among};
 
 use crate::clean::is_clean;
 use crate::code_fault::{CodeFault, CodeRule};
@@ -20,6 +22,7 @@ use crate::first_pass::{FirstPass, first_pass};
 use crate::insn::Insn;
 use crate::insns::Insns;
 use crate::laws::{codes_are_read, instructions_are_apart};
+use crate::method_use::MethodUse;
 use crate::numbers::as_bytes;
 use crate::rules::constants::{
     breaks_s6, breaks_s7, breaks_s8, breaks_s9, breaks_s10, breaks_s11, breaks_s12, breaks_s13,
@@ -79,7 +82,7 @@ fn list_member_faults(
     ensures { IfOk result (λ found. MatchOption (code_of_member class.now member.now.member.member) (found.items ≡ []) (λ k. AreFaultsOf class.now k found.items)) }
 {
     match method_code(member) {
-        Some(code) => list_faults(alloc, &TextSizes::of(alloc, class)?, &code),
+        Some(code) => faults_alone(alloc, &TextSizes::of(alloc, class)?, &code),
         None => Ok(Vec::new(alloc)),
     }
 }
@@ -112,16 +115,57 @@ pub fn faults_in(alloc: Global, sizes: &TextSizes, code: &Code) -> Result<Vec<Co
     let _bytes = as_bytes(code.bytes());
     codes_are_read();
     instructions_are_apart();
-    list_faults(alloc, sizes, code)
+    faults_alone(alloc, sizes, code)
+}
+
+/// The faults of the code of a method, as [`faults_in`], and what its instructions do with the references that
+/// they name, put behind others: nothing where it has a fault.
+///
+/// Answers `NoMemory` only where memory was refused.
+pub fn faults_and_uses(
+    alloc: Global,
+    sizes: &TextSizes,
+    code: &Code,
+    method: u16,
+    uses: &mut Vec<MethodUse>,
+) -> Result<Vec<CodeFault>, NoMemory>
+    ensures faults { IfOk result (λ found. found.items ≡ faults_of sizes.now code.now.code) }
+    ensures uses { OnOk result (uses.new.items ≡ uses.old.items ++ code_uses sizes.now method code.now.code) }
+{
+    let _bytes = as_bytes(code.bytes());
+    codes_are_read();
+    instructions_are_apart();
+    let before = uses.len();
+    let faults = list_faults(alloc, sizes, code, method, uses)?;
+    if !faults.is_empty() {
+        uses.truncate(before);
+    }
+    Ok(faults)
 }
 
 /// The faults of a code, in their order.
-fn list_faults(alloc: Global, sizes: &TextSizes, code: &Code) -> Result<Vec<CodeFault>, NoMemory>
+fn faults_alone(alloc: Global, sizes: &TextSizes, code: &Code) -> Result<Vec<CodeFault>, NoMemory>
     ensures { IfOk result (λ found. AreFaultsOf sizes.now code.now.code found.items) }
+{
+    let mut uses = Vec::new(alloc);
+    list_faults(alloc, sizes, code, 0, &mut uses)
+}
+
+/// The faults of the code of a method, in their order. All uses are put behind others.
+fn list_faults(
+    alloc: Global,
+    sizes: &TextSizes,
+    code: &Code,
+    method: u16,
+    uses: &mut Vec<MethodUse>,
+) -> Result<Vec<CodeFault>, NoMemory>
+    ensures faults { IfOk result (λ found. AreFaultsOf sizes.now code.now.code found.items) }
+    ensures uses { OnOk result (uses.new.items ≡ uses.old.items ++ uses_among method (insns_of code.now.code.code)) }
 {
     let bytes = code.bytes();
     let size = bytes.len();
-    let found = first_pass(alloc, &scope_with(sizes, code, Starts::none(alloc)), bytes)?;
+    let bare = scope_with(sizes, code, Starts::none(alloc));
+    let found = first_pass(alloc, &bare, bytes, method, uses)?;
     let FirstPass {
         starts,
         end,

@@ -2,11 +2,14 @@
 
 ghost use Rattle.std.specs.Prelude.{◌≡◌, ◌<◌, ◌^◌, ◌++◌, ◌∷◌, [], ◌||◌, cond, length, IfOk, OnOk};
 ghost use Rattle.jc_code.specs.inside.Clean.{has_targets, keeps_rules};
+ghost use Rattle.jc_code.specs.InsnReading.{insns_of};
+ghost use Rattle.jc_code.specs.MethodUses.{uses_among};
 ghost use Rattle.jc_code.specs.inside.FirstPass.{IsFirstPass};
 
 use crate::clean::keeps_rules;
 use crate::insn::Insn;
 use crate::insns::Insns;
+use crate::method_use::{MethodUse, push_use};
 use crate::scope::Scope;
 use crate::starts::Starts;
 use jc_base::NoMemory;
@@ -22,14 +25,18 @@ pub(crate) struct FirstPass<'a> {
     pub(crate) is_kept: bool,
 }
 
-/// The instructions of a code, looked at once. No start is known to the scope.
+/// The instructions of the code of a method, looked at once. No start is known to the scope. Uses are put behind
+/// others.
 pub(crate) fn first_pass<'a>(
     alloc: Global,
     scope: &Scope,
     code: &'a [u8],
+    method: u16,
+    uses: &mut Vec<MethodUse>,
 ) -> Result<FirstPass<'a>, NoMemory>
     requires { length code.now < 2 ^ 16 }
-    ensures { IfOk result (λ found. IsFirstPass scope.now code.now found) }
+    ensures found { IfOk result (λ found. IsFirstPass scope.now code.now found) }
+    ensures uses { OnOk result (uses.new.items ≡ uses.old.items ++ uses_among method (insns_of code.now)) }
 {
     let mut marks = Vec::with_capacity(alloc, code.len())?;
     let mut jumps = Vec::new(alloc);
@@ -38,6 +45,7 @@ pub(crate) fn first_pass<'a>(
     while let Some((place, insn)) = insns.next() {
         marks.resize(place as usize, false)?;
         marks.push(true)?;
+        push_use(uses, method, place as u16, &insn)?;
         let keeps = look(scope, insn, &mut jumps)?;
         is_kept &= keeps;
     }

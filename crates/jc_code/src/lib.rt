@@ -12,6 +12,7 @@ mod insn;
 mod insns;
 mod known_slots;
 mod laws;
+mod method_use;
 mod numbers;
 mod opcode;
 mod rules;
@@ -22,13 +23,14 @@ mod text_sizes;
 
 pub use code_fault::{CodeFault, CodeRule};
 pub use fault_laws::faults_are_exact;
-pub use faults::{code_faults, faults_in, method_code};
+pub use faults::{code_faults, faults_and_uses, faults_in, method_code};
 pub use insn::{Insn, LinkKind};
 pub use insns::Insns;
 pub use laws::{
     codes_are_read, decoding_examples, instructions_are_apart, opcode_table,
     switch_tables_lie_in_the_code,
 };
+pub use method_use::MethodUse;
 pub use opcode::{Opcode, Operands};
 pub use switch::{Case, Cases, LookupSwitch, TableSwitch, Targets};
 pub use text_sizes::TextSizes;

@@ -3,3 +3,4 @@ pub mod ClassesRead
 pub mod EditPlaced
 pub mod FilesDiffer
 pub mod HeldClasses
+pub mod TurnedDiffer

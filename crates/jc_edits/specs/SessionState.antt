@@ -14,3 +14,7 @@ pub record SessionState : Type 0 where
   pub prefixes : List Name
   pub asks : ℕ
   pub made : ℕ
+
+-- without the counts
+abbrev pub held_of : SessionState → HeldFiles
+held_of s = record { files = s.files; prefixes = s.prefixes }

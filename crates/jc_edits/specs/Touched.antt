@@ -1,5 +1,5 @@
 -- What an edit of files touches, and how many parts it may make.
-use Rattle.std.specs.Prelude.{◌↔◌, ℕ, Bool, false, ◌||◌, List, Option, Some, None, is_some}
+use Rattle.std.specs.Prelude.{◌↔◌, ℕ, Bool, false, ◌&&◌, ◌||◌, not, List, Option, Some, None, is_some}
 use Rattle.jc_base.specs.Bytes.{same_bytes}
 use Rattle.jc_classes.specs.Laws.{Differ, Hits}
 use Rattle.jc_classes.specs.Names.{Name}
@@ -7,7 +7,11 @@ use Rattle.jc_held.specs.Affected.{IsBounded}
 use Rattle.jc_report.specs.Files.{Files}
 use Rattle.jc_report.specs.FileRows.{winner}
 use Rattle.jc_report.specs.Reports.{facts_at, world_of}
-use Rattle.jc_input.specs.Changes.{Change, path_of}
+use Rattle.jc_classes.specs.Loading.{same_bool}
+use Rattle.jc_input.specs.Changes.{Change, EditChange, OfFiles, OfPrefixes, path_of}
+use Rattle.jc_link.specs.Prefixes.{is_outside}
+use Rattle.jc_link.specs.Tables.{or_built_in}
+use Rattle.jc_edits.specs.SessionState.{HeldFiles}
 use Rattle.jc_edits.specs.Edits.{after}
 
 -- whether files give a class of the name
@@ -35,3 +39,18 @@ AffectedEitherWay = (f : Files) (e : Change) (prefixes : List Name) (d : Name)
 -- more classes than their reaches have names, and two
 abbrev pub IsBoundedEdit : (old new : Files) (prefixes : List Name) (path : List ℕ) (made asks : ℕ) → Type 0
 IsBoundedEdit old new prefixes path made asks = IsBounded (gives new) (world_of new prefixes) (is_touched old new path) made asks
+
+-- ---- by other prefixes
+
+-- a name for which there is no class is outside by one list of prefixes, and not by the other
+abbrev pub is_turned : Files → (old new : List Name) → Name → Bool
+is_turned f old new name = not (is_some (or_built_in (facts_at f name) name)) && not (same_bool (is_outside old name) (is_outside new name))
+
+-- what other prefixes do not turn stands as before
+abbrev pub TurnedDiffer : Type 0
+TurnedDiffer = (f : Files) (old new : List Name) → Differ (is_turned f old new) (world_of f old) (world_of f new)
+
+-- the same bound
+abbrev pub IsBoundedChange : (old new : HeldFiles) → EditChange → (made asks : ℕ) → Type 0
+IsBoundedChange old new (OfFiles change) made asks = IsBoundedEdit old.files new.files new.prefixes (path_of change) made asks
+IsBoundedChange old new (OfPrefixes change) made asks = IsBounded (gives new.files) (world_of new.files new.prefixes) (is_turned new.files old.prefixes new.prefixes) made asks

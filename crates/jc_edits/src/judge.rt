@@ -2,11 +2,12 @@
 
 ghost use Rattle.std.specs.Prelude.{◌≡◌};
 ghost use Rattle.jc_edits.specs.Edits as files_of;
-ghost use Rattle.jc_input.specs.Changes.{Adds, Replaces, change_lent};
+ghost use Rattle.jc_input.specs.Changes.{Adds, Replaces, change_lent, prefix_change};
 
 use crate::file::File;
 use jc_base::ByteMap;
-use jc_input::{EditError, LentEdit};
+use jc_input::{EditError, LentEdit, PrefixEdit};
+use jc_link::{MOST_PREFIXES, Outside, is_bad_prefix};
 
 const LONGEST_PATH: usize = 4_096;
 
@@ -93,5 +94,57 @@ pub fn room_fault(count: usize) -> Option<EditError>
         None
     } else {
         Some(EditError::TooMany)
+    }
+}
+
+/// The first refusal of an edit of the outside prefixes that applies, but for memory.
+pub(crate) fn judge_prefix(outside: &Outside, edit: PrefixEdit<'_>) -> Option<EditError>
+    ensures { result ≡ files_of.judge_prefix outside.now (prefix_change edit.entry) }
+{
+    match edit {
+        PrefixEdit::Add(prefix) => prefix_fault(prefix)
+            .or(held_fault(outside, prefix))
+            .or(full_fault(outside)),
+        PrefixEdit::Drop(prefix) => prefix_fault(prefix).or(lacking_fault(outside, prefix)),
+    }
+}
+
+fn prefix_fault(prefix: &[u8]) -> Option<EditError>
+    ensures { result ≡ files_of.prefix_fault prefix.now }
+{
+    if is_bad_prefix(prefix) {
+        Some(EditError::BadPrefix)
+    } else {
+        None
+    }
+}
+
+fn held_fault(outside: &Outside, prefix: &[u8]) -> Option<EditError>
+    ensures { result ≡ files_of.held_fault outside.now prefix.now }
+{
+    if outside.has(prefix) {
+        Some(EditError::PrefixThere)
+    } else {
+        None
+    }
+}
+
+fn lacking_fault(outside: &Outside, prefix: &[u8]) -> Option<EditError>
+    ensures { result ≡ files_of.lacking_fault outside.now prefix.now }
+{
+    if outside.has(prefix) {
+        None
+    } else {
+        Some(EditError::NoSuchPrefix)
+    }
+}
+
+fn full_fault(outside: &Outside) -> Option<EditError>
+    ensures { result ≡ files_of.full_fault outside.now }
+{
+    if outside.len() < MOST_PREFIXES {
+        None
+    } else {
+        Some(EditError::TooManyPrefixes)
     }
 }

@@ -7,17 +7,18 @@ ghost use Rattle.std.specs.FinMap as map;
 ghost use Rattle.jc_held.specs.Holders.{CountsHolders};
 ghost use Rattle.jc_report.specs.FileRows.{is_unreadable, rows, winner};
 ghost use Rattle.jc_report.specs.Reports as reports;
-ghost use Rattle.jc_report.specs.Reports.{IsReport, is_wrong};
-ghost use Rattle.jc_input.specs.Changes.{change_lent, path_of};
-ghost use Rattle.jc_edits.specs.Edits.{after, judge};
-ghost use Rattle.jc_edits.specs.Touched.{IsBoundedEdit};
+ghost use Rattle.jc_report.specs.Reports.{IsReport, is_wrong, world_of};
+ghost use Rattle.jc_input.specs.Changes.{change_lent, path_of, prefix_change};
+ghost use Rattle.jc_held.specs.Affected.{IsBounded};
+ghost use Rattle.jc_edits.specs.Edits.{after, after_prefix, judge};
+ghost use Rattle.jc_edits.specs.Touched.{IsBoundedEdit, gives, is_turned};
 
 use crate::changes::{Changes, changes_of};
 use crate::held::{Held, commit, grow, undo};
 use crate::rows::Rows;
 use jc_base::NoMemory;
 use jc_held::{Classes, Linkage, Provided, Required};
-use jc_input::LentEdit;
+use jc_input::{LentEdit, PrefixEdit};
 use jc_link::{Meter, Outside};
 use jc_report::{FileState, is_wrong_part, rows_are_plain};
 use std::alloc::Global;
@@ -84,6 +85,27 @@ impl Report {
                 Err(NoMemory)
             }
         }
+    }
+
+    /// Makes an edit of the outside prefixes, or changes nothing for want of memory.
+    pub(crate) fn make_prefix(
+        &mut self,
+        alloc: Global,
+        edit: PrefixEdit<'_>,
+        meter: &mut Meter,
+    ) -> Result<(), NoMemory>
+        ensures ok { OnOk result (self.new.prefixes ≡ after_prefix self.old.prefixes (prefix_change edit.entry)) }
+        ensures err { OnErr result (self.new.prefixes ≡ self.old.prefixes) }
+        ensures files { self.new.files ≡ self.old.files }
+        ensures bounded { OnOk result (IsBounded (gives self.new.files) (world_of self.new.files self.new.prefixes) (is_turned self.new.files self.old.prefixes self.new.prefixes) (meter.new.made - meter.old.made) (meter.new.asks - meter.old.asks)) }
+        ensures asks_rise { meter.old.asks ≤ meter.new.asks }
+        ensures made_rise { meter.old.made ≤ meter.new.made }
+    {
+        let outside = match edit {
+            PrefixEdit::Add(prefix) => self.linkage.outside().plus(alloc, prefix)?,
+            PrefixEdit::Drop(prefix) => self.linkage.outside().minus(alloc, prefix)?,
+        };
+        self.linkage.change_outside(outside, meter)
     }
 
     /// Whether a file is unreadable, a class has a fault or does not load, or a reference is answered by

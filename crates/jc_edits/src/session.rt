@@ -10,15 +10,16 @@ ghost use Rattle.jc_held.specs.Holders.{CountsHolders};
 ghost use Rattle.jc_report.specs.FileRows.{winner};
 ghost use Rattle.jc_report.specs.Reports as reports;
 ghost use Rattle.jc_report.specs.Reports.{IsReport, world_of};
-ghost use Rattle.jc_input.specs.Changes.{change_lent, change_of, path_of};
-ghost use Rattle.jc_edits.specs.Edits.{after, judge};
+ghost use Rattle.jc_input.specs.Changes.{OfPrefixes, change_lent, change_of, path_of, prefix_change};
+ghost use Rattle.jc_edits.specs.Edits.{after, after_edit, after_prefix, judge, judge_edit, judge_prefix};
 ghost use Rattle.jc_edits.specs.Judged.{IsJudged};
-ghost use Rattle.jc_edits.specs.Touched.{IsBoundedEdit, gives};
+ghost use Rattle.jc_edits.specs.SessionState.{held_of};
+ghost use Rattle.jc_edits.specs.Touched.{IsBoundedChange, IsBoundedEdit, gives};
 
-use crate::judge::judge;
+use crate::judge::{judge, judge_prefix};
 use crate::report::Report;
 use jc_base::NoMemory;
-use jc_input::{Done, Edit, EditError, LentEdit};
+use jc_input::{Done, Edit, EditError, LentEdit, PrefixEdit};
 use jc_link::{Meter, Outside, Part};
 use std::alloc::Global;
 use std::marker::Model;
@@ -56,16 +57,15 @@ impl Session {
         })
     }
 
-    /// Makes an edit, or refuses it and changes no file. Parts are made of those classes alone whose reach
+    /// Makes an edit, or refuses it and changes neither a file nor a prefix. Parts are made of those classes alone whose reach
     /// holds a name that the edit touches.
     pub fn edit(&mut self, edit: Edit) -> Result<Done, EditError>
-        ensures judged { MatchResult result (λ _. judge self.old.files (change_of edit) ≡ None) (λ e. IsJudged e (judge self.old.files (change_of edit))) }
-        ensures ok { OnOk result (self.new.files ≡ after self.old.files (change_of edit)) }
-        ensures err { OnErr result (self.new.files ≡ self.old.files) }
-        ensures prefixes { self.new.prefixes ≡ self.old.prefixes }
+        ensures judged { MatchResult result (λ _. judge_edit (held_of self.old) (change_of edit) ≡ None) (λ e. IsJudged e (judge_edit (held_of self.old) (change_of edit))) }
+        ensures ok { OnOk result (held_of self.new ≡ after_edit (held_of self.old) (change_of edit)) }
+        ensures err { OnErr result (held_of self.new ≡ held_of self.old) }
         ensures made { IfOk result (λ done. done.made ≡ self.new.made - self.old.made) }
         ensures asks { IfOk result (λ done. done.asks ≡ self.new.asks - self.old.asks) }
-        ensures bounded { IfOk result (λ done. IsBoundedEdit self.old.files self.new.files self.new.prefixes (path_of (change_of edit)) done.made done.asks) }
+        ensures bounded { IfOk result (λ done. IsBoundedChange (held_of self.old) (held_of self.new) (change_of edit) done.made done.asks) }
         ensures asks_rise { self.old.asks ≤ self.new.asks }
         ensures made_rise { self.old.made ≤ self.new.made }
     {
@@ -73,10 +73,43 @@ impl Session {
             Edit::Add(path, bytes) => self.make(LentEdit::Add(&path, bytes)),
             Edit::Replace(path, bytes) => self.make(LentEdit::Replace(&path, bytes)),
             Edit::Remove(path) => self.make(LentEdit::Remove(&path)),
+            Edit::AddPrefix(prefix) => self.make_prefix(PrefixEdit::Add(&prefix)),
+            Edit::DropPrefix(prefix) => self.make_prefix(PrefixEdit::Drop(&prefix)),
         }
     }
 
-    /// The same by a borrowed path.
+    /// The same of the outside prefixes, by a borrowed one.
+    pub fn make_prefix(&mut self, edit: PrefixEdit<'_>) -> Result<Done, EditError>
+        ensures judged { MatchResult result (λ _. judge_prefix self.old.prefixes (prefix_change edit.entry) ≡ None) (λ e. IsJudged e (judge_prefix self.old.prefixes (prefix_change edit.entry))) }
+        ensures ok { OnOk result (self.new.prefixes ≡ after_prefix self.old.prefixes (prefix_change edit.entry)) }
+        ensures err { OnErr result (self.new.prefixes ≡ self.old.prefixes) }
+        ensures files { self.new.files ≡ self.old.files }
+        ensures made { IfOk result (λ done. done.made ≡ self.new.made - self.old.made) }
+        ensures asks { IfOk result (λ done. done.asks ≡ self.new.asks - self.old.asks) }
+        ensures bounded { IfOk result (λ done. IsBoundedChange (held_of self.old) (held_of self.new) (OfPrefixes (prefix_change edit.entry)) done.made done.asks) }
+        ensures asks_rise { self.old.asks ≤ self.new.asks }
+        ensures made_rise { self.old.made ≤ self.new.made }
+    {
+        if let Some(fault) = judge_prefix(self.outside(), edit) {
+            return Err(fault);
+        }
+        let made = self.meter.made();
+        let asks = self.meter.asks();
+        self.report.make_prefix(self.alloc, edit, &mut self.meter)?;
+        Ok(Done {
+            made: self.meter.made().saturating_sub(made),
+            asks: self.meter.asks().saturating_sub(asks),
+        })
+    }
+
+    /// The prefixes of the names that are outside. No memory.
+    pub fn outside(&self) -> &Outside
+        ensures { result.now ≡ self.now.prefixes }
+    {
+        self.report.linkage.outside()
+    }
+
+    /// The same of the files, by a borrowed path.
     pub fn make(&mut self, edit: LentEdit<'_>) -> Result<Done, EditError>
         ensures judged { MatchResult result (λ _. judge self.old.files (change_lent edit.entry) ≡ None) (λ e. IsJudged e (judge self.old.files (change_lent edit.entry))) }
         ensures ok { OnOk result (self.new.files ≡ after self.old.files (change_lent edit.entry)) }

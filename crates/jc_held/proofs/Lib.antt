@@ -8,5 +8,6 @@ pub mod Readying
 pub mod SteppedClasses
 pub mod ClassesChanged
 pub mod Leaving
+pub mod Turned
 pub mod KeysOfRows
 pub mod held

@@ -3,4 +3,5 @@ pub mod ClassLent
 pub mod Holders
 pub mod Linkages
 pub mod Steps
+pub mod Turns
 pub mod inside

@@ -3,3 +3,4 @@ pub mod Kept
 pub mod Lending
 pub mod Readying
 pub mod Stepping
+pub mod Turning

@@ -12,6 +12,7 @@ mod links;
 mod preparing;
 mod rows;
 mod step;
+mod turning;
 
 pub use classes::{Class, Classes};
 pub use linkage::Linkage;

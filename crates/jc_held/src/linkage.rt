@@ -13,6 +13,7 @@ ghost use Rattle.jc_report.specs.ClassRows.{provided_rows, required_rows};
 ghost use Rattle.jc_report.specs.Reports.{Class, GivesRow};
 ghost use Rattle.jc_report.specs.Rows.{AreRows, Row};
 ghost use Rattle.jc_held.specs.Steps.{changed, is_touched};
+ghost use Rattle.jc_held.specs.Turns.{turns};
 ghost use Rattle.jc_held.specs.inside.Holding as holding;
 
 use crate::changing::{change_classes, counting};
@@ -21,6 +22,7 @@ use crate::kept::Kept;
 use crate::links::Links;
 use crate::rows::{Provided, Required};
 use crate::step::Step;
+use crate::turning::remake_turned;
 use jc_base::{ByteMap, NoMemory};
 use jc_classes::Facts;
 use jc_link::{Meter, Outside, Part, Table};
@@ -100,6 +102,37 @@ impl Linkage {
             second,
             meter,
         )
+    }
+
+    /// Takes other prefixes of the names that are outside. Parts are made of those classes alone whose reach holds a
+    /// name without a record that is outside by one of the two lists, and not by the other. At want of memory all
+    /// stands as before.
+    pub fn change_outside(&mut self, outside: Outside, meter: &mut Meter) -> Result<(), NoMemory>
+        ensures ok { OnOk result (self.new.prefixes ≡ outside) }
+        ensures err { OnErr result (self.new.prefixes ≡ self.old.prefixes) }
+        ensures classes { self.new.classes ≡ self.old.classes }
+        ensures bounded { OnOk result (IsBounded (given self.new) (world_held self.new) (turns self.old.classes self.old.prefixes self.new.prefixes) (meter.new.made - meter.old.made) (meter.new.asks - meter.old.asks)) }
+        ensures asks_rise { meter.old.asks ≤ meter.new.asks }
+        ensures made_rise { meter.old.made ≤ meter.new.made }
+    {
+        remake_turned(
+            self.alloc,
+            &self.table,
+            &self.outside,
+            &outside,
+            &mut self.kept,
+            &mut self.links,
+            meter,
+        )?;
+        self.outside = outside;
+        Ok(())
+    }
+
+    /// The prefixes of the names that are outside. No memory.
+    pub fn outside(&self) -> &Outside
+        ensures { result.now ≡ self.now.prefixes }
+    {
+        &self.outside
     }
 
     /// The classes whose reach holds a name, rising, also of a name that no file gives. No memory.

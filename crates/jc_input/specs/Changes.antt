@@ -1,21 +1,40 @@
--- Edits, as data.
+-- Edits of files and of outside prefixes, as data.
 use Rattle.std.specs.Prelude.{ℕ, List, Option, Some, None}
 use Rattle.jc_input.specs.declared.edit.Edit.{Edit}
 use Rattle.jc_input.specs.declared.edit.Edit.TheVariants as edits
 use Rattle.jc_input.specs.declared.edit.LentEdit.{LentEdit}
 use Rattle.jc_input.specs.declared.edit.LentEdit.TheVariants as lent
+use Rattle.jc_input.specs.declared.edit.PrefixEdit.{PrefixEdit}
+use Rattle.jc_input.specs.declared.edit.PrefixEdit.TheVariants as by_prefix
 
+-- of files
 pub data Change : Type 0 where
   Adds : (path bytes : List ℕ) → Change
   Replaces : (path bytes : List ℕ) → Change
   Removes : (path : List ℕ) → Change
 
-abbrev pub change_of : Edit → Change
-change_of (edits.Add path bytes) = Adds path.items bytes.items
-change_of (edits.Replace path bytes) = Replaces path.items bytes.items
-change_of (edits.Remove path) = Removes path.items
+-- of the prefixes of outside names
+pub data PrefixChange : Type 0 where
+  AddsPrefix : (prefix : List ℕ) → PrefixChange
+  DropsPrefix : (prefix : List ℕ) → PrefixChange
 
--- the same of an edit by a borrowed path
+pub data EditChange : Type 0 where
+  OfFiles : Change → EditChange
+  OfPrefixes : PrefixChange → EditChange
+
+abbrev pub change_of : Edit → EditChange
+change_of (edits.Add path bytes) = OfFiles (Adds path.items bytes.items)
+change_of (edits.Replace path bytes) = OfFiles (Replaces path.items bytes.items)
+change_of (edits.Remove path) = OfFiles (Removes path.items)
+change_of (edits.AddPrefix prefix) = OfPrefixes (AddsPrefix prefix.items)
+change_of (edits.DropPrefix prefix) = OfPrefixes (DropsPrefix prefix.items)
+
+-- an edit by a borrowed prefix
+abbrev pub prefix_change : PrefixEdit → PrefixChange
+prefix_change (by_prefix.Add prefix) = AddsPrefix prefix.now
+prefix_change (by_prefix.Drop prefix) = DropsPrefix prefix.now
+
+-- an edit by a borrowed path
 abbrev pub change_lent : LentEdit → Change
 change_lent (lent.Add path bytes) = Adds path.now bytes.items
 change_lent (lent.Replace path bytes) = Replaces path.now bytes.items

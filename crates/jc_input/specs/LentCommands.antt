@@ -1,13 +1,15 @@
 -- What a line asks for, from what the code holds.
 use Rattle.jc_input.specs.declared.command.Command.{Command as LentCommand}
 use Rattle.jc_input.specs.declared.command.Command.TheVariants as lent
-use Rattle.jc_input.specs.Lines.{Command, Add, Replace, Remove, Report, Part, Listing, End, Bad}
+use Rattle.jc_input.specs.Lines.{Command, Add, Replace, Remove, AddPrefix, DropPrefix, Report, Part, Listing, End, Bad}
 
--- a borrowed command, with its path as bytes
+-- a borrowed command, with its path, prefix or name as bytes
 abbrev pub command_lent : LentCommand → Command
 command_lent (lent.Add path) = Add path.now
 command_lent (lent.Replace path) = Replace path.now
 command_lent (lent.Remove path) = Remove path.now
+command_lent (lent.AddPrefix prefix) = AddPrefix prefix.now
+command_lent (lent.DropPrefix prefix) = DropPrefix prefix.now
 command_lent lent.Report = Report
 command_lent (lent.Part name) = Part name.now
 command_lent (lent.List name) = Listing name.now

@@ -26,6 +26,8 @@ pub data Command : Type 0 where
   Add : (path : List ℕ) → Command
   Replace : (path : List ℕ) → Command
   Remove : (path : List ℕ) → Command
+  AddPrefix : (prefix : List ℕ) → Command
+  DropPrefix : (prefix : List ℕ) → Command
   Report : Command
   Part : (name : List ℕ) → Command
   Listing : (name : List ℕ) → Command
@@ -35,15 +37,17 @@ pub data Command : Type 0 where
 abbrev pub begins_with_word : List ℕ → List ℕ → Bool
 begins_with_word word line = starts_with nat_eq line word
 
--- all bytes after the one space are the path or the name; a line over 8,192 bytes is bad
+-- all bytes after the last space of the words are the path, the prefix or the name; a line over 8,192 bytes is bad
 abbrev pub command_of : List ℕ → Command
 command_of line =
     if nat_lt 8192 (length line) then Bad
     else (if begins_with_word (codes "add ") line then Add (drop 4 line)
     else (if begins_with_word (codes "replace ") line then Replace (drop 8 line)
     else (if begins_with_word (codes "remove ") line then Remove (drop 7 line)
+    else (if begins_with_word (codes "outside add ") line then AddPrefix (drop 12 line)
+    else (if begins_with_word (codes "outside drop ") line then DropPrefix (drop 13 line)
     else (if same_bytes line (codes "report") then Report
     else (if begins_with_word (codes "part ") line then Part (drop 5 line)
     else (if begins_with_word (codes "list ") line then Listing (drop 5 line)
     else (if same_bytes line (codes "end") then End
-    else Bad)))))))
+    else Bad)))))))))

@@ -6,7 +6,7 @@ ghost use Rattle.jc_input.specs.LentCommands.{command_lent};
 /// The most bytes that a line may have, its LF aside.
 const LONGEST_LINE: usize = 8192;
 
-/// What a line asks for. Paths and names are borrowed from the line.
+/// What a line asks for. Paths, prefixes and names are borrowed from the line.
 #[derive(Clone, Copy)]
 pub enum Command<'a> {
     /// A new file at a path.
@@ -15,6 +15,10 @@ pub enum Command<'a> {
     Replace(&'a [u8]),
     /// No file at a path.
     Remove(&'a [u8]),
+    /// One more outside prefix.
+    AddPrefix(&'a [u8]),
+    /// One outside prefix less.
+    DropPrefix(&'a [u8]),
     /// The report.
     Report,
     /// The part of the class of a name.
@@ -39,6 +43,10 @@ pub fn parse_line(line: &[u8]) -> Command<'_>
         Command::Replace(path)
     } else if let Some(path) = after(line, b"remove ") {
         Command::Remove(path)
+    } else if let Some(prefix) = after(line, b"outside add ") {
+        Command::AddPrefix(prefix)
+    } else if let Some(prefix) = after(line, b"outside drop ") {
+        Command::DropPrefix(prefix)
     } else if line == b"report".as_slice() {
         Command::Report
     } else if let Some(name) = after(line, b"part ") {

@@ -1,4 +1,4 @@
-//! Edits of the files, and why one is refused.
+//! Edits of the files and of the outside prefixes, and why one is refused.
 
 ghost use Rattle.std.specs.Prelude.{◌≡◌};
 ghost use Rattle.std.specs.Option.{option_copied};
@@ -9,7 +9,7 @@ use jc_base::NoMemory;
 use std::alloc::{AllocError, AllocFailed};
 use thiserror::Error;
 
-/// An edit of the files, by paths. Paths and bytes are owned; a refusal drops them.
+/// An edit of the files, by paths, or of the prefixes of outside names. What it holds is owned; a refusal drops it.
 #[derive(Drop)]
 pub enum Edit {
     /// A new file at a path, with its bytes.
@@ -18,9 +18,22 @@ pub enum Edit {
     Replace(Vec<u8>, Vec<u8>),
     /// No file at a path.
     Remove(Vec<u8>),
+    /// One more prefix of outside names.
+    AddPrefix(Vec<u8>),
+    /// One prefix of outside names less.
+    DropPrefix(Vec<u8>),
 }
 
-/// An edit by a borrowed path.
+/// An edit of the prefixes of outside names, by a borrowed one.
+#[derive(Clone, Copy)]
+pub enum PrefixEdit<'a> {
+    /// One more.
+    Add(&'a [u8]),
+    /// One less.
+    Drop(&'a [u8]),
+}
+
+/// An edit of the files by a borrowed path.
 #[derive(Drop)]
 pub enum LentEdit<'a> {
     /// A new file at a path, with its bytes.
@@ -59,8 +72,9 @@ pub struct Done {
     pub asks: u64,
 }
 
-/// Why an edit is refused: the first that applies, in the order `BadPath`, `AlreadyThere` or
-/// `NoSuchFile`, `TooLarge`, `TooMany`, and `NoMemory` only where none of them does.
+/// Why an edit is refused: the first that applies, of files in the order `BadPath`, `AlreadyThere` or
+/// `NoSuchFile`, `TooLarge`, `TooMany`, of prefixes in the order `BadPrefix`, `PrefixThere` or `NoSuchPrefix`,
+/// `TooManyPrefixes`, and `NoMemory` only where none of them does.
 #[derive(Clone, Copy, Debug, PartialEq, Eq, Error)]
 pub enum EditError {
     /// `Add`: a file stands at the path.
@@ -81,6 +95,18 @@ pub enum EditError {
     /// Memory was refused.
     #[error("memory was refused")]
     NoMemory,
+    /// The prefix is empty or longer than 256 bytes.
+    #[error("the prefix is empty or longer than 256 bytes")]
+    BadPrefix,
+    /// `AddPrefix`: the prefix is held.
+    #[error("the prefix is held")]
+    PrefixThere,
+    /// `DropPrefix`: the prefix is not held.
+    #[error("the prefix is not held")]
+    NoSuchPrefix,
+    /// `AddPrefix`: 64 prefixes are held.
+    #[error("64 prefixes are held")]
+    TooManyPrefixes,
 }
 
 impl EditError {
@@ -97,6 +123,10 @@ impl EditError {
             EditError::TooMany => 4,
             EditError::BadPath => 5,
             EditError::NoMemory => 6,
+            EditError::BadPrefix => 7,
+            EditError::PrefixThere => 8,
+            EditError::NoSuchPrefix => 9,
+            EditError::TooManyPrefixes => 10,
         }
     }
 
@@ -111,6 +141,10 @@ impl EditError {
             EditError::TooMany => b"TooMany",
             EditError::BadPath => b"BadPath",
             EditError::NoMemory => b"NoMemory",
+            EditError::BadPrefix => b"BadPrefix",
+            EditError::PrefixThere => b"PrefixThere",
+            EditError::NoSuchPrefix => b"NoSuchPrefix",
+            EditError::TooManyPrefixes => b"TooManyPrefixes",
         }
     }
 }

@@ -9,7 +9,7 @@ mod run_error;
 mod source;
 
 pub use command::{Command, parse_line};
-pub use edit::{Done, Edit, EditError, LentEdit};
+pub use edit::{Done, Edit, EditError, LentEdit, PrefixEdit};
 pub use lines::{Ahead, Line, read_line};
 pub use run_error::{Ended, RunError};
 pub use source::{FileSource, MemSource, Source, SourceError};

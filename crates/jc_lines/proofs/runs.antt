@@ -3,3 +3,4 @@ pub mod LineAnswered
 pub mod RunsSoFar
 pub mod ByAnswers
 pub mod OneRun
+pub mod EditsMade

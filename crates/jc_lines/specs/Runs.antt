@@ -8,18 +8,17 @@ use Rattle.jc_input.specs.declared.run_error.Ended.{Ended}
 use Rattle.jc_input.specs.declared.run_error.Ended.TheVariants as ended
 use Rattle.jc_input.specs.declared.source.SourceError.{SourceError}
 use Rattle.jc_input.specs.declared.source.SourceError.TheVariants as sources
-use Rattle.jc_classes.specs.Names.{Name}
-use Rattle.jc_report.specs.Files.{Files}
-use Rattle.jc_input.specs.Changes.{Change, Adds, Replaces, Removes}
-use Rattle.jc_edits.specs.Edits.{judge}
+use Rattle.jc_edits.specs.SessionState.{HeldFiles}
+use Rattle.jc_input.specs.Changes.{Change, Adds, Replaces, Removes, AddsPrefix, DropsPrefix, OfFiles, OfPrefixes}
+use Rattle.jc_edits.specs.Edits.{judge_edit}
 use Rattle.jc_report.specs.FileRows.{winner}
-use Rattle.jc_input.specs.Lines.{Command, Add, Replace, Remove, Report, Part, Listing, End, Bad, command_of, lines_of, whole_lines}
+use Rattle.jc_input.specs.Lines.{Command, Add, Replace, Remove, AddPrefix, DropPrefix, Report, Part, Listing, End, Bad, command_of, lines_of, whole_lines}
 use Rattle.jc_input.specs.Sources.{SourceAnswers, next_answer}
 use Rattle.jc_lines.specs.Answers.{Reply, Says, Lists, Ends, Lacks, Replies, Run, RunsTo, Ending, AtEnd, AtEof}
 
--- what a run leaves: the files, the source's answers to come and the input's bytes to come, and what was written before it and is now
+-- what a run leaves: the files and prefixes, the source's answers to come and the input's bytes to come, and what was written before it and is now
 pub record Left : Type 0 where
-  pub files : Files
+  pub held : HeldFiles
   pub source : Option SourceAnswers
   pub coming : Option (List ℕ)
   pub before : Option (List ℕ)
@@ -28,7 +27,7 @@ pub record Left : Type 0 where
 -- the session and the source are left, and the output was written, as by the run over some lines, which ended so
 pub record IsDone (run : Run) (ending : Ending) (left : Left) : Type 0 where
   pub ends : run.ending ≡ ending
-  pub files : left.files ≡ run.files
+  pub held : left.held ≡ run.held
   pub source : left.source ≡ Some run.source
   pub text : Appends left.before left.now run.text
 
@@ -42,6 +41,8 @@ abbrev pub is_end : Command → Bool
 is_end (Add path) = false
 is_end (Replace path) = false
 is_end (Remove path) = false
+is_end (AddPrefix prefix) = false
+is_end (DropPrefix prefix) = false
 is_end Report = false
 is_end (Part name) = false
 is_end (Listing name) = false
@@ -53,19 +54,19 @@ abbrev pub has_end : List (List ℕ) → Bool
 has_end lines = list_any (λ line. is_end (command_of line)) lines
 
 -- all lines were answered, up to the first that is `end`, and the source answered none of them that it had no memory
-pub record EndsAs (prefixes : List Name) (f : Files) (s : SourceAnswers) (bytes : List ℕ) (how : Ended) (left : Left) : Type 0 where
+pub record EndsAs (h : HeldFiles) (s : SourceAnswers) (bytes : List ℕ) (how : Ended) (left : Left) : Type 0 where
   pub run : Run
-  pub runs : RunsTo prefixes f s (lines_of bytes) run
+  pub runs : RunsTo h s (lines_of bytes) run
   pub done : IsDone run (ending_of how) left
   pub by_end : (how ≡ ended.End) ↔ (has_end (lines_of bytes) ≡ true)
 
 -- ---- a run that stops
 
 -- the whole lines that were handed over were answered, none of them `end`
-abbrev pub StopsAtRead : List Name → Files → SourceAnswers → List ℕ → Left → Type 0
-StopsAtRead prefixes f s bytes left =
+abbrev pub StopsAtRead : HeldFiles → SourceAnswers → List ℕ → Left → Type 0
+StopsAtRead h s bytes left =
     (front : List ℕ) × (coming : List ℕ) × (run : Run) × (bytes ≡ front ++ coming) × (left.coming ≡ Some coming)
-    × RunsTo prefixes f s (whole_lines front) run × IsDone run AtEof left
+    × RunsTo h s (whole_lines front) run × IsDone run AtEof left
 
 -- a proper beginning of an answer was written behind the text of the lines before
 abbrev pub BreaksText : List ℕ → (text : List ℕ) → Left → Type 0
@@ -73,60 +74,62 @@ BreaksText said text left = (n : ℕ) × (n < length said) × Appends left.befor
 
 -- behind a run the line was done, and a proper beginning of its answer was written
 abbrev pub BreaksOff : Reply → Run → Left → Type 0
-BreaksOff (Says said files source) run left = (left.files ≡ files) × (left.source ≡ Some source) × BreaksText said run.text left
-BreaksOff (Lists said) run left = (left.files ≡ run.files) × (left.source ≡ Some run.source) × BreaksText said run.text left
+BreaksOff (Says said held source) run left = (left.held ≡ held) × (left.source ≡ Some source) × BreaksText said run.text left
+BreaksOff (Lists said) run left = (left.held ≡ run.held) × (left.source ≡ Some run.source) × BreaksText said run.text left
 BreaksOff Ends run left = ⊥
 BreaksOff (Lacks source) run left = ⊥
 
 -- the lines before some line were answered, none of them `end`, and it was done but not answered whole
-abbrev pub StopsAtWrite : List Name → Files → SourceAnswers → List ℕ → Left → Type 0
-StopsAtWrite prefixes f s bytes left =
+abbrev pub StopsAtWrite : HeldFiles → SourceAnswers → List ℕ → Left → Type 0
+StopsAtWrite h s bytes left =
     (lines : List (List ℕ)) × (line : List ℕ) × (rest : List (List ℕ)) × (run : Run) × (r : Reply) × (lines_of bytes ≡ lines ++ line ∷ rest)
-    × RunsTo prefixes f s lines run × (run.ending ≡ AtEof) × Replies prefixes run.files run.source (command_of line) r × BreaksOff r run left
+    × RunsTo h s lines run × (run.ending ≡ AtEof) × Replies run.held run.source (command_of line) r × BreaksOff r run left
 
 -- an edit that is not refused may want memory, and so may the source
-abbrev pub MayLack : Files → (List ℕ → Change) → Result (List ℕ) SourceError → Type 0
-MayLack f change (Ok bytes) = judge f (change bytes) ≡ None
-MayLack f change (Err sources.Unread) = ⊥
-MayLack f change (Err sources.NoMemory) = ⊤
+abbrev pub MayLack : HeldFiles → (List ℕ → Change) → Result (List ℕ) SourceError → Type 0
+MayLack h change (Ok bytes) = judge_edit h (OfFiles (change bytes)) ≡ None
+MayLack h change (Err sources.Unread) = ⊥
+MayLack h change (Err sources.NoMemory) = ⊤
 
 -- a listing may too, and no other line
-abbrev pub LineMayLack : Files → SourceAnswers → Command → Type 0
-LineMayLack f s (Add path) = MayLack f (Adds path) (next_answer s path)
-LineMayLack f s (Replace path) = MayLack f (Replaces path) (next_answer s path)
-LineMayLack f s (Remove path) = judge f (Removes path) ≡ None
-LineMayLack f s Report = ⊥
-LineMayLack f s (Part name) = ⊥
-LineMayLack f s (Listing name) = IsSome (winner f name)
-LineMayLack f s End = ⊥
-LineMayLack f s Bad = ⊥
+abbrev pub LineMayLack : HeldFiles → SourceAnswers → Command → Type 0
+LineMayLack h s (Add path) = MayLack h (Adds path) (next_answer s path)
+LineMayLack h s (Replace path) = MayLack h (Replaces path) (next_answer s path)
+LineMayLack h s (Remove path) = judge_edit h (OfFiles (Removes path)) ≡ None
+LineMayLack h s (AddPrefix prefix) = judge_edit h (OfPrefixes (AddsPrefix prefix)) ≡ None
+LineMayLack h s (DropPrefix prefix) = judge_edit h (OfPrefixes (DropsPrefix prefix)) ≡ None
+LineMayLack h s Report = ⊥
+LineMayLack h s (Part name) = ⊥
+LineMayLack h s (Listing name) = IsSome (winner h.files name)
+LineMayLack h s End = ⊥
+LineMayLack h s Bad = ⊥
 
 -- nothing was done
-pub record IsNotBegun (f : Files) (s : SourceAnswers) (bytes : List ℕ) (left : Left) : Type 0 where
-  pub files : left.files ≡ f
+pub record IsNotBegun (h : HeldFiles) (s : SourceAnswers) (bytes : List ℕ) (left : Left) : Type 0 where
+  pub held : left.held ≡ h
   pub source : left.source ≡ Some s
   pub coming : left.coming ≡ Some bytes
   pub kept : Keeps left.before left.now
 
 -- behind a run a line was not done: of a listing a beginning may be written, and of an edit nothing is, but the source was asked where it is
 abbrev pub GivesUp : Reply → Run → Left → Type 0
-GivesUp (Says said files source) run left = IsDone (record run { source = source }) AtEof left
+GivesUp (Says said held source) run left = IsDone (record run { source = source }) AtEof left
 GivesUp (Lists said) run left = (n : ℕ) × (n ≤ length said) × IsDone (record run { text = run.text ++ take n said }) AtEof left
 GivesUp Ends run left = ⊥
 GivesUp (Lacks source) run left = IsDone (record run { source = source }) AtEof left
 
 -- the lines before some line were answered, none of them `end`, and it wanted memory
-abbrev pub StopsForMemory : List Name → Files → SourceAnswers → List ℕ → Left → Type 0
-StopsForMemory prefixes f s bytes left =
+abbrev pub StopsForMemory : HeldFiles → SourceAnswers → List ℕ → Left → Type 0
+StopsForMemory h s bytes left =
     (lines : List (List ℕ)) × (line : List ℕ) × (rest : List (List ℕ)) × (run : Run) × (r : Reply) × (lines_of bytes ≡ lines ++ line ∷ rest)
-    × RunsTo prefixes f s lines run × Replies prefixes run.files run.source (command_of line) r × GivesUp r run left × LineMayLack run.files run.source (command_of line)
+    × RunsTo h s lines run × Replies run.held run.source (command_of line) r × GivesUp r run left × LineMayLack run.held run.source (command_of line)
 
-abbrev pub StopsAs : List Name → Files → SourceAnswers → List ℕ → RunError → Left → Type 0
-StopsAs prefixes f s bytes run_errors.Read left = StopsAtRead prefixes f s bytes left
-StopsAs prefixes f s bytes run_errors.Write left = StopsAtWrite prefixes f s bytes left
-StopsAs prefixes f s bytes run_errors.NoMemory left = IsNotBegun f s bytes left ⊎ StopsForMemory prefixes f s bytes left
+abbrev pub StopsAs : HeldFiles → SourceAnswers → List ℕ → RunError → Left → Type 0
+StopsAs h s bytes run_errors.Read left = StopsAtRead h s bytes left
+StopsAs h s bytes run_errors.Write left = StopsAtWrite h s bytes left
+StopsAs h s bytes run_errors.NoMemory left = IsNotBegun h s bytes left ⊎ StopsForMemory h s bytes left
 
 -- the run over the input ended so, or stopped so
-abbrev pub RunsAs : List Name → Files → SourceAnswers → List ℕ → Result Ended RunError → Left → Type 0
-RunsAs prefixes f s bytes (Ok how) left = EndsAs prefixes f s bytes how left
-RunsAs prefixes f s bytes (Err e) left = StopsAs prefixes f s bytes e left
+abbrev pub RunsAs : HeldFiles → SourceAnswers → List ℕ → Result Ended RunError → Left → Type 0
+RunsAs h s bytes (Ok how) left = EndsAs h s bytes how left
+RunsAs h s bytes (Err e) left = StopsAs h s bytes e left

@@ -1,8 +1,9 @@
 //! The answer to one line.
 ghost use Rattle.std.specs.Prelude.{◌≡◌, ◌≤◌, ◌≢◌, IfErr, IsSome, None, Some};
 ghost use Rattle.jc_input.specs.declared.run_error.RunError.TheVariants.{NoMemory, Read};
-ghost use Rattle.jc_input.specs.Changes.{change_lent};
-ghost use Rattle.jc_edits.specs.Edits.{judge};
+ghost use Rattle.jc_input.specs.Changes.{EditChange, OfFiles, change_lent};
+ghost use Rattle.jc_edits.specs.Edits.{judge_edit};
+ghost use Rattle.jc_edits.specs.SessionState.{HeldFiles, held_of};
 ghost use Rattle.jc_input.specs.Sources.{SourceAnswers, next_answer};
 ghost use Rattle.jc_lines.specs.Answers.{Lists, edit_reply, sourced_reply};
 ghost use Rattle.jc_lines.specs.ListedText.{listed_text};
@@ -10,12 +11,12 @@ ghost use Rattle.jc_report.specs.FileRows.{winner};
 ghost use Rattle.jc_input.specs.RunErrors.{CountsWrites};
 ghost use Rattle.jc_lines.specs.Runs.{LineMayLack, MayLack};
 ghost use Rattle.jc_input.specs.LentCommands.{command_lent};
-ghost use Rattle.jc_lines.specs.inside.Replies.{Gives, GivesByAnswers, GivesByReply, GivesOwed, placed, said_by};
+ghost use Rattle.jc_lines.specs.inside.Replies.{Gives, GivesByAnswers, GivesByReply, GivesOwed, IsEdited, placed, said_by};
 
 use crate::answer_text::{write_bad_line, write_edit_answer, write_unread};
 use crate::file_listing::list_winner;
 use jc_base::Output;
-use jc_edits::{EditError, LentEdit, Session, write_part_of, write_report};
+use jc_edits::{Done, EditError, LentEdit, PrefixEdit, Session, write_part_of, write_report};
 use jc_input::{Command, RunError, Source, SourceError};
 use jc_list::ListError;
 use std::alloc::Global;
@@ -53,11 +54,10 @@ pub(crate) fn answer<S: Source, W: Output>(
     command: Command<'_>,
     out: &mut W,
 ) -> Result<Next, RunError>
-    ensures gives { (s : SourceAnswers) → S.answers source.old ≡ Some s → GivesOwed session.old.prefixes session.old.files s (command_lent command.entry)
-        result session.new.files (S.answers source.new) (W.written out.old) (W.written out.new) }
-    ensures lacks { (s : SourceAnswers) → S.answers source.old ≡ Some s → result ≡ Err NoMemory → LineMayLack session.old.files s (command_lent command.entry) }
-    ensures any { GivesByAnswers session.old.prefixes session.old.files (command_lent command.entry) result session.new.files (W.written out.old) (W.written out.new) }
-    ensures prefixes { session.new.prefixes ≡ session.old.prefixes }
+    ensures gives { (s : SourceAnswers) → S.answers source.old ≡ Some s → GivesOwed (held_of session.old) s (command_lent command.entry)
+        result (held_of session.new) (S.answers source.new) (W.written out.old) (W.written out.new) }
+    ensures lacks { (s : SourceAnswers) → S.answers source.old ≡ Some s → result ≡ Err NoMemory → LineMayLack (held_of session.old) s (command_lent command.entry) }
+    ensures any { GivesByAnswers (held_of session.old) (command_lent command.entry) result (held_of session.new) (W.written out.old) (W.written out.new) }
     ensures failures { CountsWrites result (W.failures out.old) (W.failures out.new) }
     ensures err { IfErr result (λ e. e ≢ Read) }
     ensures asks_rise { session.old.asks ≤ session.new.asks }
@@ -66,7 +66,15 @@ pub(crate) fn answer<S: Source, W: Output>(
     match command {
         Command::Add(path) => answer_sourced(session, source, path, Placing::New, out),
         Command::Replace(path) => answer_sourced(session, source, path, Placing::Other, out),
-        Command::Remove(path) => answer_edit(session, LentEdit::Remove(path), out),
+        Command::Remove(path) => answer_edit(session.make(LentEdit::Remove(path)), out),
+        Command::AddPrefix(prefix) => answer_edit(
+            session.make_prefix(PrefixEdit::Add(prefix)),
+            out,
+        ),
+        Command::DropPrefix(prefix) => answer_edit(
+            session.make_prefix(PrefixEdit::Drop(prefix)),
+            out,
+        ),
         Command::Report => said(write_report(session.report(), out)),
         Command::Part(name) => said(write_part_of(session.report(), name, out)),
         Command::List(name) => answer_listing(alloc, session, name, out),
@@ -83,40 +91,32 @@ fn answer_sourced<S: Source, W: Output>(
     placing: Placing,
     out: &mut W,
 ) -> Result<Next, RunError>
-    ensures gives { (s : SourceAnswers) → S.answers source.old ≡ Some s → Gives session.old.files s (sourced_reply session.old.files s path.now (placed placing path.now))
-        result session.new.files (S.answers source.new) (W.written out.old) (W.written out.new) }
-    ensures lacks { (s : SourceAnswers) → S.answers source.old ≡ Some s → result ≡ Err NoMemory → MayLack session.old.files (placed placing path.now) (next_answer s path.now) }
-    ensures any { GivesByReply session.old.files (λ s. sourced_reply session.old.files s path.now (placed placing path.now)) (λ s. MayLack session.old.files (placed placing path.now) (next_answer s path.now))
-        result session.new.files (W.written out.old) (W.written out.new) }
-    ensures prefixes { session.new.prefixes ≡ session.old.prefixes }
+    ensures gives { (s : SourceAnswers) → S.answers source.old ≡ Some s → Gives (held_of session.old) s (sourced_reply (held_of session.old) s path.now (placed placing path.now))
+        result (held_of session.new) (S.answers source.new) (W.written out.old) (W.written out.new) }
+    ensures lacks { (s : SourceAnswers) → S.answers source.old ≡ Some s → result ≡ Err NoMemory → MayLack (held_of session.old) (placed placing path.now) (next_answer s path.now) }
+    ensures any { GivesByReply (held_of session.old) (λ s. sourced_reply (held_of session.old) s path.now (placed placing path.now)) (λ s. MayLack (held_of session.old) (placed placing path.now) (next_answer s path.now))
+        result (held_of session.new) (W.written out.old) (W.written out.new) }
     ensures failures { CountsWrites result (W.failures out.old) (W.failures out.new) }
     ensures err { IfErr result (λ e. e ≢ Read) }
     ensures asks_rise { session.old.asks ≤ session.new.asks }
     ensures made_rise { session.old.made ≤ session.new.made }
 {
     match source.read(path) {
-        Ok(bytes) => answer_edit(session, placing.edit(path, bytes), out),
+        Ok(bytes) => answer_edit(session.make(placing.edit(path, bytes)), out),
         Err(SourceError::Unread) => said(write_unread(out, path)),
         Err(SourceError::NoMemory) => Err(RunError::NoMemory),
     }
 }
 
-/// Makes an edit, and then says so, or why it is refused.
-fn answer_edit<W: Output>(
-    session: &mut Session,
-    edit: LentEdit<'_>,
-    out: &mut W,
-) -> Result<Next, RunError>
-    ensures gives { (s t : SourceAnswers) → Gives session.old.files s (edit_reply session.old.files t (change_lent edit.entry))
-        result session.new.files (Some t) (W.written out.old) (W.written out.new) }
-    ensures lacks { result ≡ Err NoMemory → judge session.old.files (change_lent edit.entry) ≡ None }
-    ensures prefixes { session.new.prefixes ≡ session.old.prefixes }
+/// Says that an edit was made, or why it is refused.
+fn answer_edit<W: Output>(edited: Result<Done, EditError>, out: &mut W) -> Result<Next, RunError>
+    ensures gives { (h g : HeldFiles) (change : EditChange) → IsEdited h g change edited → (s t : SourceAnswers)
+        → Gives h s (edit_reply h t change) result g (Some t) (W.written out.old) (W.written out.new) }
+    ensures lacks { (h g : HeldFiles) (change : EditChange) → IsEdited h g change edited → result ≡ Err NoMemory → judge_edit h change ≡ None }
     ensures failures { CountsWrites result (W.failures out.old) (W.failures out.new) }
     ensures err { IfErr result (λ e. e ≢ Read) }
-    ensures asks_rise { session.old.asks ≤ session.new.asks }
-    ensures made_rise { session.old.made ≤ session.new.made }
 {
-    match session.make(edit) {
+    match edited {
         Err(EditError::NoMemory) => Err(RunError::NoMemory),
         answer => said(write_edit_answer(out, answer)),
     }
@@ -129,8 +129,8 @@ fn answer_listing<W: Output>(
     name: &[u8],
     out: &mut W,
 ) -> Result<Next, RunError>
-    ensures gives { (s : SourceAnswers) → Gives session.now.files s (Lists (listed_text session.now.files name.now))
-        result session.now.files (Some s) (W.written out.old) (W.written out.new) }
+    ensures gives { (s : SourceAnswers) → Gives (held_of session.now) s (Lists (listed_text session.now.files name.now))
+        result (held_of session.now) (Some s) (W.written out.old) (W.written out.new) }
     ensures lacks { result ≡ Err NoMemory → IsSome (winner session.now.files name.now) }
     ensures failures { CountsWrites result (W.failures out.old) (W.failures out.new) }
     ensures err { IfErr result (λ e. e ≢ Read) }

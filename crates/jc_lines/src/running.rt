@@ -4,6 +4,7 @@ ghost use Rattle.jc_input.specs.declared.run_error.RunError.TheVariants.{NoMemor
 ghost use Rattle.jc_input.specs.Lines.{command_of};
 ghost use Rattle.jc_input.specs.Sources.{SourceAnswers};
 ghost use Rattle.jc_input.specs.RunErrors.{CountsReads, CountsWrites};
+ghost use Rattle.jc_edits.specs.SessionState.{held_of};
 ghost use Rattle.jc_lines.specs.Runs.{LineMayLack, RunsAs};
 ghost use Rattle.jc_lines.specs.inside.Replies.{GivesLast, GivesLastByAnswers};
 
@@ -13,9 +14,10 @@ use jc_edits::Session;
 use jc_input::{Ahead, Ended, Line, RunError, Source, parse_line, read_line};
 use std::alloc::Global;
 
-/// Answers the lines of an input one by one: `add PATH`, `replace PATH`, `remove PATH`, `report`,
-/// `part NAME`, `list NAME` and `end`. A line's answer is written before more of the input is read, and
-/// nothing is read behind the end of the input. An edit is made before it is answered.
+/// Answers the lines of an input one by one: `add PATH`, `replace PATH`, `remove PATH`,
+/// `outside add PREFIX`, `outside drop PREFIX`, `report`, `part NAME`, `list NAME` and `end`. A line's
+/// answer is written before more of the input is read, and nothing is read behind the end of the input.
+/// An edit is made before it is answered.
 pub fn run<S: Source, R: Input, W: Output>(
     alloc: Global,
     session: &mut Session,
@@ -24,22 +26,21 @@ pub fn run<S: Source, R: Input, W: Output>(
     out: &mut W,
 ) -> Result<Ended, RunError>
     ensures runs { (bytes : List ℕ) (s : SourceAnswers) → R.remaining input.old ≡ Some bytes → S.answers source.old ≡ Some s
-        → RunsAs session.old.prefixes session.old.files s bytes result (record {
-          files = session.new.files;
+        → RunsAs (held_of session.old) s bytes result (record {
+          held = held_of session.new;
           source = S.answers source.new;
           coming = R.remaining input.new;
           before = W.written out.old;
           now = W.written out.new;
         }) }
     // Of any source: by the answers that it gave.
-    ensures by_answers { (bytes : List ℕ) → R.remaining input.old ≡ Some bytes → (s : SourceAnswers) × RunsAs session.old.prefixes session.old.files s bytes result (record {
-      files = session.new.files;
+    ensures by_answers { (bytes : List ℕ) → R.remaining input.old ≡ Some bytes → (s : SourceAnswers) × RunsAs (held_of session.old) s bytes result (record {
+      held = held_of session.new;
       source = Some [];
       coming = R.remaining input.new;
       before = W.written out.old;
       now = W.written out.new;
     }) }
-    ensures prefixes { session.new.prefixes ≡ session.old.prefixes }
 
     // An input that has ended is not read.
     ensures ended { R.ended input.old ≡ true → input.new ≡ input.old }
@@ -67,11 +68,10 @@ fn answer_last<S: Source, W: Output>(
     line: &[u8],
     out: &mut W,
 ) -> Result<Ended, RunError>
-    ensures gives { (s : SourceAnswers) → S.answers source.old ≡ Some s → GivesLast session.old.prefixes session.old.files s line.now
-        result session.new.files (S.answers source.new) (W.written out.old) (W.written out.new) }
-    ensures lacks { (s : SourceAnswers) → S.answers source.old ≡ Some s → result ≡ Err NoMemory → LineMayLack session.old.files s (command_of line.now) }
-    ensures any { GivesLastByAnswers session.old.prefixes session.old.files line.now result session.new.files (W.written out.old) (W.written out.new) }
-    ensures prefixes { session.new.prefixes ≡ session.old.prefixes }
+    ensures gives { (s : SourceAnswers) → S.answers source.old ≡ Some s → GivesLast (held_of session.old) s line.now
+        result (held_of session.new) (S.answers source.new) (W.written out.old) (W.written out.new) }
+    ensures lacks { (s : SourceAnswers) → S.answers source.old ≡ Some s → result ≡ Err NoMemory → LineMayLack (held_of session.old) s (command_of line.now) }
+    ensures any { GivesLastByAnswers (held_of session.old) line.now result (held_of session.new) (W.written out.old) (W.written out.new) }
     ensures failures { CountsWrites result (W.failures out.old) (W.failures out.new) }
     ensures err { IfErr result (λ e. e ≢ Read) }
     ensures asks_rise { session.old.asks ≤ session.new.asks }

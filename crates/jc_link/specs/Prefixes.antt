@@ -1,7 +1,7 @@
 -- Prefixes of the names that are outside.
-use Rattle.std.specs.Prelude.{ℕ, ◌==◌, nat_lt, nat_eq, Bool, ◌||◌, List, [], ◌∷◌, codes, length, Option, Some, None, if◌then◌else◌}
-use Rattle.std.specs.List.{list_any, starts_with}
-use Rattle.jc_classes.specs.Names.{Name}
+use Rattle.std.specs.Prelude.{ℕ, ◌==◌, nat_lt, nat_eq, Bool, ◌||◌, not, List, [], ◌∷◌, ◌++◌, codes, length, Option, Some, None, if◌then◌else◌}
+use Rattle.std.specs.List.{filter, list_any, starts_with}
+use Rattle.jc_classes.specs.Names.{Name, same_name}
 use Rattle.jc_link.specs.declared.outside.OutsideError.{OutsideError}
 use Rattle.jc_link.specs.declared.outside.OutsideError.TheVariants.{BadPrefix, TooManyPrefixes}
 
@@ -14,6 +14,17 @@ is_bad_prefix prefix = length prefix == 0 || nat_lt 256 (length prefix)
 -- the first fault of prefixes that are handed in
 abbrev pub prefixes_fault : List (List ℕ) → Option OutsideError
 prefixes_fault prefixes = if list_any is_bad_prefix prefixes then Some BadPrefix else if nat_lt 64 (length prefixes) then Some TooManyPrefixes else None
+
+-- whether a prefix is one of those that are held
+abbrev pub holds : List Name → Name → Bool
+holds prefixes prefix = list_any (same_name prefix) prefixes
+
+-- without one, and with one behind the others
+abbrev pub without : List Name → Name → List Name
+without prefixes prefix = filter (λ p. not (same_name p prefix)) prefixes
+
+abbrev pub with_one : List Name → Name → List Name
+with_one prefixes prefix = without prefixes prefix ++ prefix ∷ []
 
 -- whether a name begins with one of the prefixes
 abbrev pub is_outside : List (List ℕ) → Name → Bool

@@ -4,6 +4,7 @@ use Rattle.std.specs.FinMap as map
 use Rattle.jc_classes.specs.Facts.{Facts}
 use Rattle.jc_classes.specs.Laws.{Differ}
 use Rattle.jc_classes.specs.Names.{Name, same_name}
+use Rattle.jc_classes.specs.Parts.{Reach}
 use Rattle.jc_link.specs.Prefixes.{is_outside}
 use Rattle.jc_link.specs.Tables.{Places, class_at, record_at, world}
 
@@ -17,6 +18,10 @@ PlacesChange = (places : Places) (name : Name) (place : Option Facts) (n : Name)
 abbrev pub WorldsDiffer : Type 0
 WorldsDiffer = (touched : Name → Bool) (old new : Places) (prefixes : List Name)
     → ((n : Name) → touched n ≡ false → class_at old n ≡ class_at new n) → Differ touched (world old prefixes) (world new prefixes)
+
+-- by other prefixes a class reaches the same names
+abbrev pub ReachStays : Type 0
+ReachStays = (places : Places) (old new : List Name) (d n : Name) → Reach (world places old) d n → Reach (world places new) d n
 
 -- where two lists of prefixes cover the same names without a record outside the touched ones, their worlds are the same there
 abbrev pub PrefixesDiffer : Type 0

@@ -17,8 +17,8 @@ pub use jc_classes::{
     Facts, Key, LinkageError, Reference, ReferenceKind, affected_by_either, locality, part_is_one,
 };
 pub use jc_resolve::{Answer, Answers, Loading};
-pub use laws::{places_change, prefixes_differ, worlds_differ};
+pub use laws::{places_change, prefixes_differ, reach_stays, worlds_differ};
 pub use meter::Meter;
-pub use outside::{Outside, OutsideError};
+pub use outside::{MOST_PREFIXES, Outside, OutsideError, is_bad_prefix};
 pub use part::{Part, make_part};
 pub use table::{Classes, Table};

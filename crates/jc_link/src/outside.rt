@@ -1,11 +1,11 @@
 //! Names that are outside: classes of which nothing is known but that they are there.
 
-ghost use Rattle.std.specs.Prelude.{◌≡◌, ◌↔◌, IfOk, IsErrOf, OnOk, Some, map};
+ghost use Rattle.std.specs.Prelude.{◌≡◌, ◌↔◌, ◌++◌, ◌∷◌, [], IfOk, IsErrOf, OnOk, Some, length, map};
 ghost use Rattle.std.specs.List.{Contains, list_any};
 ghost use Rattle.jc_classes.specs.Names.{Name, names_of, same_name};
 ghost use Rattle.jc_link.specs.inside.HeldPrefixes.{with_prefix, IsHeldOf};
 ghost use Rattle.jc_classes.specs.Numbers.{IsOnce};
-ghost use Rattle.jc_link.specs.Prefixes.{is_bad_prefix, is_outside, prefixes_fault, standard_prefixes};
+ghost use Rattle.jc_link.specs.Prefixes.{holds, is_bad_prefix, is_outside, prefixes_fault, standard_prefixes, with_one, without};
 ghost use Rattle.jc_link.specs.declared.outside.OutsideError.TheVariants as errors;
 
 use jc_base::NoMemory;
@@ -15,7 +15,8 @@ use std::marker::Model;
 
 const LONGEST_PREFIX: usize = 256;
 
-const MOST_PREFIXES: usize = 64;
+/// So many prefixes may be held.
+pub const MOST_PREFIXES: usize = 64;
 
 /// The prefixes of the names that are outside, each once.
 #[derive(Drop)]
@@ -98,6 +99,103 @@ impl Outside {
             Prefixes::Given(prefixes) => covers_one(prefixes.as_slice(), name),
         }
     }
+
+    /// Whether a prefix is one of those that are held. No memory.
+    pub fn has(&self, prefix: &[u8]) -> bool
+        ensures { result ≡ holds self.now prefix.now }
+    {
+        match &self.prefixes {
+            Prefixes::Standard => same(prefix, b"java/") || same(prefix, b"javax/"),
+            Prefixes::Given(prefixes) => is_held(prefixes.as_slice(), prefix),
+        }
+    }
+
+    /// How many prefixes are held. No memory.
+    pub fn len(&self) -> usize
+        ensures { result ≡ length self.now }
+    {
+        match &self.prefixes {
+            Prefixes::Standard => 2,
+            Prefixes::Given(prefixes) => prefixes.len(),
+        }
+    }
+
+    /// These prefixes, and one behind the others.
+    ///
+    /// Answers `NoMemory` only where memory was refused.
+    pub fn plus(&self, alloc: Global, prefix: &[u8]) -> Result<Outside, NoMemory>
+        ensures { IfOk result (λ o. o ≡ with_one self.now prefix.now) }
+    {
+        let mut held = self.copy_without(alloc, prefix)?;
+        held.push(Vec::from_slice(alloc, prefix)?)?;
+        Ok(Outside {
+            prefixes: Prefixes::Given(held),
+        })
+    }
+
+    /// These prefixes without one.
+    ///
+    /// Answers `NoMemory` only where memory was refused.
+    pub fn minus(&self, alloc: Global, prefix: &[u8]) -> Result<Outside, NoMemory>
+        ensures { IfOk result (λ o. o ≡ without self.now prefix.now) }
+    {
+        let held = self.copy_without(alloc, prefix)?;
+        Ok(Outside {
+            prefixes: Prefixes::Given(held),
+        })
+    }
+
+    /// Copies of the prefixes but one.
+    fn copy_without(&self, alloc: Global, prefix: &[u8]) -> Result<Vec<Vec<u8>>, NoMemory>
+        ensures held { IfOk result (λ held. names_of held.items ≡ without self.now prefix.now) }
+        ensures once { IsOnce self.now }
+    {
+        match &self.prefixes {
+            Prefixes::Standard => copy_others(alloc, &[b"java/", b"javax/"], prefix),
+            Prefixes::Given(prefixes) => copy_others_of(alloc, prefixes.as_slice(), prefix),
+        }
+    }
+}
+
+/// Copies of prefixes but one.
+fn copy_others(alloc: Global, prefixes: &[&[u8]], prefix: &[u8]) -> Result<Vec<Vec<u8>>, NoMemory>
+    ensures { IfOk result (λ held. names_of held.items ≡ without (map (λ p. p.now) prefixes.now) prefix.now) }
+{
+    let mut held = Vec::new(alloc);
+    for other in prefixes {
+        copy_other(alloc, &mut held, other, prefix)?;
+    }
+    Ok(held)
+}
+
+/// The same of prefixes that are held.
+fn copy_others_of(
+    alloc: Global,
+    prefixes: &[Vec<u8>],
+    prefix: &[u8],
+) -> Result<Vec<Vec<u8>>, NoMemory>
+    ensures { IfOk result (λ held. names_of held.items ≡ without (names_of prefixes.now) prefix.now) }
+{
+    let mut held = Vec::new(alloc);
+    for other in prefixes {
+        copy_other(alloc, &mut held, other, prefix)?;
+    }
+    Ok(held)
+}
+
+/// Adds a copy of a prefix, unless it is this one.
+fn copy_other(
+    alloc: Global,
+    held: &mut Vec<Vec<u8>>,
+    other: &[u8],
+    prefix: &[u8],
+) -> Result<(), NoMemory>
+    ensures { OnOk result (names_of held.new.items ≡ names_of held.old.items ++ without (other.now ∷ []) prefix.now) }
+{
+    if !same(other, prefix) {
+        held.push(Vec::from_slice(alloc, other)?)?;
+    }
+    Ok(())
 }
 
 fn find_fault(prefixes: &[&[u8]]) -> Option<OutsideError>
@@ -116,11 +214,18 @@ fn has_bad_prefix(prefixes: &[&[u8]]) -> bool
     ensures { result ≡ list_any is_bad_prefix (map (λ p. p.now) prefixes.now) }
 {
     for prefix in prefixes {
-        if prefix.is_empty() || prefix.len() > LONGEST_PREFIX {
+        if is_bad_prefix(prefix) {
             return true;
         }
     }
     false
+}
+
+/// Whether a prefix is empty or longer than 256 bytes.
+pub fn is_bad_prefix(prefix: &[u8]) -> bool
+    ensures { result ≡ is_bad_prefix prefix.now }
+{
+    prefix.is_empty() || prefix.len() > LONGEST_PREFIX
 }
 
 /// Copies of the prefixes, each once.

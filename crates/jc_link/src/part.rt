@@ -1,11 +1,12 @@
-//! What is found of a class: how it loads, whether it is circular, its faults, and the answers to its
-//! references.
+//! What is found of a class: how it loads, whether it is circular, its faults, the answers to its references,
+//! and the errors of its instructions.
 
 ghost use Rattle.std.specs.Prelude.{◌≡◌, ◌<◌, ◌≤◌, ℕ, [], length, map, Some, option_map, IfOk, OnErr, OnOk};
 ghost use Rattle.std.specs.Bool.{Decides};
 ghost use Rattle.std.specs.List.{Contains};
 ghost use Rattle.jc_classes.specs.Facts.{Reference};
 ghost use Rattle.jc_classes.specs.Lent.{stands_of};
+ghost use Rattle.jc_classes.specs.LinkErrors.{links_of};
 ghost use Rattle.jc_classes.specs.Loading.{Load as Loads, Loading as How};
 ghost use Rattle.jc_classes.specs.Names.{Name};
 ghost use Rattle.jc_classes.specs.Numbers.{name_at};
@@ -23,7 +24,7 @@ use jc_base::NoMemory;
 use jc_classes::{Faults, Standing};
 use jc_code::CodeFault;
 use jc_file::Fault;
-use jc_resolve::{Answers, Hierarchy, Loading};
+use jc_resolve::{Answers, Hierarchy, Linked, Links, Loading};
 use std::alloc::Global;
 use std::marker::Model;
 use std::rc::Rc;
@@ -35,7 +36,7 @@ pub struct Part {
     load: Loading,
     /// Those of its facts, where it has a record.
     faults: Option<Rc<Faults>>,
-    answers: Answers,
+    linked: Linked,
 }
 
 impl Model for Part {
@@ -87,7 +88,15 @@ impl Part {
     pub fn answers(&self) -> &Answers
         ensures { result.now ≡ self.now.answers }
     {
-        &self.answers
+        self.linked.answers()
+    }
+
+    /// The instructions that do not link though their references resolve, by method, then by offset (JVMS 6.5). No
+    /// memory.
+    pub fn links(&self) -> Links<'_>
+        ensures { result ≡ self.now.links }
+    {
+        self.linked.links()
     }
 }
 
@@ -131,17 +140,18 @@ fn first_part(
     ensures load { IfOk result (λ p. (m : World) → Agrees m hierarchy.now → Loads m (name_at hierarchy.now.names 0) p.load) }
     ensures answers { IfOk result (λ p. (m : World) (how : How) → Agrees m hierarchy.now → Loads m (name_at hierarchy.now.names 0) how
         → AreAnswers m (name_at hierarchy.now.names 0) how (references_of (record_of hierarchy.now 0)) p.answers) }
+    ensures links { IfOk result (λ p. p.links ≡ links_of (name_at hierarchy.now.names 0) (record_of hierarchy.now 0) p.answers) }
     ensures format_faults { IfOk result (λ p. p.format_faults ≡ format_faults_of (stands_of own.entry)) }
     ensures code_faults { IfOk result (λ p. p.code_faults ≡ code_faults_of (stands_of own.entry)) }
 {
     let faults = share_faults(own)?;
     let load = hierarchy.loading(alloc, 0)?;
-    let answers = hierarchy.answers(alloc, 0, references)?;
+    let linked = hierarchy.linked(alloc, 0, references)?;
     Ok(Part {
         circular: hierarchy.is_circular(0),
         load,
         faults,
-        answers,
+        linked,
     })
 }
 

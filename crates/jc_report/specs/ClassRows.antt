@@ -54,11 +54,12 @@ is_missing errors.Incompatible = false
 is_missing errors.IllegalAccess = false
 is_missing errors.NoField = true
 is_missing errors.NoMethod = true
+is_missing errors.Instantiation = false
 
 -- the answer says that what is referred to is outside, or that nothing gives it
 abbrev pub is_required : Answer → Bool
-is_required (answer.ToClass c) = false
-is_required (answer.ToMember c k) = false
+is_required (answer.ToClass c flags) = false
+is_required (answer.ToMember c x) = false
 is_required (answer.Beyond n) = true
 is_required answer.NotLoaded = false
 is_required (answer.Wrong e n) = is_missing e

@@ -9,9 +9,10 @@ use Rattle.jc_classes.specs.declared.linkage_error.LinkageError.{LinkageError}
 use Rattle.jc_classes.specs.declared.reference_kind.ReferenceKind.{ReferenceKind}
 use Rattle.jc_classes.specs.declared.reference_kind.ReferenceKind.TheVariants as kinds
 use Rattle.jc_classes.specs.LinkageErrors.{error_code, error_name}
+use Rattle.jc_classes.specs.LinkErrors.{LinkFault}
 use Rattle.jc_classes.specs.Names.{Name}
 use Rattle.jc_classes.specs.Facts.{Facts, Key, Reference}
-use Rattle.jc_classes.specs.Worlds.{text_of}
+use Rattle.jc_classes.specs.Worlds.{key_of, text_of}
 use Rattle.jc_classes.specs.Loading.{Loading}
 use Rattle.jc_classes.specs.Loading.{Loading as loading}
 use Rattle.jc_classes.specs.Resolution.{Answer}
@@ -46,8 +47,8 @@ abbrev pub error_text : LinkageError → Name → List ℕ
 error_text error name = codes "error " ++ decimal (error_code error) ++ codes " " ++ error_name error ++ codes " " ++ shown name
 
 abbrev pub answer_text : Answer → List ℕ
-answer_text (answer.ToClass class) = codes "To " ++ shown class
-answer_text (answer.ToMember class key) = codes "To " ++ member_text class key
+answer_text (answer.ToClass class flags) = codes "To " ++ shown class
+answer_text (answer.ToMember class x) = codes "To " ++ member_text class (key_of x)
 answer_text (answer.Beyond name) = codes "Outside " ++ shown name
 answer_text answer.NotLoaded = codes "NotLoaded"
 answer_text (answer.Wrong error name) = error_text error name
@@ -68,6 +69,10 @@ format_fault_line fault = codes "  " ++ format_line fault
 abbrev pub method_fault_line : ℕ × CodeFault → List ℕ
 method_fault_line fault = codes "  " ++ code_fault_line fault
 
+-- an instruction that does not link
+abbrev pub link_line : LinkFault → List ℕ
+link_line link = codes "  link " ++ decimal link.method ++ codes " " ++ decimal link.place ++ codes " " ++ error_text link.error link.class ++ codes "\n"
+
 abbrev pub answer_line : Reference → Answer → List ℕ
 answer_line r a = codes "  #" ++ decimal r.index ++ codes " " ++ reference_text r ++ codes " -> " ++ answer_text a ++ codes "\n"
 
@@ -79,4 +84,4 @@ answer_lines (r ∷ rs) (a ∷ answers) = answer_line r a ++ answer_lines rs ans
 
 -- the part of the class that the facts are of
 unfoldable pub part_text : Facts → Part → List ℕ
-part_text f p = load_line f.name p.load ++ flat_map format_fault_line p.format_faults ++ flat_map method_fault_line p.code_faults ++ answer_lines f.references p.answers
+part_text f p = load_line f.name p.load ++ flat_map format_fault_line p.format_faults ++ flat_map method_fault_line p.code_faults ++ flat_map link_line p.links ++ answer_lines f.references p.answers

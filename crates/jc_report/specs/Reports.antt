@@ -87,15 +87,15 @@ is_load_error loading.Outside = false
 is_load_error (loading.Fails e x) = true
 
 abbrev pub is_error : Answer → Bool
-is_error (answer.ToClass c) = false
-is_error (answer.ToMember c k) = false
+is_error (answer.ToClass c flags) = false
+is_error (answer.ToMember c x) = false
 is_error (answer.Beyond n) = false
 is_error answer.NotLoaded = false
 is_error (answer.Wrong e n) = true
 
--- a format or code fault, a load error or an error answer
+-- a format or code fault, a load error, an instruction that does not link or an error answer
 abbrev pub is_wrong_part : Part → Bool
-is_wrong_part p = not (length p.format_faults == 0) || not (length p.code_faults == 0) || is_load_error p.load || list_any is_error p.answers
+is_wrong_part p = not (length p.format_faults == 0) || not (length p.code_faults == 0) || is_load_error p.load || not (length p.links == 0) || list_any is_error p.answers
 
 -- an unreadable file, or a class with one of these
 abbrev pub is_wrong : Report → Bool

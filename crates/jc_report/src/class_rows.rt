@@ -96,7 +96,8 @@ fn is_missing(error: LinkageError) -> bool
         LinkageError::Format
         | LinkageError::Circular
         | LinkageError::Incompatible
-        | LinkageError::IllegalAccess => false,
+        | LinkageError::IllegalAccess
+        | LinkageError::Instantiation => false,
     }
 }
 

@@ -7,7 +7,8 @@ ghost use Rattle.jc_text.specs.Sends.{Sends};
 ghost use Rattle.jc_classes.specs.Facts.{Key as KeyValue};
 ghost use Rattle.jc_classes.specs.Lent.{key_lent, reference_lent};
 ghost use Rattle.jc_resolve.specs.Answers.{answer_of, loading_of};
-ghost use Rattle.jc_report.specs.PartText.{answer_line, answer_lines, answer_text, error_text, format_fault_line, kind_text, load_line, load_text, member_text, method_fault_line, named_text, part_text, reference_text};
+ghost use Rattle.jc_resolve.specs.Linked.{link_lent};
+ghost use Rattle.jc_report.specs.PartText.{answer_line, answer_lines, answer_text, error_text, format_fault_line, kind_text, link_line, load_line, load_text, member_text, method_fault_line, named_text, part_text, reference_text};
 
 use jc_base::Output;
 use jc_classes::{Facts, Key, LinkageError, Reference, ReferenceKind};
@@ -15,17 +16,18 @@ use jc_code::CodeFault;
 use jc_file::Fault;
 use jc_link::Part;
 use jc_list::{write_code_fault_line, write_format_line};
-use jc_resolve::{Answer, Answers, Loading};
+use jc_resolve::{Answer, Answers, Link, Links, Loading};
 use jc_text::TextWriter;
 
-/// The part of the class that the facts are of: how it loads, its faults, and the answer to each of its
-/// references.
+/// The part of the class that the facts are of: how it loads, its faults, the instructions that do not link, and the
+/// answer to each of its references.
 pub fn write_part<W: Output>(out: &mut TextWriter<'_, W>, facts: &Facts, part: &Part)
     ensures { Sends W.written W.failures out.old out.new (part_text facts.now part.now) }
 {
     write_load_line(out, facts.name(), part.load());
     write_format_faults(out, part.format_faults());
     write_code_faults(out, part.code_faults());
+    write_links(out, part.links());
     write_answers(out, facts, part.answers());
 }
 
@@ -95,6 +97,26 @@ fn write_method_fault<W: Output>(out: &mut TextWriter<'_, W>, method: usize, fau
 {
     out.text(b"  ");
     write_code_fault_line(out, method, fault);
+}
+
+fn write_links<W: Output>(out: &mut TextWriter<'_, W>, links: Links<'_>)
+    ensures { Sends W.written W.failures out.old out.new (flat_map link_line links.entry) }
+{
+    for link in links {
+        write_link(out, link);
+    }
+}
+
+fn write_link<W: Output>(out: &mut TextWriter<'_, W>, link: Link<'_>)
+    ensures { Sends W.written W.failures out.old out.new (link_line (link_lent link.entry)) }
+{
+    out.text(b"  link ");
+    out.decimal(link.method);
+    out.text(b" ");
+    out.decimal(link.place);
+    out.text(b" ");
+    write_error(out, link.error, link.class);
+    out.text(b"\n");
 }
 
 /// The answer to each reference.
@@ -178,10 +200,10 @@ fn write_answer<W: Output>(out: &mut TextWriter<'_, W>, answer: Answer<'_>)
     ensures { Sends W.written W.failures out.old out.new (answer_text (answer_of answer.entry)) }
 {
     match answer {
-        Answer::ToClass(class) => write_shown(out, b"To ", class),
-        Answer::ToMember(class, key) => {
+        Answer::ToClass(class, _) => write_shown(out, b"To ", class),
+        Answer::ToMember(class, member) => {
             out.text(b"To ");
-            write_member(out, class, key.name, key.descriptor);
+            write_member(out, class, member.name, member.descriptor);
         }
         Answer::Outside(name) => write_shown(out, b"Outside ", name),
         Answer::NotLoaded => out.text(b"NotLoaded"),

@@ -1,6 +1,6 @@
 //! The report of a tree of class files.
 
-ghost use Rattle.std.specs.Prelude.{◌≡◌, ◌≤◌, ◌++◌, [], IfOk, OnOk, length, map};
+ghost use Rattle.std.specs.Prelude.{◌≡◌, ◌≤◌, ◌++◌, ◌==◌, [], not, IfOk, OnOk, length, map};
 ghost use Rattle.std.specs.List.{filter, list_any};
 ghost use Rattle.std.specs.List.Sorted.{IsStrictlySortedBy};
 ghost use Rattle.jc_classes.specs.Names.{name_cmp};
@@ -27,7 +27,7 @@ use crate::tree::Tree;
 use jc_base::NoMemory;
 use jc_classes::Facts;
 use jc_link::{Meter, Outside, Part, Table, gather, make_part};
-use jc_resolve::{AnswerKind, Answers, Loading};
+use jc_resolve::{AnswerKind, Answers, Links, Loading};
 use std::alloc::Global;
 use std::marker::Model;
 
@@ -138,8 +138,8 @@ impl<'t> Report<'t> {
         fill_required(&mut self.required, &self.classes)
     }
 
-    /// Whether a file is unreadable, a class has a fault or does not load, or a reference is answered by
-    /// an error.
+    /// Whether a file is unreadable, a class has a fault or does not load, an instruction does not link, or a
+    /// reference is answered by an error.
     pub fn wrong(&self) -> bool
         ensures { result ≡ is_wrong self.now }
     {
@@ -287,13 +287,15 @@ fn has_wrong_part(classes: &[Class<'_>]) -> bool
     false
 }
 
-/// Whether a class has a fault or does not load, or a reference is answered by an error.
+/// Whether a class has a fault or does not load, an instruction does not link, or a reference is answered by an
+/// error.
 pub fn is_wrong_part(part: &Part) -> bool
     ensures { result ≡ is_wrong_part part.now }
 {
     !part.format_faults().is_empty()
         || !part.code_faults().is_empty()
         || is_load_error(part.load())
+        || has_link(part.links())
         || has_error(part.answers())
 }
 
@@ -304,6 +306,12 @@ fn is_load_error(load: &Loading) -> bool
         Loading::Loaded | Loading::Outside => false,
         Loading::Fails(_, _) => true,
     }
+}
+
+fn has_link(mut links: Links<'_>) -> bool
+    ensures { result ≡ not (length links.entry == 0) }
+{
+    links.next().is_some()
 }
 
 fn has_error(answers: &Answers) -> bool

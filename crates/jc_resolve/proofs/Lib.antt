@@ -1,3 +1,4 @@
 pub mod lookups
 pub mod answering
+pub mod linking
 pub mod loading

@@ -3,7 +3,7 @@ use Rattle.jc_classes.specs.Loading.{Loading as How}
 use Rattle.jc_classes.specs.Loading.{Loading as how}
 use Rattle.jc_resolve.specs.declared.hierarchy.Loading.{Loading}
 use Rattle.jc_resolve.specs.declared.hierarchy.Loading.TheVariants as loading
-use Rattle.jc_classes.specs.Lent.{key_lent}
+use Rattle.jc_classes.specs.Lent.{member_lent}
 use Rattle.jc_classes.specs.Resolution as defs
 use Rattle.jc_classes.specs.Resolution.{Answer as answer}
 use Rattle.jc_resolve.specs.declared.answers.Answer.{Answer}
@@ -12,16 +12,16 @@ use Rattle.jc_resolve.specs.declared.answers.AnswerKind.{AnswerKind}
 use Rattle.jc_resolve.specs.declared.answers.AnswerKind.TheVariants as kinds
 
 abbrev pub answer_of : Answer → defs.Answer
-answer_of (made.ToClass n) = answer.ToClass n.now
-answer_of (made.ToMember n k) = answer.ToMember n.now (key_lent k)
+answer_of (made.ToClass n flags) = answer.ToClass n.now flags
+answer_of (made.ToMember n x) = answer.ToMember n.now (member_lent x)
 answer_of (made.Outside n) = answer.Beyond n.now
 answer_of made.NotLoaded = answer.NotLoaded
 answer_of (made.Error e n) = answer.Wrong e n.now
 
 -- what an answer says, without its texts
 abbrev pub kind_of : defs.Answer → AnswerKind
-kind_of (answer.ToClass n) = kinds.Found
-kind_of (answer.ToMember n k) = kinds.Found
+kind_of (answer.ToClass n flags) = kinds.Found
+kind_of (answer.ToMember n x) = kinds.Found
 kind_of (answer.Beyond n) = kinds.Outside
 kind_of answer.NotLoaded = kinds.NotLoaded
 kind_of (answer.Wrong e n) = kinds.Error e

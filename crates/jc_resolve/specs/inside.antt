@@ -1,6 +1,8 @@
 pub mod Answered
 pub mod Chain
 pub mod Entries
+pub mod LinkTargets
+pub mod Links
 pub mod Loaded
 pub mod Loading
 pub mod Looking

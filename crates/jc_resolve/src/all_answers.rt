@@ -3,6 +3,7 @@
 ghost use Rattle.std.specs.Prelude.{◌≡◌, ◌≢◌, ◌<◌, ℕ, length, map, Some, option_map, IfOk, IfSome, OnOk};
 ghost use Rattle.std.specs.List.{Contains};
 ghost use Rattle.jc_classes.specs.Facts.{Reference};
+ghost use Rattle.jc_classes.specs.LinkErrors.{links_of};
 ghost use Rattle.jc_classes.specs.Parts.{AreAnswers, class_of};
 ghost use Rattle.jc_classes.specs.Worlds.{World, references_of};
 ghost use Rattle.jc_lookup.specs.inside.Indexed.{name_at, record_at, IsIndexed};
@@ -14,6 +15,7 @@ ghost use Rattle.jc_resolve.specs.inside.Resolved.{loading_of, TellsLoads, Tells
 
 use crate::answer_list::Answers;
 use crate::entry::Entry;
+use crate::linked::Linked;
 use crate::references::resolve;
 use jc_base::NoMemory;
 use jc_classes::{Facts, Standing};
@@ -239,28 +241,30 @@ fn entries_of(
     }
 }
 
-/// The answers to the references of a class.
-pub(crate) fn answers(
+/// The answers to the references of a class, and the errors of its instructions.
+pub(crate) fn linked(
     alloc: Global,
     classes: &Classes,
     loads: &[Load],
     class: usize,
     nodes: &[Option<usize>],
-) -> Result<Answers, NoMemory>
+) -> Result<Linked, NoMemory>
     requires loads { length loads.now ≡ length classes.now.standing.now }
     requires good { TellsGood (indexed_of classes.now) loads.now }
     requires class { class < length classes.now.standing.now }
     requires nodes { map (option_map (name_at (indexed_of classes.now))) nodes.now ≡ map (λ (r : Reference). class_of r.named) (references_of (record_at (indexed_of classes.now) class)) }
     requires within { (v : ℕ) → Contains nodes.now (Some v) → v < length classes.now.standing.now }
-    ensures { IfOk result (λ list. (m : World) → TellsLoads m (indexed_of classes.now) (length classes.now.standing.now) loads.now
+    ensures answers { IfOk result (λ linked. (m : World) → TellsLoads m (indexed_of classes.now) (length classes.now.standing.now) loads.now
         → IsIndexed m (indexed_of classes.now)
-        → AreAnswers m (name_at (indexed_of classes.now) class) (loading_of (indexed_of classes.now) (load_at loads.now class)) (references_of (record_at (indexed_of classes.now) class)) list) }
+        → AreAnswers m (name_at (indexed_of classes.now) class) (loading_of (indexed_of classes.now) (load_at loads.now class)) (references_of (record_at (indexed_of classes.now) class)) linked.answers) }
+    ensures links { IfOk result (λ linked. linked.links ≡ links_of (name_at (indexed_of classes.now) class) (record_at (indexed_of classes.now) class) linked.answers) }
 {
     let facts = match classes.at(class) {
         Standing::Class(facts) => facts,
-        _ => return Ok(Answers::none(alloc)),
+        _ => return Ok(Linked::none(alloc)),
     };
     let entries = entries_of(alloc, classes, loads, class, facts, nodes)?;
     let references = facts.shared_references()?;
-    Answers::of(alloc, classes, references, &entries)
+    let answers = Answers::of(alloc, classes, references, &entries)?;
+    Linked::of(alloc, classes.name(class), facts, answers)
 }

@@ -13,7 +13,7 @@ ghost use Rattle.jc_resolve.specs.inside.Naming.{AreNames, AreSame, IsNumberOf, 
 use crate::answers::{Answer, AnswerKind};
 use crate::entry::Entry;
 use jc_base::NoMemory;
-use jc_classes::{Key, Reference, References, TextList};
+use jc_classes::{Member, Reference, References, TextList};
 use jc_lookup::Classes;
 use std::alloc::Global;
 use std::marker::Model;
@@ -102,11 +102,15 @@ impl Naming {
         ensures same { IfOk result (λ named. (r : Refers) → entry_shown (text_at self.new.texts) r named ≡ entry_shown (name_at (indexed_of classes.now)) r entry) }
     {
         match entry {
-            Entry::ToMember(node) => Ok(Entry::ToMember(self.number(classes, node)?)),
-            Entry::ToPolymorphic(node) => Ok(Entry::ToPolymorphic(self.number(classes, node)?)),
+            Entry::ToMember(flags, node) => {
+                Ok(Entry::ToMember(flags, self.number(classes, node)?))
+            }
+            Entry::ToPolymorphic(flags, node) => {
+                Ok(Entry::ToPolymorphic(flags, self.number(classes, node)?))
+            }
             Entry::Outside(node) => Ok(Entry::Outside(self.number(classes, node)?)),
             Entry::Error(error, node) => Ok(Entry::Error(error, self.number(classes, node)?)),
-            Entry::ToClass | Entry::NotLoaded | Entry::OwnError(_) => Ok(entry),
+            Entry::ToClass(_) | Entry::NotLoaded | Entry::OwnError(_) => Ok(entry),
         }
     }
 }
@@ -173,7 +177,7 @@ fn kind_of(entry: Entry) -> AnswerKind
     ensures { (name : ℕ → Name) (r : Refers) → kind_of (entry_shown name r entry) ≡ result }
 {
     match entry {
-        Entry::ToClass | Entry::ToMember(_) | Entry::ToPolymorphic(_) => AnswerKind::Found,
+        Entry::ToClass(_) | Entry::ToMember(_, _) | Entry::ToPolymorphic(_, _) => AnswerKind::Found,
         Entry::Outside(_) => AnswerKind::Outside,
         Entry::NotLoaded => AnswerKind::NotLoaded,
         Entry::Error(error, _) | Entry::OwnError(error) => AnswerKind::Error(error),
@@ -225,14 +229,22 @@ fn lend<'a>(names: &'a TextList, reference: Reference<'a>, entry: Entry) -> Answ
     ensures { answer_of result ≡ entry_shown (text_at names.now) (reference_lent reference.entry) entry }
 {
     match entry {
-        Entry::ToClass => Answer::ToClass(reference.class),
-        Entry::ToMember(class) => Answer::ToMember(names.text(class), reference.key),
-        Entry::ToPolymorphic(class) => {
-            let key = Key {
+        Entry::ToClass(flags) => Answer::ToClass(reference.class, flags),
+        Entry::ToMember(flags, class) => {
+            let member = Member {
+                name: reference.key.name,
+                descriptor: reference.key.descriptor,
+                flags,
+            };
+            Answer::ToMember(names.text(class), member)
+        }
+        Entry::ToPolymorphic(flags, class) => {
+            let member = Member {
                 name: reference.key.name,
                 descriptor: b"([Ljava/lang/Object;)Ljava/lang/Object;",
+                flags,
             };
-            Answer::ToMember(names.text(class), key)
+            Answer::ToMember(names.text(class), member)
         }
         Entry::Outside(name) => Answer::Outside(names.text(name)),
         Entry::NotLoaded => Answer::NotLoaded,

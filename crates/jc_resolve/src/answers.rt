@@ -12,16 +12,16 @@ ghost use Rattle.jc_lookup.specs.inside.Loading.{load_at, sees};
 
 use crate::entry::Entry;
 use crate::resolve::NamedNode;
-use jc_classes::{Key, LinkageError};
+use jc_classes::{LinkageError, Member};
 use jc_lookup::{Classes, Load, can_see};
 
 /// The answer of a reference, with lent texts.
 #[derive(Clone, Copy)]
 pub enum Answer<'a> {
-    /// It names this class, or this array.
-    ToClass(&'a [u8]),
+    /// It names this class, with its access flags, or this array, which has none.
+    ToClass(&'a [u8], u16),
     /// It names this field or method, which the class declares.
-    ToMember(&'a [u8], Key<'a>),
+    ToMember(&'a [u8], Member<'a>),
     /// It depends on this outside name.
     Outside(&'a [u8]),
     /// The class that has the reference does not load.
@@ -43,17 +43,17 @@ pub enum AnswerKind {
     Error(LinkageError),
 }
 
-/// The answer of a reference to the class of a node, or to an array of it.
-fn node_entry(classes: &Classes, loads: &[Load], class: usize, node: usize) -> Entry
+/// The answer of a reference to the class of a node, which has these flags, or to an array of it.
+fn node_entry(classes: &Classes, loads: &[Load], class: usize, node: usize, flags: u16) -> Entry
     requires class { class < length classes.now.standing.now }
     requires node { node < length classes.now.standing.now }
     requires loads { length loads.now ≡ length classes.now.standing.now }
-    ensures { (r : Reference) → entry_shown (name_at (indexed_of classes.now)) r result ≡ class_answer (text_of r.named) (name_at (indexed_of classes.now) node) (loading_of (indexed_of classes.now) (load_at loads.now node)) (sees (indexed_of classes.now) class node) }
+    ensures { (r : Reference) → entry_shown (name_at (indexed_of classes.now)) r result ≡ class_answer (text_of r.named) (name_at (indexed_of classes.now) node) (loading_of (indexed_of classes.now) (load_at loads.now node)) (sees (indexed_of classes.now) class node) flags }
 {
     match loads[node] {
         Load::Loaded => {
             if can_see(classes, class, node) {
-                Entry::ToClass
+                Entry::ToClass(flags)
             } else {
                 Entry::Error(LinkageError::IllegalAccess, node)
             }
@@ -79,10 +79,10 @@ pub(crate) fn resolve_class(
         → ResolvesClass m (name_at (indexed_of classes.now) class) r.named (entry_shown (name_at (indexed_of classes.now)) r result) }
 {
     match reference {
-        NamedNode::Class(node) => node_entry(classes, loads, class, node),
+        NamedNode::Class(node) => node_entry(classes, loads, class, node, classes.flags(node)),
         NamedNode::Array(element) => match element {
-            Some(node) => node_entry(classes, loads, class, node),
-            None => Entry::ToClass,
+            Some(node) => node_entry(classes, loads, class, node, 0),
+            None => Entry::ToClass(0),
         },
     }
 }

@@ -7,7 +7,6 @@ ghost use Rattle.jc_lookup.specs.inside.Indexed.{Indexed, name_at};
 ghost use Rattle.jc_lookup.specs.inside.Settled.{answer_of};
 ghost use Rattle.jc_resolve.specs.inside.Entries.{HasKey, IsKeyed, IsKeyedOutcome, entry_shown};
 ghost use Rattle.jc_resolve.specs.inside.Resolved.{begun_of, ended_of, outcome_of};
-ghost use Rattle.jc_classes.specs.Worlds.{key_of};
 ghost use Rattle.jc_classes.specs.Resolution.Answer.{ToMember};
 
 use crate::resolve::{Begun, Outcome};
@@ -18,12 +17,12 @@ use jc_lookup::settle::Settled;
 /// The answer of a reference. Its texts are the reference's own, or the name of a class by its number.
 #[derive(Clone, Copy)]
 pub(crate) enum Entry {
-    /// The class or the array that the reference names is there.
-    ToClass,
-    /// The class of this number declares the member that the reference names.
-    ToMember(usize),
-    /// The class of this number declares a signature polymorphic method of the name (JVMS 2.9).
-    ToPolymorphic(usize),
+    /// The class that the reference names is there, with these access flags, or the array, which has none.
+    ToClass(u16),
+    /// A member with these access flags is there, which the class of this number declares.
+    ToMember(u16, usize),
+    /// The same of a signature polymorphic method of the name (JVMS 2.9).
+    ToPolymorphic(u16, usize),
     /// It depends on the outside class of this number.
     Outside(usize),
     /// The class that has the reference does not load.
@@ -47,12 +46,12 @@ fn begun_entry(begun: Begun) -> Entry
 
 /// The answer of a reference that finds a member.
 fn hit_entry(hit: Hit<'_>, key: Key<'_>) -> Entry
-    ensures { (x : Indexed) (r : Reference) → r.key ≡ key_lent key.entry → IsKeyed r.key (member_lent hit.entry.member) → entry_shown (name_at x) r result ≡ ToMember (name_at x hit.entry.node) (key_of (member_lent hit.entry.member)) }
+    ensures { (x : Indexed) (r : Reference) → r.key ≡ key_lent key.entry → IsKeyed r.key (member_lent hit.entry.member) → entry_shown (name_at x) r result ≡ ToMember (name_at x hit.entry.node) (member_lent hit.entry.member) }
 {
     if same(hit.member.descriptor, key.descriptor) {
-        Entry::ToMember(hit.node)
+        Entry::ToMember(hit.member.flags, hit.node)
     } else {
-        Entry::ToPolymorphic(hit.node)
+        Entry::ToPolymorphic(hit.member.flags, hit.node)
     }
 }
 

@@ -5,6 +5,7 @@ ghost use Rattle.std.specs.Prelude.{◌≡◌, ◌<◌, ℕ, length, map, Some, 
 ghost use Rattle.std.specs.Bool.{Decides};
 ghost use Rattle.std.specs.List.{Contains};
 ghost use Rattle.jc_classes.specs.Facts.{Reference};
+ghost use Rattle.jc_classes.specs.LinkErrors.{links_of};
 ghost use Rattle.jc_classes.specs.Loading.{Load as Loads, Loading as How};
 ghost use Rattle.jc_classes.specs.Names.{names_of, object as java_lang_object};
 ghost use Rattle.jc_classes.specs.Numbers.{name_at};
@@ -15,8 +16,8 @@ ghost use Rattle.jc_lookup.specs.inside.Shown.{indexed_of};
 ghost use Rattle.jc_resolve.specs.Numbered.{Agrees, IsClosed, numbered, record_of};
 ghost use Rattle.jc_resolve.specs.inside.Resolved.{loading_of as loading_at};
 
-use crate::all_answers::answers;
-use crate::answer_list::Answers;
+use crate::all_answers::linked;
+use crate::linked::Linked;
 use crate::loaded::{Loaded, load_classes};
 use jc_base::NoMemory;
 use jc_classes::{LinkageError, Standing};
@@ -110,20 +111,21 @@ impl<'c, 't> Hierarchy<'c, 't> {
         name_loading(alloc, &self.classes, self.loads[class])
     }
 
-    /// The answers to the references of a class, in their order. `nodes` are the numbers of the classes that
-    /// they name.
-    pub fn answers(
+    /// The answers to the references of a class, in their order, and the errors of its instructions. `nodes` are
+    /// the numbers of the classes that the references name.
+    pub fn linked(
         &self,
         alloc: Global,
         class: usize,
         nodes: &[Option<usize>],
-    ) -> Result<Answers, NoMemory>
+    ) -> Result<Linked, NoMemory>
         requires class { class < length self.now.names }
         requires nodes { map (option_map (name_at self.now.names)) nodes.now ≡ map (λ (r : Reference). class_of r.named) (references_of (record_of self.now class)) }
         requires within { (v : ℕ) → Contains nodes.now (Some v) → v < length self.now.names }
-        ensures { IfOk result (λ list. (m : World) (how : How) → Agrees m self.now → Loads m (name_at self.now.names class) how
-            → AreAnswers m (name_at self.now.names class) how (references_of (record_of self.now class)) list) }
+        ensures answers { IfOk result (λ linked. (m : World) (how : How) → Agrees m self.now → Loads m (name_at self.now.names class) how
+            → AreAnswers m (name_at self.now.names class) how (references_of (record_of self.now class)) linked.answers) }
+        ensures links { IfOk result (λ linked. linked.links ≡ links_of (name_at self.now.names class) (record_of self.now class) linked.answers) }
     {
-        answers(alloc, &self.classes, self.loads.as_slice(), class, nodes)
+        linked(alloc, &self.classes, self.loads.as_slice(), class, nodes)
     }
 }

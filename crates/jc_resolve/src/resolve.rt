@@ -53,7 +53,7 @@ pub(crate) enum Outcome<'a> {
 
 /// Where look-up begins for a class, by how it loads and whether it is accessible.
 fn class_begun(sees: bool, load: Load, node: usize) -> Begun
-    ensures start { (x : Indexed) (l : Loading) → begun_of x result ≡ start_of (Class (name_at x node)) (class_answer (name_at x node) (name_at x node) (loading_of x load) sees) l }
+    ensures start { (x : Indexed) (l : Loading) (flags : ℕ) → begun_of x result ≡ start_of (Class (name_at x node)) (class_answer (name_at x node) (name_at x node) (loading_of x load) sees flags) l }
     ensures at { (v : ℕ) → result ≡ Begun.At v → (v ≡ node) × (load ≡ Load.Loaded) }
 {
     match load {
@@ -83,7 +83,7 @@ fn object_begun(object: usize, load: Load) -> Begun
 
 /// Where look-up begins for an array of a class, by how that loads and whether it is accessible.
 fn element_begun(sees: bool, load: Load, node: usize, object: usize, object_load: Load) -> Begun
-    ensures start { (x : Indexed) (text : Name) → name_at x object ≡ java_lang_object → begun_of x result ≡ start_of (Array text (Some (name_at x node))) (class_answer text (name_at x node) (loading_of x load) sees) (loading_of x object_load) }
+    ensures start { (x : Indexed) (text : Name) (flags : ℕ) → name_at x object ≡ java_lang_object → begun_of x result ≡ start_of (Array text (Some (name_at x node))) (class_answer text (name_at x node) (loading_of x load) sees flags) (loading_of x object_load) }
     ensures at { (v : ℕ) → result ≡ Begun.At v → (v ≡ object) × (object_load ≡ Load.Loaded) }
 {
     match load {

@@ -98,6 +98,10 @@ fn low_bytes(number: usize) -> u16 {
     (number % (1 << 16)) as u16
 }
 
+fn low_byte(number: u16) -> u8 {
+    (number % (1 << 8)) as u8
+}
+
 /// A class file in the making.
 #[derive(Drop)]
 struct Assembler {
@@ -109,6 +113,19 @@ struct Assembler {
     interfaces: Table,
     fields: Table,
     methods: Table,
+    /// The method that the next instructions are of.
+    method: Option<Method>,
+}
+
+/// A method in the making. Its code ends with `return`.
+#[derive(Drop)]
+struct Method {
+    flags: u16,
+    name: u16,
+    descriptor: u16,
+    /// The index of the text `Code`.
+    attribute: u16,
+    code: Vec<u8>,
 }
 
 fn hexadecimal(word: &str) -> Result<u16> {
@@ -135,6 +152,7 @@ impl Assembler {
             interfaces: Table::new(alloc),
             fields: Table::new(alloc),
             methods: Table::new(alloc),
+            method: None,
         }
     }
 
@@ -152,8 +170,12 @@ impl Assembler {
             bail!("no line of a class");
         };
         match *word {
-            "refers" => self.refer(rest),
+            "refers" => {
+                self.refer(rest)?;
+                Ok(())
+            }
             "field" | "method" => self.declare(word, rest),
+            "does" => self.instruct(rest),
             _ => self.set(word, rest),
         }
     }
@@ -195,34 +217,77 @@ impl Assembler {
     }
 
     fn add_method(&mut self, flags: u16, name: u16, descriptor: u16) {
+        self.finish_method();
         if flags & WITHOUT_CODE != 0 {
             return self.methods.add(&[flags, name, descriptor, 0], &[]);
         }
-        let code = self.pool.utf8("Code");
-        let numbers = [flags, name, descriptor, 1, code, 0, 13, 2, 9, 0, 1];
-        self.methods.add(&numbers, &[0xb1, 0, 0, 0, 0]);
+        self.method = Some(Method {
+            flags,
+            name,
+            descriptor,
+            attribute: self.pool.utf8("Code"),
+            code: Vec::new(*self.pool.constants.allocator()),
+        });
     }
 
-    /// A constant that names a class or a member.
-    fn refer(&mut self, tokens: &[Token]) -> Result<()> {
+    /// Puts the method in the making behind the others.
+    fn finish_method(&mut self) {
+        if let Some(mut method) = self.method.take() {
+            let attribute = method.attribute;
+            let numbers = [method.flags, method.name, method.descriptor, 1, attribute];
+            add(&mut method.code, &[0xb1]);
+            let length = low_bytes(method.code.len());
+            self.methods.add(&numbers, &[]);
+            let rows = &mut self.methods.rows;
+            add_numbers(rows, &[0, length.wrapping_add(12), 2, 9, 0, length]);
+            add(rows, &method.code);
+            add_numbers(rows, &[0, 0]);
+        }
+    }
+
+    /// An instruction: its opcode, the constant that it names, and what stands behind that.
+    fn instruct(&mut self, tokens: &[Token]) -> Result<()> {
+        let [Token::Word(opcode), operands @ ..] = tokens else {
+            bail!("no instruction");
+        };
+        let opcode = low_byte(hexadecimal(opcode)?);
+        let (constant, more) = match operands {
+            [constant @ .., Token::Word(more)] => (constant, Some(hexadecimal(more)?)),
+            _ => (operands, None),
+        };
+        let index = match constant {
+            [] => None,
+            _ => Some(self.refer(constant)?),
+        };
+        let Some(method) = &mut self.method else {
+            bail!("no method with a code");
+        };
+        add(&mut method.code, &[opcode]);
+        if let Some(index) = index {
+            add_numbers(&mut method.code, &[index]);
+        }
+        if let Some(more) = more {
+            add_numbers(&mut method.code, &[more]);
+        }
+        Ok(())
+    }
+
+    /// The index of a constant that names a class or a member.
+    fn refer(&mut self, tokens: &[Token]) -> Result<u16> {
         match tokens {
-            [Token::Word("class"), Token::Quoted(name)] => {
-                self.pool.class(name);
-            }
+            [Token::Word("class"), Token::Quoted(name)] => Ok(self.pool.class(name)),
             [
                 Token::Word(kind),
                 Token::Quoted(class),
                 Token::Quoted(name),
                 Token::Quoted(descriptor),
-            ] => {
-                self.pool.member(tag_of(kind)?, class, name, descriptor);
-            }
+            ] => Ok(self.pool.member(tag_of(kind)?, class, name, descriptor)),
             _ => bail!("no reference"),
         }
-        Ok(())
     }
 
-    fn file(&self, alloc: Global) -> Vec<u8> {
+    fn file(mut self, alloc: Global) -> Vec<u8> {
+        self.finish_method();
         let mut file = Vec::new(alloc);
         let head = [0xcafe, 0xbabe, 0, self.major, self.pool.count()];
         add_numbers(&mut file, &head);

@@ -98,6 +98,7 @@ fn call<W: Output>(
         "holders" => write_holders(out, session, argument)?,
         "part" => write_part(out, session, argument),
         "meter" => out.decimal(session.meter().made()),
+        "outside" => return call_outside(alloc, session, argument, rest, out),
         _ => {
             let bytes = bytes_of(alloc, names, rest)?;
             return make_edit(alloc, session, word, argument, bytes, out);
@@ -116,6 +117,42 @@ fn make_edit<W: Output>(
 ) -> Result<u64> {
     let edit = edit_of(alloc, word, path, bytes)?;
     Ok(write_done(out, session.edit(edit)))
+}
+
+/// Adds or drops a prefix of names outside, or writes whether it is held.
+fn call_outside<W: Output>(
+    alloc: Global,
+    session: &mut Session,
+    word: &str,
+    words: &[Token<'_>],
+    out: &mut TextWriter<'_, W>,
+) -> Result<u64> {
+    let prefix = prefix_of(words)?;
+    let edit = match word {
+        "add" => Edit::AddPrefix(Vec::from_slice(alloc, prefix)?),
+        "drop" => Edit::DropPrefix(Vec::from_slice(alloc, prefix)?),
+        "has" => {
+            write_held(out, session, prefix);
+            return Ok(0);
+        }
+        _ => bail!("no such call"),
+    };
+    Ok(write_done(out, session.edit(edit)))
+}
+
+fn prefix_of<'a>(words: &[Token<'a>]) -> Result<&'a [u8]> {
+    match words {
+        [] => Ok(b""),
+        [Token::Word(prefix)] => Ok(prefix.as_bytes()),
+        _ => bail!("more than a prefix"),
+    }
+}
+
+fn write_held<W: Output>(out: &mut TextWriter<'_, W>, session: &Session, prefix: &[u8]) {
+    match session.outside().has(prefix) {
+        true => out.text(b"yes"),
+        false => out.text(b"no"),
+    }
 }
 
 /// How many classes require the row at a place.

@@ -28,6 +28,10 @@ fn write_edit_errors<W: Output>(alloc: Global, out: &mut TextWriter<'_, W>) {
         EditError::TooMany,
         EditError::BadPath,
         EditError::NoMemory,
+        EditError::BadPrefix,
+        EditError::PrefixThere,
+        EditError::NoSuchPrefix,
+        EditError::TooManyPrefixes,
     ];
     write_each(alloc, out, &errors);
 }

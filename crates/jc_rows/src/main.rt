@@ -17,8 +17,9 @@
 //! named, and behind those that it names.
 //!
 //!     version N; flags FLAGS; super "CLASS"; super none; implements "CLASS"
-//!     field FLAGS "NAME" "DESCRIPTOR"; method FLAGS "NAME" "DESCRIPTOR", with the code `return`
-//!     refers class "CLASS"; refers field "CLASS" "NAME" "DESCRIPTOR", and so method and imethod
+//!     field FLAGS "NAME" "DESCRIPTOR"; method FLAGS "NAME" "DESCRIPTOR", whose code ends with `return`
+//!     does OPCODE; does OPCODE CONSTANT; does OPCODE CONSTANT BYTES: an instruction of the method above
+//!     refers CONSTANT: class "CLASS", or field "CLASS" "NAME" "DESCRIPTOR", and so method and imethod
 //!
 //! The other kinds and their answers:
 //!
@@ -60,6 +61,8 @@
 //!
 //!     add PATH PARTS -> made N, asks at most M     and so `replace PATH PARTS` and `remove PATH`
 //!     remove PATH -> refused 2 NoSuchFile
+//!     outside add PREFIX -> made N, asks at most M     and so `outside drop PREFIX`
+//!     outside has PREFIX -> yes    or `no`: whether the prefix is held
 //!     dependants NAME -> NAMES     the classes that depend on a name
 //!     holders PLACE -> N           how many classes require the row at a place of the required ones
 //!     part NAME -> N               how many answers the part of a class has, or `none`

@@ -16,8 +16,8 @@ use Rattle.jc_lines.specs.Checks.{Answer, CheckFault, ChecksAs, FileRefused, Fil
 use Rattle.jc_lines.specs.Checks as checks
 use Rattle.jc_list.specs.Listing.{WritesBeginning}
 use Rattle.jc_lines.specs.ListedText.{file_text, is_faulty_file}
-use Rattle.jc_report.specs.Files.{Files}
 use Rattle.jc_edits.specs.Edits.{size_fault}
+use Rattle.jc_edits.specs.SessionState.{HeldFiles}
 use Rattle.jc_input.specs.Sources.{SourceAnswers}
 use Rattle.jc_lines.specs.Runs.{RunsAs}
 use Rattle.jc_report.specs.Reports.{IsReport, Report, is_wrong}
@@ -43,14 +43,18 @@ fault_of run_errors.Write = Output
 fault_of run_errors.NoMemory = NoMemory
 
 -- of a run, by the report held at its end
-abbrev pub IsOutcome : List (List ℕ) → Result Ended RunError → Files → Outcome → Type 0
-IsOutcome prefixes (Ok how) f outcome = (r : Report) × IsReport f prefixes r × (outcome ≡ Ok (is_wrong r))
-IsOutcome prefixes (Err e) f outcome = outcome ≡ Err (fault_of e)
+abbrev pub IsOutcome : Result Ended RunError → HeldFiles → Outcome → Type 0
+IsOutcome (Ok how) h outcome = (r : Report) × IsReport h.files h.prefixes r × (outcome ≡ Ok (is_wrong r))
+IsOutcome (Err e) h outcome = outcome ≡ Err (fault_of e)
+
+-- at first there are no files
+abbrev pub begun : List (List ℕ) → HeldFiles
+begun prefixes = record { files = map.empty; prefixes = prefixes }
 
 -- a run over the input, with no files at first, by the answers that its source gave
-abbrev pub RunsByAnswers : List (List ℕ) → Result Ended RunError → Files → (input coming before now : Option (List ℕ)) → Type 0
-RunsByAnswers prefixes ending f input coming before now =
-    (bytes : List ℕ) → input ≡ Some bytes → (s : SourceAnswers) × RunsAs prefixes map.empty s bytes ending (record { files = f; source = Some []; coming = coming; before = before; now = now })
+abbrev pub RunsByAnswers : List (List ℕ) → Result Ended RunError → HeldFiles → (input coming before now : Option (List ℕ)) → Type 0
+RunsByAnswers prefixes ending held input coming before now =
+    (bytes : List ℕ) → input ≡ Some bytes → (s : SourceAnswers) × RunsAs (begun prefixes) s bytes ending (record { held = held; source = Some []; coming = coming; before = before; now = now })
 
 -- the listing of a file was written, or why the bytes are none, or not all of it
 abbrev pub ListsFile : List ℕ → Outcome → (before now : Option (List ℕ)) → Type 0
@@ -92,7 +96,7 @@ NamesCommand command words = (behind : List (List ℕ)) × (words ≡ command �
 abbrev pub Performs : {R : Type 0} → (remaining : R → Option (List ℕ)) → (words : List (List ℕ)) → Outcome → (input coming : R) → (before now : Option (List ℕ)) → Type 0
 Performs remaining words outcome input coming before now =
     (((outcome ≡ Err Usage) ⊎ (outcome ≡ Err NoMemory)) × (coming ≡ input) × Keeps before now)
-    ⊎ (NamesCommand (codes "session") words × ((prefixes : List (List ℕ)) × (ending : Result Ended RunError) × (f : Files) × IsOutcome prefixes ending f outcome × RunsByAnswers prefixes ending f (remaining input) (remaining coming) before now))
+    ⊎ (NamesCommand (codes "session") words × ((prefixes : List (List ℕ)) × (ending : Result Ended RunError) × (held : HeldFiles) × IsOutcome ending held outcome × RunsByAnswers prefixes ending held (remaining input) (remaining coming) before now))
     ⊎ (NamesCommand (codes "list") words × (coming ≡ input) × ((path : List ℕ) × (answer : Result (List ℕ) SourceError) × ListsAs path answer outcome before now))
     ⊎ (NamesCommand (codes "check") words × (coming ≡ input) × Checks outcome before now)
 

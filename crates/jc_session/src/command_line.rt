@@ -6,11 +6,11 @@ ghost use Rattle.jc_classes.specs.Names.{names_of};
 ghost use Rattle.jc_input.specs.declared.source.SourceError.{SourceError};
 ghost use Rattle.jc_input.specs.declared.run_error.Ended.{Ended};
 ghost use Rattle.jc_input.specs.declared.run_error.RunError.{RunError};
-ghost use Rattle.jc_report.specs.Files.{Files};
+ghost use Rattle.jc_edits.specs.SessionState.{HeldFiles, held_of};
 ghost use Rattle.jc_lines.specs.Checks.{Answer, CheckFault, ChecksAs, GivesAnswers, added};
 ghost use Rattle.jc_lines.specs.Runs.{RunsAs};
 ghost use Rattle.jc_input.specs.Sources.{SourceAnswers, TakesAnswer, answer_of};
-ghost use Rattle.jc_session.specs.Statuses.{Checks, CountsInput, CountsOutput, ListsAs, Outcome, Performs, RunsByAnswers, Tells, IsOutcome, outcome_of_check, status_of};
+ghost use Rattle.jc_session.specs.Statuses.{begun, Checks, CountsInput, CountsOutput, ListsAs, Outcome, Performs, RunsByAnswers, Tells, IsOutcome, outcome_of_check, status_of};
 ghost use Rattle.jc_session.specs.inside.LentFaults.{outcome_lent};
 
 use crate::fault::{Fault, tell};
@@ -155,20 +155,20 @@ fn serve<S: Source, R: Input, W: Output, E: Output>(
     out: &mut W,
     err: &mut E,
 ) -> u8
-    ensures { (ending : Result Ended RunError) × (files : Files) × (outcome : Outcome) × IsOutcome outside ending files outcome
+    ensures { (ending : Result Ended RunError) × (held : HeldFiles) × (outcome : Outcome) × IsOutcome ending held outcome
         × (result ≡ status_of outcome)
         × CountsInput outcome (R.failures input.old) (R.failures input.new)
         × CountsOutput outcome (W.failures out.old) (W.failures out.new)
         × Tells outcome (E.written err.old) (E.written err.new) (E.failures err.old) (E.failures err.new)
         × ((bytes : List ℕ) (s : SourceAnswers) → R.remaining input.old ≡ Some bytes → S.answers source.old ≡ Some s
-        → RunsAs outside map.empty s bytes ending (record {
-          files = files;
+        → RunsAs (begun outside) s bytes ending (record {
+          held = held;
           source = S.answers source.new;
           coming = R.remaining input.new;
           before = W.written out.old;
           now = W.written out.new;
         }))
-        × RunsByAnswers outside ending files (R.remaining input.old) (R.remaining input.new) (W.written out.old) (W.written out.new) }
+        × RunsByAnswers outside ending held (R.remaining input.old) (R.remaining input.new) (W.written out.old) (W.written out.new) }
 {
     let outcome = perform(alloc, outside, source, input, out);
     conclude(err, outcome)
@@ -182,19 +182,19 @@ fn perform<S: Source, R: Input, W: Output>(
     input: &mut R,
     out: &mut W,
 ) -> Result<bool, Fault<'static>>
-    ensures { (ending : Result Ended RunError) × (files : Files)
-        × IsOutcome outside ending files (outcome_lent result)
+    ensures { (ending : Result Ended RunError) × (held : HeldFiles)
+        × IsOutcome ending held (outcome_lent result)
         × CountsInput (outcome_lent result) (R.failures input.old) (R.failures input.new)
         × CountsOutput (outcome_lent result) (W.failures out.old) (W.failures out.new)
         × ((bytes : List ℕ) (s : SourceAnswers) → R.remaining input.old ≡ Some bytes → S.answers source.old ≡ Some s
-        → RunsAs outside map.empty s bytes ending (record {
-          files = files;
+        → RunsAs (begun outside) s bytes ending (record {
+          held = held;
           source = S.answers source.new;
           coming = R.remaining input.new;
           before = W.written out.old;
           now = W.written out.new;
         }))
-        × RunsByAnswers outside ending files (R.remaining input.old) (R.remaining input.new) (W.written out.old) (W.written out.new) }
+        × RunsByAnswers outside ending held (R.remaining input.old) (R.remaining input.new) (W.written out.old) (W.written out.new) }
 {
     let mut session = Session::new(alloc, outside)?;
     run_through(alloc, &mut session, source, input, out)
@@ -209,20 +209,20 @@ fn run_through<S: Source, R: Input, W: Output>(
     out: &mut W,
 ) -> Result<bool, Fault<'static>>
     ensures { (ending : Result Ended RunError)
-        × IsOutcome session.old.prefixes ending session.new.files (outcome_lent result)
+        × IsOutcome ending (held_of session.new) (outcome_lent result)
         × CountsInput (outcome_lent result) (R.failures input.old) (R.failures input.new)
         × CountsOutput (outcome_lent result) (W.failures out.old) (W.failures out.new)
         × ((bytes : List ℕ) (s : SourceAnswers) → R.remaining input.old ≡ Some bytes → S.answers source.old ≡ Some s
-        → RunsAs session.old.prefixes session.old.files s bytes ending (record {
-          files = session.new.files;
+        → RunsAs (held_of session.old) s bytes ending (record {
+          held = held_of session.new;
           source = S.answers source.new;
           coming = R.remaining input.new;
           before = W.written out.old;
           now = W.written out.new;
         }))
         × ((bytes : List ℕ) → R.remaining input.old ≡ Some bytes → (s : SourceAnswers)
-        × RunsAs session.old.prefixes session.old.files s bytes ending (record {
-          files = session.new.files;
+        × RunsAs (held_of session.old) s bytes ending (record {
+          held = held_of session.new;
           source = Some [];
           coming = R.remaining input.new;
           before = W.written out.old;

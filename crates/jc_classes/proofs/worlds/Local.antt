@@ -5,7 +5,7 @@ use Rattle.std.specs.Option.{option_to_list, option_map_or}
 use Rattle.std.proofs.lemmas.List.Elements.{Contains-append_left, Contains-append_right, Contains-append_cases}
 use Rattle.jc_classes.specs.Facts.{Facts, Key, Named}
 use Rattle.jc_classes.specs.Names.{Name, object}
-use Rattle.jc_classes.specs.Worlds.{World, Stands, Above, Extends, Found, super_of, interfaces_of, supers_of, fields_of, methods_of, is_interface, member}
+use Rattle.jc_classes.specs.Worlds.{World, Stands, Above, Extends, Found, super_of, interfaces_of, supers_of, fields_of, methods_of, flags_of, is_interface, member}
 use Rattle.jc_classes.specs.Worlds.{Above as above, Extends as extends, Stands as stands}
 use Rattle.jc_classes.specs.FieldLookup.{FindsField, FindsFirst, onward, FindsField as field, FindsFirst as first}
 use Rattle.jc_classes.specs.MethodLookup.{IsCandidate, IsMaximal, IsOnly, IsLeast, given_by, declared, of_object, FindsInClasses, FindsAbove, FindsMethod, FindsInterfaceMethod}
@@ -199,10 +199,10 @@ module _ (R : Name → Type 0) (m n : World) (g : Agree R m n) where
   -- ---- references
 
   pub rclass_there : {d : Name} {t : Named} {a : Answer} → Holds R t → ResolvesClass m d t a → ResolvesClass n d t a
-  rclass_there {d} {a = a} r (rclass.class {c} {l} h e) = rclass.class (load_there r h) (along R m n g (λ o. a ≡ class_answer c c l (can_see d c o)) c r e)
+  rclass_there {d} {a = a} r (rclass.class {c} {l} h e) = rclass.class (load_there r h) (along R m n g (λ o. a ≡ class_answer c c l (can_see d c o) (flags_of o)) c r e)
   rclass_there r rclass.primitives = rclass.primitives
   rclass_there {d} {a = a} r (rclass.array {t} {e = c} {l} h e) = let q = r c refl in
-      rclass.array (load_there q h) (along R m n g (λ o. a ≡ class_answer t c l (can_see d c o)) c q e)
+      rclass.array (load_there q h) (along R m n g (λ o. a ≡ class_answer t c l (can_see d c o) 0) c q e)
 
   pub start_there : {d : Name} {t : Named} {s : Start} → R object → Holds R t → Starts m d t s → Starts n d t s
   start_there o r (starts x l e) = starts (rclass_there r x) (load_there o l) e
@@ -234,13 +234,13 @@ module _ (R : Name → Type 0) (m n : World) (g : Agree R m n) where
   object_within (Fails y x) c o e = absurd cc
 
   start_within : (t : Named) (a : Answer) (l : Loading) (c : Name) → R object → Holds R t → At c ≡ start_of t a l → R c
-  start_within (Class t) (ToClass x) l c o h e = subst R (sym (at_is e)) h
-  start_within (Class t) (ToMember x k) l c o h e = absurd cc
+  start_within (Class t) (ToClass x f) l c o h e = subst R (sym (at_is e)) h
+  start_within (Class t) (ToMember x y) l c o h e = absurd cc
   start_within (Class t) (Beyond x) l c o h e = absurd cc
   start_within (Class t) NotLoaded l c o h e = absurd cc
   start_within (Class t) (Wrong y x) l c o h e = absurd cc
-  start_within (Array t i) (ToClass x) l c o h e = object_within l c o e
-  start_within (Array t i) (ToMember x k) l c o h e = object_within l c o e
+  start_within (Array t i) (ToClass x f) l c o h e = object_within l c o e
+  start_within (Array t i) (ToMember x y) l c o h e = object_within l c o e
   start_within (Array t i) (Beyond x) l c o h e = object_within l c o e
   start_within (Array t i) NotLoaded l c o h e = object_within l c o e
   start_within (Array t i) (Wrong y x) l c o h e = absurd cc

@@ -8,7 +8,7 @@ use Rattle.std.specs.Cmp.Lexicographic.{nat_list_cmp_total}
 use Rattle.std.specs.FinMap.{nat_cmp-IsAntisymmetric, slice_cmp-IsAntisymmetric}
 use Rattle.jc_classes.specs.Facts.{is_faulty, Facts, Key, Member, Named}
 use Rattle.jc_classes.specs.Names.{Name, name_cmp, name_less, object}
-use Rattle.jc_classes.specs.Worlds.{World, Stands, Found, is_interface}
+use Rattle.jc_classes.specs.Worlds.{World, Stands, Found, flags_of, is_interface}
 use Rattle.jc_classes.specs.Worlds.Stands.{Record, Outside, Nothing}
 use Rattle.jc_classes.specs.FieldLookup.{FindsField, FindsFirst}
 use Rattle.jc_classes.specs.FieldLookup.{FindsField as field}
@@ -176,9 +176,9 @@ mutual
 -- ---- references
 
 pub rclass_one : {m : World} {d : Name} {t : Named} {a b : Answer} → ResolvesClass m d t a → ResolvesClass m d t b → a ≡ b
-rclass_one {m} {d} (rclass.class {c} l e) (rclass.class r f) = e ∙ ap (λ x. class_answer c c x (can_see d c (m c))) (load_one l r) ∙ sym f
+rclass_one {m} {d} (rclass.class {c} l e) (rclass.class r f) = e ∙ ap (λ x. class_answer c c x (can_see d c (m c)) (flags_of (m c))) (load_one l r) ∙ sym f
 rclass_one rclass.primitives rclass.primitives = refl
-rclass_one {m} {d} (rclass.array {t} {e = c} l e) (rclass.array r f) = e ∙ ap (λ x. class_answer t c x (can_see d c (m c))) (load_one l r) ∙ sym f
+rclass_one {m} {d} (rclass.array {t} {e = c} l e) (rclass.array r f) = e ∙ ap (λ x. class_answer t c x (can_see d c (m c)) 0) (load_one l r) ∙ sym f
 
 pub start_one : {m : World} {d : Name} {t : Named} {a b : Start} → Starts m d t a → Starts m d t b → a ≡ b
 start_one {t = t} (starts {a} {l} x y e) (starts {a = b} {l = k} u v f) = e ∙ ap (λ z. start_of t z l) (rclass_one x u) ∙ ap (start_of t b) (load_one y v) ∙ sym f

@@ -1,8 +1,9 @@
 -- Locality of reach and parts, and that a class has one part.
-use Rattle.std.proofs.Common.{◌≡◌, Bool, true, false, List, [], ◌∷◌, Some, None, refl, sym, subst, ◌∙◌, ◌⊎◌, inl, inr, ⊎_elim}
+use Rattle.std.proofs.Common.{◌≡◌, Bool, true, false, List, [], ◌∷◌, Some, None, refl, sym, ap, subst, ◌∙◌, ◌⊎◌, inl, inr, ⊎_elim}
 use Rattle.std.specs.List.{Contains}
 use Rattle.std.proofs.lemmas.List.Elements.{Contains-append_left, Contains-append_right}
 use Rattle.jc_classes.specs.Facts.{Named, Reference}
+use Rattle.jc_classes.specs.LinkErrors.{links_of}
 use Rattle.jc_classes.specs.Names.{Name, object}
 use Rattle.jc_classes.specs.declared.reference_kind.ReferenceKind.{ReferenceKind}
 use Rattle.jc_classes.specs.declared.reference_kind.ReferenceKind.TheVariants as kind
@@ -120,6 +121,7 @@ module _ (touched : Name → Bool) (m k : World) (d : Name) (differ : Differ tou
     format_faults = subst (λ o. p.format_faults ≡ format_faults_of o) same h.format_faults;
     code_faults = subst (λ o. p.code_faults ≡ code_faults_of o) same h.code_faults;
     answers = subst (λ o. AreAnswers k d p.load (references_of o) p.answers) same (answers_there R m k d there itself always p.load (references_of (m d)) p.answers (λ s c. reference c) h.answers);
+    links = subst (λ o. p.links ≡ links_of d o p.answers) same h.links;
   }
 
   pub part_back : (p : Part) → IsPart k d p → IsPart m d p
@@ -131,6 +133,7 @@ module _ (touched : Name → Bool) (m k : World) (d : Name) (differ : Differ tou
     code_faults = subst (λ o. p.code_faults ≡ code_faults_of o) (sym same) h.code_faults;
     answers = subst (λ o. AreAnswers m d p.load (references_of o) p.answers) (sym same)
         (answers_there R k m d back itself always p.load (references_of (k d)) p.answers (λ s c. reference (subst (λ o. Contains (names_in (references_of o)) s) (sym same) c)) h.answers);
+    links = subst (λ o. p.links ≡ links_of d o p.answers) (sym same) h.links;
   }
 
 -- ---- one part
@@ -160,15 +163,17 @@ flag_one true false P f g h k = absurd (k refl (f refl))
 flag_one false true P f g h k = absurd (g refl (h refl))
 flag_one false false P f g h k = refl
 
-part_eta : (p q : Part) → p.circular ≡ q.circular → p.load ≡ q.load → p.format_faults ≡ q.format_faults → p.code_faults ≡ q.code_faults → p.answers ≡ q.answers → p ≡ q
-part_eta p q e f g h k = λ i. record { circular = e i; load = f i; format_faults = g i; code_faults = h i; answers = k i }
+part_eta : (p q : Part) → p.circular ≡ q.circular → p.load ≡ q.load → p.format_faults ≡ q.format_faults → p.code_faults ≡ q.code_faults → p.answers ≡ q.answers → p.links ≡ q.links → p ≡ q
+part_eta p q e f g h k l = λ i. record { circular = e i; load = f i; format_faults = g i; code_faults = h i; answers = k i; links = l i }
 
 pub part_one : (m : World) (d : Name) (p q : Part) → IsPart m d p → IsPart m d q → p ≡ q
 part_one m d p q h k =
     let e = load_one h.load k.load in
+    let same = answers_one m d q.load (references_of (m d)) p.answers q.answers (subst (λ l. AreAnswers m d l (references_of (m d)) p.answers) e h.answers) k.answers in
     part_eta p q
     (flag_one p.circular q.circular (Above m d d) h.circular h.not_circular k.circular k.not_circular)
     e
     (h.format_faults ∙ sym k.format_faults)
     (h.code_faults ∙ sym k.code_faults)
-    (answers_one m d q.load (references_of (m d)) p.answers q.answers (subst (λ l. AreAnswers m d l (references_of (m d)) p.answers) e h.answers) k.answers)
+    same
+    (h.links ∙ ap (links_of d (m d)) same ∙ sym k.links)

@@ -25,6 +25,7 @@ facts_shown a = record {
   fields = map (member_shown a.texts.value) a.fields.items;
   methods = map (member_shown a.texts.value) a.methods.items;
   references = map (reference_shown a.texts.value) a.references.value.items;
+  uses = a.uses.items;
   format_faults = a.faults.value.format.items;
   code_faults = a.faults.value.code.items;
 }

@@ -7,6 +7,7 @@ use Rattle.jc_code.specs.declared.code_fault.CodeFault.{CodeFault}
 use Rattle.jc_rules.specs.declared.fault.Fault.{Fault}
 use Rattle.jc_classes.specs.Names.{Name}
 use Rattle.jc_classes.specs.Numbers.{name_at}
+use Rattle.jc_classes.specs.LinkErrors.{LinkFault, links_of}
 use Rattle.jc_classes.specs.Loading.{Load, Loading}
 use Rattle.jc_classes.specs.Parts.{AreAnswers, IsPart}
 use Rattle.jc_classes.specs.Resolution.{Answer}
@@ -31,14 +32,15 @@ module _ (m : World) (d : Name) (c : Closure) (k : IsClosure m d c) where
   own l = at 0 l ∙ ap m k.first
 
 -- what numbered classes say of their first is the part of the class
-pub part_made : (m : World) (d : Name) (c : Closure) (rows : List (List ℕ)) (h : Numbered) (ring : Bool) (how : Loading) (found : List Answer) (faults : List Fault) (wrong : List (ℕ × CodeFault)) (own_stands : Stands)
+pub part_made : (m : World) (d : Name) (c : Closure) (rows : List (List ℕ)) (h : Numbered) (ring : Bool) (how : Loading) (found : List Answer) (errors : List LinkFault) (faults : List Fault) (wrong : List (ℕ × CodeFault)) (own_stands : Stands)
     → IsClosure m d c → 0 < length c.found → h ≡ record { names = c.found; records = c.stands; rows = rows }
     → ((k : World) → Agrees k h → Decides ring (Above k (name_at h.names 0) (name_at h.names 0)))
     → ((k : World) → Agrees k h → Load k (name_at h.names 0) how)
     → ((k : World) (l : Loading) → Agrees k h → Load k (name_at h.names 0) l → AreAnswers k (name_at h.names 0) l (references_of (record_of h 0)) found)
+    → errors ≡ links_of (name_at h.names 0) (record_of h 0) found
     → own_stands ≡ stand_at c.stands 0 → faults ≡ format_faults_of own_stands → wrong ≡ code_faults_of own_stands
-    → IsPart m d (record { circular = ring; load = how; format_faults = faults; code_faults = wrong; answers = found })
-part_made m d c rows h ring how found faults wrong own_stands k some is rings loads answers stands same_faults same_wrong =
+    → IsPart m d (record { circular = ring; load = how; format_faults = faults; code_faults = wrong; answers = found; links = errors })
+part_made m d c rows h ring how found errors faults wrong own_stands k some is rings loads answers links stands same_faults same_wrong =
     let agree : Agrees m h = subst (Agrees m) (sym is) (agrees m d c k rows) in
     let name : name_at h.names 0 ≡ d = ap (λ (z : Numbered). name_at z.names 0) is ∙ k.first in
     let here : record_of h 0 ≡ m d = ap (λ z. record_of z 0) is ∙ own m d c k some in
@@ -52,4 +54,5 @@ part_made m d c rows h ring how found faults wrong own_stands k some is rings lo
       format_faults = same_faults ∙ ap format_faults_of at;
       code_faults = same_wrong ∙ ap code_faults_of at;
       answers = subst (λ s. AreAnswers m d how (references_of s) found) here (subst (λ n. AreAnswers m n how (references_of (record_of h 0)) found) name (answers m how agree load_is));
+      links = links ∙ ap (λ n. links_of n (record_of h 0) found) name ∙ ap (λ s. links_of d s found) here;
     }

@@ -1,19 +1,19 @@
 -- Prefixes that are held, each once.
-use Rattle.std.proofs.Common.{◌≡◌, ℕ, ◌<◌, ◌≤◌, Bool, true, false, List, [], ◌∷◌, ◌++◌, length, codes, refl, sym, ap, subst, ◌∙◌, arith, ◌⊎◌, inl, inr, ⊎_elim, if◌then◌else◌, length-append}
+use Rattle.std.proofs.Common.{◌≡◌, ℕ, zero, suc, ◌<◌, ◌≤◌, Bool, true, false, not, cond, List, [], ◌∷◌, ◌++◌, length, codes, refl, sym, ap, subst, ◌∙◌, arith, ◌⊎◌, inl, inr, ⊎_elim, if◌then◌else◌, length-append}
 use Rattle.std.proofs.lemmas.List.Elements.{Contains-append_left, Contains-append_right, Contains-append_cases}
 use Rattle.std.proofs.lemmas.Map.Views.{list_any-from_Contains, Contains-from_any}
 use Rattle.std.proofs.lemmas.List.{get_or_push, get_or_append_left, get_or_default}
 use Rattle.std.proofs.lemmas.Bool.{false≢true}
 use Rattle.std.specs.Cmp.{eq_by_cmp_equiv}
-use Rattle.std.specs.List.{Contains, list_any}
+use Rattle.std.specs.List.{Contains, filter, list_any}
 use Rattle.jc_base.proofs.maps.FiniteMaps.{bytes_cmp_total}
-use Rattle.jc_classes.proofs.worlds.NameTests.{same_is}
+use Rattle.jc_classes.proofs.worlds.NameTests.{same_is, same_self}
 use Rattle.jc_classes.specs.Names.{Name, same_name}
 use Rattle.jc_classes.specs.Numbers.{name_at, IsOnce}
-use Rattle.jc_link.specs.Prefixes.{standard_prefixes}
+use Rattle.jc_link.specs.Prefixes.{standard_prefixes, with_one, without}
 use Rattle.jc_link.specs.inside.HeldPrefixes.{with_prefix, IsHeldOf}
 
-one_is : (x y : Name) → Contains (x ∷ []) y → x ≡ y
+pub one_is : (x y : Name) → Contains (x ∷ []) y → x ≡ y
 one_is x y c = let e : c.0 ≡ 0 = omega (arith, c.1) in sym (get_or_push [] x y c.0 (sym e)) ∙ c.2
 
 is_in : (held : List Name) (x : Name) → list_any (same_name x) held ≡ true → Contains held x
@@ -76,3 +76,52 @@ held_more held given x h = by (list_any (same_name x) held) refl
       );
       once = once_push held x h.once (is_not_in held x e);
     }
+
+-- ---- without one, and with one behind the others
+
+once_head : (x : Name) (xs : List Name) → IsOnce (x ∷ xs) → Contains xs x → ⊥
+once_head x xs once c =
+    let same : 0 ≡ suc c.0 = once 0 (suc c.0) (omega arith) (omega (arith, c.1)) (sym (sym (get_or_default xs c.0 x [] c.1) ∙ c.2)) in
+    absurd (omega (arith, same))
+
+once_tail : (x : Name) (xs : List Name) → IsOnce (x ∷ xs) → IsOnce xs
+once_tail x xs once = λ i j a b e. let same : suc i ≡ suc j = once (suc i) (suc j) (omega (arith, a)) (omega (arith, b)) e in omega (arith, same)
+
+once_cons : (x : Name) (xs : List Name) → (Contains xs x → ⊥) → IsOnce xs → IsOnce (x ∷ xs)
+once_cons x xs apart once zero zero a b e = refl
+once_cons x xs apart once zero (suc j) a b e = let l : j < length xs = omega (arith, b) in absurd (apart (j, l, get_or_default xs j x [] l ∙ sym e))
+once_cons x xs apart once (suc i) zero a b e = let l : i < length xs = omega (arith, a) in absurd (apart (i, l, get_or_default xs i x [] l ∙ e))
+once_cons x xs apart once (suc i) (suc j) a b e = ap suc (once i j (omega (arith, a)) (omega (arith, b)) e)
+
+kept_in : (test : Name → Bool) (xs : List Name) (y : Name) → Contains (filter test xs) y → Contains xs y
+kept_in test [] y c = c
+kept_in test (x ∷ xs) y c = by (test x) c (kept_in test xs y)
+  where
+    by : (b : Bool) → Contains (cond b (x ∷ filter test xs) (filter test xs)) y → (Contains (filter test xs) y → Contains xs y) → Contains (x ∷ xs) y
+    by true c later = ⊎_elim (λ q. Contains-append_left (x ∷ []) xs y q) (λ q. Contains-append_right (x ∷ []) xs y (later q)) (Contains-append_cases (x ∷ []) (filter test xs) y c)
+    by false c later = Contains-append_right (x ∷ []) xs y (later c)
+
+once_kept : (test : Name → Bool) (xs : List Name) → IsOnce xs → IsOnce (filter test xs)
+once_kept test [] once = once
+once_kept test (x ∷ xs) once = by (test x) (once_kept test xs (once_tail x xs once))
+  where
+    by : (b : Bool) → IsOnce (filter test xs) → IsOnce (cond b (x ∷ filter test xs) (filter test xs))
+    by true later = once_cons x (filter test xs) (λ c. once_head x xs once (kept_in test xs x c)) later
+    by false later = later
+
+left_out : (x : Name) (xs : List Name) → Contains (without xs x) x → ⊥
+left_out x [] c = omega (arith, c.1)
+left_out x (y ∷ ys) c = by (same_name y x) refl c (left_out x ys)
+  where
+    by : (b : Bool) → same_name y x ≡ b → Contains (cond (not b) (y ∷ without ys x) (without ys x)) x → (Contains (without ys x) x → ⊥) → ⊥
+    by true e c later = later c
+    by false e c later = ⊎_elim
+        (λ q. let same : y ≡ x = one_is y x q in false≢true (sym e ∙ subst (λ z. same_name y z ≡ true) same (same_self y)))
+        later
+        (Contains-append_cases (y ∷ []) (without ys x) x c)
+
+pub once_without : (held : List Name) (x : Name) → IsOnce held → IsOnce (without held x)
+once_without held x once = once_kept (λ p. not (same_name p x)) held once
+
+pub once_with_one : (held : List Name) (x : Name) → IsOnce held → IsOnce (with_one held x)
+once_with_one held x once = once_push (without held x) x (once_without held x once) (left_out x held)

@@ -1,5 +1,5 @@
 -- What is known to be above a class.
-use Rattle.std.specs.Prelude.{◌≡◌, ℕ, ◌<◌, [], ◌∷◌, length, Some}
+use Rattle.std.specs.Prelude.{◌≡◌, ℕ, [], ◌∷◌, length, Some}
 use Rattle.jc_classes.specs.Worlds.{World}
 use Rattle.jc_graph.specs.Seen.{TellsAbove}
 use Rattle.jc_lookup.specs.declared.above.Above.{Above}

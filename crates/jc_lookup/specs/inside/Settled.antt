@@ -1,7 +1,7 @@
 -- What becomes of what look-up found.
 use Rattle.std.specs.Prelude.{◌≡◌, ℕ, Bool, true, false, Option, Some, None}
 use Rattle.jc_classes.specs.Names.{Name, name_less}
-use Rattle.jc_classes.specs.Worlds.{World, Stands, key_of, text_of}
+use Rattle.jc_classes.specs.Worlds.{World, Stands, text_of}
 use Rattle.jc_classes.specs.Facts.{Named}
 use Rattle.jc_classes.specs.Worlds.Stands.{Record, Outside, Nothing}
 use Rattle.jc_classes.specs.declared.linkage_error.LinkageError.{LinkageError}
@@ -29,7 +29,7 @@ TellsBeyond m x c (Some v) = IsBeyond m c (name_at x v) × ((j : Name) → IsBey
 
 -- the answer, where `missing` is the error if nothing is there
 abbrev pub answer_of : Indexed → Named → LinkageError → Settled → Answer
-answer_of x t missing (settled.To h) = ToMember (name_at x h.node) (key_of (member_lent h.member))
+answer_of x t missing (settled.To h) = ToMember (name_at x h.node) (member_lent h.member)
 answer_of x t missing (settled.Beyond v) = Beyond (name_at x v)
 answer_of x t missing (settled.Hidden v) = Wrong IllegalAccess (name_at x v)
 answer_of x t missing settled.Missing = Wrong missing (text_of t)

@@ -23,9 +23,9 @@ use Rattle.jc_resolve.proofs.answering.Entries.{answered_set}
 
 module _ (r s : Reference) (of_kind : r.kind ≡ s.kind) (of_named : r.named ≡ s.named) (of_key : r.key ≡ s.key) where
   same_shown : (name : ℕ → Name) (e : Entry) → entry_shown name r e ≡ entry_shown name s e
-  same_shown name entry.ToClass = ap (λ t. answer.ToClass (text_of t)) of_named
-  same_shown name (entry.ToMember n) = ap (answer.ToMember (name n)) of_key
-  same_shown name (entry.ToPolymorphic n) = ap (λ k. answer.ToMember (name n) (record { name = k.name; descriptor = polymorphic_descriptor })) of_key
+  same_shown name (entry.ToClass flags) = ap (λ t. answer.ToClass (text_of t) flags) of_named
+  same_shown name (entry.ToMember flags n) = ap (λ k. answer.ToMember (name n) (record { name = k.name; descriptor = k.descriptor; flags = flags })) of_key
+  same_shown name (entry.ToPolymorphic flags n) = ap (λ k. answer.ToMember (name n) (record { name = k.name; descriptor = polymorphic_descriptor; flags = flags })) of_key
   same_shown name (entry.Outside n) = refl
   same_shown name entry.NotLoaded = refl
   same_shown name (entry.Error e n) = refl

@@ -1,7 +1,7 @@
 -- Where look-up begins.
 use Rattle.std.proofs.Common.{◌≡◌, ℕ, ◌<◌, Bool, List, Some, None, refl, sym, ap, subst, ◌∙◌}
 use Rattle.jc_classes.specs.Names.{Name, object as java_lang_object}
-use Rattle.jc_classes.specs.Worlds.{World}
+use Rattle.jc_classes.specs.Worlds.{World, flags_of}
 use Rattle.jc_classes.specs.Facts.Named.{Class, Array}
 use Rattle.jc_classes.specs.Loading.{Load, can_see}
 use Rattle.jc_classes.specs.Resolution.{Start, Starts, ResolvesClass as rclass, class_answer, start_of, object_start}
@@ -27,12 +27,12 @@ module _ (m : World) (count : ℕ) (x : Indexed) (graph : IsGraph count x) (inde
   sees_is v k sees e = e ∙ ap (can_see d (name_at x v)) (sym (index.records v (named m count x graph index k)))
 
   pub class_starts : (v : ℕ) → v < count → (l : LoadState) → l ≡ load_at loads v → (sees : Bool) → sees ≡ can_see d (name_at x v) (record_at x v) → (s : Start)
-      → s ≡ start_of (Class (name_at x v)) (class_answer (name_at x v) (name_at x v) (loading_of x l) sees) (loading_of x (load_at loads object)) → Starts m d (Class (name_at x v)) s
-  class_starts v k l e sees f s h = starts (rclass.class (node_loads v k l e) (ap (class_answer (name_at x v) (name_at x v) (loading_of x l)) (sees_is v k sees f))) (object_loads _ refl) h
+      → ((flags : ℕ) → s ≡ start_of (Class (name_at x v)) (class_answer (name_at x v) (name_at x v) (loading_of x l) sees flags) (loading_of x (load_at loads object))) → Starts m d (Class (name_at x v)) s
+  class_starts v k l e sees f s h = starts (rclass.class (node_loads v k l e) (ap (λ b. class_answer (name_at x v) (name_at x v) (loading_of x l) b (flags_of (m (name_at x v)))) (sees_is v k sees f))) (object_loads _ refl) (h (flags_of (m (name_at x v))))
 
   pub element_starts : (text : Name) (v : ℕ) → v < count → (l : LoadState) → l ≡ load_at loads v → (lo : LoadState) → lo ≡ load_at loads object → (sees : Bool) → sees ≡ can_see d (name_at x v) (record_at x v) → (s : Start)
-      → s ≡ start_of (Array text (Some (name_at x v))) (class_answer text (name_at x v) (loading_of x l) sees) (loading_of x lo) → Starts m d (Array text (Some (name_at x v))) s
-  element_starts text v k l e lo o sees f s h = starts (rclass.array (node_loads v k l e) (ap (class_answer text (name_at x v) (loading_of x l)) (sees_is v k sees f))) (object_loads lo o) h
+      → s ≡ start_of (Array text (Some (name_at x v))) (class_answer text (name_at x v) (loading_of x l) sees 0) (loading_of x lo) → Starts m d (Array text (Some (name_at x v))) s
+  element_starts text v k l e lo o sees f s h = starts (rclass.array (node_loads v k l e) (ap (λ b. class_answer text (name_at x v) (loading_of x l) b 0) (sees_is v k sees f))) (object_loads lo o) h
 
   pub primitive_starts : (text : Name) (lo : LoadState) → lo ≡ load_at loads object → (s : Start) → s ≡ object_start (loading_of x lo) → Starts m d (Array text None) s
   primitive_starts text lo o s h = starts rclass.primitives (object_loads lo o) h

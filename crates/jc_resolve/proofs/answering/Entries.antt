@@ -68,18 +68,18 @@ stays : (a b : List Name) (n : ℕ) → IsFront a b → n < length a → text_at
 stays a b n f l = ap (λ x. text_at x n) f.1 ∙ get_or-append a f.0 [] n l
 
 entry_stays : (a b : List Name) (r : Reference) (e : Entry) → IsFront a b → IsWithin (length a) e → entry_shown (text_at b) r e ≡ entry_shown (text_at a) r e
-entry_stays a b r entry.ToClass f l = refl
-entry_stays a b r (entry.ToMember n) f l = ap (λ z. answer.ToMember z r.key) (stays a b n f l)
-entry_stays a b r (entry.ToPolymorphic n) f l = ap (λ z. answer.ToMember z (record { name = r.key.name; descriptor = polymorphic_descriptor })) (stays a b n f l)
+entry_stays a b r (entry.ToClass flags) f l = refl
+entry_stays a b r (entry.ToMember flags n) f l = ap (λ z. answer.ToMember z (record { name = r.key.name; descriptor = r.key.descriptor; flags = flags })) (stays a b n f l)
+entry_stays a b r (entry.ToPolymorphic flags n) f l = ap (λ z. answer.ToMember z (record { name = r.key.name; descriptor = polymorphic_descriptor; flags = flags })) (stays a b n f l)
 entry_stays a b r (entry.Outside n) f l = ap answer.Beyond (stays a b n f l)
 entry_stays a b r entry.NotLoaded f l = refl
 entry_stays a b r (entry.Error e n) f l = ap (answer.Wrong e) (stays a b n f l)
 entry_stays a b r (entry.OwnError e) f l = refl
 
 pub within_more : (a b : List Name) (e : Entry) → IsFront a b → IsWithin (length a) e → IsWithin (length b) e
-within_more a b entry.ToClass f l = tt
-within_more a b (entry.ToMember n) f l = omega (arith, l, ap length f.1, length-append a f.0)
-within_more a b (entry.ToPolymorphic n) f l = omega (arith, l, ap length f.1, length-append a f.0)
+within_more a b (entry.ToClass flags) f l = tt
+within_more a b (entry.ToMember flags n) f l = omega (arith, l, ap length f.1, length-append a f.0)
+within_more a b (entry.ToPolymorphic flags n) f l = omega (arith, l, ap length f.1, length-append a f.0)
 within_more a b (entry.Outside n) f l = omega (arith, l, ap length f.1, length-append a f.0)
 within_more a b entry.NotLoaded f l = tt
 within_more a b (entry.Error e n) f l = omega (arith, l, ap length f.1, length-append a f.0)

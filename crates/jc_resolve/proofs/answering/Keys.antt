@@ -4,7 +4,7 @@ use Rattle.jc_classes.specs.Facts.{Key, Member}
 use Rattle.jc_classes.specs.Lent.{member_lent}
 use Rattle.jc_classes.specs.MethodLookup.{count_named, declared, first_named, given_by, if_polymorphic, is_polymorphic, of_object, only_inheritable, only_open, or_else, polymorphic, sole_named}
 use Rattle.jc_classes.specs.Names.{Name, method_handle, polymorphic_descriptor, same_name}
-use Rattle.jc_classes.specs.Worlds.{Stands, is_at, is_interface, key_of, member, methods_of}
+use Rattle.jc_classes.specs.Worlds.{Stands, is_at, is_interface, member, methods_of}
 use Rattle.jc_rules.specs.AccessFlags.{has, native, private, public, static, varargs}
 use Rattle.jc_classes.proofs.worlds.NameTests.{same_is, same_self}
 use Rattle.std.proofs.lemmas.Bool.{false≢true}
@@ -95,21 +95,21 @@ settled_keyed k found (settled.Beyond v) h keyed = tt
 settled_keyed k found (settled.Hidden v) h keyed = tt
 settled_keyed k found settled.Missing h keyed = tt
 
--- ---- the key of what is found, by its descriptor
+-- ---- what is found, by its descriptor
 
-pub hit_same : (name : Name) (k asked : Key) (x : Member) → k ≡ asked → IsKeyed k x → same_name x.descriptor asked.descriptor ≡ true → ToMember name k ≡ ToMember name (key_of x)
+pub hit_same : (name : Name) (k asked : Key) (x : Member) → k ≡ asked → IsKeyed k x → same_name x.descriptor asked.descriptor ≡ true → ToMember name (record { name = k.name; descriptor = k.descriptor; flags = x.flags }) ≡ ToMember name x
 hit_same name k asked x e h s =
     let n = h.0 in
     let d = same_is x.descriptor asked.descriptor s ∙ ap (λ (z : Key). z.descriptor) (sym e) in
-    ap (ToMember name) (λ i. record { name = sym n i; descriptor = sym d i })
+    ap (ToMember name) (λ i. record { name = sym n i; descriptor = sym d i; flags = x.flags })
 
-pub hit_other : (name : Name) (k asked : Key) (x : Member) → k ≡ asked → IsKeyed k x → same_name x.descriptor asked.descriptor ≡ false → ToMember name (record { name = k.name; descriptor = polymorphic_descriptor }) ≡ ToMember name (key_of x)
+pub hit_other : (name : Name) (k asked : Key) (x : Member) → k ≡ asked → IsKeyed k x → same_name x.descriptor asked.descriptor ≡ false → ToMember name (record { name = k.name; descriptor = polymorphic_descriptor; flags = x.flags }) ≡ ToMember name x
 hit_other name k asked x e h s = by h.1
   where
-    by : (x.descriptor ≡ k.descriptor) ⊎ (x.descriptor ≡ polymorphic_descriptor) → ToMember name (record { name = k.name; descriptor = polymorphic_descriptor }) ≡ ToMember name (key_of x)
+    by : (x.descriptor ≡ k.descriptor) ⊎ (x.descriptor ≡ polymorphic_descriptor) → ToMember name (record { name = k.name; descriptor = polymorphic_descriptor; flags = x.flags }) ≡ ToMember name x
     by (inl d) =
         let t : same_name x.descriptor asked.descriptor ≡ true = subst (λ z. same_name x.descriptor z ≡ true) (d ∙ ap (λ (z : Key). z.descriptor) e) (same_self x.descriptor) in
         absurd (false≢true (sym s ∙ t))
     by (inr d) =
         let n = h.0 in
-        ap (ToMember name) (λ i. record { name = sym n i; descriptor = sym d i })
+        ap (ToMember name) (λ i. record { name = sym n i; descriptor = sym d i; flags = x.flags })

@@ -15,9 +15,9 @@ use Rattle.jc_resolve.specs.declared.resolve.Outcome.TheVariants as outcome
 
 -- the answer of a reference, where numbers have these names
 abbrev pub entry_shown : (ℕ → Name) → Reference → Entry → defs.Answer
-entry_shown name r entry.ToClass = answer.ToClass (text_of r.named)
-entry_shown name r (entry.ToMember n) = answer.ToMember (name n) r.key
-entry_shown name r (entry.ToPolymorphic n) = answer.ToMember (name n) (record { name = r.key.name; descriptor = polymorphic_descriptor })
+entry_shown name r (entry.ToClass flags) = answer.ToClass (text_of r.named) flags
+entry_shown name r (entry.ToMember flags n) = answer.ToMember (name n) (record { name = r.key.name; descriptor = r.key.descriptor; flags = flags })
+entry_shown name r (entry.ToPolymorphic flags n) = answer.ToMember (name n) (record { name = r.key.name; descriptor = polymorphic_descriptor; flags = flags })
 entry_shown name r (entry.Outside n) = answer.Beyond (name n)
 entry_shown name r entry.NotLoaded = answer.NotLoaded
 entry_shown name r (entry.Error e n) = answer.Wrong e (name n)
@@ -52,9 +52,9 @@ text_at texts number = slice_index_or texts number []
 
 -- so many texts hold those of an answer
 abbrev pub IsWithin : ℕ → Entry → Type 0
-IsWithin count entry.ToClass = Unit {0}
-IsWithin count (entry.ToMember n) = n < count
-IsWithin count (entry.ToPolymorphic n) = n < count
+IsWithin count (entry.ToClass flags) = Unit {0}
+IsWithin count (entry.ToMember flags n) = n < count
+IsWithin count (entry.ToPolymorphic flags n) = n < count
 IsWithin count (entry.Outside n) = n < count
 IsWithin count entry.NotLoaded = Unit {0}
 IsWithin count (entry.Error e n) = n < count

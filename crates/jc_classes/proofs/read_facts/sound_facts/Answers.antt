@@ -24,8 +24,9 @@ returns c =
     (ap (λ ts. map (member_shown ts) e.fields.items) t ∙ h.fields)
     (ap (λ ts. map (member_shown ts) e.methods.items) t ∙ h.methods)
     (ap (λ rs. map (reference_shown c.in_ok-texts_shared.texts_shared.value) rs.items) r ∙ ap (λ ts. map (reference_shown ts) e.references.items) t ∙ h.references)
+    c.in_ok-codes.ensures.uses
     (ap (λ v. v.items) f.format ∙ c.new-4.ensures.items)
-    (ap (λ v. v.items) f.code ∙ c.in_ok-code_faults.ensures)
+    (ap (λ v. v.items) f.code ∙ c.in_ok-codes.ensures.faults)
 
 pub invariant_of-result : goal.invariant_of-result
 invariant_of-result c =

@@ -10,11 +10,11 @@ returns-clause-violated c =
     let one : OneWay = record { items = c.instructions_are_apart.ensures.items; end = c.instructions_are_apart.ensures.end } in
     let class = c.args.sizes.now in
     let k = c.args.code.now.code in
-    IfOk-weaker c.list_faults.result _ _ (λ found are. λ fault. (found_breaks class k found.items are fault, breaking_found class k found.items are one fault)) c.list_faults.ensures
+    IfOk-weaker c.faults_alone.result _ _ (λ found are. λ fault. (found_breaks class k found.items are fault, breaking_found class k found.items are one fault)) c.faults_alone.ensures
 
 pub returns-clause-rising : goal.returns-clause-rising
 returns-clause-rising c =
-    IfOk-weaker c.list_faults.result _ _ (λ found are. found_rises c.args.sizes.now c.args.code.now.code found.items are) c.list_faults.ensures
+    IfOk-weaker c.faults_alone.result _ _ (λ found are. found_rises c.args.sizes.now c.args.code.now.code found.items are) c.faults_alone.ensures
 
 pub returns-clause-computed : goal.returns-clause-computed
 returns-clause-computed c =
@@ -22,4 +22,4 @@ returns-clause-computed c =
     let class = c.args.sizes.now in
     let k = c.args.code.now.code in
     let read = subst (λ code. IsCode code (insns_of code) (end_of code)) (c.as_bytes-bytes.ensures.same ∙ c.bytes.ensures.part) (c.codes_are_read.ensures c.as_bytes-bytes.result.now c.as_bytes-bytes.ensures.bytes) in
-    IfOk-weaker c.list_faults.result _ _ (λ found are. found_computed class k found.items are one read) c.list_faults.ensures
+    IfOk-weaker c.faults_alone.result _ _ (λ found are. found_computed class k found.items are one read) c.faults_alone.ensures

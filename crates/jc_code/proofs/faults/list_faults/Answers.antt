@@ -3,6 +3,8 @@ use Rattle.std.specs.Prelude.{IsTrue}
 use Rattle.std.specs.List.{flat_map}
 use Rattle.jc_view.specs.ClassFile.{ClassFile}
 use Rattle.jc_view.specs.Attributes.{Code}
+use Rattle.jc_code.specs.InsnReading.{insns_of}
+use Rattle.jc_code.specs.MethodUses.{uses_among}
 use Rattle.jc_code.specs.Insns.{IsCode}
 use Rattle.jc_code.specs.declared.code_fault.CodeRule.TheVariants as rules
 use Rattle.jc_code.specs.declared.code_fault.TheConstants.CodeRule.{ALL}
@@ -13,21 +15,21 @@ use Rattle.jc_code.proofs.orders.FaultsOfCode.{listed_cut, listed_whole, none_ag
 use Rattle.jc_code.proofs.faults.list_faults.Goals as goal
 use Rattle.jc_code.proofs.faults.list_faults.Goals.{then-end-size+in_ok-push, else-end-size+then-not-is_clean+in_ok-add_all_faults, else-end-size+else-not-is_clean}
 
-pub returns : goal.returns
-returns c =
+pub returns-clause-faults : goal.returns-clause-faults
+returns-clause-faults c =
     let class : ClassFile = c.args.sizes.now in
     let k : Code = c.args.code.now.code in
     let read = c.bytes-bytes.result.now in
     let found = c.in_ok-found.found in
     let part : read ≡ k.code = c.bytes-bytes.ensures.part in
     let size : length read ≡ length k.code = ap length part in
-    let pass = c.in_ok-found.ensures in
+    let pass = c.in_ok-found.ensures.found in
     let items = pass.items in
     let is_code : IsCode k.code items found.end = subst (λ code. IsCode code items found.end) part pass.is_code in
-    let bare = c.scope_with.result in
+    let bare = c.scope_with-bare.result in
     let s : Scope = c.scope_with-scope.result in
     let is : s ≡ record { class = class; max_locals = k.max_locals; size = length k.code; starts = found.starts } = c.scope_with-scope.ensures in
-    let alike : bare ≡ without_starts s = c.scope_with.ensures ∙ ap (λ starts. record { class = class; max_locals = k.max_locals; size = length k.code; starts = starts }) c.none.ensures ∙ sym (ap without_starts is) in
+    let alike : bare ≡ without_starts s = c.scope_with-bare.ensures ∙ ap (λ starts. record { class = class; max_locals = k.max_locals; size = length k.code; starts = starts }) c.none.ensures ∙ sym (ap without_starts is) in
     let none = c.new-faults.ensures.items in
     elim c.if-end-size.branch [
       | then-end-size+in_ok-push w ↦
@@ -48,3 +50,6 @@ returns c =
           listed_whole class k items found.end is_code s c.if-end-size.faults.items le (ap (λ z. z.class) is) (ap (λ z. z.max_locals) is) (ap (λ z. z.size) is) (ap (λ z. z.starts) is ∙ pass.are_starts)
           (ap (λ v. v.items) w.faults-is ∙ none ∙ sym (none_against s items k.handlers ALL kept))
     ]
+
+pub returns-clause-uses : goal.returns-clause-uses
+returns-clause-uses c = c.in_ok-found.ensures.uses ∙ ap (λ code. c.args.uses.now.items ++ uses_among c.args.method (insns_of code)) c.bytes-bytes.ensures.part

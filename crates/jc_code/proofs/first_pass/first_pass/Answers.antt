@@ -1,13 +1,16 @@
-use Rattle.std.proofs.Common.{◌≡◌, ◌++◌, ◌∷◌, ◌-◌, [], ◌∙◌, ◌&&◌, ap, sym, subst, refl, false, length, map, append-nil, append_assoc, replicate, arith, take}
+use Rattle.std.proofs.Common.{◌≡◌, ◌+◌, ◌++◌, ◌∷◌, ◌-◌, [], ◌∙◌, ◌&&◌, ap, sym, subst, refl, false, length, map, append-nil, append_assoc, replicate, arith, take}
+use Rattle.std.specs.Option.{option_to_list}
 use Rattle.std.specs.Prelude.{if◌then◌else◌, is_ok, vec_len}
 use Rattle.std.proofs.lemmas.List.{take_all}
-use Rattle.jc_view.proofs.places.RisingLists.{RisesBy}
+use Rattle.jc_view.proofs.places.RisingLists.{RisesBy, rises_bounds}
 use Rattle.jc_code.specs.Insns.{IsCode}
 use Rattle.jc_code.specs.inside.Clean.{has_targets, jumps_of, others_keep}
 use Rattle.jc_code.specs.inside.Marks.{marked}
 use Rattle.jc_code.proofs.clean_code.Passed.{and_true, jumps_more, keep_more}
 use Rattle.jc_code.proofs.marks.Marked.{has_marked}
-use Rattle.jc_code.proofs.orders.InsnPlaces.{items_rise}
+use Rattle.jc_code.specs.InsnsLeft.{InsnsLeft}
+use Rattle.jc_code.specs.MethodUses.{use_at, uses_among}
+use Rattle.jc_code.proofs.orders.InsnPlaces.{items_end, items_rise}
 use Rattle.jc_code.proofs.first_pass.first_pass.Goals as goal
 
 pub loop-place-init : goal.loop-place-init
@@ -21,7 +24,15 @@ loop-place-init c =
       rises = items_rise c.args.code.now 0 c.new-insns.result.end c.new-insns.result.left c.new-insns.ensures.code;
       jumps = refl;
       keep = refl;
+      uses = refl;
     })
+
+pub overflow_cast-place-in-Some : goal.overflow_cast-place-in-Some
+overflow_cast-place-in-Some c =
+    let rises = subst (λ items. RisesBy (λ item. item.0) (length c.loop-place.marks.items) c.new-insns.result.end items) c.in-Some.ensures.steps.1.0 c.loop-place.invariant.rises in
+    let last = rises_bounds (λ item. item.0) (c.in-Some.place + 1) c.new-insns.result.end c.next.new.self.left rises.1 in
+    let end = items_end c.args.code.now 0 c.new-insns.result.end c.new-insns.result.left (omega arith) c.new-insns.ensures.code in
+    omega (arith, last, end, c.requires)
 
 pub loop-place-preserved : goal.loop-place-preserved
 loop-place-preserved c =
@@ -55,10 +66,15 @@ loop-place-preserved c =
           ∙ ap (λ b. c.loop-place.is_kept && (b && others_keep c.args.scope.now left)) c.in_ok-keeps.ensures.keeps
           ∙ ap (λ items. c.loop-place.is_kept && others_keep c.args.scope.now items) (sym c.in-Some.ensures.steps.1.0)
           ∙ c.loop-place.invariant.keep;
+      uses =
+          ap (λ uses. uses ++ uses_among c.args.method left) c.in_ok-push_use.ensures
+          ∙ append_assoc c.loop-place.uses.items (option_to_list (use_at c.args.method (place, insn))) (uses_among c.args.method left)
+          ∙ ap (λ items. c.loop-place.uses.items ++ uses_among c.args.method items) (sym c.in-Some.ensures.steps.1.0)
+          ∙ c.loop-place.invariant.uses;
     }
 
-pub returns : goal.returns
-returns c =
+pub returns-clause-found : goal.returns-clause-found
+returns-clause-found c =
     let none = c.in_default.ensures.steps.1.0 in
     record {
       items = c.new-insns.result.left;
@@ -73,3 +89,11 @@ returns c =
           ∙ c.loop-place.invariant.jumps;
       is_kept = sym (and_true c.loop-place.is_kept) ∙ ap (λ items. c.loop-place.is_kept && others_keep c.args.scope.now items) (sym none) ∙ c.loop-place.invariant.keep;
     }
+
+pub returns-clause-uses : goal.returns-clause-uses
+returns-clause-uses c =
+    let method = c.args.method in
+    sym (append-nil c.loop-place.uses.items)
+    ∙ ap (λ items. c.loop-place.uses.items ++ uses_among method items) (sym c.in_default.ensures.steps.1.0)
+    ∙ c.loop-place.invariant.uses
+    ∙ ap (λ (read : InsnsLeft). c.args.uses.now.items ++ uses_among method read.left) c.new-insns.ensures.read

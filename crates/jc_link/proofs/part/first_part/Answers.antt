@@ -7,4 +7,4 @@ pub returns-clause-load : goal.returns-clause-load
 returns-clause-load c = c.in_ok-load.ensures
 
 pub returns-clause-answers : goal.returns-clause-answers
-returns-clause-answers c = c.in_ok-answers.ensures
+returns-clause-answers c = c.in_ok-linked.ensures.answers

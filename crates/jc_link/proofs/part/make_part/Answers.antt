@@ -32,7 +32,7 @@ returns-clause-part c = λ m d k.
     c.in_ok-hierarchy.ensures ∙ ap (λ z. numbered z c.as_slice-2.result.now c.as_slice-3.result.now) c.as_slice.ensures.value ∙ ap (λ z. numbered a.found.items z c.as_slice-3.result.now) c.as_slice-2.ensures.value ∙ ap (λ z. numbered a.found.items a.standing.items z) c.as_slice-3.ensures.value in
     let stands = ap (λ (z : Closure). stand_at z.stands 0) (sym c.closure.view_is) in
     let part = c.in_ok-part.part in
-    part_made m d (closure_shown a) (rows_in a.supertypes.items) c.in_ok-hierarchy.hierarchy part.circular part.load part.answers part.format_faults part.code_faults (stand_at (stands_in a.standing.items) 0)
-    closure c.closure.invariant.net.some is c.in_ok-part.ensures.circular c.in_ok-part.ensures.load c.in_ok-part.ensures.answers refl
+    part_made m d (closure_shown a) (rows_in a.supertypes.items) c.in_ok-hierarchy.hierarchy part.circular part.load part.answers part.links part.format_faults part.code_faults (stand_at (stands_in a.standing.items) 0)
+    closure c.closure.invariant.net.some is c.in_ok-part.ensures.circular c.in_ok-part.ensures.load c.in_ok-part.ensures.answers c.in_ok-part.ensures.links refl
     (c.in_ok-part.ensures.format_faults ∙ ap format_faults_of (c.own.ensures.first ∙ stands))
     (c.in_ok-part.ensures.code_faults ∙ ap code_faults_of (c.own.ensures.first ∙ stands))

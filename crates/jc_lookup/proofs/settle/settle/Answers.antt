@@ -1,7 +1,7 @@
 use Rattle.std.proofs.Common.{sym, subst, Option, option_map, ◌∙◌}
 use Rattle.std.proofs.lemmas.Bool.Decides.{not_from_Decides}
 use Rattle.jc_classes.specs.Lent.{member_lent}
-use Rattle.jc_classes.specs.Worlds.{key_of, text_of}
+use Rattle.jc_classes.specs.Worlds.{text_of}
 use Rattle.jc_classes.specs.declared.linkage_error.LinkageError.TheVariants.{IllegalAccess}
 use Rattle.jc_classes.specs.Resolution.{Settles}
 use Rattle.jc_classes.specs.Resolution.Answer.{ToMember, Beyond, Wrong}
@@ -17,7 +17,7 @@ pub returns-then-can_use-clause-found : goal.returns-then-can_use-clause-found
 returns-then-can_use-clause-found c = let x = indexed_of c.args.classes.now in λ m text e missing h.
     let d = name_at x c.args.class in
     let t = named_at x c.args.target text e in
-    subst (λ (f : Option Hit). Settles m d t (name_at x c.args.start) missing (option_map (found_at x) f) (ToMember (name_at x c.in-Some.hit.node) (key_of (member_lent c.in-Some.hit.member)))) (sym c.in-Some.is)
+    subst (λ (f : Option Hit). Settles m d t (name_at x c.args.start) missing (option_map (found_at x) f) (ToMember (name_at x c.in-Some.hit.node) (member_lent c.in-Some.hit.member))) (sym c.in-Some.is)
     (found ((c.can_use.ensures m text e h).0 c.if-can_use.true))
 
 pub returns-else-can_use-clause-found : goal.returns-else-can_use-clause-found

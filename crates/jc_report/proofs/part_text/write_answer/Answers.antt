@@ -1,5 +1,6 @@
 use Rattle.std.proofs.Common.{ap, sym}
-use Rattle.jc_classes.specs.Lent.{key_lent}
+use Rattle.jc_classes.specs.Lent.{member_lent}
+use Rattle.jc_classes.specs.Worlds.{key_of}
 use Rattle.jc_text.proofs.Sending.{◌⟫◌, sends_equal}
 use Rattle.jc_resolve.specs.Answers.{answer_of}
 use Rattle.jc_report.specs.PartText.{answer_text}
@@ -11,7 +12,7 @@ returns-in-ToClass g c = sends_equal (ap (λ a. answer_text (answer_of a)) (sym 
 
 pub returns-in-ToMember : goal.returns-in-ToMember
 returns-in-ToMember g c =
-    let member = c.write_member.ensures (key_lent c.in-ToMember.key) refl refl in
+    let member = c.write_member.ensures (key_of (member_lent c.in-ToMember.member)) refl refl in
     sends_equal (ap (λ a. answer_text (answer_of a)) (sym c.in-ToMember.is)) (c.text.ensures ⟫ member)
 
 pub returns-in-Outside : goal.returns-in-Outside

@@ -1,5 +1,5 @@
 use Rattle.std.proofs.Common.{rules}
 use Rattle.jc_report.proofs.report.is_wrong_part.Goals as goal
 
-pub returns-else-is_load_error : goal.returns-else-is_load_error
-returns-else-is_load_error c = search rules
+pub returns-else-has_link : goal.returns-else-has_link
+returns-else-has_link c = search rules

@@ -24,11 +24,11 @@ loop-entry-preserved c =
     let h = c.in_ok-answer.ensures in
     let old = c.loop-entry.names.texts in
     let new = c.entry.new.self.texts in
-    let this : Entry = get_or entries i entry.ToClass in
+    let this : Entry = get_or entries i (entry.ToClass 0) in
     record {
       names = h.names;
       named = subst (λ es. AreNamed name new es (take (i + 1) entries)) (sym c.in_ok-push.ensures.items)
-          (subst (λ bs. AreNamed name new (c.loop-entry.named.items ++ c.in_ok-answer.answer ∷ []) bs) (sym (take_more entries i entry.ToClass c.loop-entry-test.true))
+          (subst (λ bs. AreNamed name new (c.loop-entry.named.items ++ c.in_ok-answer.answer ∷ []) bs) (sym (take_more entries i (entry.ToClass 0) c.loop-entry-test.true))
           (named_push name old new c.loop-entry.named.items (take i entries) c.in_ok-answer.answer this h.front c.loop-entry.invariant.named h.within h.same));
     }
 

@@ -1,8 +1,8 @@
-use Rattle.std.proofs.Common.{◌≡◌, ◌<◌, length, refl, subst, ap}
-use Rattle.jc_lookup.specs.inside.Indexed.{name_at, IsIndexed}
+use Rattle.std.proofs.Common.{◌≡◌, ◌∙◌, ◌<◌, length, refl, subst, ap}
+use Rattle.jc_lookup.specs.inside.Indexed.{name_at, record_at, IsIndexed}
 use Rattle.jc_lookup.specs.inside.Shown.{indexed_of}
 use Rattle.jc_classes.specs.Facts.{Reference}
-use Rattle.jc_classes.specs.Worlds.{World, text_of}
+use Rattle.jc_classes.specs.Worlds.{World, flags_of, text_of}
 use Rattle.jc_classes.specs.Resolution.{ResolvesClass, class_answer}
 use Rattle.jc_classes.specs.Resolution.Answer.{ToClass}
 use Rattle.jc_lookup.specs.inside.Loading.{load_at, sees}
@@ -19,11 +19,11 @@ returns-in-Class c =
     let d = name_at x c.args.class in
     let node = c.in-Class.node in
     let l : node < count = subst (IsWithinAll count) c.in-Class.is c.requires.reference in
-    let f = λ (e : Entry) (h : (r : Reference) → entry_shown (name_at x) r e ≡ class_answer (text_of r.named) (name_at x node) (loading_of x (load_at c.args.loads.now node)) (sees x c.args.class node))
+    let f = λ (e : Entry) (h : (r : Reference) → entry_shown (name_at x) r e ≡ class_answer (text_of r.named) (name_at x node) (loading_of x (load_at c.args.loads.now node)) (sees x c.args.class node) (flags_of (record_at x node)))
     (m : World) (r : Reference) (told : TellsLoads m x count c.args.loads.now) (index : IsIndexed m x) (same : named_of x c.args.reference (text_of r.named) ≡ r.named).
     subst (λ n. ResolvesClass m d n (entry_shown (name_at x) r e)) same
     (class_made m count x c.args.classes.now.graph index c.args.loads.now told c.args.class node (text_of r.named) c.args.reference (entry_shown (name_at x) r e) c.requires.class l c.in-Class.is (ap text_of same) (h r)) in
-    f c.node_entry.result c.node_entry.ensures
+    f c.node_entry.result (λ r. c.node_entry.ensures r ∙ ap (λ n. class_answer (text_of r.named) (name_at x node) (loading_of x (load_at c.args.loads.now node)) (sees x c.args.class node) n) c.flags.ensures)
 
 pub returns-in-Some : goal.returns-in-Some
 returns-in-Some c =
@@ -32,7 +32,7 @@ returns-in-Some c =
     let d = name_at x c.args.class in
     let node = c.in-Some.node in
     let l : node < count = subst (IsWithinSome count) c.in-Some.is (subst (IsWithinAll count) c.in-Array.is c.requires.reference) in
-    let f = λ (e : Entry) (h : (r : Reference) → entry_shown (name_at x) r e ≡ class_answer (text_of r.named) (name_at x node) (loading_of x (load_at c.args.loads.now node)) (sees x c.args.class node))
+    let f = λ (e : Entry) (h : (r : Reference) → entry_shown (name_at x) r e ≡ class_answer (text_of r.named) (name_at x node) (loading_of x (load_at c.args.loads.now node)) (sees x c.args.class node) 0)
     (m : World) (r : Reference) (told : TellsLoads m x count c.args.loads.now) (index : IsIndexed m x) (same : named_of x c.args.reference (text_of r.named) ≡ r.named).
     subst (λ n. ResolvesClass m d n (entry_shown (name_at x) r e)) same
     (array_made m count x c.args.classes.now.graph index c.args.loads.now told c.args.class node (text_of r.named) c.args.reference c.in-Array.element (entry_shown (name_at x) r e) c.requires.class l c.in-Array.is c.in-Some.is (h r)) in
@@ -41,4 +41,4 @@ returns-in-Some c =
 pub returns-in-None : goal.returns-in-None
 returns-in-None c =
     let x = indexed_of c.args.classes.now in
-    λ m r told index same. subst (λ n. ResolvesClass m (name_at x c.args.class) n (ToClass (text_of r.named))) same (primitive_made m x c.args.class (text_of r.named) c.args.reference c.in-Array.element (ToClass (text_of r.named)) c.in-Array.is c.in-None.is refl)
+    λ m r told index same. subst (λ n. ResolvesClass m (name_at x c.args.class) n (ToClass (text_of r.named) 0)) same (primitive_made m x c.args.class (text_of r.named) c.args.reference c.in-Array.element (ToClass (text_of r.named) 0) c.in-Array.is c.in-None.is refl)

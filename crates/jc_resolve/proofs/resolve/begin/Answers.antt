@@ -21,7 +21,7 @@ returns-in-Class-clause-starts c =
     let k : v < count = subst (λ (r : NamedNode). IsWithinAll count r) c.in-Class.is c.requires.reference in
     let s = begun_of x c.class_begun.result in
     λ m text t h. subst (λ (r : NamedNode). Starts m (name_at x c.args.class) (named_of x r text) s) (sym c.in-Class.is)
-    (class_starts m count x c.args.classes.now.graph h c.args.loads.now t c.args.classes.now.object c.args.classes.now.object_within c.args.classes.now.object_name (name_at x c.args.class) v k _ (get_or_default c.args.loads.now v _ (Fails fault.NoClass 0) (omega (arith, k, c.requires.loads))) c.can_see.result (c.can_see.ensures) s (c.class_begun.ensures.start x (loading_of x (load_at c.args.loads.now c.args.classes.now.object))))
+    (class_starts m count x c.args.classes.now.graph h c.args.loads.now t c.args.classes.now.object c.args.classes.now.object_within c.args.classes.now.object_name (name_at x c.args.class) v k _ (get_or_default c.args.loads.now v _ (Fails fault.NoClass 0) (omega (arith, k, c.requires.loads))) c.can_see.result (c.can_see.ensures) s (λ flags. c.class_begun.ensures.start x (loading_of x (load_at c.args.loads.now c.args.classes.now.object)) flags))
 
 pub returns-in-None-clause-starts : goal.returns-in-None-clause-starts
 returns-in-None-clause-starts c =
@@ -39,7 +39,7 @@ returns-in-Some-clause-starts c =
     let k : v < count = subst (λ (r : NamedNode). IsWithinAll count r) (c.in-Array.is ∙ ap (λ o. reference.Array o) c.in-Some.is) c.requires.reference in
     let s = begun_of x c.element_begun.result in
     λ m text t h. subst (λ (r : NamedNode). Starts m (name_at x c.args.class) (named_of x r text) s) (sym (c.in-Array.is ∙ ap (λ o. reference.Array o) c.in-Some.is))
-    (element_starts m count x c.args.classes.now.graph h c.args.loads.now t c.args.classes.now.object c.args.classes.now.object_within c.args.classes.now.object_name (name_at x c.args.class) text v k _ (get_or_default c.args.loads.now v _ (Fails fault.NoClass 0) (omega (arith, k, c.requires.loads))) _ (get_or_default c.args.loads.now c.args.classes.now.object _ (Fails fault.NoClass 0) (omega (arith, c.args.classes.now.object_within, c.requires.loads))) c.can_see-in-Some.result (c.can_see-in-Some.ensures) s (c.element_begun.ensures.start x text c.args.classes.now.object_name))
+    (element_starts m count x c.args.classes.now.graph h c.args.loads.now t c.args.classes.now.object c.args.classes.now.object_within c.args.classes.now.object_name (name_at x c.args.class) text v k _ (get_or_default c.args.loads.now v _ (Fails fault.NoClass 0) (omega (arith, k, c.requires.loads))) _ (get_or_default c.args.loads.now c.args.classes.now.object _ (Fails fault.NoClass 0) (omega (arith, c.args.classes.now.object_within, c.requires.loads))) c.can_see-in-Some.result (c.can_see-in-Some.ensures) s (c.element_begun.ensures.start x text 0 c.args.classes.now.object_name))
 
 pub returns-in-Class-clause-at : goal.returns-in-Class-clause-at
 returns-in-Class-clause-at c = grind (arith, common_steps)

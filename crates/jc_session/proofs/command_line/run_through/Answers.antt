@@ -1,4 +1,4 @@
-use Rattle.std.proofs.Common.{◌∙◌, List, Ok, Err, ap, subst}
+use Rattle.std.proofs.Common.{List, Ok, Err, ap, subst}
 use Rattle.jc_classes.specs.Names.{Name}
 use Rattle.jc_report.specs.Files.{Files}
 use Rattle.jc_report.specs.Reports.{IsReport}
@@ -7,10 +7,10 @@ use Rattle.jc_session.proofs.command_line.run_through.Goals as goal
 
 pub returns-in-Ok : goal.returns-in-Ok
 returns-in-Ok g c =
-    let f = c.run.new.session.files in
+    let new = c.run.new.session in
     let wrong = c.wrong.ensures in
-    let is : IsReport f c.args.session.now.prefixes wrong.0 =
-    subst (λ (p : List Name). IsReport f p wrong.0) (c.report.ensures.prefixes ∙ c.in-Ok.ensures.prefixes)
+    let is : IsReport new.files new.prefixes wrong.0 =
+    subst (λ (p : List Name). IsReport new.files p wrong.0) c.report.ensures.prefixes
     (subst (λ (x : Files). IsReport x c.report.result.now.prefixes wrong.0) c.report.ensures.files wrong.1) in (
       Ok c.in-Ok.field-0,
       (wrong.0, is, ap Ok wrong.2),

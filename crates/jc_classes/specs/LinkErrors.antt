@@ -1,0 +1,111 @@
+-- Errors of instructions: a reference resolves, and an instruction that names it still does not link (JVMS 6.5).
+use Rattle.std.specs.Prelude.{ℕ, ◌==◌, Bool, ◌&&◌, ◌||◌, not, codes, List, [], ◌∷◌, Option, Some, None, option_and_then, slice_get, if◌then◌else◌}
+use Rattle.std.specs.List.{flat_map}
+use Rattle.std.specs.Option.{option_map_or, option_to_list}
+use Rattle.jc_rules.specs.AccessFlags.{abstract, final, has, interface, private, static}
+use Rattle.jc_code.specs.declared.insn.LinkKind.{LinkKind}
+use Rattle.jc_code.specs.declared.insn.LinkKind.TheVariants as kinds
+use Rattle.jc_code.specs.declared.method_use.MethodUse.{MethodUse}
+use Rattle.jc_classes.specs.Facts.{Facts, Member, Named, Reference}
+use Rattle.jc_classes.specs.Names.{Name, same_name}
+use Rattle.jc_classes.specs.Resolution.{Answer}
+use Rattle.jc_classes.specs.Resolution.{Answer as answer}
+use Rattle.jc_classes.specs.Worlds.{Stands, text_of}
+use Rattle.jc_classes.specs.Worlds.Stands.{Record, Outside, Nothing}
+use Rattle.jc_classes.specs.declared.linkage_error.LinkageError.{LinkageError}
+use Rattle.jc_classes.specs.declared.linkage_error.LinkageError.TheVariants as errors
+
+-- where an instruction stands, and what its reference names
+pub record Site : Type 0 where
+  pub class : Name
+  -- the name of the method
+  pub method : Name
+  pub named : Named
+
+-- an error, and the class at fault
+abbrev pub Fault : Type 0
+Fault = LinkageError × Name
+
+-- a line of the table decides where it applies, else what stands behind it
+abbrev pub line : Bool → LinkageError → Name → Option Fault → Option Fault
+line applies error class behind = if applies then Some (error, class) else behind
+
+-- an instance is wanted, or none
+abbrev pub static_fault : Bool → Name → Option Fault → Option Fault
+static_fault applies home behind = line applies errors.Incompatible home behind
+
+-- a store into a final field, outside the method that may initialize it
+abbrev pub final_fault : Site → List ℕ → Name → Member → Option Fault
+final_fault s initializer home x =
+    line (has x.flags final && not (same_name home s.class && same_name s.method initializer)) errors.IllegalAccess home None
+
+abbrev pub is_init : Member → Bool
+is_init x = same_name x.name (codes "<init>")
+
+-- at a member that a class declares, by the instruction's kind (JVMS 6.5)
+abbrev pub member_fault : Site → LinkKind → Name → Member → Option Fault
+member_fault s kinds.GetStatic home x = static_fault (not (has x.flags static)) home None
+member_fault s kinds.PutStatic home x = static_fault (not (has x.flags static)) home (final_fault s (codes "<clinit>") home x)
+member_fault s kinds.GetField home x = static_fault (has x.flags static) home None
+member_fault s kinds.PutField home x = static_fault (has x.flags static) home (final_fault s (codes "<init>") home x)
+member_fault s kinds.InvokeSpecial home x =
+    line (is_init x && not (same_name home (text_of s.named))) errors.NoMethod (text_of s.named)
+    (static_fault (has x.flags static) home None)
+member_fault s kinds.InvokeVirtual home x = static_fault (has x.flags static) home None
+member_fault s kinds.InvokeStatic home x = static_fault (not (has x.flags static)) home None
+member_fault s kinds.InvokeInterface home x = static_fault (has x.flags static || has x.flags private) home None
+member_fault s kinds.New home x = None
+
+-- at a class of these flags
+abbrev pub class_fault : LinkKind → Name → ℕ → Option Fault
+class_fault kinds.New class flags = line (has flags interface || has flags abstract) errors.Instantiation class None
+class_fault kind class flags = None
+
+-- by the answer to the reference: only what resolves may still not link
+abbrev pub link_fault : Site → LinkKind → Answer → Option Fault
+link_fault s kind (answer.ToClass class flags) = class_fault kind class flags
+link_fault s kind (answer.ToMember home x) = member_fault s kind home x
+link_fault s kind (answer.Beyond n) = None
+link_fault s kind answer.NotLoaded = None
+link_fault s kind (answer.Wrong e n) = None
+
+-- ---- of all instructions of a class
+
+-- an error at an instruction
+pub record LinkFault : Type 0 where
+  -- the number of its method, and its offset from the front of the code
+  pub method : ℕ
+  pub place : ℕ
+  pub error : LinkageError
+  pub class : Name
+
+-- the reference of a constant, and its answer
+abbrev pub answered : ℕ → List Reference → List Answer → Option (Reference × Answer)
+answered index [] answers = None
+answered index (r ∷ rs) [] = None
+answered index (r ∷ rs) (a ∷ answers) = if r.index == index then Some (r, a) else answered index rs answers
+
+-- the name of the method of a number: without a format fault each has one, so the numbers are those of the file
+abbrev pub method_name : Facts → ℕ → Name
+method_name f number = option_map_or (λ x. x.name) (slice_get f.methods number) []
+
+abbrev pub site_of : Name → Facts → MethodUse → Reference → Site
+site_of d f u r = record { class = d; method = method_name f u.method; named = r.named }
+
+abbrev pub link_at : MethodUse → Fault → LinkFault
+link_at u fault = record { method = u.method; place = u.place; error = fault.0; class = fault.1 }
+
+abbrev pub link_of : Name → Facts → List Answer → MethodUse → Option LinkFault
+link_of d f answers u =
+    option_and_then (λ pair. option_and_then (λ fault. Some (link_at u fault)) (link_fault (site_of d f u pair.0) u.kind pair.1))
+    (answered u.index f.references answers)
+
+-- by method, then by offset
+abbrev pub links_in : Name → Facts → List Answer → List LinkFault
+links_in d f answers = flat_map (λ u. option_to_list (link_of d f answers u)) f.uses
+
+-- none where the class does not load: all its answers are then NotLoaded
+abbrev pub links_of : Name → Stands → List Answer → List LinkFault
+links_of d (Record f) answers = links_in d f answers
+links_of d Outside answers = []
+links_of d Nothing answers = []

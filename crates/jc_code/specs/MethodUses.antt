@@ -1,0 +1,35 @@
+-- The instructions of a class whose references, once resolved, may still not link.
+use Rattle.std.specs.Prelude.{ℕ, ◌+◌, ◌==◌, List, [], ◌∷◌, ◌++◌, length, Option, option_map, if◌then◌else◌}
+use Rattle.std.specs.List.{flat_map}
+use Rattle.std.specs.Option.{option_map_or, option_to_list}
+use Rattle.jc_view.specs.Attributes.{Code}
+use Rattle.jc_view.specs.ClassFile.{ClassFile, Member}
+use Rattle.jc_code.specs.declared.insn.Insn.{Insn}
+use Rattle.jc_code.specs.declared.method_use.MethodUse.{MethodUse}
+use Rattle.jc_code.specs.CodeFaults.{code_of_member, faults_of}
+use Rattle.jc_code.specs.InsnReading.{insns_of}
+use Rattle.jc_code.specs.Insns.{link_use}
+
+-- what the instruction at a place of a method does with the reference that it names
+abbrev pub use_at : ℕ → ℕ × Insn → Option MethodUse
+use_at method item = option_map (λ u. record { method = method; place = item.0; kind = u.0; index = u.1 }) (link_use item.1)
+
+-- in their order
+abbrev pub uses_among : ℕ → List (ℕ × Insn) → List MethodUse
+uses_among method items = flat_map (λ item. option_to_list (use_at method item)) items
+
+-- those of a code without a fault
+abbrev pub code_uses : ClassFile → ℕ → Code → List MethodUse
+code_uses c method k = if length (faults_of c k) == 0 then uses_among method (insns_of k.code) else []
+
+-- those of the method of a number, where it has exactly one well-formed Code
+abbrev pub method_uses : ClassFile → ℕ → Member → List MethodUse
+method_uses c number m = option_map_or (code_uses c number) (code_of_member c m) []
+
+-- of methods from a number on
+abbrev pub uses_from : ClassFile → ℕ → List Member → List MethodUse
+uses_from c number [] = []
+uses_from c number (m ∷ methods) = method_uses c number m ++ uses_from c (number + 1) methods
+
+unfoldable pub uses : ClassFile → List MethodUse
+uses c = uses_from c 0 c.methods

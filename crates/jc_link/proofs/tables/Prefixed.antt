@@ -1,0 +1,33 @@
+-- What a class reaches, by other prefixes.
+use Rattle.std.proofs.Common.{◌≡◌, Bool, true, false, List, Option, Some, None, refl, subst}
+use Rattle.std.specs.List.{Contains}
+use Rattle.jc_classes.specs.Facts.{Facts, Reference}
+use Rattle.jc_classes.specs.Names.{Name}
+use Rattle.jc_classes.specs.Parts.{Reach, names_in}
+use Rattle.jc_classes.specs.Parts.Reach.{itself, always, reference, upward}
+use Rattle.jc_classes.specs.Worlds.{references_of, supers_of}
+use Rattle.jc_link.specs.Prefixes.{is_outside}
+use Rattle.jc_link.specs.Tables.{Places, record_at, stands_by, world}
+
+-- what is outside has no supertypes and no references, and neither has what is nowhere
+supers_stay : (o : Option Facts) (a b : Bool) → supers_of (stands_by o a) ≡ supers_of (stands_by o b)
+supers_stay (Some facts) a b = refl
+supers_stay None true true = refl
+supers_stay None true false = refl
+supers_stay None false true = refl
+supers_stay None false false = refl
+
+references_stay : (o : Option Facts) (a b : Bool) → references_of (stands_by o a) ≡ references_of (stands_by o b)
+references_stay (Some facts) a b = refl
+references_stay None true true = refl
+references_stay None true false = refl
+references_stay None false true = refl
+references_stay None false false = refl
+
+pub reach_stays : (places : Places) (old new : List Name) {d n : Name} → Reach (world places old) d n → Reach (world places new) d n
+reach_stays places old new itself = itself
+reach_stays places old new always = always
+reach_stays places old new {d = d} (reference {n = n} found) =
+    reference (subst (λ (rs : List Reference). Contains (names_in rs) n) (references_stay (record_at places d) (is_outside old d) (is_outside new d)) found)
+reach_stays places old new (upward {mid = mid} {n = n} reached found) =
+    upward (reach_stays places old new reached) (subst (λ (ns : List Name). Contains ns n) (supers_stay (record_at places mid) (is_outside old mid) (is_outside new mid)) found)

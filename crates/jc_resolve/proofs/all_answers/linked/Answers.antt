@@ -1,0 +1,55 @@
+use Rattle.std.proofs.Common.{◌≡◌, length, sym, ap, subst, ◌∙◌}
+use Rattle.jc_classes.specs.Lent.{stands_of}
+use Rattle.jc_classes.specs.LinkErrors.{links_in, links_of}
+use Rattle.jc_classes.specs.Parts.{AreAnswers}
+use Rattle.jc_classes.specs.Worlds.{World, references_of}
+use Rattle.jc_classes.specs.Worlds.Stands.{Record}
+use Rattle.jc_lookup.specs.inside.Indexed.{name_at, record_at, IsIndexed}
+use Rattle.jc_lookup.specs.inside.Shown.{indexed_of}
+use Rattle.jc_lookup.specs.inside.Loading.{load_at}
+use Rattle.jc_resolve.specs.Linked.{Linked}
+use Rattle.jc_resolve.specs.inside.Entries.{entries_shown}
+use Rattle.jc_resolve.specs.inside.Resolved.{loading_of, TellsLoads}
+use Rattle.jc_resolve.proofs.answering.Entries.{shown_size}
+use Rattle.jc_resolve.proofs.lookups.IfOks.{if_ok_map}
+use Rattle.jc_resolve.proofs.all_answers.linked.Goals as goal
+
+pub of-requires-2 : goal.of-requires-2
+of-requires-2 c =
+    let x = indexed_of c.args.classes.now in
+    let refs = c.in-Class.facts.now.references in
+    let entries = c.in_ok-entries.entries.items in
+    let size = c.in_ok-entries.ensures.0 in
+    let is = c.in_ok-answers.ensures ∙ ap (λ rs. entries_shown (name_at x) rs c.deref.result.now) c.in_ok-references.ensures ∙ ap (entries_shown (name_at x) refs) c.deref.ensures.value in
+    ap length is ∙ shown_size (name_at x) refs entries size ∙ size
+
+pub returns-clause-answers : goal.returns-clause-answers
+returns-clause-answers c =
+    let x = indexed_of c.args.classes.now in
+    let count = length c.args.classes.now.standing.now in
+    let d = name_at x c.args.class in
+    let how = loading_of x (load_at c.args.loads.now c.args.class) in
+    let refs = c.in-Class.facts.now.references in
+    let own : refs ≡ references_of (record_at x c.args.class) = ap (λ s. references_of (stands_of s)) (sym c.in-Class.is) ∙ ap references_of c.at.ensures in
+    let size : length x.names ≡ count = c.args.classes.now.graph.names in
+    let shared : c.in_ok-references.references ≡ refs = c.in_ok-references.ensures in
+    let made = c.in_ok-entries.ensures in
+    let list = c.in_ok-answers.answers in
+    let is : list ≡ entries_shown (name_at x) refs c.in_ok-entries.entries.items = c.in_ok-answers.ensures ∙ ap (λ rs. entries_shown (name_at x) rs c.deref.result.now) shared ∙ ap (entries_shown (name_at x) refs) c.deref.ensures.value in
+    let f = λ (linked : Linked) (e : linked ≡ record { answers = list; links = links_in c.name.result.now c.in-Class.facts.now list })
+    (m : World) (told : TellsLoads m x count c.args.loads.now) (index : IsIndexed m x).
+    subst (λ rs. AreAnswers m d how rs linked.answers) own (subst (AreAnswers m d how refs) (sym (ap (λ (l : Linked). l.answers) e ∙ is)) (made.1 m (subst (λ n. TellsLoads m x n c.args.loads.now) (sym size) told) index)) in
+    if_ok_map _ _ _ f c.of-2.ensures
+
+pub returns-clause-links : goal.returns-clause-links
+returns-clause-links c =
+    let x = indexed_of c.args.classes.now in
+    let list = c.in_ok-answers.answers in
+    let facts = c.in-Class.facts.now in
+    let own : Record facts ≡ record_at x c.args.class = ap stands_of (sym c.in-Class.is) ∙ c.at.ensures in
+    let f = λ (linked : Linked) (e : linked ≡ record { answers = list; links = links_in c.name.result.now facts list }).
+    ap (λ (l : Linked). l.links) e
+    ∙ ap (λ n. links_in n facts list) c.name.ensures
+    ∙ ap (λ s. links_of (name_at x c.args.class) s list) own
+    ∙ ap (links_of (name_at x c.args.class) (record_at x c.args.class)) (sym (ap (λ (l : Linked). l.answers) e)) in
+    if_ok_map _ _ _ f c.of-2.ensures

@@ -1,0 +1,13 @@
+-- The answers to the references of a class, and the errors of its instructions.
+use Rattle.std.specs.Prelude.{List}
+use Rattle.jc_classes.specs.LinkErrors.{LinkFault}
+use Rattle.jc_classes.specs.Resolution.{Answer}
+use Rattle.jc_resolve.specs.declared.linked.Link.{Link}
+
+pub record Linked : Type 0 where
+  pub answers : List Answer
+  pub links : List LinkFault
+
+-- as it is lent
+abbrev pub link_lent : Link → LinkFault
+link_lent link = record { method = link.method; place = link.place; error = link.error; class = link.class.now }
