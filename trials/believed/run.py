@@ -5,7 +5,7 @@ Run from the repository's root: trials/believed/run.py
 It reads the clauses of each `pub fn` and the ghost members that callers see, but for those of the inner crates,
 follows the names through the imports of src/ and specs/, and compares:
 - each definition of specs/ outside specs/inside/ is reached by a public clause of some crate, and none inside is;
-- docs/ARCHITECTURE.md lists for each crate exactly the files of specs/ that hold a definition which is reached;
+- docs/BELIEVE.md lists for each crate exactly the files of specs/ that hold a definition which is reached;
 - an inner crate is used by the one crate above it alone, which passes none of its items on: no `pub use` of that
   crate leads to one, and no text there that a caller sees names one.
 It exits with 1 where something differs. With the word `list` it prints the files and how many definitions each has.
@@ -19,7 +19,7 @@ USE = re.compile(r"^\s*(?:ghost )?use (Rattle\.[\w.+]+?)(?:\.\{([^}]*)\}| as (\w
 DEFINITION = re.compile(r"^(?:abbrev pub|unfoldable pub|pub record|pub data|abbrev|unfoldable|pub|record|data) (?!mod |use )(\S+)")
 WORD = re.compile(r"(?<![\w'.-])([^\W\d][\w'-]*)(?:\.([^\W\d][\w'-]*))?|(◌[^◌\s]+◌)")
 # Each inner crate with the one that stands on it, which passes none of its items on: their clauses are not public.
-INNER = {"jc_clean": "jc_file", "jc_lookup": "jc_resolve"}
+INNER = {"jc_numbered": "jc_resolve"}
 SEEN_BY_CALLERS = ("Value", "next_gives", "remaining", "from_gives", "answers", "asked", "failures", "written", "bound", "ended")
 PUBLIC_USE = re.compile(r"^\s*pub (?:use|extern crate) ([^;]*);", re.M)
 ANY_USE = re.compile(r"^\s*(?:pub(?:\([^)]*\))? )?(?:use|extern crate) ([^;]*);", re.M)
@@ -273,8 +273,8 @@ def passed_on():
 
 
 def listed():
-    """The files of specs/ that docs/ARCHITECTURE.md names, by crate."""
-    text = (TOP / "docs/ARCHITECTURE.md").read_text()
+    """The files of specs/ that docs/BELIEVE.md names, by crate."""
+    text = (TOP / "docs/BELIEVE.md").read_text()
     return set(re.findall(r"`(crates/\w+/specs/[\w/]+\.antt)`", text))
 
 
@@ -293,7 +293,7 @@ def main():
         print(fault)
         amiss += 1
     for name in sorted(files ^ listed()):
-        print(f"{name}: {'not ' if name in files else ''}listed in docs/ARCHITECTURE.md")
+        print(f"{name}: {'not ' if name in files else ''}listed in docs/BELIEVE.md")
         amiss += 1
     if "list" in sys.argv[1:]:
         for name in sorted(files):

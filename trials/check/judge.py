@@ -1,9 +1,9 @@
 #!/usr/bin/env python3
 """A plain judge of whole reports, written from `docs/RULES.md` and `docs/REPORT.md`: the text that `jclink check` owes for a folder.
 
-report(files, prefixes) takes bytes by path, and gives the text and whether it is wrong. It stands on the judges of
-parsing (trials/parse), of faults (trials/views, trials/code) and of linking (trials/link), none of which shares code
-with the library.
+report(files, prefixes) takes bytes by path, and gives the text and whether it is wrong; owed(files, prefixes, folder) what
+the program owes for them, with --errors too. It stands on the judges of parsing (trials/parse), of faults (trials/views,
+trials/code) and of linking (trials/link), none of which shares code with the library.
 
 Usage: judge.py [--outside PREFIX]... DIR. It prints and ends as `jclink check` owes.
 """
@@ -80,6 +80,22 @@ class Report:
                  "[provided]", *rows(self.provided()), "[required]", *rows(self.required())]
         return "".join(line + "\n" for line in lines)
 
+    def errors(self, only):
+        """What makes the report wrong, a line each: of paths and names that begin with one of the prefixes, or of all."""
+        is_asked = lambda text: only is None or text.startswith(tuple(only))
+        for path, answer in self.answers.items():
+            if path not in self.names and is_asked(path):
+                yield f"{path_text(path)}: unreadable {answer}"
+        for name in sorted(self.world.given):
+            first, *lines = self.world.part(name)
+            answers = iter(self.resolved(name))
+            if name not in self.loaded:
+                lines = [first.removeprefix(f"part {links.shown(name)}: "), *lines]
+            for line in lines if is_asked(name) else ():
+                is_answer = line.startswith("  #")
+                if not is_answer or name in self.loaded and next(answers)[1][0] == "error":
+                    yield f"{links.shown(name)}: " + line.removeprefix("  ")
+
     def is_wrong(self, name):
         record = self.world.given[name]
         return bool(name not in self.loaded or record.faults or record.code_faults or any(self.world.unlinked(name))
@@ -115,14 +131,18 @@ def unread_folder(files):
     return None
 
 
-def owed(files, prefixes, folder):
-    """What `jclink check` owes for the files of a folder: output, status and standard error."""
+def owed(files, prefixes, folder, only=False):
+    """What `jclink check` owes for the files of a folder: output, status and standard error. With `only`, prefixes or None
+    for all, what `--errors` does."""
     unread = unread_folder(files)
     if unread is not None:
         return "", 3, f"jclink: cannot read {path_text(unread) or folder}\n"
     read = {path: data for path, data in files.items() if data is not None and path.endswith(b".class")}
-    text, wrong = report(read, prefixes or STANDARD)
-    return text, int(wrong), ""
+    made = Report(read, prefixes or STANDARD)
+    if only is False:
+        return made.text(), int(made.wrong()), ""
+    lines = list(made.errors(only))
+    return "".join(line + "\n" for line in lines), int(bool(lines)), ""
 
 
 def files_below(folder):

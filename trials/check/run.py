@@ -3,7 +3,7 @@
 
 Each world is written as a folder and `jclink check` is run on it; standard output, standard error and the status
 are compared, also where a name is no UTF-8 and there is no report, and of a folder in which something may not be
-read. The last lines tell how often each sort of row was owed, and which sorts never were.
+read; then the same with --errors, and with --only and some prefixes. The last lines tell how often each sort of row was owed, and which sorts never were.
 
 Usage: run.py [--tree DIR]... [--keep FOLDER] [SEED [COUNT]], seed 1 and 2,000 worlds where none is given, once ./jclink
 is built; the environment's JCLINK may name another program. --tree compares a folder of class files too, and --keep
@@ -48,6 +48,7 @@ EXPECTED = [
     *(f"parts link {ERRORS[at]}" for at in (3, 4, 6, 7)),
     "circular", *(f"provided {kind}" for kind in ("class", "field", "method")),
     *(f"required {kind}" for kind in ("class", "field", "method", "imethod")), *ENDS.values(),
+    *(f"errors of {what} {end}" for what in ("all", "some") for end in ENDS.values()),
 ]
 
 
@@ -76,11 +77,17 @@ def write(folder, files):
                 file.write(data)
 
 
-def words_of(rng, prefixes):
+def words_of(rng, option, prefixes):
     words = []
     for prefix in prefixes or ():
-        words += [b"--outside=" + prefix] if prefix.startswith(b"-") or rng.random() < 0.5 else [b"--outside", prefix]
+        words += [option + b"=" + prefix] if prefix.startswith(b"-") or rng.random() < 0.5 else [option, prefix]
     return words
+
+
+def some_prefixes(rng, files):
+    """Beginnings of paths and, by chance, of the names of classes, and one that few begin with."""
+    found = [path.removesuffix(b".class").decode() for path in sorted(files) if judge.is_word(path)] + ["p/", "java/", "\u00e4"]
+    return [(rng.choice(found)[: rng.randint(1, 4)] or "p").encode() for _ in range(rng.randint(1, 3))]
 
 
 def printed(words, folder):
@@ -109,8 +116,15 @@ def try_world(seed, number, work, keep, told):
     rng, folder = random.Random(f"{seed}.{number}"), work / "world"
     files, prefixes = worlds.make_world(rng)
     write(folder, files)
-    words = words_of(rng, prefixes)
+    words = words_of(rng, b"--outside", prefixes)
     right = compare(f"world {number}", words, folder, judge.owed(files, prefixes, folder), told)
+    for only in (None, some_prefixes(rng, files)):
+        asked = [b"--errors", *words, *words_of(rng, b"--only", only)]
+        ours, wanted = printed(asked, folder), judge.owed(files, prefixes, folder, only)
+        told[f"errors {'of all' if only is None else 'of some'} {ENDS[wanted[1]]}"] += 1
+        if ours != wanted:
+            tell(f"world {number} with --errors", ours, wanted)
+            right = False
     if keep and not right:
         shutil.copytree(folder, pathlib.Path(keep) / str(number), symlinks=True)
         print("  kept; its words:", " ".join(map(shlex.quote, map(os.fsdecode, words))))

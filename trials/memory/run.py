@@ -70,7 +70,7 @@ def refuse_each(words, lines, folder, shim, begun):
             ended += 1
         else:
             sys.exit(f"request {number}: status {status}, {said!r}, {out!r}")
-    print(f"{words[0]}: requests for memory: {count}, each refused in turn")
+    print(f"{' '.join(words)}: requests for memory: {count}, each refused in turn")
     print(f"ended with status 4 and a beginning of what is owed: {ended}")
     print(f"answered in full without that memory: {unfelt}")
 
@@ -84,6 +84,7 @@ def main():
             (folder / path).write_bytes(data)
         refuse_each(["session"], LINES, folder, shim, lambda owed, out: owed.startswith(out))
         refuse_each(["check", "tree"], b"", folder, shim, lambda owed, out: out == b"")
+        refuse_each(["check", "--errors", "--only", "p/", "--only", "cut", "tree"], b"", folder, shim, lambda owed, out: out == b"")
         refuse_each(["list", "tree/p/C.class"], b"", folder, shim, lambda owed, out: owed.startswith(out))
 
 

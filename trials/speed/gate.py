@@ -20,7 +20,7 @@ from pathlib import Path
 TOP = Path(__file__).resolve().parents[2]
 TICKS = os.sysconf("SC_CLK_TCK")
 PROGRAMS = ("jclink", "jc_rows")
-KINDS = ("proofs", "tests", "programs", "edits")
+KINDS = ("proofs", "tests", "programs", "mutants")
 
 
 def processes():
@@ -60,7 +60,7 @@ def work_of(pid):
         return None
     crate = words[words.index("--crate-name") + 1]
     if re.search(r"/rt-edit-[^/]*$", folder):
-        return "edits", crate
+        return "mutants", crate
     if "--test" in words:
         return "tests", crate
     return ("tests" if crate == "jc_rows" else "programs" if crate in PROGRAMS else "proofs"), crate

@@ -1,5 +1,6 @@
 -- Tests that decide descriptors, for definitions that compute. `descriptors_are_decided` says that they do.
-use Rattle.std.specs.Prelude.{ℕ, ◌+◌, ◌-◌, Bool, false, ◌&&◌, ◌||◌, ◌==◌, nat_le, List, [], ◌∷◌, length, take, drop, sum_by, slice_index, Option, Some, None, is_some, option_map, codes, if◌then◌else◌}
+use Rattle.std.specs.Prelude.{ℕ, ◌+◌, ◌-◌, Bool, false, ◌&&◌, ◌||◌, ◌==◌, nat_le, List, [], ◌∷◌, length}
+use Rattle.std.specs.Prelude.{take, drop, sum_by, slice_index, Option, Some, None, is_some, option_map, codes, if◌then◌else◌}
 use Rattle.std.specs.List.{concat, list_all, list_any}
 use Rattle.jc_base.specs.Bytes.{same_bytes}
 use Rattle.jc_base.specs.Descriptors.{FieldType, MethodType, base_types, slots_of}

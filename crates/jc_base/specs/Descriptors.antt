@@ -1,5 +1,6 @@
 -- Descriptors of fields and methods (JVMS 4.3), each with the tree that it stands for.
-use Rattle.std.specs.Prelude.{◌≡◌, ℕ, ◌≤◌, ◌⊎◌, List, [], ◌∷◌, ◌++◌, All, Contains, codes, replicate, sum_by, Option, Some, None, IfSome, if◌then◌else◌, ◌||◌}
+use Rattle.std.specs.Prelude.{◌≡◌, ℕ, ◌≤◌, ◌⊎◌, List, [], ◌∷◌, ◌++◌, All, Contains}
+use Rattle.std.specs.Prelude.{codes, replicate, sum_by, Option, Some, None, IfSome, if◌then◌else◌, ◌||◌}
 use Rattle.std.specs.List.{concat}
 use Rattle.jc_base.specs.Bytes.{same_bytes}
 use Rattle.jc_base.specs.Names.{IsClassName}

@@ -1,5 +1,6 @@
 -- What the calls of a device do to its count of failures and to what was written.
-use Rattle.std.specs.Prelude.{ℕ, ◌+◌, ◌-◌, ◌^◌, ◌<◌, ◌≤◌, ◌≡◌, max, min, List, length, take, Result, Option, MatchResult}
+use Rattle.std.specs.Prelude.{ℕ, ◌+◌, ◌-◌, ◌^◌, ◌<◌, ◌≤◌, ◌≡◌}
+use Rattle.std.specs.Prelude.{max, min, List, length, take, Result, Option, MatchResult}
 use Rattle.std.specs.Io.KnownBytes.{Appends}
 
 -- the count with n more, which stays at the top of a `u64`

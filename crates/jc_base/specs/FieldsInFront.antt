@@ -1,6 +1,7 @@
 -- Where a field descriptor in front of other bytes ends (JVMS 4.3.2), told by its first bytes alone:
 -- the parts that `method_type_of` tests.
-use Rattle.std.specs.Prelude.{ℕ, ◌+◌, ◌==◌, List, [], ◌∷◌, length, take, drop, position, slice_index, zero, suc, Option, Some, None, if◌then◌else◌}
+use Rattle.std.specs.Prelude.{ℕ, ◌+◌, ◌==◌, List, [], ◌∷◌, length, take, drop, position}
+use Rattle.std.specs.Prelude.{slice_index, zero, suc, Option, Some, None, if◌then◌else◌}
 use Rattle.std.specs.Option.{option_map, option_map_or}
 use Rattle.std.specs.List.{list_any}
 use Rattle.jc_base.specs.Descriptors.{base_types}

@@ -1,6 +1,7 @@
 -- What the reader of modified UTF-8 finds at the front of its bytes: the unit that `spelling` puts
 -- there, as the law on `first_unit_is_spelled` says.
-use Rattle.std.specs.Prelude.{ℕ, ◌+◌, ◌*◌, ◌%◌, List, ◌==◌, ◌&&◌, ◌||◌, nat_le, if◌then◌else◌, Bool, Option, Some, None, option_and_then, option_map, slice_index}
+use Rattle.std.specs.Prelude.{ℕ, ◌+◌, ◌*◌, ◌%◌, List, ◌==◌, ◌&&◌, ◌||◌, nat_le}
+use Rattle.std.specs.Prelude.{if◌then◌else◌, Bool, Option, Some, None, option_and_then, option_map, slice_index}
 
 infixl 10 ◌>>=◌
 abbrev ◌>>=◌ : {A B : Type 0} → Option A → (A → Option B) → Option B

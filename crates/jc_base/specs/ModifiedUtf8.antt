@@ -1,5 +1,6 @@
 -- Modified UTF-8 (JVMS 4.4.7): how a text, a list of UTF-16 code units, is written in bytes.
-use Rattle.std.specs.Prelude.{◌≡◌, ℕ, ◌+◌, ◌/◌, ◌%◌, ◌^◌, ◌<◌, ◌≤◌, List, [], ◌∷◌, length, take, if◌then◌else◌, ◌&&◌, nat_lt}
+use Rattle.std.specs.Prelude.{◌≡◌, ℕ, ◌+◌, ◌/◌, ◌%◌, ◌^◌, ◌<◌, ◌≤◌}
+use Rattle.std.specs.Prelude.{List, [], ◌∷◌, length, take, if◌then◌else◌, ◌&&◌, nat_lt}
 use Rattle.std.specs.List.{flat_map, AllByRecursion}
 
 -- a UTF-16 code unit

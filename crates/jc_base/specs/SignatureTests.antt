@@ -1,11 +1,14 @@
 -- A test that decides signatures, for definitions that compute. `signatures_are_decided` says that it does.
 -- It tries each production of each symbol, and each text that an identifier may be.
-use Rattle.std.specs.Prelude.{ℕ, zero, suc, ◌+◌, ◌*◌, Bool, false, ◌&&◌, ◌==◌, not, List, [], ◌∷◌, ◌++◌, length, take, drop, map, is_some}
+use Rattle.std.specs.Prelude.{ℕ, zero, suc, ◌+◌, ◌*◌, Bool, false, ◌&&◌, ◌==◌}
+use Rattle.std.specs.Prelude.{not, List, [], ◌∷◌, ◌++◌, length, take, drop, map, is_some}
 use Rattle.std.specs.List.{list_any, range_with_len}
 use Rattle.jc_base.specs.declared.signatures.SigKind.{SigKind}
 use Rattle.jc_base.specs.Descriptors.{base_types}
 use Rattle.jc_base.specs.DescriptorTests.{begins_with}
-use Rattle.jc_base.specs.Signatures.{identifier_stops, Symbol, Mark, Identifier, Maybe, Many, ClassSignature, MethodSignature, Result, Throws, Thrown, JavaType, ReferenceType, TypeVariable, ClassType, Package, SimpleClass, Suffix, Arguments, Argument, Params, Param, Bound, start}
+use Rattle.jc_base.specs.Signatures.{identifier_stops, Symbol, Mark, Identifier, Maybe, Many, ClassSignature, MethodSignature}
+use Rattle.jc_base.specs.Signatures.{Result, Throws, Thrown, JavaType, ReferenceType, TypeVariable, ClassType, Package}
+use Rattle.jc_base.specs.Signatures.{SimpleClass, Suffix, Arguments, Argument, Params, Param, Bound, start}
 use Rattle.jc_base.specs.TextTests.{units_of, has_none_of}
 
 -- a name of a class, a type variable or a package, within a signature
@@ -31,7 +34,8 @@ productions Package = (Identifier ∷ Mark 47 ∷ []) ∷ []
 productions SimpleClass = (Identifier ∷ Maybe Arguments ∷ []) ∷ []
 productions Suffix = (Mark 46 ∷ SimpleClass ∷ []) ∷ []
 productions Arguments = (Mark 60 ∷ Argument ∷ Many Argument ∷ Mark 62 ∷ []) ∷ []
-productions Argument = (Mark 42 ∷ []) ∷ (ReferenceType ∷ []) ∷ (Mark 43 ∷ ReferenceType ∷ []) ∷ (Mark 45 ∷ ReferenceType ∷ []) ∷ []
+productions Argument =
+    (Mark 42 ∷ []) ∷ (ReferenceType ∷ []) ∷ (Mark 43 ∷ ReferenceType ∷ []) ∷ (Mark 45 ∷ ReferenceType ∷ []) ∷ []
 productions Params = (Mark 60 ∷ Param ∷ Many Param ∷ Mark 62 ∷ []) ∷ []
 productions Param = (Identifier ∷ Mark 58 ∷ Maybe ReferenceType ∷ Many Bound ∷ []) ∷ []
 productions Bound = (Mark 58 ∷ ReferenceType ∷ []) ∷ []

@@ -76,8 +76,10 @@ pub data Produces : Symbol → List Symbol → Type 0 where
 pub data Derives : List Symbol → List ℕ → Type 0 where
   ends : Derives [] []
   reads : (c : ℕ) (owed : List Symbol) (b : List ℕ) → Derives owed b → Derives (Mark c ∷ owed) (c ∷ b)
-  names : (name : List ℕ) (owed : List Symbol) (text rest : List ℕ) → IsIdentifier name → text ≡ name ++ rest → Derives owed rest → Derives (Identifier ∷ owed) text
-  expands : (s : Symbol) (made owed : List Symbol) (b : List ℕ) → Produces s made → Derives (made ++ owed) b → Derives (s ∷ owed) b
+  names : (name : List ℕ) (owed : List Symbol) (text rest : List ℕ) → IsIdentifier name → text ≡ name ++ rest
+      → Derives owed rest → Derives (Identifier ∷ owed) text
+  expands : (s : Symbol) (made owed : List Symbol) (b : List ℕ) → Produces s made
+      → Derives (made ++ owed) b → Derives (s ∷ owed) b
 
 -- the symbol that a kind's signatures are derived from
 abbrev pub start : SigKind → Symbol

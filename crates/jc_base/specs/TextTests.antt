@@ -1,5 +1,6 @@
 -- Tests that decide what a text is, for definitions that compute. `texts_are_decided` says that they do.
-use Rattle.std.specs.Prelude.{ℕ, zero, suc, Bool, ◌==◌, ◌&&◌, ◌||◌, not, List, [], ◌∷◌, length, drop, Option, Some, None, option_and_then, option_map, is_some, codes}
+use Rattle.std.specs.Prelude.{ℕ, zero, suc, Bool, ◌==◌, ◌&&◌, ◌||◌, not, List, [], ◌∷◌}
+use Rattle.std.specs.Prelude.{length, drop, Option, Some, None, option_and_then, option_map, is_some, codes}
 use Rattle.std.specs.List.{list_all, list_any, slice_split}
 use Rattle.jc_base.specs.FirstUnit.{first_unit}
 use Rattle.jc_base.specs.Bytes.{same_bytes}
@@ -10,7 +11,9 @@ unfoldable pub units_within : ℕ → List ℕ → Option (List ℕ)
 units_within n [] = Some []
 units_within zero (x ∷ xs) = None
 units_within (suc n) (x ∷ xs) =
-    option_and_then (λ first. option_map (λ others. first.0 ∷ others) (units_within n (drop first.1 (x ∷ xs)))) (first_unit (x ∷ xs))
+    option_and_then
+    (λ first. option_map (λ others. first.0 ∷ others) (units_within n (drop first.1 (x ∷ xs))))
+    (first_unit (x ∷ xs))
 
 -- the code units that a text spells, if it spells any
 abbrev pub units_of : List ℕ → Option (List ℕ)

@@ -1,6 +1,7 @@
 //! Reading bytes from front to back, numbers big-endian (JVMS 4: "in big-endian order").
 
-ghost use Rattle.std.specs.Prelude.{◌≡◌, ◌==◌, ◌+◌, ◌<◌, ◌↔◌, ◌^◌, not, length, take, drop, IsSome, IfSome, IfNone};
+ghost use Rattle.std.specs.Prelude.{◌≡◌, ◌==◌, ◌+◌, ◌<◌, ◌↔◌};
+ghost use Rattle.std.specs.Prelude.{◌^◌, not, length, take, drop, IsSome, IfSome, IfNone};
 ghost use Rattle.byteorder.specs.Endian.{big_number};
 ghost use Rattle.jc_base.specs.Cursor.{HasLeft, past};
 

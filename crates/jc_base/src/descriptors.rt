@@ -1,9 +1,12 @@
 //! Descriptors of fields and methods, the forms in which class files write types (JVMS 4.3).
 
-ghost use Rattle.std.specs.Prelude.{◌≡◌, ◌≢◌, ◌∷◌, [], ◌+◌, ◌<◌, ◌≤◌, ◌++◌, ◌↔◌, ◌==◌, ◌||◌, ℕ, List, All, Option, Some, replicate, slice_index, position, Contains, length, codes, sum_by, IsTrue, IsSome, IfSome, IfNone, MatchOption};
+ghost use Rattle.std.specs.Prelude.{◌≡◌, ◌≢◌, ◌∷◌, [], ◌+◌, ◌<◌, ◌≤◌, ◌++◌, ◌↔◌};
+ghost use Rattle.std.specs.Prelude.{◌==◌, ◌||◌, ℕ, List, All, Option, Some, replicate, slice_index, position};
+ghost use Rattle.std.specs.Prelude.{Contains, length, codes, sum_by, IsTrue, IsSome, IfSome, IfNone, MatchOption};
 ghost use Rattle.std.specs.Option.{option_copied};
 ghost use Rattle.std.specs.List.{list_any};
-ghost use Rattle.jc_base.specs.Descriptors.{base_types, IsBaseType, IsClassType, IsElementType, IsField, IsFieldDescriptor, field_text, slots_of, IsMethod, IsMethodDescriptor, FieldType, MethodType};
+ghost use Rattle.jc_base.specs.Descriptors.{base_types, IsBaseType, IsClassType, IsElementType, IsField, IsFieldDescriptor};
+ghost use Rattle.jc_base.specs.Descriptors.{field_text, slots_of, IsMethod, IsMethodDescriptor, FieldType, MethodType};
 ghost use Rattle.jc_base.specs.DescriptorTests.{field_type_of, method_type_of};
 ghost use Rattle.jc_base.specs.Bytes.{same_bytes};
 ghost use Rattle.jc_base.specs.ModifiedUtf8.{IsWellSpelled};
@@ -87,19 +90,16 @@ pub struct MethodDesc<'a> {
 }
 
 impl<'a> Model for MethodDesc<'a> {
-    ghost use Rattle.std.specs.Prelude.{◌≡◌, IfSome, sum_by};
     ghost use Rattle.std.specs.Option.{option_copied};
-    ghost use Rattle.jc_base.specs.Descriptors.{MethodType, IsFieldDescriptor, slots_of};
+    ghost use Rattle.jc_base.specs.Descriptors.{MethodType};
     ghost use Rattle.jc_base.specs.FieldsInFront.{fields_of};
-    ghost use Rattle.jc_base.specs.inside.MethodParts.{AreParams};
+    ghost use Rattle.jc_base.specs.inside.MethodParts.{AreParts};
 
     ghost Value = { MethodType };
 
     ghost view = { λ m. record { params = fields_of m.params.now; result = option_copied m.result } };
 
-    ghost invariant = { λ m. AreParams (fields_of m.params.now)
-        × IfSome (option_copied m.result) IsFieldDescriptor
-        × (m.slots ≡ sum_by slots_of (fields_of m.params.now)) };
+    ghost invariant = { λ m. AreParts m.params.now (option_copied m.result) m.slots };
 }
 
 impl<'a> MethodDesc<'a> {

@@ -1,10 +1,11 @@
 //! Devices over memory.
-ghost use Rattle.std.specs.Prelude.{◌≡◌, ◌+◌, ◌-◌, ◌<◌, ◌≤◌, ◌^◌, ◌++◌, ◌↔◌, [], false, true, IfOk, IsErr, IsOk, IsTrue, MatchResult, OnErr, Some, min, take, drop, length, vec_capacity};
+ghost use Rattle.std.specs.Prelude.{◌≡◌, ◌+◌, ◌-◌, ◌<◌, ◌≤◌, ◌^◌, ◌++◌, ◌↔◌, [], false, true};
+ghost use Rattle.std.specs.Prelude.{IfOk, IsErr, IsOk, IsTrue, MatchResult, OnErr, Some, min, take, drop, length, vec_capacity};
 ghost use Rattle.std.proofs.Common.{arith};
 ghost use Rattle.std.proofs.lemmas.Grind.{common_steps};
 ghost use Rattle.std.specs.Io.KnownBytes.{ReadConsumes, WriteAppends};
 ghost use Rattle.jc_base.specs.Device.{CountsFault, more};
-ghost use Rattle.jc_base.specs.MemDevices.{InputState, OutputState, has_ended};
+ghost use Rattle.jc_base.specs.MemDevices.{InputState, OutputState, has_ended, mem_allowance};
 
 use crate::device::{DeviceFault, Input, Output, one_more};
 use crate::no_memory::NoMemory;
@@ -54,7 +55,7 @@ impl<'a> Input for MemInput<'a> {
 
     ghost failures = { λ input. input.failures };
 
-    ghost bound = { λ input. min (length input.remaining) (2 ^ 63 - 1) };
+    ghost bound = { mem_allowance };
 
     ghost ended = { has_ended };
 
@@ -72,8 +73,8 @@ impl<'a> Input for MemInput<'a> {
         ensures ended { IfOk result (λ n. n ≡ 0 → 0 < length buffer.new → has_ended self.new ≡ true) }
         ensures failures { CountsFault result self.old.failures self.new.failures }
         ensures bound { MatchResult result
-            (λ n. min (length self.new.remaining) (2 ^ 63 - 1) + n ≤ min (length self.old.remaining) (2 ^ 63 - 1))
-            (λ _. min (length self.new.remaining) (2 ^ 63 - 1) ≤ min (length self.old.remaining) (2 ^ 63 - 1)) }
+            (λ n. mem_allowance self.new + n ≤ mem_allowance self.old)
+            (λ _. mem_allowance self.new ≤ mem_allowance self.old) }
 
         // It fails only after its bytes, and only if it was made so.
         ensures fails { IsErr result ↔ (IsTrue self.old.fails × (self.old.remaining ≡ []) × (0 < length buffer.old)) }

@@ -1,6 +1,7 @@
 //! Modified UTF-8, in which class files write their texts (JVMS 4.4.7).
 
-ghost use Rattle.std.specs.Prelude.{◌≡◌, ℕ, ◌+◌, ◌*◌, ◌<◌, ◌≤◌, ◌↔◌, List, [], ◌∷◌, ◌++◌, ◌&&◌, nat_lt, length, take, All, Contains, IsOk, IfOk, IfErr, IfSome, OnSome, is_ok, is_some};
+ghost use Rattle.std.specs.Prelude.{◌≡◌, ℕ, ◌+◌, ◌*◌, ◌<◌, ◌≤◌, ◌↔◌, List, [], ◌∷◌, ◌++◌};
+ghost use Rattle.std.specs.Prelude.{◌&&◌, nat_lt, length, take, All, Contains, IsOk, IfOk, IfErr, IfSome, OnSome, is_ok, is_some};
 ghost use Rattle.std.specs.List.{list_all};
 ghost use Rattle.jc_base.specs.declared.modified_utf8.UnitsError.TheVariants.{NoMemory};
 ghost use Rattle.jc_base.specs.ModifiedUtf8.{IsUnit, spelling, spelled, Spells, IsWellSpelled, IsLongestFront};

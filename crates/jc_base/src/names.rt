@@ -1,7 +1,8 @@
 //! Names of classes, interfaces, fields and methods, as class files write them (JVMS 4.2).
 
 ghost use Rattle.std.specs.Prelude.{◌≡◌, ◌↔◌, true, ℕ, List, Some, Contains, IsTrue, codes};
-ghost use Rattle.jc_base.specs.Names.{Lacks, name_stops, method_name_stops, IsUnqualifiedName, IsSpecialMethodName, IsMethodName, IsClassName};
+ghost use Rattle.jc_base.specs.Names.{Lacks, name_stops, method_name_stops, IsUnqualifiedName};
+ghost use Rattle.jc_base.specs.Names.{IsSpecialMethodName, IsMethodName, IsClassName};
 ghost use Rattle.jc_base.specs.ModifiedUtf8.{IsWellSpelled, Spells};
 ghost use Rattle.jc_base.specs.inside.PlainNames.{are_plain_parts, is_plain_byte, may_follow};
 ghost use Rattle.jc_base.specs.TextTests.{units_of, is_unqualified_text, is_method_name_text, is_class_text};

@@ -1,14 +1,18 @@
 //! Signatures, which tell of type variables and parameterized types (JVMS 4.7.9.1).
 
-ghost use Rattle.std.specs.Prelude.{◌≡◌, ◌≢◌, ◌<◌, ◌++◌, ◌↔◌, ◌∷◌, [], ◌==◌, ℕ, codes, List, position, Option, length, IsOk, IsTrue, IfOk, OnOk, IfSome, MatchOption};
+ghost use Rattle.std.specs.Prelude.{◌≡◌, ◌≢◌, ◌<◌, ◌++◌, ◌↔◌, ◌∷◌, [], ◌==◌, ℕ};
+ghost use Rattle.std.specs.Prelude.{codes, List, position, Option, length, IsOk, IsTrue, IfOk, OnOk, IfSome, MatchOption};
 ghost use Rattle.jc_base.specs.declared.signatures.SigKind.{SigKind};
 ghost use Rattle.std.specs.List.{list_any};
 ghost use Rattle.std.specs.Option.{option_map};
 ghost use Rattle.jc_base.specs.ModifiedUtf8.{IsWellSpelled};
 ghost use Rattle.jc_base.specs.Names.{Lacks};
-ghost use Rattle.jc_base.specs.Signatures.{identifier_stops, Symbol, Derives, Mark, Maybe, Many, JavaType, ReferenceType, ClassType, Thrown, Throws, Argument, Result, Arguments, Suffix, IsSignature};
+ghost use Rattle.jc_base.specs.Signatures.{identifier_stops, Symbol, Derives, Mark, Maybe, Many, JavaType, ReferenceType};
+ghost use Rattle.jc_base.specs.Signatures.{ClassType, Thrown, Throws, Argument, Result, Arguments, Suffix, IsSignature};
 ghost use Rattle.jc_base.specs.SignatureTests.{is_signature};
-ghost use Rattle.jc_base.specs.inside.Owed.{symbols_of, tail_of, before, both_before, stack_before, GivesTop, GivesStackStep, GivesEntry, GivesAfter, GivesNamed, GivesRest, GivesStep, IsCut, BeginsWithName, BeginsWithNoName, EndsAtColon};
+ghost use Rattle.jc_base.specs.inside.Owed.{symbols_of, tail_of, before, both_before, stack_before, GivesTop};
+ghost use Rattle.jc_base.specs.inside.Owed.{GivesStackStep, GivesEntry, GivesAfter, GivesNamed, GivesRepeated, GivesRest};
+ghost use Rattle.jc_base.specs.inside.Owed.{GivesStep, IsCut, BeginsWithName, BeginsWithNoName, EndsAtColon};
 
 use crate::descriptors::is_base_letter;
 use crate::modified_utf8::check_units;
@@ -445,10 +449,7 @@ fn start(kind: SigKind) -> Owed
 
 // What may follow any number of times.
 fn repeated(kind: SigKind) -> Option<Owed>
-    ensures { MatchOption result
-        ((c : ℕ) (rest : List ℕ) → ¬ Derives (tail_of kind) (c ∷ rest))
-        (λ entry. (c : ℕ) (rest : List ℕ) →
-        Derives (tail_of kind) (c ∷ rest) ↔ Derives (symbols_of entry ++ tail_of kind) (c ∷ rest)) }
+    ensures { GivesRepeated kind result }
 {
     match kind {
         SigKind::Class => Some(Owed::ClassType),

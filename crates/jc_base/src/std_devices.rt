@@ -1,5 +1,6 @@
 //! Devices over std's readers and writers.
-ghost use Rattle.std.specs.Prelude.{◌≡◌, ◌+◌, ◌<◌, ◌≤◌, ◌^◌, ◌==◌, ◌&&◌, [], nat_lt, false, true, IfOk, IsErr, MatchResult, OnErr, length, unwrap_or};
+ghost use Rattle.std.specs.Prelude.{◌≡◌, ◌+◌, ◌<◌, ◌≤◌, ◌^◌, ◌==◌, ◌&&◌, []};
+ghost use Rattle.std.specs.Prelude.{nat_lt, false, true, IfOk, IsErr, MatchResult, OnErr, length, unwrap_or};
 ghost use Rattle.std.proofs.Common.{arith};
 ghost use Rattle.std.specs.Io.KnownBytes.{ReadConsumes};
 ghost use Rattle.jc_base.specs.Device.{CountsFault};

@@ -12,7 +12,10 @@ IsWithin m d c = Extends m d c ⊎ (c ≡ object)
 
 -- clone of java/lang/Object counts as public where an array is named
 abbrev pub is_array_clone : Bool → Found → Bool
-is_array_clone is_array f = is_array && (same_name f.home object && (same_name f.member.name (codes "clone") && same_name f.member.descriptor (codes "()Ljava/lang/Object;")))
+is_array_clone is_array f =
+    is_array
+    && (same_name f.home object
+    && (same_name f.member.name (codes "clone") && same_name f.member.descriptor (codes "()Ljava/lang/Object;")))
 
 abbrev pub is_package_private : Member → Bool
 is_package_private x = not (has x.flags public) && (not (has x.flags private) && not (has x.flags protected))
@@ -25,6 +28,8 @@ IsRelated m (Array t e) d = d ≡ object
 -- a class d may use a member that it named through t
 pub data CanUse (m : World) (d : Name) (t : Named) (f : Found) : Type 0 where
   open_to_all : (has f.member.flags public || is_array_clone (is_array t) f) ≡ true → CanUse m d t f
-  inherited : has f.member.flags protected ≡ true → IsWithin m d f.home → ((has f.member.flags static ≡ true) ⊎ IsRelated m t d) → CanUse m d t f
-  in_package : (has f.member.flags protected || is_package_private f.member) ≡ true → same_name (package_of d) (package_of f.home) ≡ true → CanUse m d t f
+  inherited : has f.member.flags protected ≡ true → IsWithin m d f.home
+      → ((has f.member.flags static ≡ true) ⊎ IsRelated m t d) → CanUse m d t f
+  in_package : (has f.member.flags protected || is_package_private f.member) ≡ true
+      → same_name (package_of d) (package_of f.home) ≡ true → CanUse m d t f
   own : has f.member.flags private ≡ true → f.home ≡ d → CanUse m d t f

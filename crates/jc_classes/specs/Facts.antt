@@ -32,7 +32,9 @@ pub record Reference : Type 0 where
 
 -- two references, by their numbers, ask for the same
 abbrev pub AreAlike : List Reference → ℕ → ℕ → Type 0
-AreAlike rs a b = (r s : Reference) → slice_get rs a ≡ Some r → slice_get rs b ≡ Some s → (r.kind ≡ s.kind) × (r.named ≡ s.named) × (r.key ≡ s.key)
+AreAlike rs a b =
+    (r s : Reference) → slice_get rs a ≡ Some r → slice_get rs b ≡ Some s
+    → (r.kind ≡ s.kind) × (r.named ≡ s.named) × (r.key ≡ s.key)
 
 -- all numbers below a count and no others, in some order; one may stand several times
 pub record AreNumbers (count : ℕ) (numbers : List ℕ) : Type 0 where

@@ -13,9 +13,11 @@ onward r = interfaces_of r ++ option_to_list (super_of r)
 mutual
   pub data FindsField (m : World) (k : Key) : Name → Option Found → Type 0 where
     own : {c : Name} {x : Member} → member (fields_of (m c)) k ≡ Some x → FindsField m k c (Some (record { home = c; member = x }))
-    inherited : {c : Name} {a : Option Found} → member (fields_of (m c)) k ≡ None → FindsFirst m k (onward (m c)) a → FindsField m k c a
+    inherited : {c : Name} {a : Option Found} → member (fields_of (m c)) k ≡ None → FindsFirst m k (onward (m c)) a
+        → FindsField m k c a
 
   pub data FindsFirst (m : World) (k : Key) : List Name → Option Found → Type 0 where
     nowhere : FindsFirst m k [] None
     here : {s : Name} {more : List Name} {f : Found} → FindsField m k s (Some f) → FindsFirst m k (s ∷ more) (Some f)
-    later : {s : Name} {more : List Name} {a : Option Found} → FindsField m k s None → FindsFirst m k more a → FindsFirst m k (s ∷ more) a
+    later : {s : Name} {more : List Name} {a : Option Found} → FindsField m k s None → FindsFirst m k more a
+        → FindsFirst m k (s ∷ more) a

@@ -21,7 +21,8 @@ PartIsOne = (m : World) (d : Name) (p q : Part) → IsPart m d p → IsPart m d 
 
 abbrev pub Locality : Type 0
 Locality = (touched : Name → Bool) (m k : World) (d : Name) → Differ touched m k → Avoids touched m d
-    → ((n : Name) → (Reach m d n → Reach k d n) × (Reach k d n → Reach m d n)) × ((p : Part) → (IsPart m d p → IsPart k d p) × (IsPart k d p → IsPart m d p))
+    → ((n : Name) → (Reach m d n → Reach k d n) × (Reach k d n → Reach m d n))
+    × ((p : Part) → (IsPart m d p → IsPart k d p) × (IsPart k d p → IsPart m d p))
 
 abbrev pub AffectedByEither : Type 0
 AffectedByEither = (touched : Name → Bool) (m k : World) (d : Name) → Differ touched m k → Hits touched m d → Hits touched k d

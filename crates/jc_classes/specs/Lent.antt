@@ -1,8 +1,8 @@
 -- What is lent of facts, as data.
+use Rattle.jc_classes.specs.Worlds.{Stands as stands}
 use Rattle.jc_classes.specs.Facts.{Key, Member, Reference}
 use Rattle.jc_classes.specs.NamedTexts.{named_by}
 use Rattle.jc_classes.specs.Worlds.{Stands}
-use Rattle.jc_classes.specs.Worlds.Stands.{Record, Outside, Nothing}
 use Rattle.jc_classes.specs.declared.member.Key.{Key as LentKey}
 use Rattle.jc_classes.specs.declared.member.Member.{Member as LentMember}
 use Rattle.jc_classes.specs.declared.reference.Reference.{Reference as LentReference}
@@ -19,6 +19,6 @@ abbrev pub reference_lent : LentReference → Reference
 reference_lent r = record { index = r.index; kind = r.kind; named = named_by r.class.now; key = key_lent r.key }
 
 abbrev pub stands_of : Standing → Stands
-stands_of (standing.Class facts) = Record facts.now
-stands_of standing.Outside = Outside
-stands_of standing.Nothing = Nothing
+stands_of (standing.Class facts) = stands.Class facts.now
+stands_of standing.Outside = stands.Outside
+stands_of standing.Nothing = stands.Nothing

@@ -1,5 +1,7 @@
 -- Errors of instructions: a reference resolves, and an instruction that names it still does not link (JVMS 6.5).
-use Rattle.std.specs.Prelude.{ℕ, ◌==◌, Bool, ◌&&◌, ◌||◌, not, codes, List, [], ◌∷◌, Option, Some, None, option_and_then, slice_get, if◌then◌else◌}
+use Rattle.jc_classes.specs.Worlds.{Stands as stands}
+use Rattle.std.specs.Prelude.{ℕ, ◌==◌, Bool, ◌&&◌, ◌||◌, not, codes, List, [], ◌∷◌}
+use Rattle.std.specs.Prelude.{Option, Some, None, option_and_then, slice_get, if◌then◌else◌}
 use Rattle.std.specs.List.{flat_map}
 use Rattle.std.specs.Option.{option_map_or, option_to_list}
 use Rattle.jc_rules.specs.AccessFlags.{abstract, final, has, interface, private, static}
@@ -11,7 +13,6 @@ use Rattle.jc_classes.specs.Names.{Name, same_name}
 use Rattle.jc_classes.specs.Resolution.{Answer}
 use Rattle.jc_classes.specs.Resolution.{Answer as answer}
 use Rattle.jc_classes.specs.Worlds.{Stands, text_of}
-use Rattle.jc_classes.specs.Worlds.Stands.{Record, Outside, Nothing}
 use Rattle.jc_classes.specs.declared.linkage_error.LinkageError.{LinkageError}
 use Rattle.jc_classes.specs.declared.linkage_error.LinkageError.TheVariants as errors
 
@@ -65,9 +66,9 @@ class_fault kind class flags = None
 abbrev pub link_fault : Site → LinkKind → Answer → Option Fault
 link_fault s kind (answer.ToClass class flags) = class_fault kind class flags
 link_fault s kind (answer.ToMember home x) = member_fault s kind home x
-link_fault s kind (answer.Beyond n) = None
+link_fault s kind (answer.Outside n) = None
 link_fault s kind answer.NotLoaded = None
-link_fault s kind (answer.Wrong e n) = None
+link_fault s kind (answer.Error e n) = None
 
 -- ---- of all instructions of a class
 
@@ -106,6 +107,6 @@ links_in d f answers = flat_map (λ u. option_to_list (link_of d f answers u)) f
 
 -- none where the class does not load: all its answers are then NotLoaded
 abbrev pub links_of : Name → Stands → List Answer → List LinkFault
-links_of d (Record f) answers = links_in d f answers
-links_of d Outside answers = []
-links_of d Nothing answers = []
+links_of d (stands.Class f) answers = links_in d f answers
+links_of d stands.Outside answers = []
+links_of d stands.Nothing answers = []

@@ -25,7 +25,9 @@ pub record Parent : Type 0 where
   pub name : Name
 
 abbrev pub parents : Facts → List Parent
-parents r = option_map_or (λ s. record { is_class = true; name = s } ∷ []) r.superclass [] ++ map (λ s. record { is_class = false; name = s }) r.interfaces
+parents r =
+    option_map_or (λ s. record { is_class = true; name = s } ∷ []) r.superclass []
+    ++ map (λ s. record { is_class = false; name = s }) r.interfaces
 
 abbrev pub same_bool : Bool → Bool → Bool
 same_bool true b = b
@@ -44,12 +46,16 @@ mutual
   pub data Load (m : World) : Name → Loading → Type 0 where
     missing : {n : Name} → m n ≡ stands.Nothing → Load m n (Fails errors.NoClass n)
     outside : {n : Name} → m n ≡ stands.Outside → Load m n Outside
-    faulty : {n : Name} {r : Facts} → m n ≡ stands.Record r → is_faulty r ≡ true → Load m n (Fails errors.Format n)
-    round : {n : Name} {r : Facts} → m n ≡ stands.Record r → is_faulty r ≡ false → Above m n n → Load m n (Fails errors.Circular n)
-    through : {n : Name} {r : Facts} {a : Loading} → m n ≡ stands.Record r → is_faulty r ≡ false → (Above m n n → ⊥) → LoadEach m n (parents r) a → Load m n a
+    faulty : {n : Name} {r : Facts} → m n ≡ stands.Class r → is_faulty r ≡ true → Load m n (Fails errors.Format n)
+    round : {n : Name} {r : Facts} → m n ≡ stands.Class r → is_faulty r ≡ false → Above m n n
+        → Load m n (Fails errors.Circular n)
+    through : {n : Name} {r : Facts} {a : Loading} → m n ≡ stands.Class r → is_faulty r ≡ false → (Above m n n → ⊥)
+        → LoadEach m n (parents r) a → Load m n a
 
   -- the supertypes in order, of which the first that makes an error decides
   pub data LoadEach (m : World) : Name → List Parent → Loading → Type 0 where
     none : {n : Name} → LoadEach m n [] Loaded
-    stops : {n : Name} {p : Parent} {ps : List Parent} {a b : Loading} → Load m p.name a → judged_parent m n p a ≡ Some b → LoadEach m n (p ∷ ps) b
-    passes : {n : Name} {p : Parent} {ps : List Parent} {a b : Loading} → Load m p.name a → judged_parent m n p a ≡ None → LoadEach m n ps b → LoadEach m n (p ∷ ps) b
+    stops : {n : Name} {p : Parent} {ps : List Parent} {a b : Loading} → Load m p.name a
+        → judged_parent m n p a ≡ Some b → LoadEach m n (p ∷ ps) b
+    passes : {n : Name} {p : Parent} {ps : List Parent} {a b : Loading} → Load m p.name a
+        → judged_parent m n p a ≡ None → LoadEach m n ps b → LoadEach m n (p ∷ ps) b

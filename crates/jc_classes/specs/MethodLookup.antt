@@ -1,5 +1,6 @@
 -- Look-up of methods and of interface methods (JVMS 5.4.3.3, 5.4.3.4, 2.9).
-use Rattle.std.specs.Prelude.{◌≡◌, ℕ, ◌+◌, ◌==◌, Bool, false, ◌&&◌, ◌||◌, not, cond, List, [], ◌∷◌, Option, Some, None}
+use Rattle.std.specs.Prelude.{◌≡◌, ℕ, ◌+◌, ◌==◌, Bool, false, ◌&&◌}
+use Rattle.std.specs.Prelude.{◌||◌, not, cond, List, [], ◌∷◌, Option, Some, None}
 use Rattle.jc_classes.specs.Facts.{Key, Member}
 use Rattle.jc_classes.specs.Names.{Name, same_name, name_less, object, method_handle, polymorphic_descriptor}
 use Rattle.jc_rules.specs.AccessFlags.{has, public, private, static, varargs, native, abstract}
@@ -39,15 +40,16 @@ declared c r k = or_else (polymorphic c (methods_of r) k.name) (member (methods_
 -- what look-up in a class and its superclasses in turn finds
 pub data FindsInClasses (m : World) (k : Key) : Name → Option Found → Type 0 where
   own : {c : Name} {x : Member} → declared c (m c) k ≡ Some x → FindsInClasses m k c (Some (record { home = c; member = x }))
-  inherited : {c s : Name} {a : Option Found} → declared c (m c) k ≡ None → super_of (m c) ≡ Some s → FindsInClasses m k s a → FindsInClasses m k c a
+  inherited : {c s : Name} {a : Option Found} → declared c (m c) k ≡ None → super_of (m c) ≡ Some s
+      → FindsInClasses m k s a → FindsInClasses m k c a
   nowhere : {c : Name} → declared c (m c) k ≡ None → super_of (m c) ≡ None → FindsInClasses m k c None
 
-abbrev pub unless_own : Member → Option Member
-unless_own x = cond (has x.flags private || has x.flags static) None (Some x)
+abbrev pub unless_private_or_static : Member → Option Member
+unless_private_or_static x = cond (has x.flags private || has x.flags static) None (Some x)
 
 abbrev pub only_inheritable : Option Member → Option Member
 only_inheritable None = None
-only_inheritable (Some x) = unless_own x
+only_inheritable (Some x) = unless_private_or_static x
 
 -- the method that an interface gives to what is below it
 abbrev pub given_by : Stands → Key → Option Member
@@ -99,5 +101,7 @@ of_object r k = only_open (member (methods_of r) k)
 -- what look-up of an interface method finds (5.4.3.4)
 pub data FindsInterfaceMethod (m : World) (k : Key) (c : Name) : Option Found → Type 0 where
   own : {x : Member} → member (methods_of (m c)) k ≡ Some x → FindsInterfaceMethod m k c (Some (record { home = c; member = x }))
-  in_object : {x : Member} → member (methods_of (m c)) k ≡ None → of_object (m object) k ≡ Some x → FindsInterfaceMethod m k c (Some (record { home = object; member = x }))
-  in_interface : {a : Option Found} → member (methods_of (m c)) k ≡ None → of_object (m object) k ≡ None → FindsAbove m k c a → FindsInterfaceMethod m k c a
+  in_object : {x : Member} → member (methods_of (m c)) k ≡ None → of_object (m object) k ≡ Some x
+      → FindsInterfaceMethod m k c (Some (record { home = object; member = x }))
+  in_interface : {a : Option Found} → member (methods_of (m c)) k ≡ None → of_object (m object) k ≡ None
+      → FindsAbove m k c a → FindsInterfaceMethod m k c a

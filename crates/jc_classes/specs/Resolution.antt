@@ -7,7 +7,7 @@ use Rattle.jc_classes.specs.Facts.Named.{Class, Array}
 use Rattle.jc_classes.specs.FieldLookup.{FindsField}
 use Rattle.jc_classes.specs.MethodLookup.{FindsMethod, FindsInterfaceMethod}
 use Rattle.jc_classes.specs.Loading.{Load, Loading, can_see}
-use Rattle.jc_classes.specs.Loading.Loading.{Loaded, Outside, Fails}
+use Rattle.jc_classes.specs.Loading.{Loading as loading}
 use Rattle.jc_classes.specs.declared.linkage_error.LinkageError.{LinkageError}
 use Rattle.jc_classes.specs.declared.linkage_error.LinkageError.TheVariants.{Incompatible, IllegalAccess, NoField, NoMethod}
 use Rattle.jc_classes.specs.Access.{CanUse}
@@ -17,20 +17,22 @@ pub data Answer : Type 0 where
   ToClass : (text : Name) (flags : ℕ) → Answer
   -- the class that declares a member, and the member as it is declared
   ToMember : (home : Name) (found : Member) → Answer
-  Beyond : Name → Answer
+  Outside : Name → Answer
   NotLoaded : Answer
-  Wrong : LinkageError → Name → Answer
+  Error : LinkageError → Name → Answer
 
 -- the answer to the class or the array t of these flags, by how its class c loads and whether that is accessible (5.4.3.1)
 abbrev pub class_answer : Name → Name → Loading → Bool → ℕ → Answer
-class_answer t c Loaded sees flags = cond sees (ToClass t flags) (Wrong IllegalAccess c)
-class_answer t c Outside sees flags = Beyond c
-class_answer t c (Fails e x) sees flags = Wrong e x
+class_answer t c loading.Loaded sees flags = cond sees (ToClass t flags) (Error IllegalAccess c)
+class_answer t c loading.Outside sees flags = Outside c
+class_answer t c (loading.Fails e x) sees flags = Error e x
 
 pub data ResolvesClass (m : World) (d : Name) : Named → Answer → Type 0 where
-  class : {c : Name} {l : Loading} {a : Answer} → Load m c l → a ≡ class_answer c c l (can_see d c (m c)) (flags_of (m c)) → ResolvesClass m d (Class c) a
+  class : {c : Name} {l : Loading} {a : Answer} → Load m c l
+      → a ≡ class_answer c c l (can_see d c (m c)) (flags_of (m c)) → ResolvesClass m d (Class c) a
   primitives : {t : Name} → ResolvesClass m d (Array t None) (ToClass t 0)
-  array : {t e : Name} {l : Loading} {a : Answer} → Load m e l → a ≡ class_answer t e l (can_see d e (m e)) 0 → ResolvesClass m d (Array t (Some e)) a
+  array : {t e : Name} {l : Loading} {a : Answer} → Load m e l
+      → a ≡ class_answer t e l (can_see d e (m e)) 0 → ResolvesClass m d (Array t (Some e)) a
 
 -- where look-up of a member begins, or the answer that there is without one
 pub data Start : Type 0 where
@@ -38,22 +40,22 @@ pub data Start : Type 0 where
   Ends : Answer → Start
 
 abbrev pub object_start : Loading → Start
-object_start Loaded = At object
-object_start Outside = Ends (Beyond object)
-object_start (Fails e x) = Ends (Wrong e x)
+object_start loading.Loaded = At object
+object_start loading.Outside = Ends (Outside object)
+object_start (loading.Fails e x) = Ends (Error e x)
 
 -- by the answer to what is named, and how java/lang/Object loads
 abbrev pub start_of : Named → Answer → Loading → Start
 start_of (Class c) (ToClass x f) l = At c
 start_of (Class c) (ToMember h x) l = Ends (ToMember h x)
-start_of (Class c) (Beyond x) l = Ends (Beyond x)
+start_of (Class c) (Outside x) l = Ends (Outside x)
 start_of (Class c) NotLoaded l = Ends NotLoaded
-start_of (Class c) (Wrong e x) l = Ends (Wrong e x)
+start_of (Class c) (Error e x) l = Ends (Error e x)
 start_of (Array t n) (ToClass x f) l = object_start l
 start_of (Array t n) (ToMember h x) l = object_start l
-start_of (Array t n) (Beyond x) l = object_start l
+start_of (Array t n) (Outside x) l = object_start l
 start_of (Array t n) NotLoaded l = object_start l
-start_of (Array t n) (Wrong e x) l = Ends (Wrong e x)
+start_of (Array t n) (Error e x) l = Ends (Error e x)
 
 pub data Starts (m : World) (d : Name) (t : Named) (s : Start) : Type 0 where
   starts : {a : Answer} {l : Loading} → ResolvesClass m d t a → Load m object l → s ≡ start_of t a l → Starts m d t s
@@ -66,20 +68,25 @@ pub record IsBeyond (m : World) (c n : Name) : Type 0 where
 -- what becomes of what look-up from c found, where t was named
 pub data Settles (m : World) (d : Name) (t : Named) (c : Name) (missing : LinkageError) : Option Found → Answer → Type 0 where
   found : {f : Found} → CanUse m d t f → Settles m d t c missing (Some f) (ToMember f.home f.member)
-  hidden : {f : Found} → (CanUse m d t f → ⊥) → Settles m d t c missing (Some f) (Wrong IllegalAccess f.home)
-  beyond : {n : Name} → IsBeyond m c n → ((j : Name) → IsBeyond m c j → name_less j n ≡ false) → Settles m d t c missing None (Beyond n)
-  nowhere : ((j : Name) → IsBeyond m c j → ⊥) → Settles m d t c missing None (Wrong missing (text_of t))
+  hidden : {f : Found} → (CanUse m d t f → ⊥) → Settles m d t c missing (Some f) (Error IllegalAccess f.home)
+  beyond : {n : Name} → IsBeyond m c n → ((j : Name) → IsBeyond m c j → name_less j n ≡ false)
+      → Settles m d t c missing None (Outside n)
+  nowhere : ((j : Name) → IsBeyond m c j → ⊥) → Settles m d t c missing None (Error missing (text_of t))
 
 pub data ResolvesField (m : World) (d : Name) (t : Named) (k : Key) (a : Answer) : Type 0 where
   ends : Starts m d t (Ends a) → ResolvesField m d t k a
-  looks : {c : Name} {f : Option Found} → Starts m d t (At c) → FindsField m k c f → Settles m d t c NoField f a → ResolvesField m d t k a
+  looks : {c : Name} {f : Option Found} → Starts m d t (At c) → FindsField m k c f
+      → Settles m d t c NoField f a → ResolvesField m d t k a
 
 pub data ResolvesMethod (m : World) (d : Name) (t : Named) (k : Key) (a : Answer) : Type 0 where
   ends : Starts m d t (Ends a) → ResolvesMethod m d t k a
-  interface : {c : Name} → Starts m d t (At c) → is_interface (m c) ≡ true → a ≡ Wrong Incompatible c → ResolvesMethod m d t k a
-  looks : {c : Name} {f : Option Found} → Starts m d t (At c) → is_interface (m c) ≡ false → FindsMethod m k c f → Settles m d t c NoMethod f a → ResolvesMethod m d t k a
+  interface : {c : Name} → Starts m d t (At c) → is_interface (m c) ≡ true → a ≡ Error Incompatible c → ResolvesMethod m d t k a
+  looks : {c : Name} {f : Option Found} → Starts m d t (At c) → is_interface (m c) ≡ false → FindsMethod m k c f
+      → Settles m d t c NoMethod f a → ResolvesMethod m d t k a
 
 pub data ResolvesInterfaceMethod (m : World) (d : Name) (t : Named) (k : Key) (a : Answer) : Type 0 where
   ends : Starts m d t (Ends a) → ResolvesInterfaceMethod m d t k a
-  no_interface : {c : Name} → Starts m d t (At c) → is_interface (m c) ≡ false → a ≡ Wrong Incompatible (text_of t) → ResolvesInterfaceMethod m d t k a
-  looks : {c : Name} {f : Option Found} → Starts m d t (At c) → is_interface (m c) ≡ true → FindsInterfaceMethod m k c f → Settles m d t c NoMethod f a → ResolvesInterfaceMethod m d t k a
+  no_interface : {c : Name} → Starts m d t (At c) → is_interface (m c) ≡ false
+      → a ≡ Error Incompatible (text_of t) → ResolvesInterfaceMethod m d t k a
+  looks : {c : Name} {f : Option Found} → Starts m d t (At c) → is_interface (m c) ≡ true → FindsInterfaceMethod m k c f
+      → Settles m d t c NoMethod f a → ResolvesInterfaceMethod m d t k a

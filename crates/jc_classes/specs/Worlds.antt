@@ -7,11 +7,11 @@ use Rattle.jc_rules.specs.declared.fault.Fault.{Fault}
 use Rattle.jc_code.specs.declared.code_fault.CodeFault.{CodeFault}
 use Rattle.jc_rules.specs.AccessFlags.{has, interface}
 use Rattle.jc_classes.specs.Facts.{Facts, Member, Key, Named, Reference}
-use Rattle.jc_classes.specs.Facts.Named.{Class, Array}
+use Rattle.jc_classes.specs.Facts.{Named as named}
 
 -- what stands at a name: a class, a name that is outside, of which nothing more is known, or nothing
 pub data Stands : Type 0 where
-  Record : Facts → Stands
+  Class : Facts → Stands
   Outside : Stands
   Nothing : Stands
 
@@ -20,12 +20,12 @@ abbrev pub World : Type 0
 World = Name → Stands
 
 abbrev pub super_of : Stands → Option Name
-super_of (Record r) = r.superclass
+super_of (Class r) = r.superclass
 super_of Outside = None
 super_of Nothing = None
 
 abbrev pub interfaces_of : Stands → List Name
-interfaces_of (Record r) = r.interfaces
+interfaces_of (Class r) = r.interfaces
 interfaces_of Outside = []
 interfaces_of Nothing = []
 
@@ -34,32 +34,32 @@ abbrev pub supers_of : Stands → List Name
 supers_of r = option_to_list (super_of r) ++ interfaces_of r
 
 abbrev pub fields_of : Stands → List Member
-fields_of (Record r) = r.fields
+fields_of (Class r) = r.fields
 fields_of Outside = []
 fields_of Nothing = []
 
 abbrev pub methods_of : Stands → List Member
-methods_of (Record r) = r.methods
+methods_of (Class r) = r.methods
 methods_of Outside = []
 methods_of Nothing = []
 
 abbrev pub references_of : Stands → List Reference
-references_of (Record r) = r.references
+references_of (Class r) = r.references
 references_of Outside = []
 references_of Nothing = []
 
 abbrev pub format_faults_of : Stands → List Fault
-format_faults_of (Record r) = r.format_faults
+format_faults_of (Class r) = r.format_faults
 format_faults_of Outside = []
 format_faults_of Nothing = []
 
 abbrev pub code_faults_of : Stands → List (ℕ × CodeFault)
-code_faults_of (Record r) = r.code_faults
+code_faults_of (Class r) = r.code_faults
 code_faults_of Outside = []
 code_faults_of Nothing = []
 
 abbrev pub flags_of : Stands → ℕ
-flags_of (Record r) = r.flags
+flags_of (Class r) = r.flags
 flags_of Outside = 0
 flags_of Nothing = 0
 
@@ -93,9 +93,9 @@ pub record Found : Type 0 where
   pub member : Member
 
 abbrev pub text_of : Named → Name
-text_of (Class c) = c
-text_of (Array t e) = t
+text_of (named.Class c) = c
+text_of (named.Array t e) = t
 
 abbrev pub is_array : Named → Bool
-is_array (Class c) = false
-is_array (Array t e) = true
+is_array (named.Class c) = false
+is_array (named.Array t e) = true

@@ -1,12 +1,10 @@
 //! The texts of a class file that linking asks for.
 
-ghost use Rattle.std.specs.Prelude.{◌≡◌, ◌<◌, ◌^◌, IfOk, None, length, map, option_map, slice_index_or};
-ghost use Rattle.std.specs.List.{All, flat_map};
-ghost use Rattle.std.specs.Option.{option_to_list};
-ghost use Rattle.jc_classes.specs.FactsOf.{interfaces_in, member_of, once, references_in};
+ghost use Rattle.std.specs.Prelude.{◌≡◌, ◌<◌, ◌^◌, IfOk, None, length, map, slice_index_or};
+ghost use Rattle.std.specs.List.{All};
+ghost use Rattle.jc_classes.specs.FactsOf.{interfaces_in, once, references_in};
 ghost use Rattle.jc_classes.specs.MemberOrder.{IsOrder};
-ghost use Rattle.jc_classes.specs.inside.ClassTexts.{Tells};
-ghost use Rattle.jc_classes.specs.inside.ConstantTexts.{texts_of};
+ghost use Rattle.jc_classes.specs.inside.ClassTexts.{Tells, TellsMember, TellsMembers, TellsReference, TellsSome, TellsText};
 ghost use Rattle.jc_classes.specs.inside.FactsShown.{member_shown, reference_shown, text_at};
 ghost use Rattle.jc_classes.specs.inside.Ranks.{AreBelow};
 
@@ -70,7 +68,7 @@ impl<'c, 'a> ClassTexts<'c, 'a> {
 
     /// The number of the text of an index; that of the empty text where no Utf8 constant has the index.
     pub(crate) fn number(&mut self, index: u16) -> Result<u16, NoMemory>
-        ensures { IfOk result (λ number. Tells self.old self.new (λ texts. text_at texts number ≡ text_at (texts_of self.old.class) index)) }
+        ensures { IfOk result (TellsText self.old self.new index) }
     {
         if let Some(number) = known(&self.numbers, index) {
             return Ok(number);
@@ -86,7 +84,7 @@ impl<'c, 'a> ClassTexts<'c, 'a> {
 
     /// The number of the text of an index, where there is one.
     pub(crate) fn number_of_some(&mut self, index: Option<u16>) -> Result<Option<u16>, NoMemory>
-        ensures { IfOk result (λ number. Tells self.old self.new (λ texts. option_map (text_at texts) number ≡ option_map (text_at (texts_of self.old.class)) index)) }
+        ensures { IfOk result (TellsSome self.old self.new index) }
     {
         match index {
             Some(index) => Ok(Some(self.number(index)?)),
@@ -96,7 +94,8 @@ impl<'c, 'a> ClassTexts<'c, 'a> {
 
     /// The numbers of the names of the direct superinterfaces.
     pub(crate) fn interfaces(&mut self) -> Result<Vec<u16>, NoMemory>
-        ensures { IfOk result (λ names. Tells self.old self.new (λ texts. map (text_at texts) names.items ≡ interfaces_in self.old.class)) }
+        ensures { IfOk result (λ names. Tells self.old self.new
+            (λ texts. map (text_at texts) names.items ≡ interfaces_in self.old.class)) }
     {
         let class = self.class;
         let mut names = Vec::new(self.alloc);
@@ -111,7 +110,7 @@ impl<'c, 'a> ClassTexts<'c, 'a> {
     /// Fields or methods, by the numbers of their texts.
     pub(crate) fn members(&mut self, members: Members) -> Result<Vec<MemberEntry>, NoMemory>
         requires { members.class ≡ self.old.class }
-        ensures { IfOk result (λ entries. Tells self.old self.new (λ texts. map (member_shown texts) entries.items ≡ flat_map (λ m. option_to_list (member_of self.old.class m.member)) members.entry.left)) }
+        ensures { IfOk result (λ entries. TellsMembers self.old self.new members.entry.left entries.items) }
     {
         let class = self.class;
         let mut entries = Vec::new(self.alloc);
@@ -143,7 +142,7 @@ impl<'c, 'a> ClassTexts<'c, 'a> {
 
     /// A member by the numbers of its texts, from one by indexes, where there is one.
     fn member(&mut self, entry: Option<MemberEntry>) -> Result<Option<MemberEntry>, NoMemory>
-        ensures { IfOk result (λ numbered. Tells self.old self.new (λ texts. option_map (member_shown texts) numbered ≡ option_map (member_shown (texts_of self.old.class)) entry)) }
+        ensures { IfOk result (TellsMember self.old self.new entry) }
     {
         let Some(entry) = entry else {
             return Ok(None);
@@ -159,7 +158,8 @@ impl<'c, 'a> ClassTexts<'c, 'a> {
 
     /// The references, by rising index.
     pub(crate) fn references(&mut self) -> Result<Vec<ReferenceEntry>, NoMemory>
-        ensures { IfOk result (λ entries. Tells self.old self.new (λ texts. map (reference_shown texts) entries.items ≡ references_in self.old.class)) }
+        ensures { IfOk result (λ entries. Tells self.old self.new
+            (λ texts. map (reference_shown texts) entries.items ≡ references_in self.old.class)) }
     {
         let class = self.class;
         let room = class.constant_count() as usize / 2;
@@ -177,7 +177,7 @@ impl<'c, 'a> ClassTexts<'c, 'a> {
         &mut self,
         entry: Option<ReferenceEntry>,
     ) -> Result<Option<ReferenceEntry>, NoMemory>
-        ensures { IfOk result (λ numbered. Tells self.old self.new (λ texts. option_map (reference_shown texts) numbered ≡ option_map (reference_shown (texts_of self.old.class)) entry)) }
+        ensures { IfOk result (TellsReference self.old self.new entry) }
     {
         let Some(entry) = entry else {
             return Ok(None);

@@ -1,5 +1,5 @@
-//! Classes by name: what linking keeps of a class file, tables of classes, and the reach of a class; and the
-//! definitions of loading, resolution and access (JVMS 5.3.5, 5.4.3, 5.4.4), with the laws over them.
+//! What linking keeps of a class file, and names by number; and the definitions of loading, resolution, access and
+//! the errors of instructions (JVMS 5.3.5, 5.4.3, 5.4.4, 6.5), with the laws over them.
 #![tactic(auto)]
 
 mod alike;

@@ -43,7 +43,8 @@ impl<'a> Member<'a> {
 
     /// Whether it has the name and the descriptor of `clone` of `java/lang/Object`.
     pub fn is_clone(self) -> bool
-        ensures { result ≡ (same_name self.entry.name.now (codes "clone") && same_name self.entry.descriptor.now (codes "()Ljava/lang/Object;")) }
+        ensures { result ≡ (same_name self.entry.name.now (codes "clone")
+            && same_name self.entry.descriptor.now (codes "()Ljava/lang/Object;")) }
     {
         same(self.name, b"clone") && same(self.descriptor, b"()Ljava/lang/Object;")
     }

@@ -1,12 +1,12 @@
 //! Look-up of members in one class.
 
+ghost use Rattle.jc_classes.specs.Worlds.{Stands as stands};
 ghost use Rattle.std.specs.Prelude.{◌≡◌, option_map};
 ghost use Rattle.std.specs.Ordering.{is_lt};
 ghost use Rattle.jc_classes.specs.Lent.{key_lent, member_lent};
 ghost use Rattle.jc_classes.specs.MemberOrder.{IsOrder, key_cmp};
 ghost use Rattle.jc_classes.specs.MethodLookup.{given_by, sole_named};
 ghost use Rattle.jc_classes.specs.Worlds.{is_at, key_of, member};
-ghost use Rattle.jc_classes.specs.Worlds.Stands.{Record};
 ghost use Rattle.jc_classes.specs.inside.FactsShown.{member_shown};
 ghost use Rattle.jc_classes.specs.inside.Ordered.{IsPlace, member_there, named_there};
 ghost use Rattle.jc_classes.specs.inside.OrderedMembers.{shown};
@@ -63,7 +63,7 @@ impl Facts {
     /// The method that it gives to what is below it, if it is an interface: one that is neither PRIVATE
     /// nor STATIC.
     pub fn given(&self, key: Key) -> Option<Member<'_>>
-        ensures { option_map member_lent result ≡ given_by (Record self.now) (key_lent key.entry) }
+        ensures { option_map member_lent result ≡ given_by (stands.Class self.now) (key_lent key.entry) }
     {
         if !AccessFlag::Interface.is_in(self.flags) {
             return None;

@@ -112,7 +112,8 @@ fn order_by_ranks(
 ) -> Result<Vec<u16>, NoMemory>
     requires few { length members.now < 2 ^ 16 }
     requires below { AreBelow (length ranks.now) members.now }
-    ensures { IfOk result (λ order. (texts : List Name) → AreRanks texts ranks.now → IsOrder (map (member_shown texts) members.now) order.items) }
+    ensures { IfOk result (λ order. (texts : List Name) → AreRanks texts ranks.now
+        → IsOrder (map (member_shown texts) members.now) order.items) }
 {
     let mut ranked = rank_members(alloc, ranks, members)?;
     ranked.sort_unstable();

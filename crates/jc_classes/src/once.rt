@@ -66,7 +66,8 @@ fn once_by_ranks(alloc: Global, ranks: &[usize], names: &[u16]) -> Result<Vec<u1
     requires names { All (λ name. name < length ranks.now) names.now }
     requires ranks { All (λ rank. rank < length ranks.now) ranks.now }
     ensures below { IfOk result (λ kept. All (λ name. name < length ranks.now) kept.items) }
-    ensures once { IfOk result (λ kept. (texts : List Name) → AreRanks texts ranks.now → map (text_at texts) kept.items ≡ once (map (text_at texts) names.now)) }
+    ensures once { IfOk result (λ kept. (texts : List Name) → AreRanks texts ranks.now
+        → map (text_at texts) kept.items ≡ once (map (text_at texts) names.now)) }
 {
     let mut seen = vec![in alloc; false; ranks.len()]?;
     let mut kept = Vec::new(alloc);

@@ -1,15 +1,16 @@
 //! What is kept of a class file, read from its view.
 
-ghost use Rattle.std.specs.Prelude.{◌≡◌, ◌<◌, ◌^◌, ◌++◌, map, option_map, IfOk, OnOk};
+ghost use Rattle.std.specs.Prelude.{◌≡◌, ◌<◌, ◌^◌, ◌++◌, option_map, IfOk, OnOk};
 ghost use Rattle.std.specs.List.{flat_map};
 ghost use Rattle.std.specs.Option.{option_to_list};
 ghost use Rattle.jc_view.specs.declared.attribute_kind.Holder.TheVariants as holders;
 ghost use Rattle.jc_view.specs.ClassFile.{class_text_at};
 ghost use Rattle.jc_view.specs.Lookups.{utf8_at};
 ghost use Rattle.jc_rules.specs.Faults.{faults};
-ghost use Rattle.jc_code.specs.MethodFaults.{code_faults, method_faults};
+ghost use Rattle.jc_code.specs.MethodFaults.{code_faults, numbered_faults};
 ghost use Rattle.jc_code.specs.MethodUses.{method_uses, uses};
-ghost use Rattle.jc_classes.specs.FactsOf.{class_name, class_reference, facts_of, faulty_facts, interfaces_in, member_of, member_reference, reference_at, references_in, sound_facts};
+ghost use Rattle.jc_classes.specs.FactsOf.{class_name, class_reference, facts_of, faulty_facts, interfaces_in};
+ghost use Rattle.jc_classes.specs.FactsOf.{member_of, member_reference, reference_at, references_in, sound_facts};
 ghost use Rattle.jc_classes.specs.inside.ClassTexts.{Tells};
 ghost use Rattle.jc_classes.specs.inside.Entries.{AreEntries};
 ghost use Rattle.jc_classes.specs.inside.FactsShown.{member_shown, reference_shown, text_at};
@@ -321,7 +322,8 @@ fn read_code(
     requires class { method.now.class ≡ sizes.now }
     requires holder { method.now.member.holder ≡ holders.Method }
     requires few { number < 2 ^ 16 }
-    ensures faults { OnOk result (codes.new.faults.items ≡ codes.old.faults.items ++ map (λ fault. (number, fault)) (method_faults sizes.now method.now.member.member)) }
+    ensures faults { OnOk result (codes.new.faults.items
+        ≡ codes.old.faults.items ++ numbered_faults sizes.now number method.now.member.member) }
     ensures uses { OnOk result (codes.new.uses.items ≡ codes.old.uses.items ++ method_uses sizes.now number method.now.member.member) }
 {
     let Some(code) = method_code(method) else {

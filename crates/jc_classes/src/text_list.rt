@@ -1,6 +1,7 @@
 //! Many texts in one buffer.
 
-ghost use Rattle.std.specs.Prelude.{◌≡◌, ◌<◌, ◌≤◌, ◌-◌, ◌++◌, [], ◌∷◌, drop, length, slice_index_or, take, IfOk, OnErr, OnOk};
+ghost use Rattle.std.specs.Prelude.{◌≡◌, ◌<◌, ◌≤◌, ◌-◌, ◌++◌, [], ◌∷◌};
+ghost use Rattle.std.specs.Prelude.{drop, length, slice_index_or, take, IfOk, OnErr, OnOk};
 ghost use Rattle.jc_classes.specs.inside.TextList.{start_at};
 
 use jc_base::NoMemory;

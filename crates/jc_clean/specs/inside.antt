@@ -1,3 +1,3 @@
--- What the calls and the invariants of types speak of, and no clause of a call that is passed on.
+-- What the private calls and the invariants of types speak of, and no public clause.
 pub mod Clean
 pub mod Roles

@@ -5,15 +5,15 @@ ghost use Rattle.std.specs.List.{AllByRecursion, flat_map};
 ghost use Rattle.jc_base.specs.Bytes.{same_bytes};
 ghost use Rattle.jc_view.specs.Places.{member_attributes};
 ghost use Rattle.jc_view.specs.Attributes.{attribute_name};
-ghost use Rattle.jc_view.specs.AttributeReading.{all_attributes, with_inner};
+ghost use Rattle.jc_view.specs.AttributeReading.{all_attributes};
 ghost use Rattle.jc_rules.specs.FormatRules.{breaks_f29, breaks_f30};
-ghost use Rattle.jc_clean.specs.inside.Clean.{IsKeptAttribute, has_rules};
+ghost use Rattle.jc_clean.specs.inside.Clean.{AreKeptWithInner, IsKeptAttribute, IsKeptWithInner, has_rules};
 
 use jc_rules::rules::attributes::{breaks_f29, breaks_f30};
 use jc_view::{Attribute, AttributeKind, Attributes, ClassView, Members};
 
 /// Whether all attributes keep the rules over attributes.
-pub fn keeps_attribute_rules(class: &ClassView) -> bool
+pub(crate) fn keeps_attribute_rules(class: &ClassView) -> bool
     ensures { result ≡ true → AllByRecursion (IsKeptAttribute class.now) (all_attributes class.now) }
 {
     are_kept_of_members(class.fields())
@@ -23,7 +23,7 @@ pub fn keeps_attribute_rules(class: &ClassView) -> bool
 
 /// Whether those of members keep them, and what is inside them.
 fn are_kept_of_members(members: Members) -> bool
-    ensures { result ≡ true → AllByRecursion (IsKeptAttribute members.entry.class) (flat_map (with_inner members.entry.class) (flat_map member_attributes members.entry.left)) }
+    ensures { result ≡ true → AreKeptWithInner members.entry.class (flat_map member_attributes members.entry.left) }
 {
     for member in members {
         if !are_kept_with_inner(member.attributes()) {
@@ -35,7 +35,7 @@ fn are_kept_of_members(members: Members) -> bool
 
 /// Whether attributes keep them, and what is inside them.
 fn are_kept_with_inner(attributes: Attributes) -> bool
-    ensures { result ≡ true → AllByRecursion (IsKeptAttribute attributes.entry.class) (flat_map (with_inner attributes.entry.class) attributes.entry.left) }
+    ensures { result ≡ true → AreKeptWithInner attributes.entry.class attributes.entry.left }
 {
     for attribute in attributes {
         if !is_kept_with_inner(&attribute) {
@@ -46,7 +46,7 @@ fn are_kept_with_inner(attributes: Attributes) -> bool
 }
 
 fn is_kept_with_inner(attribute: &Attribute) -> bool
-    ensures { result ≡ true → AllByRecursion (IsKeptAttribute attribute.now.class) (with_inner attribute.now.class attribute.now.attribute) }
+    ensures { result ≡ true → IsKeptWithInner attribute.now.class attribute.now.attribute }
 {
     if !is_kept(attribute) {
         return false;
@@ -97,7 +97,8 @@ fn is_name_of(name: &[u8], kind: AttributeKind) -> bool
 }
 
 fn keeps_rules(attribute: &Attribute) -> bool
-    ensures { result ≡ true → (breaks_f29 attribute.now.class attribute.now.attribute ≡ false) × (breaks_f30 attribute.now.class attribute.now.attribute ≡ false) }
+    ensures f29 { result ≡ true → breaks_f29 attribute.now.class attribute.now.attribute ≡ false }
+    ensures f30 { result ≡ true → breaks_f30 attribute.now.class attribute.now.attribute ≡ false }
 {
     !breaks_f29(attribute) && !breaks_f30(attribute)
 }

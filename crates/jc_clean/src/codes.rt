@@ -1,13 +1,8 @@
 //! The `Code` and the `Exceptions` of a method, in one pass over its attributes.
 
-ghost use Rattle.std.specs.Prelude.{◌≡◌, true, is_none, IfSome};
-ghost use Rattle.std.specs.List.{list_all};
-ghost use Rattle.jc_view.specs.declared.attribute_kind.AttributeKind.TheVariants as attributes;
+ghost use Rattle.std.specs.Prelude.{◌≡◌, true, IfSome};
 ghost use Rattle.jc_view.specs.declared.attribute_kind.Holder.TheVariants as holders;
-ghost use Rattle.jc_view.specs.declared.constant_pool.ConstantKind.TheVariants as kinds;
-ghost use Rattle.jc_view.specs.AttributeReading.{code_in, exceptions_in};
-ghost use Rattle.jc_view.specs.Lookups.{is_entry, lacks};
-ghost use Rattle.jc_clean.specs.inside.Clean.{IsNoted, KeepsCodeRules, must_have_code};
+ghost use Rattle.jc_clean.specs.inside.Clean.{KeepsCodeRules, NotesCode, NotesExceptions, must_have_code};
 
 use jc_rules::AccessFlag;
 use jc_rules::rules::methods::{is_named_clinit, lacks_classes};
@@ -46,7 +41,7 @@ fn must_have_code(method: &Member) -> bool
 /// Whether there is a `Code` with this attribute; `None` where it is a second one, or one that isn't
 /// well-formed.
 fn note_code(had: bool, attribute: &Attribute) -> Option<bool>
-    ensures { IfSome result (IsNoted attribute.now.class attributes.Code (λ a. is_none (code_in a.bytes)) attribute.now.attribute had) }
+    ensures { IfSome result (NotesCode attribute.now had) }
 {
     if !attribute.is(AttributeKind::Code) {
         return Some(had);
@@ -60,7 +55,7 @@ fn note_code(had: bool, attribute: &Attribute) -> Option<bool>
 /// Whether there is an `Exceptions` with this attribute; `None` where it is a second one, or one that
 /// is no list of classes.
 fn note_exceptions(had: bool, attribute: &Attribute) -> Option<bool>
-    ensures { IfSome result (IsNoted attribute.now.class attributes.Exceptions (λ a. lacks (list_all (is_entry attribute.now.class kinds.Class)) (exceptions_in a.bytes)) attribute.now.attribute had) }
+    ensures { IfSome result (NotesExceptions attribute.now had) }
 {
     if !attribute.is(AttributeKind::Exceptions) {
         return Some(had);

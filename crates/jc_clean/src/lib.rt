@@ -1,8 +1,9 @@
-//! One look at each constant, member and attribute of a class file: what keeps the rules of the format
-//! (JVMS 4.1 to 4.8). Each call may say no of what does.
+//! One look at each constant, member and attribute of a class file: whether it keeps all rules of the
+//! format (JVMS 4.1 to 4.8).
 #![tactic(auto)]
 
 mod attributes;
+mod clean;
 mod codes;
 mod constants;
 mod members;
@@ -11,6 +12,4 @@ mod roles;
 mod tables;
 mod texts;
 
-pub use attributes::keeps_attribute_rules;
-pub use repeats::repeats_members;
-pub use tables::keeps_table_rules;
+pub use clean::is_clean;

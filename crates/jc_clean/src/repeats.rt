@@ -21,7 +21,7 @@ const MOST_KEYS: usize = 64;
 const LONGEST_TEXT: usize = 128;
 
 /// Whether a field or a method has the name and descriptor of an earlier one.
-pub fn repeats_members(alloc: Global, class: &ClassView) -> Result<bool, NoMemory>
+pub(crate) fn repeats_members(alloc: Global, class: &ClassView) -> Result<bool, NoMemory>
     ensures { IfOk result (λ repeats. repeats ≡ false → AreApart class.now) }
 {
     Ok(repeats_field(alloc, class)? || repeats_method(alloc, class)?)

@@ -11,7 +11,7 @@ use jc_view::ClassView;
 use std::alloc::Global;
 
 /// Whether all constants, interfaces, fields and methods keep the rules over them.
-pub fn keeps_table_rules(alloc: Global, class: &ClassView) -> Result<bool, NoMemory>
+pub(crate) fn keeps_table_rules(alloc: Global, class: &ClassView) -> Result<bool, NoMemory>
     ensures { IfOk result (λ kept. kept ≡ true → AreKeptTables class.now) }
 {
     let mut roles = Roles::new(alloc, class)?;

@@ -1,5 +1,6 @@
 -- The faults of a method's code: the places where each static constraint is broken.
-use Rattle.std.specs.Prelude.{◌≡◌, ℕ, ◌+◌, ◌==◌, Bool, false, List, [], ◌∷◌, ◌++◌, length, map, filter, cond, Option, Some, None, slice_get, option_and_then, if◌then◌else◌}
+use Rattle.std.specs.Prelude.{◌≡◌, ℕ, ◌+◌, ◌==◌, Bool, false, List, [], ◌∷◌, ◌++◌, length}
+use Rattle.std.specs.Prelude.{map, filter, cond, Option, Some, None, slice_get, option_and_then, if◌then◌else◌}
 use Rattle.std.specs.List.{flat_map}
 use Rattle.std.specs.Option.{MatchOption, option_map_or}
 use Rattle.jc_code.specs.declared.code_fault.CodeFault.{CodeFault}
@@ -12,7 +13,9 @@ use Rattle.jc_view.specs.Attributes.{Code, Handler, codes_of}
 use Rattle.jc_view.specs.AttributeReading.{code_in}
 use Rattle.jc_code.specs.Insns.{IsCode}
 use Rattle.jc_code.specs.InsnReading.{end_of, insns_of}
-use Rattle.jc_code.specs.CodeRules.{Scope, breaks_s2, breaks_s3, breaks_s4, breaks_s5, breaks_s6, breaks_s7, breaks_s8, breaks_s9, breaks_s10, breaks_s11, breaks_s12, breaks_s13, breaks_s14, breaks_s15, breaks_s16, breaks_s17, breaks_s18, breaks_s19, breaks_s20, breaks_s21, breaks_s22, breaks_s23, breaks_s24}
+use Rattle.jc_code.specs.CodeRules.{Scope, breaks_s2, breaks_s3, breaks_s4, breaks_s5, breaks_s6, breaks_s7, breaks_s8, breaks_s9}
+use Rattle.jc_code.specs.CodeRules.{breaks_s10, breaks_s11, breaks_s12, breaks_s13, breaks_s14, breaks_s15, breaks_s16, breaks_s17}
+use Rattle.jc_code.specs.CodeRules.{breaks_s18, breaks_s19, breaks_s20, breaks_s21, breaks_s22, breaks_s23, breaks_s24}
 
 -- ---- the code of a method
 
@@ -86,11 +89,15 @@ places s items handlers rule = places_of (insn_breaks rule s) items ++ numbers_o
 abbrev pub faults_against : Scope → List (ℕ × Insn) → List Handler → CodeRule → List CodeFault
 faults_against s items handlers rule = map (fault_at rule) (places s items handlers rule)
 
--- what the rules look at
-abbrev pub scope_of : ClassFile → Code → List (ℕ × Insn) → Scope
-scope_of c k items = record { class = c; max_locals = k.max_locals; size = length k.code; starts = map (λ item. item.0) items }
+-- what the rules look at, where instructions start at these places
+abbrev pub scope_with : ClassFile → Code → List ℕ → Scope
+scope_with c k starts = record { class = c; max_locals = k.max_locals; size = length k.code; starts = starts }
 
--- all faults of a code whose instructions these are, up to an end: by rule, in the order of the rules, and then by place; only one where they end before the code
+abbrev pub scope_of : ClassFile → Code → List (ℕ × Insn) → Scope
+scope_of c k items = scope_with c k (map (λ item. item.0) items)
+
+-- all faults of a code whose instructions these are, up to an end: by rule, in the order of the rules, and then by place;
+-- only one where they end before the code
 unfoldable pub faults_over : ClassFile → Code → List (ℕ × Insn) → ℕ → List CodeFault
 faults_over c k items end =
     if end == length k.code
@@ -108,6 +115,10 @@ pub record AreFaultsOf (c : ClassFile) (k : Code) (found : List CodeFault) : Typ
   pub is_code : IsCode k.code items end
   pub listed : found ≡ faults_over c k items end
 
+-- those of the code, if there is one
+abbrev pub AreFaultsIfAny : ClassFile → Option Code → List CodeFault → Type 0
+AreFaultsIfAny c code found = MatchOption code (found ≡ []) (λ k. AreFaultsOf c k found)
+
 -- the faults of a method: none, where it has no code
 abbrev pub AreFaultsOfMethod : ClassFile → ℕ → List CodeFault → Type 0
-AreFaultsOfMethod c n found = MatchOption (code_of_method c n) (found ≡ []) (λ k. AreFaultsOf c k found)
+AreFaultsOfMethod c n found = AreFaultsIfAny c (code_of_method c n) found

@@ -1,6 +1,7 @@
 -- Which instructions and which exception handlers break a static constraint: a test for each rule (JVMS 4.7.3, 4.9.1). A rule
 -- over an entry or a text that is missing is not broken, unless it asks for it.
-use Rattle.std.specs.Prelude.{ℕ, ◌+◌, ℤ, pos, negsuc, int_lt, Bool, true, false, not, ◌&&◌, ◌||◌, ◌==◌, nat_lt, nat_le, List, [], ◌∷◌, map, sum_by, Option, Some, None, option_and_then}
+use Rattle.std.specs.Prelude.{ℕ, ◌+◌, ℤ, pos, negsuc, int_lt, Bool, true, false, not, ◌&&◌, ◌||◌, ◌==◌}
+use Rattle.std.specs.Prelude.{nat_lt, nat_le, List, [], ◌∷◌, map, sum_by, Option, Some, None, option_and_then}
 use Rattle.std.specs.List.{list_all, list_any}
 use Rattle.std.specs.Option.{option_map, option_map_or}
 use Rattle.jc_base.specs.Bytes.{same_bytes}
@@ -124,10 +125,14 @@ referred_name c index = option_and_then (λ entry. option_and_then (name_at c) (
 abbrev pub slots_at : ClassFile → ConstantIndex → Option ℕ
 slots_at c index = option_map (λ type. sum_by slots_of type.params) (option_and_then method_type_of (referred_descriptor c index))
 
+-- the count is not that of the slots of an interface's method and the receiver
+abbrev pub is_other_count : ClassFile → ConstantIndex → ℕ → Bool
+is_other_count c index count =
+    is_entry c kinds.InterfaceMethodref index && fails (λ slots. count == slots + 1) (slots_at c index)
+
 -- the count of invokeinterface is that of the descriptor's slots and the receiver
 abbrev pub breaks_s12 : Scope → Insn → Bool
-breaks_s12 s (insns.InvokeInterface index count last) =
-    is_entry s.class kinds.InterfaceMethodref index && fails (λ slots. count == slots + 1) (slots_at s.class index)
+breaks_s12 s (insns.InvokeInterface index count last) = is_other_count s.class index count
 breaks_s12 s insn = false
 
 -- its last byte is 0
@@ -152,11 +157,19 @@ is_init name = same_bytes name (codes "<init>")
 abbrev pub is_special : List ℕ → Bool
 is_special name = begins_with 60 name
 
+-- an invocation names an entry that it may name
+abbrev pub is_right_entry : Scope → ℕ → ConstantIndex → Bool
+is_right_entry s opcode index =
+    not (breaks_s9 s (insns.Invoke opcode index)) && not (breaks_s10 s (insns.Invoke opcode index))
+
+-- it names a special method that it may not invoke: any but `<init>` by invokespecial
+abbrev pub is_bad_special : ClassFile → ℕ → ConstantIndex → Bool
+is_bad_special c opcode index =
+    passes (λ name. is_special name && not (opcode == invokespecial && is_init name)) (referred_name c index)
+
 -- of a right entry: a special method is not invoked, but `<init>` by invokespecial
 abbrev pub breaks_s16 : Scope → Insn → Bool
-breaks_s16 s (insns.Invoke opcode index) =
-    not (breaks_s9 s (insns.Invoke opcode index)) && not (breaks_s10 s (insns.Invoke opcode index))
-    && passes (λ name. is_special name && not (opcode == invokespecial && is_init name)) (referred_name s.class index)
+breaks_s16 s (insns.Invoke opcode index) = is_right_entry s opcode index && is_bad_special s.class opcode index
 breaks_s16 s (insns.InvokeInterface index count last) =
     is_entry s.class kinds.InterfaceMethodref index && passes is_special (referred_name s.class index)
 breaks_s16 s insn = false

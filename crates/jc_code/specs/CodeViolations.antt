@@ -1,5 +1,7 @@
 -- What it means that a static constraint is broken at a place of a method's code (JVMS 4.7.3, 4.9.1).
-use Rattle.std.specs.Prelude.{◌≡◌, ◌⊎◌, ℕ, ◌<◌, List, Contains, IsTrue, length, Some, slice_get}
+use Rattle.std.specs.Prelude.{◌≡◌, ◌↔◌, ◌⊎◌, ℕ, ◌<◌, List, Contains, IsTrue, length, Some, slice_get}
+use Rattle.std.specs.List.Sorted.{IsStrictlySortedBy}
+use Rattle.jc_code.specs.declared.code_fault.CodeFault.{CodeFault}
 use Rattle.jc_code.specs.declared.code_fault.CodeRule.{CodeRule}
 use Rattle.jc_code.specs.declared.code_fault.CodeRule.TheVariants as rules
 use Rattle.jc_code.specs.declared.insn.Insn.{Insn}
@@ -7,7 +9,8 @@ use Rattle.jc_view.specs.ClassFile.{ClassFile}
 use Rattle.jc_view.specs.Attributes.{Code, Handler}
 use Rattle.jc_code.specs.Insns.{IsCode}
 use Rattle.jc_code.specs.CodeRules.{Scope}
-use Rattle.jc_code.specs.CodeFaults.{code_of_method, handler_breaks, insn_breaks, scope_of}
+use Rattle.jc_code.specs.CodeFaultOrder.{fault_cmp}
+use Rattle.jc_code.specs.CodeFaults.{code_of_method, faults_over, handler_breaks, insn_breaks, scope_of}
 
 -- the instruction that stands at the place breaks the rule
 abbrev pub AtInsn : CodeRule → Scope → List (ℕ × Insn) → ℕ → Type 0
@@ -25,6 +28,15 @@ abbrev pub ViolatesIn : CodeRule → ClassFile → Code → List (ℕ × Insn) �
 ViolatesIn rule c k items end place =
     IsCut rule k end place
     ⊎ (end ≡ length k.code) × (AtInsn rule (scope_of c k items) items place ⊎ AtHandler rule (scope_of c k items) k.handlers place)
+
+-- the faults stand by rule and then by place, each once
+abbrev pub AreInOrder : ClassFile → Code → List (ℕ × Insn) → ℕ → Type 0
+AreInOrder c k items end = IsStrictlySortedBy fault_cmp (faults_over c k items end)
+
+-- there is a fault for each place where a rule is broken, and no other
+abbrev pub AreExact : ClassFile → Code → List (ℕ × Insn) → ℕ → Type 0
+AreExact c k items end =
+    (fault : CodeFault) → Contains (faults_over c k items end) fault ↔ ViolatesIn fault.rule c k items end fault.place
 
 -- a code breaks a rule at a place
 abbrev pub BreaksCode : CodeRule → ClassFile → Code → ℕ → Type 0

@@ -1,6 +1,7 @@
 -- Codes and the instructions that stand in them.
 use Rattle.std.specs.Prelude.{ℕ, pos, true, List, [], ◌∷◌}
 use Rattle.jc_code.specs.declared.insn.Insn.{Insn}
+use Rattle.jc_code.specs.declared.switch.TableSwitch.{TableSwitch}
 use Rattle.jc_code.specs.declared.insn.Insn.TheVariants as insns
 
 -- aload_0, invokespecial #1, return
@@ -33,7 +34,17 @@ wide_insns = (0, insns.Local 0x15 1 true) ∷ (4, insns.Plain 0x57) ∷ (5, insn
 
 -- a tableswitch from 1 to 2 whose targets are the return behind it
 abbrev pub switch_code : List ℕ
-switch_code = 0xaa ∷ 0 ∷ 0 ∷ 0 ∷ 0 ∷ 0 ∷ 0 ∷ 0x18 ∷ 0 ∷ 0 ∷ 0 ∷ 1 ∷ 0 ∷ 0 ∷ 0 ∷ 2 ∷ 0 ∷ 0 ∷ 0 ∷ 0x18 ∷ 0 ∷ 0 ∷ 0 ∷ 0x18 ∷ 0xb1 ∷ []
+switch_code =
+    0xaa ∷ 0 ∷ 0 ∷ 0 ∷ 0 ∷ 0 ∷ 0 ∷ 0x18 ∷ 0 ∷ 0 ∷ 0 ∷ 1 ∷ 0 ∷ 0 ∷ 0 ∷ 2
+    ∷ 0 ∷ 0 ∷ 0 ∷ 0x18 ∷ 0 ∷ 0 ∷ 0 ∷ 0x18 ∷ 0xb1 ∷ []
+
+abbrev pub one_or_two : TableSwitch
+one_or_two = record {
+  default = pos 24;
+  low = pos 1;
+  high = pos 2;
+  targets = record { place = 0; left = pos 24 ∷ pos 24 ∷ [] };
+}
 
 abbrev pub switch_insns : List (ℕ × Insn)
-switch_insns = (0, insns.TableSwitch (record { default = pos 24; low = pos 1; high = pos 2; targets = record { place = 0; left = pos 24 ∷ pos 24 ∷ [] } })) ∷ (24, insns.Plain 0xb1) ∷ []
+switch_insns = (0, insns.TableSwitch one_or_two) ∷ (24, insns.Plain 0xb1) ∷ []

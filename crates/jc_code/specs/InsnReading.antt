@@ -1,5 +1,8 @@
--- Which instructions are read from the front of bytes, by functions that compute: the law `codes_are_read` says that they are what `Insns` defines.
-use Rattle.std.specs.Prelude.{ℕ, zero, suc, ◌+◌, ◌-◌, ◌*◌, ◌%◌, ◌^◌, ℤ, pos, ◌+ℤ◌, ◌-ℤ◌, int_le, nat_abs, true, false, List, [], ◌∷◌, length, drop, Option, Some, None, if◌then◌else◌, nat_lt, option_and_then}
+-- Which instructions are read from the front of bytes, by functions that compute: the law `codes_are_read` says that they
+-- are what `Insns` defines.
+use Rattle.std.specs.Prelude.{ℕ, zero, suc, ◌+◌, ◌-◌, ◌*◌, ◌%◌, ◌^◌, ℤ, pos}
+use Rattle.std.specs.Prelude.{◌+ℤ◌, ◌-ℤ◌, int_le, nat_abs, true, false, List, [], ◌∷◌}
+use Rattle.std.specs.Prelude.{length, drop, Option, Some, None, if◌then◌else◌, nat_lt, option_and_then}
 use Rattle.std.specs.Option.{option_map_or}
 use Rattle.std.specs.Int.{cast_signed, w8, w16, w32}
 use Rattle.jc_base.specs.Endian.{big_number}
@@ -49,7 +52,9 @@ target_count low high = if int_le low high then Some (nat_abs (high -ℤ low) + 
 
 abbrev pub after_table_switch : ℕ → List ℕ → Option (List ℕ)
 after_table_switch at xs =
-    option_and_then (λ rest. option_and_then (λ count. after (4 * count) rest) (target_count (low_value at xs) (high_value at xs))) (after (pad at + 12) xs)
+    option_and_then
+    (λ rest. option_and_then (λ count. after (4 * count) rest) (target_count (low_value at xs) (high_value at xs)))
+    (after (pad at + 12) xs)
 
 abbrev pub table_switch_value : ℕ → List ℕ → Insn
 table_switch_value at xs =
@@ -69,7 +74,9 @@ case_count at xs = big_number 4 (drop (pad at + 4) xs)
 
 abbrev pub after_lookup_switch : ℕ → List ℕ → Option (List ℕ)
 after_lookup_switch at xs =
-    option_and_then (λ rest. if nat_lt (case_count at xs) (2 ^ 31) then after (8 * case_count at xs) rest else None) (after (pad at + 8) xs)
+    option_and_then
+    (λ rest. if nat_lt (case_count at xs) (2 ^ 31) then after (8 * case_count at xs) rest else None)
+    (after (pad at + 8) xs)
 
 abbrev pub lookup_switch_value : ℕ → List ℕ → Insn
 lookup_switch_value at xs =
@@ -122,7 +129,8 @@ operands_value at opcode operands.TableSwitch xs = table_switch_value at xs
 operands_value at opcode operands.LookupSwitch xs = lookup_switch_value at xs
 operands_value at opcode operands.Field xs = insns.Field opcode (index_value xs)
 operands_value at opcode operands.Invoke xs = insns.Invoke opcode (index_value xs)
-operands_value at opcode operands.InvokeInterface xs = insns.InvokeInterface (index_value xs) (big_number 1 (drop 2 xs)) (big_number 1 (drop 3 xs))
+operands_value at opcode operands.InvokeInterface xs =
+    insns.InvokeInterface (index_value xs) (big_number 1 (drop 2 xs)) (big_number 1 (drop 3 xs))
 operands_value at opcode operands.InvokeDynamic xs = insns.InvokeDynamic (index_value xs) (big_number 2 (drop 2 xs))
 operands_value at opcode operands.Type xs = insns.Type opcode (index_value xs)
 operands_value at opcode operands.NewArray xs = insns.NewArray (big_number 1 xs)

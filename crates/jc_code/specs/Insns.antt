@@ -1,5 +1,7 @@
 -- Instructions and how they are spelled, and the code of a method as instructions that stand one after another (JVMS 4.9.1, 6.5).
-use Rattle.std.specs.Prelude.{◌≡◌, ◌⊎◌, ℕ, ◌+◌, ◌%◌, ◌<◌, ◌^◌, ℤ, pos, ◌+ℤ◌, ◌-ℤ◌, ◌≤ℤ◌, FitsSigned, true, false, List, [], ◌∷◌, ◌++◌, length, Option, Some, None, if◌then◌else◌, ◌==◌, ◌*◌, ◌/◌, take, drop}
+use Rattle.std.specs.Prelude.{◌≡◌, ◌⊎◌, ℕ, ◌+◌, ◌%◌, ◌<◌, ◌^◌, ℤ, pos, ◌+ℤ◌}
+use Rattle.std.specs.Prelude.{◌-ℤ◌, ◌≤ℤ◌, FitsSigned, true, false, List, [], ◌∷◌, ◌++◌}
+use Rattle.std.specs.Prelude.{length, Option, Some, None, if◌then◌else◌, ◌==◌, ◌*◌, ◌/◌, take, drop}
 use Rattle.std.specs.Int.{cast_unsigned, w8, w16, w32}
 use Rattle.std.specs.List.{flat_map, AllByRecursion}
 use Rattle.jc_base.specs.Endian.{big_bytes}
@@ -155,7 +157,9 @@ pub record IsTableSwitch (at : ℕ) (switch : TableSwitch) (s : List ℕ) : Type
   pub place : switch.targets.place ≡ at
   pub count : pos (length switch.targets.left) ≡ switch.high -ℤ switch.low +ℤ pos 1
   pub targets : AllByRecursion (IsIntTarget at) switch.targets.left
-  pub spelling : s ≡ tableswitch ∷ pad ++ target_bytes at switch.default ++ int_bytes switch.low ++ int_bytes switch.high ++ flat_map (target_bytes at) switch.targets.left
+  pub spelling :
+      s ≡ tableswitch ∷ pad ++ target_bytes at switch.default ++ int_bytes switch.low ++ int_bytes switch.high
+      ++ flat_map (target_bytes at) switch.targets.left
 
 pub record IsLookupSwitch (at : ℕ) (switch : LookupSwitch) (s : List ℕ) : Type 0 where
   pub pad : List ℕ
@@ -164,7 +168,9 @@ pub record IsLookupSwitch (at : ℕ) (switch : LookupSwitch) (s : List ℕ) : Ty
   pub place : switch.cases.place ≡ at
   pub count : length switch.cases.left < 2 ^ 31
   pub cases : AllByRecursion (IsCase at) switch.cases.left
-  pub spelling : s ≡ lookupswitch ∷ pad ++ target_bytes at switch.default ++ big_bytes 4 (length switch.cases.left) ++ flat_map (case_bytes at) switch.cases.left
+  pub spelling :
+      s ≡ lookupswitch ∷ pad ++ target_bytes at switch.default ++ big_bytes 4 (length switch.cases.left)
+      ++ flat_map (case_bytes at) switch.cases.left
 
 -- the bytes are an instruction that stands at a place of the code
 abbrev pub IsSpelling : ℕ → Insn → List ℕ → Type 0
@@ -193,8 +199,10 @@ IsSpelling at (insns.LookupSwitch switch) s = IsLookupSwitch at switch s
 IsSpelling at (insns.Field opcode index) s = Has opcode operands.Field × IsIndex index × (s ≡ opcode ∷ index_bytes index)
 IsSpelling at (insns.Invoke opcode index) s = Has opcode operands.Invoke × IsIndex index × (s ≡ opcode ∷ index_bytes index)
 IsSpelling at (insns.InvokeInterface index count last) s =
-    IsIndex index × (count < 2 ^ 8) × (last < 2 ^ 8) × (s ≡ invokeinterface ∷ index_bytes index ++ big_bytes 1 count ++ big_bytes 1 last)
-IsSpelling at (insns.InvokeDynamic index last) s = IsIndex index × (last < 2 ^ 16) × (s ≡ invokedynamic ∷ index_bytes index ++ big_bytes 2 last)
+    IsIndex index × (count < 2 ^ 8) × (last < 2 ^ 8)
+    × (s ≡ invokeinterface ∷ index_bytes index ++ big_bytes 1 count ++ big_bytes 1 last)
+IsSpelling at (insns.InvokeDynamic index last) s =
+    IsIndex index × (last < 2 ^ 16) × (s ≡ invokedynamic ∷ index_bytes index ++ big_bytes 2 last)
 IsSpelling at (insns.Type opcode index) s = Has opcode operands.Type × IsIndex index × (s ≡ opcode ∷ index_bytes index)
 IsSpelling at (insns.NewArray element) s = (element < 2 ^ 8) × (s ≡ newarray ∷ big_bytes 1 element)
 IsSpelling at (insns.MultiNewArray index dimensions) s =
@@ -240,3 +248,13 @@ cases_place at = aligned at + 8
 -- the bytes are the part of the code from a place on
 abbrev pub IsPartAt : List ℕ → ℕ → List ℕ → Type 0
 IsPartAt code place bytes = take (length bytes) (drop place code) ≡ bytes
+
+-- the bytes of the targets of a switch that stands at a place are the part of the code there
+abbrev pub TargetsLieIn : List ℕ → ℕ → TableSwitch → Type 0
+TargetsLieIn code at switch =
+    IsPartAt code (targets_place at) (flat_map (target_bytes switch.targets.place) switch.targets.left)
+
+-- and those of the cases
+abbrev pub CasesLieIn : List ℕ → ℕ → LookupSwitch → Type 0
+CasesLieIn code at switch =
+    IsPartAt code (cases_place at) (flat_map (case_bytes switch.cases.place) switch.cases.left)

@@ -9,10 +9,14 @@ use Rattle.jc_code.specs.CodeFaults.{code_of_member, faults_of}
 abbrev pub method_faults : ClassFile → Member → List CodeFault
 method_faults c m = option_map_or (faults_of c) (code_of_member c m) []
 
--- of methods from a number on, each with the number of its method
+-- each with the number of the method
+abbrev pub numbered_faults : ClassFile → ℕ → Member → List (ℕ × CodeFault)
+numbered_faults c number m = map (λ fault. (number, fault)) (method_faults c m)
+
+-- of methods from a number on
 abbrev pub code_faults_from : ClassFile → ℕ → List Member → List (ℕ × CodeFault)
 code_faults_from c number [] = []
-code_faults_from c number (m ∷ methods) = map (λ fault. (number, fault)) (method_faults c m) ++ code_faults_from c (number + 1) methods
+code_faults_from c number (m ∷ methods) = numbered_faults c number m ++ code_faults_from c (number + 1) methods
 
 unfoldable pub code_faults : ClassFile → List (ℕ × CodeFault)
 code_faults c = code_faults_from c 0 c.methods

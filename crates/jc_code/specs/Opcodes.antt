@@ -1,5 +1,6 @@
 -- The opcodes, their mnemonics and what stands behind them (JVMS 6.5, 7).
-use Rattle.std.specs.Prelude.{ℕ, ◌+◌, Bool, true, ◌&&◌, ◌==◌, length, ⊤, List, [], ◌∷◌, ◌++◌, map, Option, Some, None, slice_get, nat_lt, if◌then◌else◌, codes}
+use Rattle.std.specs.Prelude.{◌≡◌, ℕ, ◌+◌, Bool, true, ◌&&◌, ◌==◌, length, ⊤, List, [], ◌∷◌}
+use Rattle.std.specs.Prelude.{◌++◌, map, Option, Some, None, slice_get, nat_lt, if◌then◌else◌, codes}
 use Rattle.std.specs.List.{flat_map}
 use Rattle.std.specs.Option.{option_map}
 use Rattle.jc_code.specs.declared.opcode.Operands.{Operands}
@@ -28,7 +29,10 @@ by_number first mnemonic slots =
 
 unfoldable pub groups : List Group
 groups =
-    from 0 (codes "nop" ∷ codes "aconst_null" ∷ codes "iconst_m1" ∷ codes "iconst_0" ∷ codes "iconst_1" ∷ codes "iconst_2" ∷ codes "iconst_3" ∷ codes "iconst_4" ∷ codes "iconst_5" ∷ codes "lconst_0" ∷ codes "lconst_1" ∷ codes "fconst_0" ∷ codes "fconst_1" ∷ codes "fconst_2" ∷ codes "dconst_0" ∷ codes "dconst_1" ∷ []) operands.Empty
+    from 0 (codes "nop" ∷ codes "aconst_null" ∷ codes "iconst_m1" ∷ codes "iconst_0" ∷ codes "iconst_1"
+    ∷ codes "iconst_2" ∷ codes "iconst_3" ∷ codes "iconst_4" ∷ codes "iconst_5" ∷ codes "lconst_0"
+    ∷ codes "lconst_1" ∷ codes "fconst_0" ∷ codes "fconst_1" ∷ codes "fconst_2" ∷ codes "dconst_0"
+    ∷ codes "dconst_1" ∷ []) operands.Empty
     ++ from 16 (codes "bipush" ∷ []) operands.Byte
     ++ from 17 (codes "sipush" ∷ []) operands.Short
     ++ from 18 (codes "ldc" ∷ []) operands.ShortLoad
@@ -43,7 +47,8 @@ groups =
     ++ by_number 34 (codes "fload") 1
     ++ by_number 38 (codes "dload") 2
     ++ by_number 42 (codes "aload") 1
-    ++ from 46 (codes "iaload" ∷ codes "laload" ∷ codes "faload" ∷ codes "daload" ∷ codes "aaload" ∷ codes "baload" ∷ codes "caload" ∷ codes "saload" ∷ []) operands.Empty
+    ++ from 46 (codes "iaload" ∷ codes "laload" ∷ codes "faload" ∷ codes "daload" ∷ codes "aaload"
+    ∷ codes "baload" ∷ codes "caload" ∷ codes "saload" ∷ []) operands.Empty
     ++ from 54 (codes "istore" ∷ []) (operands.Local 1)
     ++ from 55 (codes "lstore" ∷ []) (operands.Local 2)
     ++ from 56 (codes "fstore" ∷ []) (operands.Local 1)
@@ -54,16 +59,31 @@ groups =
     ++ by_number 67 (codes "fstore") 1
     ++ by_number 71 (codes "dstore") 2
     ++ by_number 75 (codes "astore") 1
-    ++ from 79 (codes "iastore" ∷ codes "lastore" ∷ codes "fastore" ∷ codes "dastore" ∷ codes "aastore" ∷ codes "bastore" ∷ codes "castore" ∷ codes "sastore" ∷ codes "pop" ∷ codes "pop2" ∷ codes "dup" ∷ codes "dup_x1" ∷ codes "dup_x2" ∷ codes "dup2" ∷ codes "dup2_x1" ∷ codes "dup2_x2" ∷ codes "swap" ∷ codes "iadd" ∷ codes "ladd" ∷ codes "fadd" ∷ codes "dadd" ∷ codes "isub" ∷ codes "lsub" ∷ codes "fsub" ∷ []) operands.Empty
-    ++ from 103 (codes "dsub" ∷ codes "imul" ∷ codes "lmul" ∷ codes "fmul" ∷ codes "dmul" ∷ codes "idiv" ∷ codes "ldiv" ∷ codes "fdiv" ∷ codes "ddiv" ∷ codes "irem" ∷ codes "lrem" ∷ codes "frem" ∷ codes "drem" ∷ codes "ineg" ∷ codes "lneg" ∷ codes "fneg" ∷ codes "dneg" ∷ codes "ishl" ∷ codes "lshl" ∷ codes "ishr" ∷ codes "lshr" ∷ codes "iushr" ∷ codes "lushr" ∷ codes "iand" ∷ []) operands.Empty
+    ++ from 79 (codes "iastore" ∷ codes "lastore" ∷ codes "fastore" ∷ codes "dastore" ∷ codes "aastore"
+    ∷ codes "bastore" ∷ codes "castore" ∷ codes "sastore" ∷ codes "pop" ∷ codes "pop2" ∷ codes "dup"
+    ∷ codes "dup_x1" ∷ codes "dup_x2" ∷ codes "dup2" ∷ codes "dup2_x1" ∷ codes "dup2_x2"
+    ∷ codes "swap" ∷ codes "iadd" ∷ codes "ladd" ∷ codes "fadd" ∷ codes "dadd" ∷ codes "isub"
+    ∷ codes "lsub" ∷ codes "fsub" ∷ []) operands.Empty
+    ++ from 103 (codes "dsub" ∷ codes "imul" ∷ codes "lmul" ∷ codes "fmul" ∷ codes "dmul"
+    ∷ codes "idiv" ∷ codes "ldiv" ∷ codes "fdiv" ∷ codes "ddiv" ∷ codes "irem" ∷ codes "lrem"
+    ∷ codes "frem" ∷ codes "drem" ∷ codes "ineg" ∷ codes "lneg" ∷ codes "fneg" ∷ codes "dneg"
+    ∷ codes "ishl" ∷ codes "lshl" ∷ codes "ishr" ∷ codes "lshr" ∷ codes "iushr" ∷ codes "lushr"
+    ∷ codes "iand" ∷ []) operands.Empty
     ++ from 127 (codes "land" ∷ codes "ior" ∷ codes "lor" ∷ codes "ixor" ∷ codes "lxor" ∷ []) operands.Empty
     ++ from 132 (codes "iinc" ∷ []) operands.Increment
-    ++ from 133 (codes "i2l" ∷ codes "i2f" ∷ codes "i2d" ∷ codes "l2i" ∷ codes "l2f" ∷ codes "l2d" ∷ codes "f2i" ∷ codes "f2l" ∷ codes "f2d" ∷ codes "d2i" ∷ codes "d2l" ∷ codes "d2f" ∷ codes "i2b" ∷ codes "i2c" ∷ codes "i2s" ∷ codes "lcmp" ∷ codes "fcmpl" ∷ codes "fcmpg" ∷ codes "dcmpl" ∷ codes "dcmpg" ∷ []) operands.Empty
-    ++ from 153 (codes "ifeq" ∷ codes "ifne" ∷ codes "iflt" ∷ codes "ifge" ∷ codes "ifgt" ∷ codes "ifle" ∷ codes "if_icmpeq" ∷ codes "if_icmpne" ∷ codes "if_icmplt" ∷ codes "if_icmpge" ∷ codes "if_icmpgt" ∷ codes "if_icmple" ∷ codes "if_acmpeq" ∷ codes "if_acmpne" ∷ codes "goto" ∷ codes "jsr" ∷ []) operands.Branch
+    ++ from 133 (codes "i2l" ∷ codes "i2f" ∷ codes "i2d" ∷ codes "l2i" ∷ codes "l2f" ∷ codes "l2d"
+    ∷ codes "f2i" ∷ codes "f2l" ∷ codes "f2d" ∷ codes "d2i" ∷ codes "d2l" ∷ codes "d2f"
+    ∷ codes "i2b" ∷ codes "i2c" ∷ codes "i2s" ∷ codes "lcmp" ∷ codes "fcmpl" ∷ codes "fcmpg"
+    ∷ codes "dcmpl" ∷ codes "dcmpg" ∷ []) operands.Empty
+    ++ from 153 (codes "ifeq" ∷ codes "ifne" ∷ codes "iflt" ∷ codes "ifge" ∷ codes "ifgt"
+    ∷ codes "ifle" ∷ codes "if_icmpeq" ∷ codes "if_icmpne" ∷ codes "if_icmplt" ∷ codes "if_icmpge"
+    ∷ codes "if_icmpgt" ∷ codes "if_icmple" ∷ codes "if_acmpeq" ∷ codes "if_acmpne" ∷ codes "goto"
+    ∷ codes "jsr" ∷ []) operands.Branch
     ++ from 169 (codes "ret" ∷ []) (operands.Local 1)
     ++ from 170 (codes "tableswitch" ∷ []) operands.TableSwitch
     ++ from 171 (codes "lookupswitch" ∷ []) operands.LookupSwitch
-    ++ from 172 (codes "ireturn" ∷ codes "lreturn" ∷ codes "freturn" ∷ codes "dreturn" ∷ codes "areturn" ∷ codes "return" ∷ []) operands.Empty
+    ++ from 172 (codes "ireturn" ∷ codes "lreturn" ∷ codes "freturn" ∷ codes "dreturn" ∷ codes "areturn"
+    ∷ codes "return" ∷ []) operands.Empty
     ++ from 178 (codes "getstatic" ∷ codes "putstatic" ∷ codes "getfield" ∷ codes "putfield" ∷ []) operands.Field
     ++ from 182 (codes "invokevirtual" ∷ codes "invokespecial" ∷ codes "invokestatic" ∷ []) operands.Invoke
     ++ from 185 (codes "invokeinterface" ∷ []) operands.InvokeInterface
@@ -131,3 +151,7 @@ HasSize operands.TableSwitch = ⊥
 HasSize operands.LookupSwitch = ⊥
 HasSize operands.Wide = ⊥
 HasSize what = ⊤
+
+-- behind the opcode stand as many bytes as the sort of its operands says, where that is always the same
+abbrev pub IsSized : ℕ → List ℕ → Type 0
+IsSized opcode s = (what : Operands) → operands_of opcode ≡ Some what → HasSize what → length s ≡ operand_size what

@@ -1,3 +1,4 @@
+pub mod AddedFaults
 pub mod Entries
 pub mod Decoding
 pub mod Marks

@@ -1,9 +1,8 @@
 //! Whether all rules are kept, told from one look at each instruction and each handler.
 
-ghost use Rattle.std.specs.Prelude.{◌≡◌, ℕ, List, IsTrue};
+ghost use Rattle.std.specs.Prelude.{◌≡◌, IsTrue};
 ghost use Rattle.std.specs.List.{AllByRecursion, list_all};
-ghost use Rattle.jc_code.specs.declared.insn.Insn.{Insn};
-ghost use Rattle.jc_code.specs.inside.Clean.{AreKept, IsKeptBy, jumps_of, keeps_rules, others_keep, without_starts};
+ghost use Rattle.jc_code.specs.inside.Clean.{AllAreKept, IsKeptBy, keeps_rules};
 
 use crate::insn::Insn;
 use crate::rules::constants::{
@@ -20,7 +19,7 @@ use jc_view::{ExceptionHandler, Handlers};
 /// Whether instructions and handlers keep all rules, but for S1: the instructions with targets, and the
 /// others, which one look has judged. It may say no where they do.
 pub(crate) fn is_clean(scope: &Scope, is_kept: bool, jumps: &[Insn], handlers: Handlers) -> bool
-    ensures { IsTrue result → (items : List (ℕ × Insn)) → is_kept ≡ others_keep (without_starts scope.now) items → jumps.now ≡ jumps_of items → AreKept scope.now items handlers.entry }
+    ensures { IsTrue result → AllAreKept scope.now is_kept jumps.now handlers.entry }
 {
     is_kept && all_keep_rules(scope, jumps) && keeps_handlers(scope, handlers)
 }

@@ -3,11 +3,11 @@
 ghost use Rattle.std.specs.Prelude.{◌≡◌, ◌+◌, ◌<◌, ◌^◌, Some, length};
 ghost use Rattle.jc_view.specs.Reading.{after};
 ghost use Rattle.jc_view.specs.Moves.{Lends};
-ghost use Rattle.jc_code.specs.declared.opcode.Operands.{Operands};
 ghost use Rattle.jc_code.specs.declared.opcode.Operands.TheVariants as operands;
-ghost use Rattle.jc_code.specs.Opcodes.{operands_of};
-ghost use Rattle.jc_code.specs.InsnReading.{pad, target_count, after_insn, after_lookup_switch, after_operands, after_table_switch, after_wide, after_widened, insn_value, lookup_switch_value, operands_value, table_switch_value, wide_value, widened_value};
-ghost use Rattle.jc_code.specs.inside.Decoding.{same, table_head_value, lookup_head_value};
+ghost use Rattle.jc_code.specs.InsnReading.{pad, target_count, after_insn, after_lookup_switch, after_operands};
+ghost use Rattle.jc_code.specs.InsnReading.{after_table_switch, after_wide, after_widened, insn_value, lookup_switch_value};
+ghost use Rattle.jc_code.specs.InsnReading.{operands_value, table_switch_value, wide_value, widened_value};
+ghost use Rattle.jc_code.specs.inside.Decoding.{same, LendsOperands, table_head_value, lookup_head_value};
 
 use crate::insn::Insn;
 use crate::numbers::{read_byte, read_int, read_short, target};
@@ -30,7 +30,7 @@ pub(crate) fn read_insn<'a>(cursor: &mut Cursor<'a>) -> Option<Insn<'a>>
 /// The instruction at a place whose opcode stands before the cursor.
 fn read_operands<'a>(place: u32, opcode: Opcode, cursor: &mut Cursor<'a>) -> Option<Insn<'a>>
     requires { cursor.old.place + length cursor.old.rest < 2 ^ 16 }
-    ensures { (what : Operands) → operands_of opcode ≡ Some what → Lends same (after_operands place what) (operands_value place opcode what) cursor.old result cursor.new }
+    ensures { LendsOperands (after_operands place) (operands_value place opcode) opcode cursor.old result cursor.new }
 {
     match opcode.operands() {
         Operands::Empty | Operands::ImplicitLocal { .. } => Some(Insn::Plain { opcode }),
@@ -144,7 +144,7 @@ fn read_wide<'a>(cursor: &mut Cursor<'a>) -> Option<Insn<'a>>
 
 /// A load, a store, `ret` or `iinc`, with operands of two bytes.
 fn read_widened<'a>(opcode: Opcode, cursor: &mut Cursor<'a>) -> Option<Insn<'a>>
-    ensures { (what : Operands) → operands_of opcode ≡ Some what → Lends same (after_widened what) (widened_value opcode what) cursor.old result cursor.new }
+    ensures { LendsOperands after_widened (widened_value opcode) opcode cursor.old result cursor.new }
 {
     match opcode.operands() {
         Operands::Local { .. } => Some(Insn::Local {

@@ -1,19 +1,17 @@
 //! Laws of code faults: functions without a body, whose contracts say what the definitions mean.
 
-ghost use Rattle.std.specs.Prelude.{ℕ, List, Contains, ◌↔◌};
-ghost use Rattle.std.specs.List.Sorted.{IsStrictlySortedBy};
+ghost use Rattle.std.specs.Prelude.{ℕ, List};
 ghost use Rattle.jc_view.specs.Attributes.{Code};
 ghost use Rattle.jc_view.specs.ClassFile.{ClassFile};
-ghost use Rattle.jc_code.specs.declared.code_fault.CodeFault.{CodeFault};
 ghost use Rattle.jc_code.specs.declared.insn.Insn.{Insn};
 ghost use Rattle.jc_code.specs.Insns.{IsCode};
-ghost use Rattle.jc_code.specs.CodeFaults.{faults_over};
-ghost use Rattle.jc_code.specs.CodeFaultOrder.{fault_cmp};
-ghost use Rattle.jc_code.specs.CodeViolations.{ViolatesIn};
+ghost use Rattle.jc_code.specs.CodeViolations.{AreExact, AreInOrder};
 
 /// The faults of a code stand by rule and then by place, each once, and there is one for each place
 /// where a rule is broken.
 pub fn faults_are_exact()
-    ensures rising { (c : ClassFile) (k : Code) (items : List (ℕ × Insn)) (end : ℕ) → IsCode k.code items end → IsStrictlySortedBy fault_cmp (faults_over c k items end) }
-    ensures exact { (c : ClassFile) (k : Code) (items : List (ℕ × Insn)) (end : ℕ) (fault : CodeFault) → IsCode k.code items end → Contains (faults_over c k items end) fault ↔ ViolatesIn fault.rule c k items end fault.place }
+    ensures rising { (c : ClassFile) (k : Code) (items : List (ℕ × Insn)) (end : ℕ) → IsCode k.code items end
+        → AreInOrder c k items end }
+    ensures exact { (c : ClassFile) (k : Code) (items : List (ℕ × Insn)) (end : ℕ) → IsCode k.code items end
+        → AreExact c k items end }
 {}

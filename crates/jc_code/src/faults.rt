@@ -1,16 +1,14 @@
 //! The faults of a method's code (JVMS 4.7.3, 4.9.1).
 
-ghost use Rattle.std.specs.Prelude.{◌≡◌, ◌<◌, ◌++◌, ◌↔◌, ℕ, List, [], ◌∷◌, cond, length, map, Contains, IfOk, MatchOption, OnOk};
+ghost use Rattle.std.specs.Prelude.{◌≡◌, ◌++◌, ◌↔◌, [], ◌∷◌, cond, Contains, IfOk, OnOk};
 ghost use Rattle.std.specs.Option.{option_map};
-ghost use Rattle.std.specs.List.{flat_map};
 ghost use Rattle.std.specs.List.Sorted.{IsStrictlySortedBy};
 ghost use Rattle.jc_view.specs.declared.attribute_kind.Holder.TheVariants as holders;
 ghost use Rattle.jc_view.specs.Lent.{handler_of};
 ghost use Rattle.jc_code.specs.declared.code_fault.CodeFault.{CodeFault};
-ghost use Rattle.jc_code.specs.declared.code_fault.TheConstants.CodeRule.{ALL};
-ghost use Rattle.jc_code.specs.declared.insn.Insn.{Insn};
-ghost use Rattle.jc_code.specs.Insns.{IsCode};
-ghost use Rattle.jc_code.specs.CodeFaults.{AreFaultsOf, AreFaultsOfMethod, code_of_member, faults_against, faults_of, fault_at, handler_breaks, insn_breaks, numbers_of, places_of};
+ghost use Rattle.jc_code.specs.CodeFaults.{AreFaultsIfAny, AreFaultsOf, AreFaultsOfMethod};
+ghost use Rattle.jc_code.specs.CodeFaults.{code_of_member, faults_of, handler_breaks, insn_breaks, scope_with};
+ghost use Rattle.jc_code.specs.inside.AddedFaults.{AddsFaults, faults_of_rule, faults_of_rules, handler_faults, insn_faults};
 ghost use Rattle.jc_code.specs.CodeFaultOrder.{fault_cmp};
 ghost use Rattle.jc_code.specs.CodeViolations.{BreaksCode, ViolatesCode};
 ghost use Rattle.jc_code.specs.InsnReading.{insns_of};
@@ -50,7 +48,8 @@ pub fn code_faults(
     method: usize,
 ) -> Result<Vec<CodeFault>, NoMemory>
     ensures listed { IfOk result (λ found. AreFaultsOfMethod class.now method found.items) }
-    ensures violated { IfOk result (λ found. (fault : CodeFault) → Contains found.items fault ↔ ViolatesCode fault.rule class.now method fault.place) }
+    ensures violated { IfOk result (λ found. (fault : CodeFault)
+        → Contains found.items fault ↔ ViolatesCode fault.rule class.now method fault.place) }
     ensures rising { IfOk result (λ found. IsStrictlySortedBy fault_cmp found.items) }
 {
     instructions_are_apart();
@@ -79,7 +78,7 @@ fn list_member_faults(
 ) -> Result<Vec<CodeFault>, NoMemory>
     requires class { member.now.class ≡ class.now }
     requires holder { member.now.member.holder ≡ holders.Method }
-    ensures { IfOk result (λ found. MatchOption (code_of_member class.now member.now.member.member) (found.items ≡ []) (λ k. AreFaultsOf class.now k found.items)) }
+    ensures { IfOk result (λ found. AreFaultsIfAny class.now (code_of_member class.now member.now.member.member) found.items) }
 {
     match method_code(member) {
         Some(code) => faults_alone(alloc, &TextSizes::of(alloc, class)?, &code),
@@ -89,7 +88,8 @@ fn list_member_faults(
 
 /// The code of a method, where it has exactly one well-formed `Code` (JVMS 4.7.3).
 pub fn method_code<'v, 'a>(member: &Member<'v, 'a>) -> Option<Code<'v, 'a>>
-    ensures { member.now.member.holder ≡ holders.Method → option_map (λ lent. lent.code) result ≡ code_of_member member.now.class member.now.member.member }
+    ensures { member.now.member.holder ≡ holders.Method
+        → option_map (λ lent. lent.code) result ≡ code_of_member member.now.class member.now.member.member }
 {
     let mut found = None;
     for attribute in member.attributes() {
@@ -108,7 +108,8 @@ pub fn method_code<'v, 'a>(member: &Member<'v, 'a>) -> Option<Code<'v, 'a>>
 /// Answers `NoMemory` only where memory was refused.
 pub fn faults_in(alloc: Global, sizes: &TextSizes, code: &Code) -> Result<Vec<CodeFault>, NoMemory>
     ensures listed { IfOk result (λ found. AreFaultsOf sizes.now code.now.code found.items) }
-    ensures violated { IfOk result (λ found. (fault : CodeFault) → Contains found.items fault ↔ BreaksCode fault.rule sizes.now code.now.code fault.place) }
+    ensures violated { IfOk result (λ found. (fault : CodeFault)
+        → Contains found.items fault ↔ BreaksCode fault.rule sizes.now code.now.code fault.place) }
     ensures rising { IfOk result (λ found. IsStrictlySortedBy fault_cmp found.items) }
     ensures computed { IfOk result (λ found. found.items ≡ faults_of sizes.now code.now.code) }
 {
@@ -187,7 +188,7 @@ fn list_faults(
 
 /// What the rules look at in a code, with these starts of instructions.
 fn scope_with<'c, 'a>(sizes: &'c TextSizes<'c, 'a>, code: &Code, starts: Starts) -> Scope<'c, 'a>
-    ensures { result ≡ record { class = sizes.now; max_locals = code.now.code.max_locals; size = length code.now.code.code; starts = starts } }
+    ensures { result ≡ scope_with sizes.now code.now.code starts }
 {
     Scope {
         sizes,
@@ -199,7 +200,7 @@ fn scope_with<'c, 'a>(sizes: &'c TextSizes<'c, 'a>, code: &Code, starts: Starts)
 
 /// Adds the faults against all rules, in the order of the rules.
 fn add_all_faults(faults: &mut Vec<CodeFault>, scope: &Scope, code: &Code) -> Result<(), NoMemory>
-    ensures { (items : List (ℕ × Insn)) (end : ℕ) → IsCode code.now.code.code items end → OnOk result (faults.new.items ≡ faults.old.items ++ flat_map (faults_against scope.now items code.now.code.handlers) ALL) }
+    ensures { AddsFaults (faults_of_rules scope.now code.now.code) code.now.code result faults.old.items faults.new.items }
 {
     for rule in CodeRule::ALL {
         add_faults(faults, scope, code, rule)?;
@@ -214,7 +215,7 @@ fn add_faults(
     code: &Code,
     rule: CodeRule,
 ) -> Result<(), NoMemory>
-    ensures { (items : List (ℕ × Insn)) (end : ℕ) → IsCode code.now.code.code items end → OnOk result (faults.new.items ≡ faults.old.items ++ faults_against scope.now items code.now.code.handlers rule) }
+    ensures { AddsFaults (faults_of_rule rule scope.now code.now.code) code.now.code result faults.old.items faults.new.items }
 {
     add_insn_faults(faults, scope, code, rule)?;
     add_handler_faults(faults, scope, code, rule)
@@ -227,7 +228,7 @@ fn add_insn_faults(
     code: &Code,
     rule: CodeRule,
 ) -> Result<(), NoMemory>
-    ensures { (items : List (ℕ × Insn)) (end : ℕ) → IsCode code.now.code.code items end → OnOk result (faults.new.items ≡ faults.old.items ++ map (fault_at rule) (places_of (insn_breaks rule scope.now) items)) }
+    ensures { AddsFaults (insn_faults rule scope.now) code.now.code result faults.old.items faults.new.items }
 {
     instructions_are_apart();
     for (place, insn) in Insns::new(code.bytes()) {
@@ -247,7 +248,7 @@ fn add_handler_faults(
     code: &Code,
     rule: CodeRule,
 ) -> Result<(), NoMemory>
-    ensures { OnOk result (faults.new.items ≡ faults.old.items ++ map (fault_at rule) (numbers_of (handler_breaks rule scope.now) 0 code.now.code.handlers)) }
+    ensures { OnOk result (faults.new.items ≡ faults.old.items ++ handler_faults rule scope.now code.now.code.handlers) }
 {
     for (place, handler) in code.handlers().enumerate() {
         add_if(

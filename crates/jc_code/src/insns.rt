@@ -24,9 +24,9 @@ impl<'a> Model for Insns<'a> {
     ghost Value = { InsnsLeft };
 
     ghost use Rattle.std.specs.Prelude.{◌+◌, ◌<◌, ◌^◌, length};
-    ghost use Rattle.jc_code.specs.InsnReading.{end_from, insns_from};
+    ghost use Rattle.jc_code.specs.inside.Decoding.{insns_left};
 
-    ghost view = { λ a. record { place = a.cursor.place; left = insns_from a.cursor.place a.cursor.rest; end = end_from a.cursor.place a.cursor.rest } };
+    ghost view = { λ a. insns_left a.cursor.place a.cursor.rest };
 
     ghost invariant = { λ a. a.cursor.place + length a.cursor.rest < 2 ^ 16 };
 }

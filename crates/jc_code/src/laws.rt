@@ -1,23 +1,24 @@
 //! Laws of the definitions: functions without a body, whose contracts are the laws.
 
-ghost use Rattle.std.specs.Prelude.{◌≡◌, ℕ, List, [], ◌∷◌, Some, length, IsTrue};
-ghost use Rattle.std.specs.List.{flat_map};
+ghost use Rattle.std.specs.Prelude.{◌≡◌, ℕ, List, ◌∷◌, length, IsTrue};
 ghost use Rattle.jc_code.specs.declared.insn.Insn.{Insn};
 ghost use Rattle.jc_code.specs.declared.switch.TableSwitch.{TableSwitch};
 ghost use Rattle.jc_code.specs.declared.switch.LookupSwitch.{LookupSwitch};
-ghost use Rattle.jc_code.specs.declared.opcode.Operands.{Operands};
-ghost use Rattle.jc_code.specs.Opcodes.{groups, opcodes, operands_of, operand_size, begin_in_order, HasSize};
-ghost use Rattle.jc_code.specs.Insns.{IsSpelling, Stands, IsCode, IsPartAt, targets_place, cases_place, target_bytes, case_bytes};
+ghost use Rattle.jc_code.specs.Opcodes.{groups, opcodes, begin_in_order, IsSized};
+ghost use Rattle.jc_code.specs.Insns.{IsSpelling, Stands, IsCode, TargetsLieIn, CasesLieIn};
 ghost use Rattle.jc_code.specs.InsnReading.{end_of, insns_of};
 ghost use Rattle.jc_view.specs.Outcome.{AreBytes};
-ghost use Rattle.jc_code.specs.Examples.{plain_code, plain_insns, cut_code, cut_insns, falling_code, falling_insns, wide_code, wide_insns, switch_code, switch_insns};
+ghost use Rattle.jc_code.specs.Examples.{plain_code, plain_insns, cut_code, cut_insns, falling_code};
+ghost use Rattle.jc_code.specs.Examples.{falling_insns, wide_code, wide_insns, switch_code, switch_insns};
 
 /// At a place of a code stands one instruction at most, and a code is the instructions of one list
 /// and ends at one place.
 pub fn instructions_are_apart()
     ensures one { (code : List ℕ) (at : ℕ) (a b : Insn) → Stands code at a → Stands code at b → a ≡ b }
-    ensures items { (code : List ℕ) (items more : List (ℕ × Insn)) (end last : ℕ) → IsCode code items end → IsCode code more last → items ≡ more }
-    ensures end { (code : List ℕ) (items more : List (ℕ × Insn)) (end last : ℕ) → IsCode code items end → IsCode code more last → end ≡ last }
+    ensures items { (code : List ℕ) (items more : List (ℕ × Insn)) (end last : ℕ)
+        → IsCode code items end → IsCode code more last → items ≡ more }
+    ensures end { (code : List ℕ) (items more : List (ℕ × Insn)) (end last : ℕ)
+        → IsCode code items end → IsCode code more last → end ≡ last }
 {}
 
 /// Each code of bytes is instructions up to an end: those that are read from its front.
@@ -30,14 +31,16 @@ pub fn codes_are_read()
 pub fn opcode_table()
     ensures count { length opcodes ≡ 202 }
     ensures groups { IsTrue (begin_in_order 0 groups) }
-    ensures lengths { (at : ℕ) (insn : Insn) (opcode : ℕ) (s : List ℕ) (what : Operands) → IsSpelling at insn (opcode ∷ s) → operands_of opcode ≡ Some what → HasSize what → length s ≡ operand_size what }
+    ensures lengths { (at : ℕ) (insn : Insn) (opcode : ℕ) (s : List ℕ) → IsSpelling at insn (opcode ∷ s) → IsSized opcode s }
 {}
 
 /// The bytes of the table of a switch are the part of the code behind the numbers that stand before
 /// it, the first of them at the first multiple of four behind the switch.
 pub fn switch_tables_lie_in_the_code()
-    ensures targets { (code : List ℕ) (at : ℕ) (switch : TableSwitch) → Stands code at (Insn.TableSwitch switch) → IsPartAt code (targets_place at) (flat_map (target_bytes switch.targets.place) switch.targets.left) }
-    ensures cases { (code : List ℕ) (at : ℕ) (switch : LookupSwitch) → Stands code at (Insn.LookupSwitch switch) → IsPartAt code (cases_place at) (flat_map (case_bytes switch.cases.place) switch.cases.left) }
+    ensures targets { (code : List ℕ) (at : ℕ) (switch : TableSwitch)
+        → Stands code at (Insn.TableSwitch switch) → TargetsLieIn code at switch }
+    ensures cases { (code : List ℕ) (at : ℕ) (switch : LookupSwitch)
+        → Stands code at (Insn.LookupSwitch switch) → CasesLieIn code at switch }
 {}
 
 /// A few codes, and where they end.

@@ -1,11 +1,11 @@
 //! The sizes that texts of a class give: the dimensions of arrays, and the slots of parameters.
 
-ghost use Rattle.std.specs.Prelude.{◌≡◌, ◌+◌, ℕ, Option, None, [], slice_index_or, IfOk, OnOk};
+ghost use Rattle.std.specs.Prelude.{◌≡◌, ◌+◌, None, [], slice_index_or, IfOk, OnOk};
 ghost use Rattle.std.specs.Option.{option_map};
 ghost use Rattle.jc_base.specs.DescriptorTests.{begins_with};
 ghost use Rattle.jc_view.specs.ClassFile.{class_text_at};
 ghost use Rattle.jc_code.specs.CodeRules.{dimensions_of};
-ghost use Rattle.jc_code.specs.inside.TextSizes.{AreSizes, AreSizesBefore, Fills, interface_slots};
+ghost use Rattle.jc_code.specs.inside.TextSizes.{AreSizes, AreSizesBefore, Fills, FillsNext, interface_slots};
 
 use crate::known_slots::KnownSlots;
 use jc_base::{FieldDesc, NoMemory};
@@ -144,7 +144,7 @@ fn read_slots(
 
 /// Adds the dimensions of a text at its index, where it can be the descriptor of an array.
 fn add_dimensions(dims: &mut Vec<u8>, index: u16, text: &[u8]) -> Result<(), NoMemory>
-    ensures { (at : ℕ → ℕ) → Fills 0 at index dims.old.items → at index ≡ dimensions_of text.now → OnOk result (Fills 0 at (index + 1) dims.new.items) }
+    ensures { FillsNext 0 index (dimensions_of text.now) result dims.old.items dims.new.items }
 {
     if is_array(text) {
         dims.resize(index as usize, 0)?;
@@ -165,7 +165,7 @@ fn is_array(text: &[u8]) -> bool
 
 /// Adds slots at an index, where there are some.
 fn add_slots(slots: &mut Vec<Option<u8>>, index: u16, more: Option<u8>) -> Result<(), NoMemory>
-    ensures { (at : ℕ → Option ℕ) → Fills None at index slots.old.items → at index ≡ more → OnOk result (Fills None at (index + 1) slots.new.items) }
+    ensures { FillsNext None index more result slots.old.items slots.new.items }
 {
     if more.is_some() {
         slots.resize(index as usize, None)?;

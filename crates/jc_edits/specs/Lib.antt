@@ -1,5 +1,6 @@
 pub mod Edits
 pub mod Judged
+pub mod Reported
 pub mod SaidPart
 pub mod SessionState
 pub mod Touched

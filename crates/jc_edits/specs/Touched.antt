@@ -3,15 +3,16 @@ use Rattle.std.specs.Prelude.{◌↔◌, ℕ, Bool, false, ◌&&◌, ◌||◌, n
 use Rattle.jc_base.specs.Bytes.{same_bytes}
 use Rattle.jc_classes.specs.Laws.{Differ, Hits}
 use Rattle.jc_classes.specs.Names.{Name}
-use Rattle.jc_held.specs.Affected.{IsBounded}
+use Rattle.jc_linkage.specs.Affected.{IsBounded}
 use Rattle.jc_report.specs.Files.{Files}
 use Rattle.jc_report.specs.FileRows.{winner}
 use Rattle.jc_report.specs.Reports.{facts_at, world_of}
 use Rattle.jc_classes.specs.Loading.{same_bool}
 use Rattle.jc_input.specs.Changes.{Change, EditChange, OfFiles, OfPrefixes, path_of}
-use Rattle.jc_link.specs.Prefixes.{is_outside}
+use Rattle.jc_input.specs.declared.edit.Done.{Done}
+use Rattle.jc_link.specs.Prefixes.{is_covered}
 use Rattle.jc_link.specs.Tables.{or_built_in}
-use Rattle.jc_edits.specs.SessionState.{HeldFiles}
+use Rattle.jc_edits.specs.SessionState.{HeldFiles, SessionState, held_of}
 use Rattle.jc_edits.specs.Edits.{after}
 
 -- whether files give a class of the name
@@ -28,12 +29,15 @@ is_touched old new path name = is_path (winner old name) path || is_path (winner
 
 -- what an edit does not touch stands as before
 abbrev pub FilesDiffer : Type 0
-FilesDiffer = (f : Files) (e : Change) (prefixes : List Name) → Differ (is_touched f (after f e) (path_of e)) (world_of f prefixes) (world_of (after f e) prefixes)
+FilesDiffer =
+    (f : Files) (e : Change) (prefixes : List Name)
+    → Differ (is_touched f (after f e) (path_of e)) (world_of f prefixes) (world_of (after f e) prefixes)
 
 -- the reach of a class holds a touched name before the edit where it holds one behind it
 abbrev pub AffectedEitherWay : Type 0
 AffectedEitherWay = (f : Files) (e : Change) (prefixes : List Name) (d : Name)
-    → Hits (is_touched f (after f e) (path_of e)) (world_of f prefixes) d ↔ Hits (is_touched f (after f e) (path_of e)) (world_of (after f e) prefixes) d
+    → Hits (is_touched f (after f e) (path_of e)) (world_of f prefixes) d
+    ↔ Hits (is_touched f (after f e) (path_of e)) (world_of (after f e) prefixes) d
 
 -- the edit made no more parts than there are classes behind it whose reach holds a name that it touched, and asked for no
 -- more classes than their reaches have names, and two
@@ -44,7 +48,8 @@ IsBoundedEdit old new prefixes path made asks = IsBounded (gives new) (world_of 
 
 -- a name for which there is no class is outside by one list of prefixes, and not by the other
 abbrev pub is_turned : Files → (old new : List Name) → Name → Bool
-is_turned f old new name = not (is_some (or_built_in (facts_at f name) name)) && not (same_bool (is_outside old name) (is_outside new name))
+is_turned f old new name =
+    not (is_some (or_built_in (facts_at f name) name)) && not (same_bool (is_covered old name) (is_covered new name))
 
 -- what other prefixes do not turn stands as before
 abbrev pub TurnedDiffer : Type 0
@@ -53,4 +58,9 @@ TurnedDiffer = (f : Files) (old new : List Name) → Differ (is_turned f old new
 -- the same bound
 abbrev pub IsBoundedChange : (old new : HeldFiles) → EditChange → (made asks : ℕ) → Type 0
 IsBoundedChange old new (OfFiles change) made asks = IsBoundedEdit old.files new.files new.prefixes (path_of change) made asks
-IsBoundedChange old new (OfPrefixes change) made asks = IsBounded (gives new.files) (world_of new.files new.prefixes) (is_turned new.files old.prefixes new.prefixes) made asks
+IsBoundedChange old new (OfPrefixes change) made asks =
+    IsBounded (gives new.files) (world_of new.files new.prefixes) (is_turned new.files old.prefixes new.prefixes) made asks
+
+-- the same from one state of a session to another
+abbrev pub IsBoundedStep : (old new : SessionState) → EditChange → Done → Type 0
+IsBoundedStep old new change done = IsBoundedChange (held_of old) (held_of new) change done.made done.asks

@@ -3,19 +3,18 @@
 ghost use Rattle.std.specs.Prelude.{◌≡◌, IfOk, Some, option_map};
 ghost use Rattle.std.specs.FinMap as map;
 ghost use Rattle.std.specs.Option.{option_copied};
-ghost use Rattle.jc_classes.specs.Names.{Name};
-ghost use Rattle.jc_held.specs.Steps.{class_by, step_class, step_name};
+ghost use Rattle.jc_linkage.specs.Steps.{step_class, step_name};
 ghost use Rattle.jc_report.specs.Files.{Files};
 ghost use Rattle.jc_report.specs.Reports.{facts_at, facts_there};
 ghost use Rattle.jc_edits.specs.inside.Changing as changing;
-ghost use Rattle.jc_edits.specs.inside.Changing.{AreChanges, before};
+ghost use Rattle.jc_edits.specs.inside.Changing.{AreChanges, IsWon, Uncovers, before};
 ghost use Rattle.jc_edits.specs.inside.Claims.{AreClaims};
 
+use crate::claimed_files::ClaimedFiles;
 use crate::claims::Claims;
-use crate::held::Held;
 use jc_base::NoMemory;
 use jc_classes::{Facts, less};
-use jc_held::Step;
+use jc_linkage::Step;
 use jc_view::{ParseError, outcomes_are_exact, parse};
 use std::alloc::Global;
 
@@ -31,7 +30,7 @@ pub(crate) struct Changes {
 /// What changes where a file with these bytes, or none, stands at the path from now on.
 pub(crate) fn changes_of(
     alloc: Global,
-    held: &Held,
+    held: &ClaimedFiles,
     path: &[u8],
     bytes: Option<&[u8]>,
 ) -> Result<Changes, NoMemory>
@@ -50,7 +49,7 @@ fn won(
     path: &[u8],
     bytes: Option<&[u8]>,
 ) -> Result<Option<Facts>, NoMemory>
-    ensures { (f : Files) → AreClaims claims.now f → IfOk result (λ facts. facts ≡ changing.won (map.remove f path.now) path.now (option_copied bytes.entry)) }
+    ensures { (f : Files) → AreClaims claims.now f → IfOk result (λ facts. IsWon f path.now (option_copied bytes.entry) facts) }
 {
     let Some(bytes) = bytes else {
         return Ok(None);
@@ -75,10 +74,10 @@ fn is_before(path: &[u8], other: Option<&[u8]>) -> bool
 }
 
 /// What stands at the name of the class that the file at the path gives, once it gives it no longer.
-fn lost_step(alloc: Global, held: &Held, path: &[u8]) -> Result<Option<Step>, NoMemory>
+fn lost_step(alloc: Global, held: &ClaimedFiles, path: &[u8]) -> Result<Option<Step>, NoMemory>
     requires { AreClaims held.now.claims held.now.files }
     ensures name { IfOk result (λ first. option_map step_name first ≡ changing.lost held.now.files path.now) }
-    ensures class { IfOk result (λ first. (name : Name) → option_map step_name first ≡ Some name → class_by first ≡ facts_at (map.remove held.now.files path.now) name) }
+    ensures class { IfOk result (λ first. Uncovers held.now.files path.now first) }
 {
     let Some(name) = lost(held, path) else {
         return Ok(None);
@@ -87,7 +86,7 @@ fn lost_step(alloc: Global, held: &Held, path: &[u8]) -> Result<Option<Step>, No
 }
 
 /// The name of the class that the file at the path gives.
-fn lost<'h>(held: &'h Held, path: &[u8]) -> Option<&'h [u8]>
+fn lost<'h>(held: &'h ClaimedFiles, path: &[u8]) -> Option<&'h [u8]>
     requires { AreClaims held.now.claims held.now.files }
     ensures { option_copied result ≡ changing.lost held.now.files path.now }
 {
@@ -100,7 +99,7 @@ fn lost<'h>(held: &'h Held, path: &[u8]) -> Option<&'h [u8]>
 
 /// What stands at the name of a class when the file at the path gives it no longer: the class of the next
 /// file that names it.
-fn uncovered(alloc: Global, held: &Held, path: &[u8], name: &[u8]) -> Result<Step, NoMemory>
+fn uncovered(alloc: Global, held: &ClaimedFiles, path: &[u8], name: &[u8]) -> Result<Step, NoMemory>
     requires { AreClaims held.now.claims held.now.files }
     ensures name { IfOk result (λ step. step_name step ≡ name.now) }
     ensures class { IfOk result (λ step. step_class step ≡ facts_at (map.remove held.now.files path.now) name.now) }

@@ -1,15 +1,14 @@
 //! Which files name a class.
 
-ghost use Rattle.std.specs.Prelude.{◌≡◌, ◌&&◌, ◌||◌, not, false, ℕ, List, OnOk, OnErr};
+ghost use Rattle.std.specs.Prelude.{◌≡◌, false, ℕ, List, OnOk, OnErr};
 ghost use Rattle.std.specs.Option.{option_map};
-ghost use Rattle.jc_base.specs.Bytes.{same_bytes};
 ghost use Rattle.jc_view.specs.Outcome.{class_named};
-ghost use Rattle.std.specs.FinMap as map;
-ghost use Rattle.jc_edits.specs.inside.Claims.{AreClaims, has_claim, first_claim, claimed_state};
+ghost use Rattle.jc_edits.specs.inside.Changing.{winner_but};
+ghost use Rattle.jc_edits.specs.inside.Claims.{AddsClaim, AreClaims, TakesClaim, claim_at, claim_of, claimed_state};
+ghost use Rattle.jc_edits.specs.inside.Claims.{first_claim, has_claim, stale_claim};
 ghost use Rattle.jc_report.specs.Files.{Files};
 ghost use Rattle.jc_report.specs.FileRowView.{state_lent};
 ghost use Rattle.jc_report.specs.FileRows as rows;
-ghost use Rattle.jc_report.specs.FileRows.{names, winner};
 
 use crate::file::File;
 use jc_base::{ByteMap, NoMemory};
@@ -52,7 +51,7 @@ impl Claims {
 
     /// Adds that the file at the path names the class.
     pub(crate) fn add(&mut self, name: &[u8], path: &[u8]) -> Result<(), NoMemory>
-        ensures ok { OnOk result ((n p : List ℕ) → has_claim self.new n p ≡ ((same_bytes n name.now && same_bytes p path.now) || has_claim self.old n p)) }
+        ensures ok { OnOk result (AddsClaim (claim_of name.now path.now) self.old self.new) }
         ensures err { OnErr result (self.new ≡ self.old) }
     {
         let path = Vec::from_slice(self.alloc, path)?;
@@ -69,7 +68,7 @@ impl Claims {
 
     /// Takes out that the file at the path names the class.
     pub(crate) fn remove(&mut self, name: &[u8], path: &[u8])
-        ensures { (n p : List ℕ) → has_claim self.new n p ≡ (not (same_bytes n name.now && same_bytes p path.now) && has_claim self.old n p) }
+        ensures { TakesClaim (claim_of name.now path.now) self.old self.new }
     {
         if let Some(paths) = self.by_name.get_mut(name) {
             paths.remove(path);
@@ -89,7 +88,7 @@ impl Claims {
 
     /// The least of the paths but this one of the files that name the class.
     pub(crate) fn other(&self, name: &[u8], path: &[u8]) -> Option<&[u8]>
-        ensures { (f : Files) → AreClaims self.now f → option_map (λ other. other.now) result ≡ winner (map.remove f path.now) name.now }
+        ensures { (f : Files) → AreClaims self.now f → option_map (λ other. other.now) result ≡ winner_but f path.now name.now }
     {
         let paths = self.by_name.get(name)?;
         for other in paths.keys() {
@@ -103,7 +102,7 @@ impl Claims {
 
 /// Adds the class that the file at the path names, if it names one.
 pub(crate) fn claim(claims: &mut Claims, file: &File, path: &[u8]) -> Result<(), NoMemory>
-    ensures ok { OnOk result ((n p : List ℕ) → has_claim claims.new n p ≡ ((same_bytes p path.now && names file.now n) || has_claim claims.old n p)) }
+    ensures ok { OnOk result (AddsClaim (claim_at path.now file.now) claims.old claims.new) }
     ensures err { OnErr result (claims.new ≡ claims.old) }
 {
     match file.class() {
@@ -114,7 +113,7 @@ pub(crate) fn claim(claims: &mut Claims, file: &File, path: &[u8]) -> Result<(),
 
 /// Takes out the class that the file at the path names, if it names one.
 pub(crate) fn withdraw(claims: &mut Claims, file: &File, path: &[u8])
-    ensures { (n p : List ℕ) → has_claim claims.new n p ≡ (not (same_bytes p path.now && names file.now n) && has_claim claims.old n p) }
+    ensures { TakesClaim (claim_at path.now file.now) claims.old claims.new }
 {
     if let Ok(name) = file.class() {
         claims.remove(name, path);
@@ -123,7 +122,7 @@ pub(crate) fn withdraw(claims: &mut Claims, file: &File, path: &[u8])
 
 /// Takes out the class that the file at the path named before, unless it names it now too.
 pub(crate) fn withdraw_stale(claims: &mut Claims, before: &File, now: &File, path: &[u8])
-    ensures { (n p : List ℕ) → has_claim claims.new n p ≡ (not (same_bytes p path.now && (names before.now n && not (names now.now n))) && has_claim claims.old n p) }
+    ensures { TakesClaim (stale_claim path.now before.now now.now) claims.old claims.new }
 {
     if let Ok(name) = before.class()
         && !now.names(name)

@@ -3,9 +3,9 @@
 #![tactic(auto)]
 
 mod changes;
+mod claimed_files;
 mod claims;
 mod file;
-mod held;
 mod judge;
 mod laws;
 mod report;

@@ -1,25 +1,24 @@
 //! The report that a session holds.
 
-ghost use Rattle.std.specs.Prelude.{◌≡◌, ◌≤◌, ◌-◌, IfOk, List, None, OnErr, OnOk, option_and_then, slice_get};
+ghost use Rattle.std.specs.Prelude.{◌≡◌, ◌≤◌, IfOk, None, OnErr, OnOk, option_and_then};
 ghost use Rattle.std.specs.List.{list_any};
 ghost use Rattle.std.specs.Option.{option_map};
 ghost use Rattle.std.specs.FinMap as map;
-ghost use Rattle.jc_held.specs.Holders.{CountsHolders};
 ghost use Rattle.jc_report.specs.FileRows.{is_unreadable, rows, winner};
 ghost use Rattle.jc_report.specs.Reports as reports;
-ghost use Rattle.jc_report.specs.Reports.{IsReport, is_wrong, world_of};
-ghost use Rattle.jc_input.specs.Changes.{change_lent, path_of, prefix_change};
-ghost use Rattle.jc_held.specs.Affected.{IsBounded};
+ghost use Rattle.jc_report.specs.Reports.{is_wrong};
+ghost use Rattle.jc_input.specs.Changes.{OfFiles, OfPrefixes, change_lent, prefix_change};
 ghost use Rattle.jc_edits.specs.Edits.{after, after_prefix, judge};
-ghost use Rattle.jc_edits.specs.Touched.{IsBoundedEdit, gives, is_turned};
+ghost use Rattle.jc_edits.specs.Reported.{CountsHoldersAt, IsReportOf};
+ghost use Rattle.jc_edits.specs.inside.Metered.{MetersChange};
 
 use crate::changes::{Changes, changes_of};
-use crate::held::{Held, commit, grow, undo};
+use crate::claimed_files::{ClaimedFiles, commit, grow, undo};
 use crate::rows::Rows;
 use jc_base::NoMemory;
-use jc_held::{Classes, Linkage, Provided, Required};
 use jc_input::{LentEdit, PrefixEdit};
 use jc_link::{Meter, Outside};
+use jc_linkage::{HeldClasses, Linkage, Provided, Required};
 use jc_report::{FileState, is_wrong_part, rows_are_plain};
 use std::alloc::Global;
 use std::marker::Model;
@@ -28,7 +27,7 @@ use std::marker::Model;
 /// have one report.
 #[derive(Drop)]
 pub struct Report {
-    pub(crate) held: Held,
+    pub(crate) held: ClaimedFiles,
     pub(crate) linkage: Linkage,
 }
 
@@ -54,7 +53,7 @@ impl Report {
         ensures made { IfOk result (λ made. made.1.made ≡ 0) }
     {
         let (linkage, meter) = Linkage::new(alloc, outside)?;
-        let held = Held::new(alloc);
+        let held = ClaimedFiles::new(alloc);
         Ok((Report { held, linkage }, meter))
     }
 
@@ -69,7 +68,7 @@ impl Report {
         ensures ok { OnOk result (self.new.files ≡ after self.old.files (change_lent edit.entry)) }
         ensures err { OnErr result (self.new.files ≡ self.old.files) }
         ensures prefixes { self.new.prefixes ≡ self.old.prefixes }
-        ensures bounded { OnOk result (IsBoundedEdit self.old.files self.new.files self.new.prefixes (path_of (change_lent edit.entry)) (meter.new.made - meter.old.made) (meter.new.asks - meter.old.asks)) }
+        ensures bounded { OnOk result (MetersChange self.old self.new (OfFiles (change_lent edit.entry)) meter.old meter.new) }
         ensures asks_rise { meter.old.asks ≤ meter.new.asks }
         ensures made_rise { meter.old.made ≤ meter.new.made }
     {
@@ -97,7 +96,7 @@ impl Report {
         ensures ok { OnOk result (self.new.prefixes ≡ after_prefix self.old.prefixes (prefix_change edit.entry)) }
         ensures err { OnErr result (self.new.prefixes ≡ self.old.prefixes) }
         ensures files { self.new.files ≡ self.old.files }
-        ensures bounded { OnOk result (IsBounded (gives self.new.files) (world_of self.new.files self.new.prefixes) (is_turned self.new.files self.old.prefixes self.new.prefixes) (meter.new.made - meter.old.made) (meter.new.asks - meter.old.asks)) }
+        ensures bounded { OnOk result (MetersChange self.old self.new (OfPrefixes (prefix_change edit.entry)) meter.old meter.new) }
         ensures asks_rise { meter.old.asks ≤ meter.new.asks }
         ensures made_rise { meter.old.made ≤ meter.new.made }
     {
@@ -111,7 +110,7 @@ impl Report {
     /// Whether a file is unreadable, a class has a fault or does not load, or a reference is answered by
     /// an error.
     pub fn wrong(&self) -> bool
-        ensures { (r : reports.Report) × IsReport self.now.files self.now.prefixes r × (result ≡ is_wrong r) }
+        ensures { (r : reports.Report) × IsReportOf self.now r × (result ≡ is_wrong r) }
     {
         let has_wrong_part = any_wrong(self.classes());
         any_unreadable(self.files()) || has_wrong_part
@@ -128,8 +127,8 @@ impl Report {
     }
 
     /// The classes that files give, in the order of their names, with their parts.
-    pub fn classes(&self) -> Classes<'_>
-        ensures { (r : reports.Report) × IsReport self.now.files self.now.prefixes r × (result ≡ r.classes) }
+    pub fn classes(&self) -> HeldClasses<'_>
+        ensures { (r : reports.Report) × IsReportOf self.now r × (result ≡ r.classes) }
     {
         rows_are_plain();
         self.linkage.classes()
@@ -137,14 +136,14 @@ impl Report {
 
     /// What the classes provide, in order.
     pub fn provided(&self) -> Provided<'_>
-        ensures { (r : reports.Report) → IsReport self.now.files self.now.prefixes r → result ≡ r.provided }
+        ensures { (r : reports.Report) → IsReportOf self.now r → result ≡ r.provided }
     {
         self.linkage.provided()
     }
 
     /// What the classes require, in order.
     pub fn required(&self) -> Required<'_>
-        ensures { (r : reports.Report) → IsReport self.now.files self.now.prefixes r → result ≡ r.required }
+        ensures { (r : reports.Report) → IsReportOf self.now r → result ≡ r.required }
     {
         rows_are_plain();
         self.linkage.required()
@@ -152,7 +151,7 @@ impl Report {
 
     /// How many classes require the row at a place of [`Report::required`], from 0; 0 beyond the last. No memory.
     pub(crate) fn holders(&self, place: usize) -> usize
-        ensures { (r : reports.Report) → IsReport self.now.files self.now.prefixes r → CountsHolders r.classes (slice_get r.required place) result }
+        ensures { CountsHoldersAt self.now place result }
     {
         rows_are_plain();
         self.linkage.holders(place)
@@ -185,7 +184,7 @@ fn any_unreadable(files: Rows<'_>) -> bool
     false
 }
 
-fn any_wrong(classes: Classes<'_>) -> bool
+fn any_wrong(classes: HeldClasses<'_>) -> bool
     ensures { result ≡ list_any (λ c. reports.is_wrong_part c.part) classes.entry }
 {
     for class in classes {

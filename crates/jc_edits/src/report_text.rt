@@ -1,22 +1,23 @@
 //! The text of the report that a session holds, and of one part.
 
-ghost use Rattle.std.specs.Prelude.{List, OnErr, OnOk, map, ℕ};
-ghost use Rattle.std.specs.List.{filter, flat_map};
+ghost use Rattle.std.specs.Prelude.{List, OnErr, OnOk, ℕ};
+ghost use Rattle.std.specs.List.{flat_map};
 ghost use Rattle.std.specs.Io.KnownBytes.{Appends};
 ghost use Rattle.jc_base.specs.Device.{CountsFault, WritesFront};
 ghost use Rattle.jc_report.specs.FileRowText.{row_text};
 ghost use Rattle.jc_report.specs.ReportText.{class_text, name_line, report_text, row_line};
 ghost use Rattle.jc_report.specs.Reports as reports;
-ghost use Rattle.jc_report.specs.Reports.{IsReport, name_of};
+ghost use Rattle.jc_report.specs.Reports.{circular_names};
 ghost use Rattle.jc_text.specs.Sends.{Sends};
+ghost use Rattle.jc_edits.specs.Reported.{IsReportOf};
 ghost use Rattle.jc_edits.specs.SaidPart.{SaysPart};
 ghost use Rattle.jc_edits.specs.inside.Reporting.{IsFound, found_text};
 
 use crate::report::Report;
 use crate::rows::Rows;
 use jc_base::Output;
-use jc_held::{Class, Classes, Provided, Required};
-use jc_report::{write_file_row, write_name, write_part, write_row};
+use jc_linkage::{Class, HeldClasses, Provided, Required};
+use jc_report::{Section, write_file_row, write_heading, write_name, write_part, write_row};
 use jc_text::TextWriter;
 use thiserror::Error;
 
@@ -28,7 +29,7 @@ pub struct WriteError;
 /// Writes a report: `[files]` and the files by path, `[parts]` and the classes by name, `[circular]`,
 /// `[provided]` and `[required]`. An output that fails has a beginning of this text.
 pub fn write_report<W: Output>(report: &Report, out: &mut W) -> Result<(), WriteError>
-    ensures text { (r : reports.Report) × IsReport report.now.files report.now.prefixes r
+    ensures text { (r : reports.Report) × IsReportOf report.now r
         × OnOk result (Appends (W.written out.old) (W.written out.new) (report_text r))
         × OnErr result (WritesFront (W.written out.old) (W.written out.new) (report_text r)) }
     ensures failures { CountsFault result (W.failures out.old) (W.failures out.new) }
@@ -42,17 +43,17 @@ pub fn write_report<W: Output>(report: &Report, out: &mut W) -> Result<(), Write
 }
 
 fn write_sections<W: Output>(text: &mut TextWriter<'_, W>, report: &Report)
-    ensures { (r : reports.Report) × IsReport report.now.files report.now.prefixes r × Sends W.written W.failures text.old text.new (report_text r) }
+    ensures { (r : reports.Report) × IsReportOf report.now r × Sends W.written W.failures text.old text.new (report_text r) }
 {
-    text.text(b"[files]\n");
+    write_heading(text, Section::Files);
     write_files(text, report.files());
-    text.text(b"[parts]\n");
+    write_heading(text, Section::Parts);
     write_parts(text, report.classes());
-    text.text(b"[circular]\n");
+    write_heading(text, Section::Circular);
     write_circular(text, report.classes());
-    text.text(b"[provided]\n");
+    write_heading(text, Section::Provided);
     write_provided(text, report.provided());
-    text.text(b"[required]\n");
+    write_heading(text, Section::Required);
     write_required(text, report.required());
 }
 
@@ -64,7 +65,7 @@ fn write_files<W: Output>(text: &mut TextWriter<'_, W>, files: Rows<'_>)
     }
 }
 
-fn write_parts<W: Output>(text: &mut TextWriter<'_, W>, classes: Classes<'_>)
+fn write_parts<W: Output>(text: &mut TextWriter<'_, W>, classes: HeldClasses<'_>)
     ensures { Sends W.written W.failures text.old text.new (flat_map class_text classes.entry) }
 {
     for class in classes {
@@ -72,8 +73,8 @@ fn write_parts<W: Output>(text: &mut TextWriter<'_, W>, classes: Classes<'_>)
     }
 }
 
-fn write_circular<W: Output>(text: &mut TextWriter<'_, W>, classes: Classes<'_>)
-    ensures { Sends W.written W.failures text.old text.new (flat_map name_line (map name_of (filter (λ c. c.part.circular) classes.entry))) }
+fn write_circular<W: Output>(text: &mut TextWriter<'_, W>, classes: HeldClasses<'_>)
+    ensures { Sends W.written W.failures text.old text.new (flat_map name_line (circular_names classes.entry)) }
 {
     for class in classes {
         if class.part.is_circular() {

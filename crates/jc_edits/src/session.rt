@@ -1,20 +1,19 @@
 //! A session over class files.
 
-ghost use Rattle.std.specs.Prelude.{◌≡◌, ◌≤◌, ◌-◌, None, IfOk, IfSome, OnOk, OnErr, MatchResult, is_some, option_and_then, slice_get, true};
+ghost use Rattle.std.specs.Prelude.{◌≡◌, ◌≤◌, ◌-◌, None, IfOk, IfSome, OnOk, OnErr, is_some, option_and_then};
 ghost use Rattle.std.specs.Option.{option_map};
 ghost use Rattle.std.specs.FinMap as map;
 ghost use Rattle.jc_classes.specs.NameLists.{Lists};
 ghost use Rattle.jc_classes.specs.Names.{names_of};
-ghost use Rattle.jc_classes.specs.Parts.{IsPart, Reach};
-ghost use Rattle.jc_held.specs.Holders.{CountsHolders};
+ghost use Rattle.jc_classes.specs.Parts.{IsPart};
 ghost use Rattle.jc_report.specs.FileRows.{winner};
-ghost use Rattle.jc_report.specs.Reports as reports;
-ghost use Rattle.jc_report.specs.Reports.{IsReport, world_of};
-ghost use Rattle.jc_input.specs.Changes.{OfPrefixes, change_lent, change_of, path_of, prefix_change};
+ghost use Rattle.jc_report.specs.Reports.{world_of};
+ghost use Rattle.jc_input.specs.Changes.{OfFiles, OfPrefixes, change_lent, change_of, prefix_change};
 ghost use Rattle.jc_edits.specs.Edits.{after, after_edit, after_prefix, judge, judge_edit, judge_prefix};
-ghost use Rattle.jc_edits.specs.Judged.{IsJudged};
+ghost use Rattle.jc_edits.specs.Judged.{IsAnswered};
+ghost use Rattle.jc_edits.specs.Reported.{CountsHoldersAt, IsDependant};
 ghost use Rattle.jc_edits.specs.SessionState.{held_of};
-ghost use Rattle.jc_edits.specs.Touched.{IsBoundedChange, IsBoundedEdit, gives};
+ghost use Rattle.jc_edits.specs.Touched.{IsBoundedStep, gives};
 
 use crate::judge::{judge, judge_prefix};
 use crate::report::Report;
@@ -60,12 +59,12 @@ impl Session {
     /// Makes an edit, or refuses it and changes neither a file nor a prefix. Parts are made of those classes alone whose reach
     /// holds a name that the edit touches.
     pub fn edit(&mut self, edit: Edit) -> Result<Done, EditError>
-        ensures judged { MatchResult result (λ _. judge_edit (held_of self.old) (change_of edit) ≡ None) (λ e. IsJudged e (judge_edit (held_of self.old) (change_of edit))) }
+        ensures judged { IsAnswered result (judge_edit (held_of self.old) (change_of edit)) }
         ensures ok { OnOk result (held_of self.new ≡ after_edit (held_of self.old) (change_of edit)) }
         ensures err { OnErr result (held_of self.new ≡ held_of self.old) }
         ensures made { IfOk result (λ done. done.made ≡ self.new.made - self.old.made) }
         ensures asks { IfOk result (λ done. done.asks ≡ self.new.asks - self.old.asks) }
-        ensures bounded { IfOk result (λ done. IsBoundedChange (held_of self.old) (held_of self.new) (change_of edit) done.made done.asks) }
+        ensures bounded { IfOk result (IsBoundedStep self.old self.new (change_of edit)) }
         ensures asks_rise { self.old.asks ≤ self.new.asks }
         ensures made_rise { self.old.made ≤ self.new.made }
     {
@@ -80,13 +79,13 @@ impl Session {
 
     /// The same of the outside prefixes, by a borrowed one.
     pub fn make_prefix(&mut self, edit: PrefixEdit<'_>) -> Result<Done, EditError>
-        ensures judged { MatchResult result (λ _. judge_prefix self.old.prefixes (prefix_change edit.entry) ≡ None) (λ e. IsJudged e (judge_prefix self.old.prefixes (prefix_change edit.entry))) }
+        ensures judged { IsAnswered result (judge_prefix self.old.prefixes (prefix_change edit.entry)) }
         ensures ok { OnOk result (self.new.prefixes ≡ after_prefix self.old.prefixes (prefix_change edit.entry)) }
         ensures err { OnErr result (self.new.prefixes ≡ self.old.prefixes) }
         ensures files { self.new.files ≡ self.old.files }
         ensures made { IfOk result (λ done. done.made ≡ self.new.made - self.old.made) }
         ensures asks { IfOk result (λ done. done.asks ≡ self.new.asks - self.old.asks) }
-        ensures bounded { IfOk result (λ done. IsBoundedChange (held_of self.old) (held_of self.new) (OfPrefixes (prefix_change edit.entry)) done.made done.asks) }
+        ensures bounded { IfOk result (IsBoundedStep self.old self.new (OfPrefixes (prefix_change edit.entry))) }
         ensures asks_rise { self.old.asks ≤ self.new.asks }
         ensures made_rise { self.old.made ≤ self.new.made }
     {
@@ -111,13 +110,13 @@ impl Session {
 
     /// The same of the files, by a borrowed path.
     pub fn make(&mut self, edit: LentEdit<'_>) -> Result<Done, EditError>
-        ensures judged { MatchResult result (λ _. judge self.old.files (change_lent edit.entry) ≡ None) (λ e. IsJudged e (judge self.old.files (change_lent edit.entry))) }
+        ensures judged { IsAnswered result (judge self.old.files (change_lent edit.entry)) }
         ensures ok { OnOk result (self.new.files ≡ after self.old.files (change_lent edit.entry)) }
         ensures err { OnErr result (self.new.files ≡ self.old.files) }
         ensures prefixes { self.new.prefixes ≡ self.old.prefixes }
         ensures made { IfOk result (λ done. done.made ≡ self.new.made - self.old.made) }
         ensures asks { IfOk result (λ done. done.asks ≡ self.new.asks - self.old.asks) }
-        ensures bounded { IfOk result (λ done. IsBoundedEdit self.old.files self.new.files self.new.prefixes (path_of (change_lent edit.entry)) done.made done.asks) }
+        ensures bounded { IfOk result (IsBoundedStep self.old self.new (OfFiles (change_lent edit.entry))) }
         ensures asks_rise { self.old.asks ≤ self.new.asks }
         ensures made_rise { self.old.made ≤ self.new.made }
     {
@@ -152,7 +151,7 @@ impl Session {
     /// The classes that files give whose reach holds a name, rising, also of a name that no file gives.
     /// No memory.
     pub fn dependants(&self, name: &[u8]) -> &[Vec<u8>]
-        ensures { Lists (names_of result.now) (λ d. (gives self.now.files d ≡ true) × Reach (world_of self.now.files self.now.prefixes) d name.now) }
+        ensures { Lists (names_of result.now) (IsDependant (held_of self.now) name.now) }
     {
         self.report.linkage.dependants(name)
     }
@@ -160,7 +159,7 @@ impl Session {
     /// How many classes that files give require the row at a place of [`Report::required`], from 0; 0 beyond the
     /// last. No memory.
     pub fn holders(&self, place: usize) -> usize
-        ensures { (r : reports.Report) → IsReport self.now.files self.now.prefixes r → CountsHolders r.classes (slice_get r.required place) result }
+        ensures { CountsHoldersAt (held_of self.now) place result }
     {
         self.report.holders(place)
     }

@@ -8,8 +8,8 @@ ghost use Rattle.jc_rules.specs.FaultOrder.{fault_cmp};
 ghost use Rattle.jc_rules.specs.Faults.{faults};
 ghost use Rattle.jc_rules.specs.Violations.{Violates};
 
-use crate::clean::is_clean;
 use jc_base::NoMemory;
+use jc_clean::is_clean;
 use jc_rules::{Fault, faults_are_exact, faults_are_violations, faults_by_rule};
 use jc_view::ClassView;
 use std::alloc::Global;
@@ -19,7 +19,8 @@ use std::alloc::Global;
 /// Answers `NoMemory` only where memory was refused.
 pub fn format_faults(alloc: Global, class: &ClassView) -> Result<Vec<Fault>, NoMemory>
     ensures listed { IfOk result (λ found. found.items ≡ faults class.now) }
-    ensures violated { IfOk result (λ found. (fault : Fault) → Contains found.items fault ↔ Violates fault.rule class.now fault.place) }
+    ensures violated { IfOk result (λ found. (fault : Fault)
+        → Contains found.items fault ↔ Violates fault.rule class.now fault.place) }
     ensures rising { IfOk result (λ found. IsStrictlySortedBy fault_cmp found.items) }
 {
     let _file = class.bytes();

@@ -3,7 +3,6 @@
 //! under the same names.
 #![tactic(auto)]
 
-mod clean;
 mod faults;
 
 pub use faults::format_faults;

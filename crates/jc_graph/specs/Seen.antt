@@ -1,5 +1,6 @@
 -- Which nodes a walk has seen.
-use Rattle.std.specs.Prelude.{◌≡◌, ℕ, ◌<◌, ◌≤◌, ◌+◌, ◌⊎◌, Bool, true, false, cond, List, [], ◌∷◌, length, slice_index_or}
+use Rattle.std.specs.Prelude.{◌≡◌, ℕ, ◌<◌, ◌≤◌, ◌+◌, ◌⊎◌, Bool}
+use Rattle.std.specs.Prelude.{true, false, cond, List, [], ◌∷◌, length, slice_index_or}
 use Rattle.std.specs.Bool.{Decides}
 use Rattle.std.specs.List.{Contains, All}
 use Rattle.jc_graph.specs.Graph.{Ups, Above}

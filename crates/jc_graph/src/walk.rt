@@ -3,7 +3,8 @@
 ghost use Rattle.std.specs.Prelude.{◌≡◌, ◌<◌, ◌≤◌, ◌-◌, ℕ, OnOk, IfOk, length, replicate, [], false};
 ghost use Rattle.std.specs.List.{All};
 ghost use Rattle.jc_graph.specs.Graph.{ups_of, AreNodes, Above};
-ghost use Rattle.jc_graph.specs.inside.Walk.{state_of, node_at, place_at, IsWalk, Turned, TellsRing, HasStep, last_segment, last_step};
+ghost use Rattle.jc_graph.specs.inside.Walk.{HasStep, IsWalk, SeesNode, TellsRing, Turned};
+ghost use Rattle.jc_graph.specs.inside.Walk.{last_segment, last_step, node_at, place_at, state_of};
 ghost use Rattle.jc_graph.specs.declared.walk.Place.TheVariants.{Unseen, On};
 
 use crate::marks::mark;
@@ -166,7 +167,7 @@ impl Walk {
         requires empty { length self.old.segments.items ≡ 0 }
         ensures walk { OnOk result (IsWalk (ups_of ups.now) (length ups.now) (state_of self.new)) }
         ensures empty { OnOk result (length self.new.segments.items ≡ 0) }
-        ensures seen { OnOk result ((v : ℕ) → place_at self.new.place.items v ≡ Unseen → (place_at self.old.place.items v ≡ Unseen) × (v ≡ node → ⊥)) }
+        ensures seen { OnOk result (SeesNode self.old.place.items self.new.place.items node) }
     {
         if let Place::Unseen = self.place[node] {
             self.visit(ups, node)?;

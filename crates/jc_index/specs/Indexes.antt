@@ -21,8 +21,28 @@ Linked old new name user = (n d : Name) → has (users_of new n) d ≡ (has (use
 
 -- the user is taken out at the name, and nothing else changes
 abbrev pub Unlinked : (old new : UserLists) (name user : Name) → Type 0
-Unlinked old new name user = (n d : Name) → has (users_of new n) d ≡ (has (users_of old n) d && not (same_name n name && same_name d user))
+Unlinked old new name user =
+    (n d : Name) → has (users_of new n) d ≡ (has (users_of old n) d && not (same_name n name && same_name d user))
 
 -- all of old, and of added perhaps some
 abbrev pub Between : (old added new : Bool) → Type 0
 Between old added new = (old ≡ true → new ≡ true) × (new ≡ true → (old || added) ≡ true)
+
+-- ---- one user at several names
+
+-- the user is added at the names that pass, and nothing else changes
+abbrev pub LinkedAt : (old new : UserLists) → (names : Name → Bool) → (user : Name) → Type 0
+LinkedAt old new names user = (n d : Name) → has (users_of new n) d ≡ (has (users_of old n) d || (same_name d user && names n))
+
+-- the user is added at some of the names that pass
+abbrev pub LinkedAtSome : (old new : UserLists) → (names : Name → Bool) → (user : Name) → Type 0
+LinkedAtSome old new names user = (n d : Name) → Between (has (users_of old n) d) (same_name d user && names n) (has (users_of new n) d)
+
+-- the user is taken out at the names that pass, and nothing else changes
+abbrev pub UnlinkedAt : (old new : UserLists) → (names : Name → Bool) → (user : Name) → Type 0
+UnlinkedAt old new names user =
+    (n d : Name) → has (users_of new n) d ≡ (has (users_of old n) d && not (same_name d user && names n))
+
+-- whether a name is among these, and not among the others
+abbrev pub has_but : (these others : List Name) → Name → Bool
+has_but these others n = has these n && not (has others n)

@@ -1,13 +1,13 @@
 //! An index holds for each name the classes that depend on it.
 
-ghost use Rattle.std.specs.Prelude.{◌≡◌, ◌||◌, ◌&&◌, not, true, [], Some, IfSome, OnErr, OnOk, slice_get};
+ghost use Rattle.std.specs.Prelude.{◌≡◌, ◌&&◌, not, true, [], Some, IfSome, OnErr, OnOk, slice_get};
 ghost use Rattle.std.specs.FinMap as map;
 ghost use Rattle.std.specs.Iterator.{YieldsFirstRef, item_count};
 ghost use Rattle.std.specs.Option.{option_copied, option_map};
 ghost use Rattle.std.specs.List.Sorted.{IsStrictlySortedBy};
 ghost use Rattle.jc_classes.specs.NameLists.{has, Lists};
 ghost use Rattle.jc_classes.specs.Names.{Name, name_cmp, names_of, same_name};
-ghost use Rattle.jc_index.specs.Indexes.{Between, Linked, Unlinked, is_key, users_of};
+ghost use Rattle.jc_index.specs.Indexes.{Linked, LinkedAt, LinkedAtSome, Unlinked, UnlinkedAt, has_but, is_key, users_of};
 
 use crate::name_list::NameList;
 use jc_base::{ByteMap, NoMemory, byte_map};
@@ -115,8 +115,8 @@ impl Index {
 
     /// Adds a user at each of some names. At want of memory it may be added at some of them.
     pub fn link_all(&mut self, names: &NameList, user: &[u8]) -> Result<(), NoMemory>
-        ensures ok { OnOk result ((n d : Name) → has (users_of self.new n) d ≡ (has (users_of self.old n) d || (same_name d user.now && has names.now n))) }
-        ensures err { OnErr result ((n d : Name) → Between (has (users_of self.old n) d) (same_name d user.now && has names.now n) (has (users_of self.new n) d)) }
+        ensures ok { OnOk result (LinkedAt self.old self.new (has names.now) user.now) }
+        ensures err { OnErr result (LinkedAtSome self.old self.new (has names.now) user.now) }
     {
         let none = NameList::new(self.alloc);
         self.link_all_but(names, &none, user)
@@ -129,8 +129,8 @@ impl Index {
         others: &NameList,
         user: &[u8],
     ) -> Result<(), NoMemory>
-        ensures ok { OnOk result ((n d : Name) → has (users_of self.new n) d ≡ (has (users_of self.old n) d || (same_name d user.now && (has names.now n && not (has others.now n))))) }
-        ensures err { OnErr result ((n d : Name) → Between (has (users_of self.old n) d) (same_name d user.now && (has names.now n && not (has others.now n))) (has (users_of self.new n) d)) }
+        ensures ok { OnOk result (LinkedAt self.old self.new (has_but names.now others.now) user.now) }
+        ensures err { OnErr result (LinkedAtSome self.old self.new (has_but names.now others.now) user.now) }
     {
         for name in names.names() {
             self.link_unless(name, others, user)?;
@@ -140,7 +140,7 @@ impl Index {
 
     /// Adds a user at a name, unless others have it.
     fn link_unless(&mut self, name: &[u8], others: &NameList, user: &[u8]) -> Result<(), NoMemory>
-        ensures ok { OnOk result ((n d : Name) → has (users_of self.new n) d ≡ (has (users_of self.old n) d || (same_name d user.now && (same_name n name.now && not (has others.now n))))) }
+        ensures ok { OnOk result (LinkedAt self.old self.new (λ n. same_name n name.now && not (has others.now n)) user.now) }
         ensures err { OnErr result (self.new ≡ self.old) }
     {
         if others.has(name) {
@@ -151,7 +151,7 @@ impl Index {
 
     /// Takes a user out at each of some names. No memory.
     pub fn unlink_all(&mut self, names: &NameList, user: &[u8])
-        ensures { (n d : Name) → has (users_of self.new n) d ≡ (has (users_of self.old n) d && not (same_name d user.now && has names.now n)) }
+        ensures { UnlinkedAt self.old self.new (has names.now) user.now }
     {
         for name in names.names() {
             self.unlink(name, user);
@@ -160,7 +160,7 @@ impl Index {
 
     /// Takes a user out at each of some names that others lack. No memory.
     pub fn unlink_all_but(&mut self, names: &NameList, others: &NameList, user: &[u8])
-        ensures { (n d : Name) → has (users_of self.new n) d ≡ (has (users_of self.old n) d && not (same_name d user.now && (has names.now n && not (has others.now n)))) }
+        ensures { UnlinkedAt self.old self.new (has_but names.now others.now) user.now }
     {
         for name in names.names() {
             self.unlink_unless(name, others, user);
@@ -169,7 +169,7 @@ impl Index {
 
     /// Takes a user out at a name, unless others have it. No memory.
     fn unlink_unless(&mut self, name: &[u8], others: &NameList, user: &[u8])
-        ensures { (n d : Name) → has (users_of self.new n) d ≡ (has (users_of self.old n) d && not (same_name d user.now && (same_name n name.now && not (has others.now n)))) }
+        ensures { UnlinkedAt self.old self.new (λ n. same_name n name.now && not (has others.now n)) user.now }
     {
         if !others.has(name) {
             self.unlink(name, user);

@@ -86,7 +86,8 @@ pub data RunsTo : HeldFiles → SourceAnswers → List (List ℕ) → Run → Ty
   ends : (h : HeldFiles) (s : SourceAnswers) (line : List ℕ) (lines : List (List ℕ))
       → Replies h s (command_of line) Ends → RunsTo h s (line ∷ lines) (record { text = []; held = h; source = s; ending = AtEnd })
   lacks : (h : HeldFiles) (s t : SourceAnswers) (line : List ℕ) (lines : List (List ℕ))
-      → Replies h s (command_of line) (Lacks t) → RunsTo h s (line ∷ lines) (record { text = []; held = h; source = t; ending = WithoutMemory })
+      → Replies h s (command_of line) (Lacks t)
+      → RunsTo h s (line ∷ lines) (record { text = []; held = h; source = t; ending = WithoutMemory })
 
 -- lines come to one thing
 abbrev pub OneRun : Type 0

@@ -3,6 +3,7 @@ use Rattle.std.specs.Prelude.{◌≡◌, ◌≤◌, ℕ, Bool, List, [], ◌∷�
 use Rattle.std.specs.Io.KnownBytes.{Appends, Keeps}
 use Rattle.jc_base.specs.Device.{MoreFaults, WritesFront}
 use Rattle.jc_report.specs.Files.{Files}
+use Rattle.jc_report.specs.ErrorsText.{errors_text, is_wrong_among}
 use Rattle.jc_report.specs.ReportText.{report_text}
 use Rattle.jc_report.specs.Reports.{IsReport, Report, is_wrong}
 use Rattle.jc_input.specs.declared.edit.EditError.{EditError}
@@ -11,6 +12,8 @@ use Rattle.jc_input.specs.declared.source.SourceError.TheVariants as sources
 use Rattle.jc_input.specs.Changes.{Adds}
 use Rattle.jc_edits.specs.Edits.{after, judge}
 use Rattle.jc_input.specs.Sources.{SourceAnswers, TakesAnswer}
+use Rattle.jc_lines.specs.declared.checking.CheckForm.{CheckForm}
+use Rattle.jc_lines.specs.declared.checking.CheckForm.TheVariants as forms
 
 -- ---- what the source answers
 
@@ -21,7 +24,8 @@ Answer = Result (List ℕ) SourceError
 abbrev pub GivesAnswers : Option SourceAnswers → (paths : List (List ℕ)) → List Answer → Option SourceAnswers → Type 0
 GivesAnswers old paths [] new = new ≡ old
 GivesAnswers old [] (answer ∷ answers) new = ⊥
-GivesAnswers old (path ∷ paths) (answer ∷ answers) new = (mid : Option SourceAnswers) × TakesAnswer old path answer mid × GivesAnswers mid paths answers new
+GivesAnswers old (path ∷ paths) (answer ∷ answers) new =
+    (mid : Option SourceAnswers) × TakesAnswer old path answer mid × GivesAnswers mid paths answers new
 
 -- ---- files that are added one by one
 
@@ -74,14 +78,26 @@ pub data CheckFault : Type 0 where
   WriteFailed : CheckFault
   NoMemory : CheckFault
 
--- the report of all the files was written, or a proper beginning of it where the output failed, or nothing; memory was wanted only
+-- what is written of a report, and what it is judged by: the whole, or what makes it wrong, of the files and classes that are asked for
+abbrev pub written_text : CheckForm → Report → List ℕ
+written_text forms.Report r = report_text r
+written_text (forms.Errors only) r = errors_text only r
+
+abbrev pub is_wrong_by : CheckForm → Report → Bool
+is_wrong_by forms.Report r = is_wrong r
+is_wrong_by (forms.Errors only) r = is_wrong_among only r
+
+-- what is asked of the report of all the files was written, or a proper beginning of it where the output failed, or nothing; memory was wanted only
 -- where no file before was unread or refused
-abbrev pub ChecksAs : (prefixes : List (List ℕ)) → Added → Result Bool CheckFault → (before now : Option (List ℕ)) → Type 0
-ChecksAs prefixes files (Ok wrong) before now = (f : Files) × (r : Report) × (files ≡ All f) × IsReport f prefixes r × (wrong ≡ is_wrong r) × Appends before now (report_text r)
-ChecksAs prefixes files (Err WriteFailed) before now = (f : Files) × (r : Report) × (files ≡ All f) × IsReport f prefixes r × WritesFront before now (report_text r)
-ChecksAs prefixes files (Err (FileUnread path)) before now = (files ≡ Unread path) × Keeps before now
-ChecksAs prefixes files (Err (FileRefused e path)) before now = (files ≡ Refused e path) × Keeps before now
-ChecksAs prefixes files (Err NoMemory) before now = AreAdded files × Keeps before now
+abbrev pub ChecksAs : (prefixes : List (List ℕ)) → CheckForm → Added → Result Bool CheckFault → (before now : Option (List ℕ)) → Type 0
+ChecksAs prefixes form files (Ok wrong) before now =
+    (f : Files) × (r : Report) × (files ≡ All f) × IsReport f prefixes r × (wrong ≡ is_wrong_by form r)
+    × Appends before now (written_text form r)
+ChecksAs prefixes form files (Err WriteFailed) before now =
+    (f : Files) × (r : Report) × (files ≡ All f) × IsReport f prefixes r × WritesFront before now (written_text form r)
+ChecksAs prefixes form files (Err (FileUnread path)) before now = (files ≡ Unread path) × Keeps before now
+ChecksAs prefixes form files (Err (FileRefused e path)) before now = (files ≡ Refused e path) × Keeps before now
+ChecksAs prefixes form files (Err NoMemory) before now = AreAdded files × Keeps before now
 
 -- the output's count of failures rises with its failure alone
 abbrev pub CountsCheck : Result Bool CheckFault → ℕ → ℕ → Type 0

@@ -11,9 +11,12 @@ use Rattle.jc_report.specs.Files.{Files}
 use Rattle.jc_report.specs.FileRows.{winner}
 use Rattle.jc_report.specs.FileRowText.{refusal_text}
 
+abbrev pub unreadable_text : ParseError → List ℕ
+unreadable_text refusal = codes "unreadable " ++ refusal_text refusal ++ codes "\n"
+
 abbrev pub text_by : Result ClassFile ParseError → List ℕ
 text_by (Ok c) = listing c
-text_by (Err refusal) = codes "unreadable " ++ refusal_text refusal ++ codes "\n"
+text_by (Err refusal) = unreadable_text refusal
 
 abbrev pub faulty_by : Result ClassFile ParseError → Bool
 faulty_by (Ok c) = is_faulty c

@@ -1,5 +1,6 @@
 -- How a run over the lines of an input ends, and what it has done by then.
-use Rattle.std.specs.Prelude.{◌≡◌, ℕ, ◌<◌, ◌≤◌, ◌⊎◌, ◌↔◌, Bool, true, false, List, ◌∷◌, ◌++◌, length, take, Option, Some, None, Result, Ok, Err, ⊤, IsSome}
+use Rattle.std.specs.Prelude.{◌≡◌, ℕ, ◌<◌, ◌≤◌, ◌⊎◌, ◌↔◌, Bool, true, false, ⊤, IsSome}
+use Rattle.std.specs.Prelude.{List, ◌∷◌, ◌++◌, length, take, Option, Some, None, Result, Ok, Err}
 use Rattle.std.specs.List.{list_any}
 use Rattle.std.specs.Io.KnownBytes.{Appends, Keeps}
 use Rattle.jc_input.specs.declared.run_error.RunError.{RunError}
@@ -12,17 +13,22 @@ use Rattle.jc_edits.specs.SessionState.{HeldFiles}
 use Rattle.jc_input.specs.Changes.{Change, Adds, Replaces, Removes, AddsPrefix, DropsPrefix, OfFiles, OfPrefixes}
 use Rattle.jc_edits.specs.Edits.{judge_edit}
 use Rattle.jc_report.specs.FileRows.{winner}
-use Rattle.jc_input.specs.Lines.{Command, Add, Replace, Remove, AddPrefix, DropPrefix, Report, Part, Listing, End, Bad, command_of, lines_of, whole_lines}
+use Rattle.jc_input.specs.Lines.{Command, Add, Replace, Remove, AddPrefix, DropPrefix, Report, Part, Listing, End, Bad}
+use Rattle.jc_input.specs.Lines.{command_of, lines_of, whole_lines}
 use Rattle.jc_input.specs.Sources.{SourceAnswers, next_answer}
 use Rattle.jc_lines.specs.Answers.{Reply, Says, Lists, Ends, Lacks, Replies, Run, RunsTo, Ending, AtEnd, AtEof}
 
--- what a run leaves: the files and prefixes, the source's answers to come and the input's bytes to come, and what was written before it and is now
+-- what a run leaves: the files and prefixes, the source's answers to come and the input's bytes to come, and what was written
+-- before it and is now
 pub record Left : Type 0 where
   pub held : HeldFiles
   pub source : Option SourceAnswers
   pub coming : Option (List ℕ)
   pub before : Option (List ℕ)
   pub now : Option (List ℕ)
+
+abbrev pub left_by : HeldFiles → Option SourceAnswers → (coming before now : Option (List ℕ)) → Left
+left_by held source coming before now = record { held = held; source = source; coming = coming; before = before; now = now }
 
 -- the session and the source are left, and the output was written, as by the run over some lines, which ended so
 pub record IsDone (run : Run) (ending : Ending) (left : Left) : Type 0 where
@@ -82,7 +88,8 @@ BreaksOff (Lacks source) run left = ⊥
 -- the lines before some line were answered, none of them `end`, and it was done but not answered whole
 abbrev pub StopsAtWrite : HeldFiles → SourceAnswers → List ℕ → Left → Type 0
 StopsAtWrite h s bytes left =
-    (lines : List (List ℕ)) × (line : List ℕ) × (rest : List (List ℕ)) × (run : Run) × (r : Reply) × (lines_of bytes ≡ lines ++ line ∷ rest)
+    (lines : List (List ℕ)) × (line : List ℕ) × (rest : List (List ℕ)) × (run : Run) × (r : Reply)
+    × (lines_of bytes ≡ lines ++ line ∷ rest)
     × RunsTo h s lines run × (run.ending ≡ AtEof) × Replies run.held run.source (command_of line) r × BreaksOff r run left
 
 -- an edit that is not refused may want memory, and so may the source
@@ -111,7 +118,8 @@ pub record IsNotBegun (h : HeldFiles) (s : SourceAnswers) (bytes : List ℕ) (le
   pub coming : left.coming ≡ Some bytes
   pub kept : Keeps left.before left.now
 
--- behind a run a line was not done: of a listing a beginning may be written, and of an edit nothing is, but the source was asked where it is
+-- behind a run a line was not done: of a listing a beginning may be written, and of an edit nothing is, but the source was
+-- asked where it is
 abbrev pub GivesUp : Reply → Run → Left → Type 0
 GivesUp (Says said held source) run left = IsDone (record run { source = source }) AtEof left
 GivesUp (Lists said) run left = (n : ℕ) × (n ≤ length said) × IsDone (record run { text = run.text ++ take n said }) AtEof left
@@ -121,8 +129,10 @@ GivesUp (Lacks source) run left = IsDone (record run { source = source }) AtEof 
 -- the lines before some line were answered, none of them `end`, and it wanted memory
 abbrev pub StopsForMemory : HeldFiles → SourceAnswers → List ℕ → Left → Type 0
 StopsForMemory h s bytes left =
-    (lines : List (List ℕ)) × (line : List ℕ) × (rest : List (List ℕ)) × (run : Run) × (r : Reply) × (lines_of bytes ≡ lines ++ line ∷ rest)
-    × RunsTo h s lines run × Replies run.held run.source (command_of line) r × GivesUp r run left × LineMayLack run.held run.source (command_of line)
+    (lines : List (List ℕ)) × (line : List ℕ) × (rest : List (List ℕ)) × (run : Run) × (r : Reply)
+    × (lines_of bytes ≡ lines ++ line ∷ rest)
+    × RunsTo h s lines run × Replies run.held run.source (command_of line) r × GivesUp r run left
+    × LineMayLack run.held run.source (command_of line)
 
 abbrev pub StopsAs : HeldFiles → SourceAnswers → List ℕ → RunError → Left → Type 0
 StopsAs h s bytes run_errors.Read left = StopsAtRead h s bytes left
@@ -133,3 +143,13 @@ StopsAs h s bytes run_errors.NoMemory left = IsNotBegun h s bytes left ⊎ Stops
 abbrev pub RunsAs : HeldFiles → SourceAnswers → List ℕ → Result Ended RunError → Left → Type 0
 RunsAs h s bytes (Ok how) left = EndsAs h s bytes how left
 RunsAs h s bytes (Err e) left = StopsAs h s bytes e left
+
+-- the same by the answers that the source has to come
+abbrev pub RunsFrom : HeldFiles → Option SourceAnswers → (input : Option (List ℕ)) → Result Ended RunError → Left → Type 0
+RunsFrom h source input ending left =
+    (bytes : List ℕ) (s : SourceAnswers) → input ≡ Some bytes → source ≡ Some s → RunsAs h s bytes ending left
+
+-- of any source: by the answers that it gave
+abbrev pub RunsByAnswers : HeldFiles → (input : Option (List ℕ)) → Result Ended RunError → Left → Type 0
+RunsByAnswers h input ending left =
+    (bytes : List ℕ) → input ≡ Some bytes → (s : SourceAnswers) × RunsAs h s bytes ending left

@@ -4,14 +4,15 @@ ghost use Rattle.jc_input.specs.declared.run_error.RunError.TheVariants.{NoMemor
 ghost use Rattle.jc_input.specs.Changes.{EditChange, OfFiles, change_lent};
 ghost use Rattle.jc_edits.specs.Edits.{judge_edit};
 ghost use Rattle.jc_edits.specs.SessionState.{HeldFiles, held_of};
-ghost use Rattle.jc_input.specs.Sources.{SourceAnswers, next_answer};
-ghost use Rattle.jc_lines.specs.Answers.{Lists, edit_reply, sourced_reply};
+ghost use Rattle.jc_input.specs.Sources.{SourceAnswers};
+ghost use Rattle.jc_lines.specs.Answers.{Lists, edit_reply};
 ghost use Rattle.jc_lines.specs.ListedText.{listed_text};
 ghost use Rattle.jc_report.specs.FileRows.{winner};
 ghost use Rattle.jc_input.specs.RunErrors.{CountsWrites};
-ghost use Rattle.jc_lines.specs.Runs.{LineMayLack, MayLack};
+ghost use Rattle.jc_lines.specs.Runs.{LineMayLack};
 ghost use Rattle.jc_input.specs.LentCommands.{command_lent};
-ghost use Rattle.jc_lines.specs.inside.Replies.{Gives, GivesByAnswers, GivesByReply, GivesOwed, IsEdited, placed, said_by};
+ghost use Rattle.jc_lines.specs.inside.Replies.{Gives, GivesByAnswers, GivesByReply, GivesOwed, IsEdited, LacksOnlyIf};
+ghost use Rattle.jc_lines.specs.inside.Replies.{PlacingMayLack, placed, placing_reply, said_by};
 
 use crate::answer_text::{write_bad_line, write_edit_answer, write_unread};
 use crate::file_listing::list_winner;
@@ -54,10 +55,11 @@ pub(crate) fn answer<S: Source, W: Output>(
     command: Command<'_>,
     out: &mut W,
 ) -> Result<Next, RunError>
-    ensures gives { (s : SourceAnswers) → S.answers source.old ≡ Some s → GivesOwed (held_of session.old) s (command_lent command.entry)
-        result (held_of session.new) (S.answers source.new) (W.written out.old) (W.written out.new) }
-    ensures lacks { (s : SourceAnswers) → S.answers source.old ≡ Some s → result ≡ Err NoMemory → LineMayLack (held_of session.old) s (command_lent command.entry) }
-    ensures any { GivesByAnswers (held_of session.old) (command_lent command.entry) result (held_of session.new) (W.written out.old) (W.written out.new) }
+    ensures gives { (s : SourceAnswers) → S.answers source.old ≡ Some s → GivesOwed (held_of session.old) s
+        (command_lent command.entry) result (held_of session.new) (S.answers source.new) (W.written out.old) (W.written out.new) }
+    ensures lacks { LacksOnlyIf (S.answers source.old) (λ s. LineMayLack (held_of session.old) s (command_lent command.entry)) result }
+    ensures any { GivesByAnswers (held_of session.old) (command_lent command.entry)
+        result (held_of session.new) (W.written out.old) (W.written out.new) }
     ensures failures { CountsWrites result (W.failures out.old) (W.failures out.new) }
     ensures err { IfErr result (λ e. e ≢ Read) }
     ensures asks_rise { session.old.asks ≤ session.new.asks }
@@ -91,11 +93,12 @@ fn answer_sourced<S: Source, W: Output>(
     placing: Placing,
     out: &mut W,
 ) -> Result<Next, RunError>
-    ensures gives { (s : SourceAnswers) → S.answers source.old ≡ Some s → Gives (held_of session.old) s (sourced_reply (held_of session.old) s path.now (placed placing path.now))
-        result (held_of session.new) (S.answers source.new) (W.written out.old) (W.written out.new) }
-    ensures lacks { (s : SourceAnswers) → S.answers source.old ≡ Some s → result ≡ Err NoMemory → MayLack (held_of session.old) (placed placing path.now) (next_answer s path.now) }
-    ensures any { GivesByReply (held_of session.old) (λ s. sourced_reply (held_of session.old) s path.now (placed placing path.now)) (λ s. MayLack (held_of session.old) (placed placing path.now) (next_answer s path.now))
-        result (held_of session.new) (W.written out.old) (W.written out.new) }
+    ensures gives { (s : SourceAnswers) → S.answers source.old ≡ Some s → Gives (held_of session.old) s
+        (placing_reply (held_of session.old) placing path.now s) result (held_of session.new)
+        (S.answers source.new) (W.written out.old) (W.written out.new) }
+    ensures lacks { LacksOnlyIf (S.answers source.old) (PlacingMayLack (held_of session.old) placing path.now) result }
+    ensures any { GivesByReply (held_of session.old) (placing_reply (held_of session.old) placing path.now)
+        (PlacingMayLack (held_of session.old) placing path.now) result (held_of session.new) (W.written out.old) (W.written out.new) }
     ensures failures { CountsWrites result (W.failures out.old) (W.failures out.new) }
     ensures err { IfErr result (λ e. e ≢ Read) }
     ensures asks_rise { session.old.asks ≤ session.new.asks }
@@ -112,7 +115,8 @@ fn answer_sourced<S: Source, W: Output>(
 fn answer_edit<W: Output>(edited: Result<Done, EditError>, out: &mut W) -> Result<Next, RunError>
     ensures gives { (h g : HeldFiles) (change : EditChange) → IsEdited h g change edited → (s t : SourceAnswers)
         → Gives h s (edit_reply h t change) result g (Some t) (W.written out.old) (W.written out.new) }
-    ensures lacks { (h g : HeldFiles) (change : EditChange) → IsEdited h g change edited → result ≡ Err NoMemory → judge_edit h change ≡ None }
+    ensures lacks { (h g : HeldFiles) (change : EditChange) → IsEdited h g change edited
+        → result ≡ Err NoMemory → judge_edit h change ≡ None }
     ensures failures { CountsWrites result (W.failures out.old) (W.failures out.new) }
     ensures err { IfErr result (λ e. e ≢ Read) }
 {

@@ -4,10 +4,12 @@ ghost use Rattle.std.specs.Prelude.{◌≡◌, List, Ok, ℕ};
 ghost use Rattle.std.specs.FinMap as map;
 ghost use Rattle.jc_classes.specs.Names.{names_of};
 ghost use Rattle.jc_lines.specs.Checks.{All, Answer, ChecksAs, CountsCheck, GivesAnswers, added};
+ghost use Rattle.jc_report.specs.ErrorsText.{prefixes_lent};
 ghost use Rattle.jc_report.specs.Files.{Files};
 ghost use Rattle.jc_report.specs.Reports.{IsReport};
 ghost use Rattle.jc_report.specs.Trees.{IsTree};
 ghost use Rattle.jc_lines.specs.declared.checking.CheckError.TheVariants as errors;
+ghost use Rattle.jc_lines.specs.declared.checking.CheckForm.TheVariants as forms;
 ghost use Rattle.jc_edits.specs.Edits as edits;
 ghost use Rattle.jc_input.specs.Changes.{Adds};
 ghost use Rattle.jc_edits.specs.Edits.{judge};
@@ -19,8 +21,18 @@ use jc_base::{NoMemory, Output};
 use jc_edits::{EditError, path_fault, room_fault, size_fault};
 use jc_input::{Source, SourceError};
 use jc_link::{Meter, Outside};
-use jc_report::{AddError, Report, Tree, write_report};
+use jc_report::{AddError, Tree, TreeReport, write_errors, write_report};
 use std::alloc::Global;
+
+/// What a check writes.
+#[derive(Drop)]
+pub enum CheckForm {
+    /// The report.
+    Report,
+    /// What makes it wrong, a line each: of the files and classes whose paths and names begin with one of these
+    /// prefixes, or of all.
+    Errors(Option<Outside>),
+}
 
 /// Why a tree of files has no report, or why not all of it is written.
 #[derive(Clone, Copy, Debug)]
@@ -35,48 +47,83 @@ pub enum CheckError<'p> {
     NoMemory,
 }
 
-/// Reads the files at the paths, in their order, each as an edit adds it, writes the report of all, and
-/// says whether it is wrong. Nothing is written before all parts are made. Of a file only that is kept
+/// Reads the files at the paths, in their order, each as an edit adds it, writes the report of all or what
+/// makes it wrong, and says whether it is wrong, or what is asked of it. Nothing is written before all parts are made. Of a file only that is kept
 /// which linking asks.
 pub fn check<'p, S: Source, W: Output>(
     alloc: Global,
     outside: &Outside,
+    form: &CheckForm,
     paths: &'p [Vec<u8>],
     source: &mut S,
     out: &mut W,
 ) -> Result<bool, CheckError<'p>>
     ensures { (answers : List Answer)
         × GivesAnswers (S.answers source.old) (names_of paths.now) answers (S.answers source.new)
-        × ChecksAs outside.now (added map.empty (names_of paths.now) answers) (check_lent result) (W.written out.old) (W.written out.new)
+        × ChecksAs outside.now form.now (added map.empty (names_of paths.now) answers) (check_lent result) (W.written out.old) (W.written out.new)
         × CountsCheck (check_lent result) (W.failures out.old) (W.failures out.new) }
 {
     let (tree, mut meter) = read_tree(alloc, paths, source)?;
-    check_tree(alloc, outside, &tree, &mut meter, out)
+    check_tree(alloc, outside, form, &tree, &mut meter, out)
 }
 
-/// Writes the report of the files of a tree, and says whether it is wrong.
+/// Writes what is asked of the report of the files of a tree, and says whether that is wrong.
 fn check_tree<'p, W: Output>(
     alloc: Global,
     outside: &Outside,
+    form: &CheckForm,
     tree: &Tree,
     meter: &mut Meter,
     out: &mut W,
 ) -> Result<bool, CheckError<'p>>
-    ensures { ((f : Files) → IsTree f tree.now → ChecksAs outside.now (All f) (check_lent result) (W.written out.old) (W.written out.new))
+    ensures { ((f : Files) → IsTree f tree.now
+        → ChecksAs outside.now form.now (All f) (check_lent result) (W.written out.old) (W.written out.new))
         × CountsCheck (check_lent result) (W.failures out.old) (W.failures out.new) }
 {
-    let report = Report::make(alloc, tree, outside, meter)?;
-    write_and_judge(&report, out)
+    let report = TreeReport::make(alloc, tree, outside, meter)?;
+    write_and_judge(&report, form, out)
+}
+
+/// Writes what is asked of a report, and says whether that is wrong.
+fn write_and_judge<'p, W: Output>(
+    report: &TreeReport<'_>,
+    form: &CheckForm,
+    out: &mut W,
+) -> Result<bool, CheckError<'p>>
+    ensures { ((f : Files) (prefixes : List (List ℕ)) → IsReport f prefixes report.now
+        → ChecksAs prefixes form.now (All f) (check_lent result) (W.written out.old) (W.written out.new))
+        × CountsCheck (check_lent result) (W.failures out.old) (W.failures out.new) }
+{
+    match form {
+        CheckForm::Report => write_whole(report, out),
+        CheckForm::Errors(only) => write_wrong(report, only.as_ref(), out),
+    }
 }
 
 /// Writes a report, and says whether it is wrong.
-fn write_and_judge<'p, W: Output>(report: &Report<'_>, out: &mut W) -> Result<bool, CheckError<'p>>
+fn write_whole<'p, W: Output>(report: &TreeReport<'_>, out: &mut W) -> Result<bool, CheckError<'p>>
     ensures { ((f : Files) (prefixes : List (List ℕ)) → IsReport f prefixes report.now
-        → ChecksAs prefixes (All f) (check_lent result) (W.written out.old) (W.written out.new))
+        → ChecksAs prefixes forms.Report (All f) (check_lent result) (W.written out.old) (W.written out.new))
         × CountsCheck (check_lent result) (W.failures out.old) (W.failures out.new) }
 {
     match write_report(report, out) {
         Ok(()) => Ok(report.wrong()),
+        Err(_) => Err(CheckError::Write),
+    }
+}
+
+/// Writes what makes a report wrong, of the files and classes that are asked for, and says whether anything does.
+fn write_wrong<'p, W: Output>(
+    report: &TreeReport<'_>,
+    only: Option<&Outside>,
+    out: &mut W,
+) -> Result<bool, CheckError<'p>>
+    ensures { ((f : Files) (prefixes : List (List ℕ)) → IsReport f prefixes report.now
+        → ChecksAs prefixes (forms.Errors (prefixes_lent only.entry)) (All f) (check_lent result) (W.written out.old) (W.written out.new))
+        × CountsCheck (check_lent result) (W.failures out.old) (W.failures out.new) }
+{
+    match write_errors(report, only, out) {
+        Ok(()) => Ok(report.wrong_among(only)),
         Err(_) => Err(CheckError::Write),
     }
 }

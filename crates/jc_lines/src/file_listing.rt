@@ -3,8 +3,7 @@
 ghost use Rattle.std.specs.Prelude.{◌≡◌, ◌++◌, Err, IfErr, IfOk, IsSome, MatchResult, Ok, codes};
 ghost use Rattle.jc_list.specs.declared.list_error.ListError.TheVariants.{NoMemory, Write};
 ghost use Rattle.jc_list.specs.ListErrors.{CountsWrites, WritesListing};
-ghost use Rattle.jc_lines.specs.ListedText.{file_text, is_faulty_file, listed_text};
-ghost use Rattle.jc_report.specs.FileRowText.{refusal_text};
+ghost use Rattle.jc_lines.specs.ListedText.{file_text, is_faulty_file, listed_text, unreadable_text};
 ghost use Rattle.jc_report.specs.FileRows.{winner};
 
 use jc_base::{DeviceFault, Output};
@@ -34,7 +33,7 @@ pub fn list_file<W: Output>(alloc: Global, bytes: &[u8], out: &mut W) -> Result<
 }
 
 fn write_unreadable_line<W: Output>(out: &mut W, refusal: ParseError) -> Result<(), ListError>
-    ensures listing { WritesListing result (W.written out.old) (W.written out.new) (codes "unreadable " ++ refusal_text refusal ++ codes "\n") }
+    ensures listing { WritesListing result (W.written out.old) (W.written out.new) (unreadable_text refusal) }
     ensures failures { CountsWrites result (W.failures out.old) (W.failures out.new) }
 {
     let mut text = TextWriter::new(out);

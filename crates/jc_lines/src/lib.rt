@@ -9,7 +9,7 @@ mod file_listing;
 mod laws;
 mod running;
 
-pub use checking::{CheckError, check};
+pub use checking::{CheckError, CheckForm, check};
 pub use file_listing::list_file;
 pub use jc_input::{Ended, FileSource, MemSource, RunError, Source, SourceError};
 pub use laws::one_run;

@@ -1,12 +1,12 @@
 //! A run over lines.
-ghost use Rattle.std.specs.Prelude.{◌≡◌, ◌≤◌, ◌≢◌, [], true, IfErr, List, Some, ℕ};
-ghost use Rattle.jc_input.specs.declared.run_error.RunError.TheVariants.{NoMemory, Read};
+ghost use Rattle.std.specs.Prelude.{◌≡◌, ◌≤◌, ◌≢◌, [], true, IfErr, Some};
+ghost use Rattle.jc_input.specs.declared.run_error.RunError.TheVariants.{Read};
 ghost use Rattle.jc_input.specs.Lines.{command_of};
 ghost use Rattle.jc_input.specs.Sources.{SourceAnswers};
 ghost use Rattle.jc_input.specs.RunErrors.{CountsReads, CountsWrites};
 ghost use Rattle.jc_edits.specs.SessionState.{held_of};
-ghost use Rattle.jc_lines.specs.Runs.{LineMayLack, RunsAs};
-ghost use Rattle.jc_lines.specs.inside.Replies.{GivesLast, GivesLastByAnswers};
+ghost use Rattle.jc_lines.specs.Runs.{LineMayLack, RunsByAnswers, RunsFrom, left_by};
+ghost use Rattle.jc_lines.specs.inside.Replies.{GivesLast, GivesLastByAnswers, LacksOnlyIf};
 
 use crate::answer::{Next, answer};
 use jc_base::{Input, Output};
@@ -25,22 +25,11 @@ pub fn run<S: Source, R: Input, W: Output>(
     input: &mut R,
     out: &mut W,
 ) -> Result<Ended, RunError>
-    ensures runs { (bytes : List ℕ) (s : SourceAnswers) → R.remaining input.old ≡ Some bytes → S.answers source.old ≡ Some s
-        → RunsAs (held_of session.old) s bytes result (record {
-          held = held_of session.new;
-          source = S.answers source.new;
-          coming = R.remaining input.new;
-          before = W.written out.old;
-          now = W.written out.new;
-        }) }
+    ensures runs { RunsFrom (held_of session.old) (S.answers source.old) (R.remaining input.old) result
+        (left_by (held_of session.new) (S.answers source.new) (R.remaining input.new) (W.written out.old) (W.written out.new)) }
     // Of any source: by the answers that it gave.
-    ensures by_answers { (bytes : List ℕ) → R.remaining input.old ≡ Some bytes → (s : SourceAnswers) × RunsAs (held_of session.old) s bytes result (record {
-      held = held_of session.new;
-      source = Some [];
-      coming = R.remaining input.new;
-      before = W.written out.old;
-      now = W.written out.new;
-    }) }
+    ensures by_answers { RunsByAnswers (held_of session.old) (R.remaining input.old) result
+        (left_by (held_of session.new) (Some []) (R.remaining input.new) (W.written out.old) (W.written out.new)) }
 
     // An input that has ended is not read.
     ensures ended { R.ended input.old ≡ true → input.new ≡ input.old }
@@ -70,7 +59,7 @@ fn answer_last<S: Source, W: Output>(
 ) -> Result<Ended, RunError>
     ensures gives { (s : SourceAnswers) → S.answers source.old ≡ Some s → GivesLast (held_of session.old) s line.now
         result (held_of session.new) (S.answers source.new) (W.written out.old) (W.written out.new) }
-    ensures lacks { (s : SourceAnswers) → S.answers source.old ≡ Some s → result ≡ Err NoMemory → LineMayLack (held_of session.old) s (command_of line.now) }
+    ensures lacks { LacksOnlyIf (S.answers source.old) (λ s. LineMayLack (held_of session.old) s (command_of line.now)) result }
     ensures any { GivesLastByAnswers (held_of session.old) line.now result (held_of session.new) (W.written out.old) (W.written out.new) }
     ensures failures { CountsWrites result (W.failures out.old) (W.failures out.new) }
     ensures err { IfErr result (λ e. e ≢ Read) }

@@ -1,4 +1,5 @@
 -- The reach of a class, as it is gathered from a table.
+use Rattle.jc_classes.specs.Worlds.{Stands as stands}
 use Rattle.std.specs.Prelude.{◌≡◌, List, Option, Some, None, map}
 use Rattle.jc_classes.specs.Facts.{Facts}
 use Rattle.jc_classes.specs.NameLists.{IsRisingOf, Lists}
@@ -6,7 +7,6 @@ use Rattle.jc_classes.specs.Names.{Name}
 use Rattle.jc_classes.specs.Numbers.{name_at}
 use Rattle.jc_classes.specs.Parts.{Reach}
 use Rattle.jc_classes.specs.Worlds.{Stands, World}
-use Rattle.jc_classes.specs.Worlds.Stands.{Record, Outside, Nothing}
 
 -- the names of a reach, and what stands at each
 pub record Closure : Type 0 where
@@ -26,6 +26,6 @@ pub record IsClosure (m : World) (d : Name) (c : Closure) : Type 0 where
 
 -- the record of a class that stands
 abbrev pub record_of : Stands → Option Facts
-record_of (Record r) = Some r
-record_of Outside = None
-record_of Nothing = None
+record_of (stands.Class r) = Some r
+record_of stands.Outside = None
+record_of stands.Nothing = None

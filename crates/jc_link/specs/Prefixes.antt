@@ -1,5 +1,7 @@
 -- Prefixes of the names that are outside.
-use Rattle.std.specs.Prelude.{ℕ, ◌==◌, nat_lt, nat_eq, Bool, ◌||◌, not, List, [], ◌∷◌, ◌++◌, codes, length, Option, Some, None, if◌then◌else◌}
+use Rattle.std.specs.Prelude.{◌≡◌, ℕ, ◌==◌, nat_lt, nat_eq, Bool, ◌||◌, not, if◌then◌else◌, codes}
+use Rattle.std.specs.Prelude.{List, [], ◌∷◌, ◌++◌, map, length, Option, Some, None}
+use Rattle.std.specs.Borrow.{Bor}
 use Rattle.std.specs.List.{filter, list_any, starts_with}
 use Rattle.jc_classes.specs.Names.{Name, same_name}
 use Rattle.jc_link.specs.declared.outside.OutsideError.{OutsideError}
@@ -13,7 +15,13 @@ is_bad_prefix prefix = length prefix == 0 || nat_lt 256 (length prefix)
 
 -- the first fault of prefixes that are handed in
 abbrev pub prefixes_fault : List (List ℕ) → Option OutsideError
-prefixes_fault prefixes = if list_any is_bad_prefix prefixes then Some BadPrefix else if nat_lt 64 (length prefixes) then Some TooManyPrefixes else None
+prefixes_fault prefixes =
+    if list_any is_bad_prefix prefixes then Some BadPrefix
+    else if nat_lt 64 (length prefixes) then Some TooManyPrefixes else None
+
+-- it is the first fault of prefixes that are lent
+abbrev pub HasFault : List (Bor (List ℕ)) → OutsideError → Type 0
+HasFault prefixes fault = prefixes_fault (map (λ p. p.now) prefixes) ≡ Some fault
 
 -- whether a prefix is one of those that are held
 abbrev pub holds : List Name → Name → Bool
@@ -27,5 +35,5 @@ abbrev pub with_one : List Name → Name → List Name
 with_one prefixes prefix = without prefixes prefix ++ prefix ∷ []
 
 -- whether a name begins with one of the prefixes
-abbrev pub is_outside : List (List ℕ) → Name → Bool
-is_outside prefixes name = list_any (starts_with nat_eq name) prefixes
+abbrev pub is_covered : List (List ℕ) → Name → Bool
+is_covered prefixes name = list_any (starts_with nat_eq name) prefixes

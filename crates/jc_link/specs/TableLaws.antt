@@ -5,7 +5,7 @@ use Rattle.jc_classes.specs.Facts.{Facts}
 use Rattle.jc_classes.specs.Laws.{Differ}
 use Rattle.jc_classes.specs.Names.{Name, same_name}
 use Rattle.jc_classes.specs.Parts.{Reach}
-use Rattle.jc_link.specs.Prefixes.{is_outside}
+use Rattle.jc_link.specs.Prefixes.{is_covered}
 use Rattle.jc_link.specs.Tables.{Places, class_at, record_at, world}
 
 -- what is put into a place stands there, and all else as before
@@ -17,7 +17,8 @@ PlacesChange = (places : Places) (name : Name) (place : Option Facts) (n : Name)
 -- where two tables have the same classes outside the touched names, so do their worlds
 abbrev pub WorldsDiffer : Type 0
 WorldsDiffer = (touched : Name → Bool) (old new : Places) (prefixes : List Name)
-    → ((n : Name) → touched n ≡ false → class_at old n ≡ class_at new n) → Differ touched (world old prefixes) (world new prefixes)
+    → ((n : Name) → touched n ≡ false → class_at old n ≡ class_at new n)
+    → Differ touched (world old prefixes) (world new prefixes)
 
 -- by other prefixes a class reaches the same names
 abbrev pub ReachStays : Type 0
@@ -26,4 +27,5 @@ ReachStays = (places : Places) (old new : List Name) (d n : Name) → Reach (wor
 -- where two lists of prefixes cover the same names without a record outside the touched ones, their worlds are the same there
 abbrev pub PrefixesDiffer : Type 0
 PrefixesDiffer = (touched : Name → Bool) (places : Places) (old new : List Name)
-    → ((n : Name) → touched n ≡ false → record_at places n ≡ None → is_outside old n ≡ is_outside new n) → Differ touched (world places old) (world places new)
+    → ((n : Name) → touched n ≡ false → record_at places n ≡ None → is_covered old n ≡ is_covered new n)
+    → Differ touched (world places old) (world places new)

@@ -1,4 +1,5 @@
 -- Tables of classes, and the world that one makes with outside prefixes.
+use Rattle.jc_classes.specs.Worlds.{Stands as stands}
 use Rattle.std.specs.Prelude.{Bool, cond, List, Option, Some, None}
 use Rattle.std.specs.FinMap as map
 use Rattle.std.specs.List.{flat_map}
@@ -6,9 +7,8 @@ use Rattle.std.specs.Option.{option_to_list}
 use Rattle.jc_classes.specs.Facts.{Facts}
 use Rattle.jc_classes.specs.Names.{Name, name_cmp, same_name, object}
 use Rattle.jc_classes.specs.Worlds.{Stands, World}
-use Rattle.jc_classes.specs.Worlds.Stands.{Record, Outside, Nothing}
 use Rattle.jc_classes.specs.BuiltIn.{object_facts}
-use Rattle.jc_link.specs.Prefixes.{is_outside}
+use Rattle.jc_link.specs.Prefixes.{is_covered}
 
 -- the places of a table by name, each with a file's record or vacant
 abbrev pub Places : Type 0
@@ -42,9 +42,9 @@ abbrev pub record_at : Places → Name → Option Facts
 record_at places name = or_built_in (class_at places name) name
 
 abbrev pub stands_by : Option Facts → Bool → Stands
-stands_by (Some facts) outside = Record facts
-stands_by None outside = cond outside Outside Nothing
+stands_by (Some facts) outside = stands.Class facts
+stands_by None outside = cond outside stands.Outside stands.Nothing
 
 -- what stands at each name: a record, else it is outside where it begins with a prefix
 abbrev pub world : Places → List Name → World
-world places prefixes name = stands_by (record_at places name) (is_outside prefixes name)
+world places prefixes name = stands_by (record_at places name) (is_covered prefixes name)

@@ -7,7 +7,8 @@ ghost use Rattle.jc_classes.specs.Numbers.{IsOnce, name_at};
 ghost use Rattle.jc_link.specs.Closures.{IsClosure};
 ghost use Rattle.jc_link.specs.Meters.{counted};
 ghost use Rattle.jc_link.specs.Tables.{world};
-ghost use Rattle.jc_link.specs.inside.Gathering.{Gathering, IsReached, rows_in, stands_in};
+ghost use Rattle.jc_link.specs.inside.Gathering.{rows_in, stands_in};
+ghost use Rattle.jc_link.specs.inside.Reached.{IsGathered, IsMore};
 
 use crate::closure::Closure;
 use crate::meter::Meter;
@@ -66,7 +67,7 @@ fn number_reach<'t>(
     meter: &mut Meter,
 ) -> Result<NumberedReach<'t>, NoMemory>
     requires { numbers.old ≡ [] }
-    ensures gathering { IfOk result (λ r. Gathering (world table.now outside.now) name.now numbers.new (stands_in r.reached.standing.items) (rows_in r.reached.supertypes.items) r.references.items) }
+    ensures gathering { IfOk result (IsGathered (world table.now outside.now) name.now numbers.new) }
     ensures whole { IfOk result (λ r. length numbers.new ≤ length (stands_in r.reached.standing.items)) }
     ensures object { IfOk result (λ r. (r.object < length numbers.new) × (name_at numbers.new r.object ≡ java_lang_object)) }
     ensures asks { IfOk result (λ r. meter.new.asks ≡ counted meter.old.asks (length (stands_in r.reached.standing.items))) }
@@ -117,7 +118,7 @@ impl<'t> Reached<'t> {
         next: Standing<'t>,
     ) -> Result<(), NoMemory>
         requires { IsOnce numbers.old }
-        ensures { OnOk result (IsReached numbers.old (stands_in self.old.standing.items) (rows_in self.old.supertypes.items) (stands_of next.entry) numbers.new (stands_in self.new.standing.items) (rows_in self.new.supertypes.items)) }
+        ensures { OnOk result (IsMore numbers.old self.old (stands_of next.entry) numbers.new self.new) }
     {
         let row = number_supertypes(alloc, numbers, next)?;
         self.standing.push(next)?;

@@ -21,4 +21,4 @@ pub use laws::{places_change, prefixes_differ, reach_stays, worlds_differ};
 pub use meter::Meter;
 pub use outside::{MOST_PREFIXES, Outside, OutsideError, is_bad_prefix};
 pub use part::{Part, make_part};
-pub use table::{Classes, Table};
+pub use table::{Table, TableClasses};

@@ -1,5 +1,6 @@
 //! Numbers for the classes that a class names.
 
+ghost use Rattle.jc_classes.specs.Worlds.{Stands as stands};
 ghost use Rattle.std.specs.Prelude.{◌≡◌, ◌<◌, ◌∷◌, [], IfOk, OnOk, Some, length, slice_get};
 ghost use Rattle.std.specs.List.{All};
 ghost use Rattle.std.specs.Option.{option_copied, option_to_list};
@@ -7,8 +8,7 @@ ghost use Rattle.jc_classes.specs.Facts.{Reference};
 ghost use Rattle.jc_classes.specs.Lent.{stands_of};
 ghost use Rattle.jc_classes.specs.Numbers.{IsOnce, Rows, name_at};
 ghost use Rattle.jc_classes.specs.Worlds.{references_of, supers_of};
-ghost use Rattle.jc_classes.specs.Worlds.Stands.{Record};
-ghost use Rattle.jc_link.specs.inside.Gathering.{Nodes};
+ghost use Rattle.jc_link.specs.inside.Gathering.{Nodes, NumbersAt};
 
 use jc_base::NoMemory;
 use jc_classes::{Facts, Numbers, Standing};
@@ -35,7 +35,7 @@ fn number_supertypes_of(
     facts: &Facts,
 ) -> Result<Vec<usize>, NoMemory>
     requires { IsOnce numbers.old }
-    ensures { IfOk result (λ row. Rows numbers.old [] numbers.new row.items (supers_of (Record facts.now))) }
+    ensures { IfOk result (λ row. Rows numbers.old [] numbers.new row.items (supers_of (stands.Class facts.now))) }
 {
     let mut row = Vec::new(alloc);
     number_superclass(alloc, numbers, &mut row, facts.superclass())?;
@@ -134,7 +134,7 @@ fn number_reference(
     last: Option<usize>,
 ) -> Result<Option<usize>, NoMemory>
     requires { IsOnce numbers.old }
-    ensures { IfOk result (λ node. (r : Reference) → slice_get facts.now.references number ≡ Some r → Nodes numbers.old [] numbers.new (node ∷ []) (r ∷ [])) }
+    ensures { IfOk result (NumbersAt numbers.old numbers.new facts.now.references number) }
 {
     let Some(reference) = facts.reference(number) else {
         return Ok(None);

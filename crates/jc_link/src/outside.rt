@@ -5,7 +5,8 @@ ghost use Rattle.std.specs.List.{Contains, list_any};
 ghost use Rattle.jc_classes.specs.Names.{Name, names_of, same_name};
 ghost use Rattle.jc_link.specs.inside.HeldPrefixes.{with_prefix, IsHeldOf};
 ghost use Rattle.jc_classes.specs.Numbers.{IsOnce};
-ghost use Rattle.jc_link.specs.Prefixes.{holds, is_bad_prefix, is_outside, prefixes_fault, standard_prefixes, with_one, without};
+ghost use Rattle.jc_link.specs.Prefixes.{HasFault, holds, is_bad_prefix, is_covered, prefixes_fault};
+ghost use Rattle.jc_link.specs.Prefixes.{standard_prefixes, with_one, without};
 ghost use Rattle.jc_link.specs.declared.outside.OutsideError.TheVariants as errors;
 
 use jc_base::NoMemory;
@@ -66,8 +67,8 @@ impl Outside {
     /// The prefixes that are handed in. One that is handed in twice is held once, and counts twice for
     /// the limit.
     pub fn new(alloc: Global, prefixes: &[&[u8]]) -> Result<Outside, OutsideError>
-        ensures bad { IsErrOf result errors.BadPrefix ↔ (prefixes_fault (map (λ p. p.now) prefixes.now) ≡ Some errors.BadPrefix) }
-        ensures many { IsErrOf result errors.TooManyPrefixes ↔ (prefixes_fault (map (λ p. p.now) prefixes.now) ≡ Some errors.TooManyPrefixes) }
+        ensures bad { IsErrOf result errors.BadPrefix ↔ HasFault prefixes.now errors.BadPrefix }
+        ensures many { IsErrOf result errors.TooManyPrefixes ↔ HasFault prefixes.now errors.TooManyPrefixes }
         ensures held { IfOk result (λ o. (p : Name) → Contains o p ↔ Contains (map (λ p. p.now) prefixes.now) p) }
         ensures once { IfOk result (λ o. IsOnce o) }
     {
@@ -91,7 +92,7 @@ impl Outside {
 
     /// Whether a name begins with one of the prefixes, each of which is held once.
     pub fn covers(&self, name: &[u8]) -> bool
-        ensures covered { result ≡ is_outside self.now name.now }
+        ensures covered { result ≡ is_covered self.now name.now }
         ensures once { IsOnce self.now }
     {
         match &self.prefixes {
@@ -263,7 +264,7 @@ fn is_held(held: &[Vec<u8>], prefix: &[u8]) -> bool
 }
 
 fn covers_one(prefixes: &[Vec<u8>], name: &[u8]) -> bool
-    ensures { result ≡ is_outside (names_of prefixes.now) name.now }
+    ensures { result ≡ is_covered (names_of prefixes.now) name.now }
 {
     for prefix in prefixes {
         if name.starts_with(prefix.as_slice()) {

@@ -2,7 +2,6 @@
 //! and the errors of its instructions.
 
 ghost use Rattle.std.specs.Prelude.{◌≡◌, ◌<◌, ◌≤◌, ℕ, [], length, map, Some, option_map, IfOk, OnErr, OnOk};
-ghost use Rattle.std.specs.Bool.{Decides};
 ghost use Rattle.std.specs.List.{Contains};
 ghost use Rattle.jc_classes.specs.Facts.{Reference};
 ghost use Rattle.jc_classes.specs.Lent.{stands_of};
@@ -11,11 +10,13 @@ ghost use Rattle.jc_classes.specs.Loading.{Load as Loads, Loading as How};
 ghost use Rattle.jc_classes.specs.Names.{Name};
 ghost use Rattle.jc_classes.specs.Numbers.{name_at};
 ghost use Rattle.jc_classes.specs.Parts.{AreAnswers, IsPart, class_of};
-ghost use Rattle.jc_classes.specs.Worlds.{Above, World, code_faults_of, format_faults_of, references_of};
+ghost use Rattle.jc_classes.specs.Worlds.{World, code_faults_of, format_faults_of, references_of};
 ghost use Rattle.jc_resolve.specs.Answers.{loading_of};
 ghost use Rattle.jc_resolve.specs.Numbered.{Agrees, record_of};
 ghost use Rattle.jc_link.specs.Closures.{IsClosure};
 ghost use Rattle.jc_link.specs.Meters.{counted};
+ghost use Rattle.jc_link.specs.inside.FirstPart.{TellsCircular};
+ghost use Rattle.jc_link.specs.inside.Gathering.{NumberReferences};
 ghost use Rattle.std.specs.Option.{option_map_or};
 
 use crate::closure::Closure;
@@ -134,9 +135,9 @@ fn first_part(
     references: &[Option<usize>],
 ) -> Result<Part, NoMemory>
     requires some { 0 < length hierarchy.now.names }
-    requires nodes { map (option_map (name_at hierarchy.now.names)) references.now ≡ map (λ (r : Reference). class_of r.named) (references_of (record_of hierarchy.now 0)) }
+    requires nodes { NumberReferences hierarchy.now.names references.now (references_of (record_of hierarchy.now 0)) }
     requires within { (v : ℕ) → Contains references.now (Some v) → v < length hierarchy.now.names }
-    ensures circular { IfOk result (λ p. (m : World) → Agrees m hierarchy.now → Decides p.circular (Above m (name_at hierarchy.now.names 0) (name_at hierarchy.now.names 0))) }
+    ensures circular { IfOk result (λ p. TellsCircular hierarchy.now p.circular) }
     ensures load { IfOk result (λ p. (m : World) → Agrees m hierarchy.now → Loads m (name_at hierarchy.now.names 0) p.load) }
     ensures answers { IfOk result (λ p. (m : World) (how : How) → Agrees m hierarchy.now → Loads m (name_at hierarchy.now.names 0) how
         → AreAnswers m (name_at hierarchy.now.names 0) how (references_of (record_of hierarchy.now 0)) p.answers) }
@@ -157,8 +158,10 @@ fn first_part(
 
 /// The faults of what stands at a name.
 fn share_faults(standing: Standing<'_>) -> Result<Option<Rc<Faults>>, NoMemory>
-    ensures format { IfOk result (λ faults. option_map_or (λ f. f.value.format.items) faults [] ≡ format_faults_of (stands_of standing.entry)) }
-    ensures code { IfOk result (λ faults. option_map_or (λ f. f.value.code.items) faults [] ≡ code_faults_of (stands_of standing.entry)) }
+    ensures format { IfOk result (λ faults. option_map_or (λ f. f.value.format.items) faults []
+        ≡ format_faults_of (stands_of standing.entry)) }
+    ensures code { IfOk result (λ faults. option_map_or (λ f. f.value.code.items) faults []
+        ≡ code_faults_of (stands_of standing.entry)) }
 {
     match standing {
         Standing::Class(facts) => Ok(Some(facts.shared_faults()?)),

@@ -80,10 +80,10 @@ impl Table {
     }
 
     /// The classes that files give, in the order of their names. No ask is counted.
-    pub fn classes(&self) -> Classes<'_>
+    pub fn classes(&self) -> TableClasses<'_>
         ensures { result ≡ classes_of self.now }
     {
-        Classes {
+        TableClasses {
             places: self.places.iter(),
         }
     }
@@ -139,11 +139,11 @@ impl Table {
 
 /// The classes of a [`Table`] in the order of their names, seen as the list of those that are left.
 #[derive(Drop)]
-pub struct Classes<'t> {
+pub struct TableClasses<'t> {
     places: byte_map::Iter<'t, Option<Facts>>,
 }
 
-impl<'t> Model for Classes<'t> {
+impl<'t> Model for TableClasses<'t> {
     ghost use Rattle.std.specs.Prelude.{List};
     ghost use Rattle.jc_classes.specs.Facts as specs;
     ghost use Rattle.jc_link.specs.Tables.{classes_in};
@@ -153,7 +153,7 @@ impl<'t> Model for Classes<'t> {
     ghost view = { λ a. classes_in a.places };
 }
 
-impl<'t> Iterator for Classes<'t> {
+impl<'t> Iterator for TableClasses<'t> {
     type Item = &'t Facts;
 
     ghost next_gives = { YieldsFirstRef (λ left. left) };

@@ -40,7 +40,8 @@ is c kind a = is_recognised c kind a.holder a.attribute
 abbrev pub entry_text : ClassFile → PlacedAttribute → List ℕ
 entry_text c a =
     if is c kinds.SourceFile a then codes " " ++ shown_text (utf8_at c (first_index a))
-    else if is c kinds.Signature a then codes " " ++ option_map_or (signature_text (signatures_of a.holder)) (utf8_at c (first_index a)) (codes "?")
+    else if is c kinds.Signature a
+    then codes " " ++ option_map_or (signature_text (signatures_of a.holder)) (utf8_at c (first_index a)) (codes "?")
     else if is c kinds.ConstantValue a then codes " " ++ index_text (first_index a)
     else []
 
@@ -52,7 +53,9 @@ attribute_line c indent a =
 -- ---- code
 
 abbrev pub code_line : Code → List ℕ
-code_line k = codes "  code stack " ++ decimal k.max_stack ++ codes " locals " ++ decimal k.max_locals ++ codes " length " ++ decimal (length k.code) ++ codes "\n"
+code_line k =
+    codes "  code stack " ++ decimal k.max_stack ++ codes " locals " ++ decimal k.max_locals
+    ++ codes " length " ++ decimal (length k.code) ++ codes "\n"
 
 -- where the instructions end before the code does
 abbrev pub cut_line : Code → List ℕ
@@ -63,7 +66,8 @@ catch_text c index = if index.0 == 0 then codes "any" else index_with_reference 
 
 abbrev pub handler_line : ClassFile → Handler → List ℕ
 handler_line c h =
-    codes "    catch " ++ decimal h.start_pc ++ codes " " ++ decimal h.end_pc ++ codes " " ++ decimal h.handler_pc ++ codes " " ++ catch_text c h.catch_type ++ codes "\n"
+    codes "    catch " ++ decimal h.start_pc ++ codes " " ++ decimal h.end_pc ++ codes " " ++ decimal h.handler_pc
+    ++ codes " " ++ catch_text c h.catch_type ++ codes "\n"
 
 unfoldable pub code_lines : ClassFile → PlacedAttribute → Code → List ℕ
 code_lines c a k =

@@ -7,7 +7,8 @@ use Rattle.std.specs.Option.{option_map_or}
 use Rattle.jc_text.specs.Numbers.{hexadecimal}
 use Rattle.jc_text.specs.Escapes.{shown}
 use Rattle.jc_view.specs.declared.constant_pool.ConstantIndex.{ConstantIndex}
-use Rattle.jc_view.specs.ConstantPool.{Constant, Utf8, Integer, Float, Long, Double, Class, String, Fieldref, Methodref, InterfaceMethodref, NameAndType, MethodHandle, MethodType, InvokeDynamic, kind_name, kind_of}
+use Rattle.jc_view.specs.ConstantPool.{Constant, Utf8, Integer, Float, Long, Double, Class, String, Fieldref, Methodref}
+use Rattle.jc_view.specs.ConstantPool.{InterfaceMethodref, NameAndType, MethodHandle, MethodType, InvokeDynamic, kind_name, kind_of}
 use Rattle.jc_view.specs.ClassFile.{ClassFile, all_slots, constant_at}
 use Rattle.jc_list.specs.Texts.{index_text}
 
@@ -32,7 +33,9 @@ constant_text (MethodType descriptor) = index_text descriptor
 constant_text (InvokeDynamic bootstrap name_and_type) = decimal bootstrap ++ codes " " ++ index_text name_and_type
 
 abbrev pub constant_line : ℕ → Constant → List ℕ
-constant_line index constant = codes "  #" ++ decimal index ++ codes " " ++ kind_name (kind_of constant) ++ codes " " ++ constant_text constant ++ codes "\n"
+constant_line index constant =
+    codes "  #" ++ decimal index ++ codes " " ++ kind_name (kind_of constant)
+    ++ codes " " ++ constant_text constant ++ codes "\n"
 
 -- nothing for an index that is not usable
 abbrev pub line_at : ClassFile → ℕ → List ℕ

@@ -6,6 +6,8 @@ use Rattle.jc_view.specs.ClassFile.{ClassFile}
 use Rattle.jc_code.specs.declared.insn.Insn.{Insn}
 use Rattle.jc_code.specs.declared.insn.Insn.TheVariants as insns
 use Rattle.jc_code.specs.declared.switch.Case.{Case}
+use Rattle.jc_code.specs.declared.switch.LookupSwitch.{LookupSwitch}
+use Rattle.jc_code.specs.declared.switch.TableSwitch.{TableSwitch}
 use Rattle.jc_code.specs.Opcodes.{mnemonic_of}
 use Rattle.jc_code.specs.Insns.{opcode_of}
 use Rattle.jc_list.specs.Texts.{index_text, index_with_reference, reference_text}
@@ -17,6 +19,16 @@ blank_decimal n = codes " " ++ decimal n
 abbrev pub blank_signed : ℤ → List ℕ
 blank_signed z = codes " " ++ signed_decimal z
 
+-- the lowest and the highest value, and the target for all others
+abbrev pub table_switch_text : TableSwitch → List ℕ
+table_switch_text switch =
+    blank_signed switch.low ++ blank_signed switch.high ++ codes " default" ++ blank_signed switch.default
+
+-- how many values have a target, and the target for all others
+abbrev pub lookup_switch_text : LookupSwitch → List ℕ
+lookup_switch_text switch =
+    blank_decimal (length switch.cases.left) ++ codes " default" ++ blank_signed switch.default
+
 -- the operands, each behind a blank: targets as offsets from the front of the code, and what is referred to last
 abbrev pub operands_text : ClassFile → Insn → List ℕ
 operands_text c (insns.Plain opcode) = []
@@ -25,8 +37,8 @@ operands_text c (insns.Load opcode index) = codes " " ++ index_with_reference c 
 operands_text c (insns.Local opcode index is_wide) = blank_decimal index
 operands_text c (insns.Increment index amount is_wide) = blank_decimal index ++ blank_signed amount
 operands_text c (insns.Branch opcode target) = blank_signed target
-operands_text c (insns.TableSwitch switch) = blank_signed switch.low ++ blank_signed switch.high ++ codes " default" ++ blank_signed switch.default
-operands_text c (insns.LookupSwitch switch) = blank_decimal (length switch.cases.left) ++ codes " default" ++ blank_signed switch.default
+operands_text c (insns.TableSwitch switch) = table_switch_text switch
+operands_text c (insns.LookupSwitch switch) = lookup_switch_text switch
 operands_text c (insns.Field opcode index) = codes " " ++ index_with_reference c index
 operands_text c (insns.Invoke opcode index) = codes " " ++ index_with_reference c index
 operands_text c (insns.InvokeInterface index count last) = codes " " ++ index_text index ++ blank_decimal count ++ reference_text c index
@@ -63,7 +75,8 @@ switch_lines insn = []
 
 abbrev pub insn_line : ClassFile → ℕ → Insn → List ℕ
 insn_line c place insn =
-    codes "    " ++ decimal place ++ codes ": " ++ wide_text insn ++ unwrap_or (mnemonic_of (opcode_of insn)) [] ++ operands_text c insn ++ codes "\n"
+    codes "    " ++ decimal place ++ codes ": " ++ wide_text insn ++ unwrap_or (mnemonic_of (opcode_of insn)) []
+    ++ operands_text c insn ++ codes "\n"
 
 abbrev pub insn_lines : ClassFile → ℕ × Insn → List ℕ
 insn_lines c item = insn_line c item.0 item.1 ++ switch_lines item.1

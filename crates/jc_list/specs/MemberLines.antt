@@ -11,7 +11,8 @@ use Rattle.jc_list.specs.AttributeLines.{attribute_lines}
 
 abbrev pub member_line : ClassFile → List ℕ → List AccessFlag → Member → List ℕ
 member_line c word flags m =
-    word ++ codes " " ++ shown_text (utf8_at c m.name) ++ codes " " ++ shown_text (utf8_at c m.descriptor) ++ codes " " ++ flags_text flags m.flags ++ codes "\n"
+    word ++ codes " " ++ shown_text (utf8_at c m.name) ++ codes " " ++ shown_text (utf8_at c m.descriptor)
+    ++ codes " " ++ flags_text flags m.flags ++ codes "\n"
 
 abbrev pub member_lines : ClassFile → List ℕ → List AccessFlag → PlacedMember → List ℕ
 member_lines c word flags m = member_line c word flags m.member ++ flat_map (attribute_lines c (codes "  ")) (member_attributes m)

@@ -33,7 +33,9 @@ flags_text flags bits = codes "0x" ++ hexadecimal (to_be_bytes w16 bits) ++ flat
 
 -- a member: its class, its name and its descriptor
 abbrev pub member_reference : ClassFile → ConstantIndex → ConstantIndex → List ℕ
-member_reference c class entry = shown_text (class_text_at c class) ++ codes "." ++ shown_text (name_at c entry) ++ codes ":" ++ shown_text (descriptor_at c entry)
+member_reference c class entry =
+    shown_text (class_text_at c class) ++ codes "." ++ shown_text (name_at c entry)
+    ++ codes ":" ++ shown_text (descriptor_at c entry)
 
 -- behind a blank, what a constant refers to, where it is a class, a field or a method
 abbrev pub reference_of : ClassFile → Constant → List ℕ

@@ -21,7 +21,8 @@ pub(crate) fn write_attributes<W: Output>(
     attributes: Attributes,
     indent: &[u8],
 ) -> Result<(), NoMemory>
-    ensures { Lists W.written W.failures result out.old out.new (flat_map (attribute_lines attributes.entry.class indent.now) attributes.entry.left) }
+    ensures { Lists W.written W.failures result out.old out.new
+        (flat_map (attribute_lines attributes.entry.class indent.now) attributes.entry.left) }
 {
     for attribute in attributes {
         write_attribute(alloc, out, &attribute, indent)?;
@@ -62,7 +63,8 @@ fn write_inner_attributes<W: Output>(
     out: &mut TextWriter<'_, W>,
     attributes: Attributes,
 ) -> Result<(), NoMemory>
-    ensures { Lists W.written W.failures result out.old out.new (flat_map (attribute_line attributes.entry.class (codes "    ")) attributes.entry.left) }
+    ensures { Lists W.written W.failures result out.old out.new
+        (flat_map (attribute_line attributes.entry.class (codes "    ")) attributes.entry.left) }
 {
     for attribute in attributes {
         write_attribute_line(alloc, out, &attribute, b"    ")?;
@@ -131,7 +133,8 @@ fn write_signature<W: Output>(
     kind: SigKind,
     text: Option<&[u8]>,
 ) -> Result<(), NoMemory>
-    ensures { Lists W.written W.failures result out.old out.new (option_map_or (signature_text kind) (option_copied text.entry) (codes "?")) }
+    ensures { Lists W.written W.failures result out.old out.new
+        (option_map_or (signature_text kind) (option_copied text.entry) (codes "?")) }
 {
     let Some(text) = text else {
         out.text(b"?");

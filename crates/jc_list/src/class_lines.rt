@@ -5,7 +5,8 @@ ghost use Rattle.std.specs.List.{flat_map};
 ghost use Rattle.std.specs.Option.{option_copied};
 ghost use Rattle.jc_text.specs.Sends.{Sends};
 ghost use Rattle.jc_list.specs.Texts.{shown_text};
-ghost use Rattle.jc_list.specs.ClassLines.{class_lines, count_line, flags_line, interface_line, name_line, super_line, super_text, version_line};
+ghost use Rattle.jc_list.specs.ClassLines.{class_lines, count_line, flags_line, interface_line};
+ghost use Rattle.jc_list.specs.ClassLines.{name_line, super_line, super_text, version_line};
 
 use crate::texts::{write_flags, write_number_behind, write_text, write_text_behind};
 use jc_base::Output;

@@ -27,7 +27,8 @@ pub(crate) fn write_code_line<W: Output>(out: &mut TextWriter<'_, W>, code: &Cod
 
 /// The instructions, and where they end if that is before the end of the code.
 pub(crate) fn write_all_insn_lines<W: Output>(out: &mut TextWriter<'_, W>, code: &Code)
-    ensures { Sends W.written W.failures out.old out.new (flat_map (insn_lines code.now.class) (insns_of code.now.code.code) ++ cut_line code.now.code) }
+    ensures { Sends W.written W.failures out.old out.new
+        (flat_map (insn_lines code.now.class) (insns_of code.now.code.code) ++ cut_line code.now.code) }
 {
     let bytes = code.bytes();
     let mut insns = Insns::new(bytes);

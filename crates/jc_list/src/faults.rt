@@ -1,12 +1,12 @@
 //! A line for each fault.
 
-ghost use Rattle.std.specs.Prelude.{◌≡◌, ◌==◌, IfOk, length, map, not};
+ghost use Rattle.std.specs.Prelude.{◌≡◌, ◌==◌, IfOk, length, not};
 ghost use Rattle.std.specs.List.{flat_map};
 ghost use Rattle.jc_text.specs.Sends.{Sends};
 ghost use Rattle.jc_view.specs.declared.attribute_kind.Holder.TheVariants as holders;
 ghost use Rattle.jc_rules.specs.Faults.{faults};
 ghost use Rattle.jc_list.specs.FaultLines.{code_fault_line, format_line};
-ghost use Rattle.jc_code.specs.MethodFaults.{code_faults, method_faults};
+ghost use Rattle.jc_code.specs.MethodFaults.{code_faults, method_faults, numbered_faults};
 ghost use Rattle.jc_list.specs.inside.Fronts.{Lists};
 
 use crate::texts::{write_number, write_number_behind};
@@ -81,7 +81,8 @@ fn write_method_faults<W: Output>(
 ) -> Result<bool, NoMemory>
     requires class { method.now.class ≡ sizes.now }
     requires holder { method.now.member.holder ≡ holders.Method }
-    ensures lists { Lists W.written W.failures result out.old out.new (flat_map code_fault_line (map (λ fault. (number, fault)) (method_faults sizes.now method.now.member.member))) }
+    ensures lists { Lists W.written W.failures result out.old out.new
+        (flat_map code_fault_line (numbered_faults sizes.now number method.now.member.member)) }
     ensures some { IfOk result (λ some. some ≡ not (length (method_faults sizes.now method.now.member.member) == 0)) }
 {
     let Some(code) = method_code(method) else {

@@ -103,7 +103,8 @@ fn write_counted_entry<W: Output>(
     index: ConstantIndex,
     count: u8,
 )
-    ensures { Sends W.written W.failures out.old out.new (codes " " ++ index_text index ++ blank_decimal count ++ reference_text class.now index) }
+    ensures { Sends W.written W.failures out.old out.new
+        (codes " " ++ index_text index ++ blank_decimal count ++ reference_text class.now index) }
 {
     out.text(b" ");
     write_index(out, index);

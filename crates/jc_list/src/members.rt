@@ -21,7 +21,8 @@ pub(crate) fn write_members<W: Output>(
     word: &[u8],
     flags: &[AccessFlag],
 ) -> Result<(), NoMemory>
-    ensures { Lists W.written W.failures result out.old out.new (flat_map (member_lines members.entry.class word.now flags.now) members.entry.left) }
+    ensures { Lists W.written W.failures result out.old out.new
+        (flat_map (member_lines members.entry.class word.now flags.now) members.entry.left) }
 {
     for member in members {
         write_member(alloc, out, &member, word, flags)?;

@@ -1,9 +1,8 @@
 //! Switches, and a line for each of their targets.
 
-ghost use Rattle.std.specs.Prelude.{◌++◌, codes, length};
 ghost use Rattle.std.specs.List.{flat_map};
 ghost use Rattle.jc_text.specs.Sends.{Sends};
-ghost use Rattle.jc_list.specs.InsnLines.{blank_decimal, blank_signed, case_line, switch_line, target_lines};
+ghost use Rattle.jc_list.specs.InsnLines.{case_line, lookup_switch_text, switch_line, table_switch_text, target_lines};
 
 use crate::texts::{write_number, write_number_behind};
 use jc_base::Output;
@@ -12,7 +11,7 @@ use jc_text::TextWriter;
 
 /// The lowest and the highest value, and the target for all others.
 pub(crate) fn write_table_switch<W: Output>(out: &mut TextWriter<'_, W>, switch: &TableSwitch)
-    ensures { Sends W.written W.failures out.old out.new (blank_signed switch.now.low ++ blank_signed switch.now.high ++ codes " default" ++ blank_signed switch.now.default) }
+    ensures { Sends W.written W.failures out.old out.new (table_switch_text switch.now) }
 {
     write_number(out, switch.low);
     write_number(out, switch.high);
@@ -22,7 +21,7 @@ pub(crate) fn write_table_switch<W: Output>(out: &mut TextWriter<'_, W>, switch:
 
 /// How many values have a target, and the target for all others.
 pub(crate) fn write_lookup_switch<W: Output>(out: &mut TextWriter<'_, W>, switch: &LookupSwitch)
-    ensures { Sends W.written W.failures out.old out.new (blank_decimal (length switch.now.cases.left) ++ codes " default" ++ blank_signed switch.now.default) }
+    ensures { Sends W.written W.failures out.old out.new (lookup_switch_text switch.now) }
 {
     write_number(out, switch.cases().len());
     out.text(b" default");

@@ -5,7 +5,8 @@ ghost use Rattle.std.specs.Option.{option_copied};
 ghost use Rattle.jc_text.specs.Sends.{Sends};
 ghost use Rattle.jc_view.specs.Lookups.{utf8_at};
 ghost use Rattle.jc_view.specs.Lent.{constant_of};
-ghost use Rattle.jc_list.specs.Texts.{flag_text, flags_text, index_text, index_with_reference, member_reference, reference_of, reference_text, shown_text};
+ghost use Rattle.jc_list.specs.Texts.{flag_text, flags_text, index_text, index_with_reference};
+ghost use Rattle.jc_list.specs.Texts.{member_reference, reference_of, reference_text, shown_text};
 
 use itoa::Integer;
 use jc_base::Output;

@@ -1,3 +1,4 @@
+pub mod errors
 pub mod lines
 pub mod rows
 pub mod trees

@@ -38,7 +38,9 @@ is_loaded loading.Outside = false
 is_loaded (loading.Fails e x) = false
 
 abbrev pub open_rows : Facts → List Row
-open_rows f = class_row f.name ∷ map (member_row f.name kinds.Field) (filter is_open f.fields) ++ map (member_row f.name kinds.Method) (filter is_open_method f.methods)
+open_rows f =
+    class_row f.name ∷ map (member_row f.name kinds.Field) (filter is_open f.fields)
+    ++ map (member_row f.name kinds.Method) (filter is_open_method f.methods)
 
 -- a public class that loads provides itself and its open members
 abbrev pub provided_rows : Facts → Part → List Row
@@ -60,9 +62,9 @@ is_missing errors.Instantiation = false
 abbrev pub is_required : Answer → Bool
 is_required (answer.ToClass c flags) = false
 is_required (answer.ToMember c x) = false
-is_required (answer.Beyond n) = true
+is_required (answer.Outside n) = true
 is_required answer.NotLoaded = false
-is_required (answer.Wrong e n) = is_missing e
+is_required (answer.Error e n) = is_missing e
 
 abbrev pub reference_row : Reference → Row
 reference_row r = record { class = text_of r.named; kind = r.kind; key = r.key }

@@ -1,4 +1,5 @@
 pub mod ClassRows
+pub mod ErrorsText
 pub mod FileRowText
 pub mod FileRowView
 pub mod FileRows

@@ -49,9 +49,9 @@ error_text error name = codes "error " ++ decimal (error_code error) ++ codes " 
 abbrev pub answer_text : Answer → List ℕ
 answer_text (answer.ToClass class flags) = codes "To " ++ shown class
 answer_text (answer.ToMember class x) = codes "To " ++ member_text class (key_of x)
-answer_text (answer.Beyond name) = codes "Outside " ++ shown name
+answer_text (answer.Outside name) = codes "Outside " ++ shown name
 answer_text answer.NotLoaded = codes "NotLoaded"
-answer_text (answer.Wrong error name) = error_text error name
+answer_text (answer.Error error name) = error_text error name
 
 abbrev pub load_text : Loading → List ℕ
 load_text loading.Loaded = codes "loaded"
@@ -70,11 +70,19 @@ abbrev pub method_fault_line : ℕ × CodeFault → List ℕ
 method_fault_line fault = codes "  " ++ code_fault_line fault
 
 -- an instruction that does not link
+abbrev pub link_text : LinkFault → List ℕ
+link_text link =
+    codes "link " ++ decimal link.method ++ codes " " ++ decimal link.place ++ codes " " ++ error_text link.error link.class ++ codes "\n"
+
 abbrev pub link_line : LinkFault → List ℕ
-link_line link = codes "  link " ++ decimal link.method ++ codes " " ++ decimal link.place ++ codes " " ++ error_text link.error link.class ++ codes "\n"
+link_line link = codes "  " ++ link_text link
+
+-- a reference and the answer to it
+abbrev pub answered_text : Reference → Answer → List ℕ
+answered_text r a = codes "#" ++ decimal r.index ++ codes " " ++ reference_text r ++ codes " -> " ++ answer_text a ++ codes "\n"
 
 abbrev pub answer_line : Reference → Answer → List ℕ
-answer_line r a = codes "  #" ++ decimal r.index ++ codes " " ++ reference_text r ++ codes " -> " ++ answer_text a ++ codes "\n"
+answer_line r a = codes "  " ++ answered_text r a
 
 -- the answer to each reference
 abbrev pub answer_lines : List Reference → List Answer → List ℕ
@@ -84,4 +92,6 @@ answer_lines (r ∷ rs) (a ∷ answers) = answer_line r a ++ answer_lines rs ans
 
 -- the part of the class that the facts are of
 unfoldable pub part_text : Facts → Part → List ℕ
-part_text f p = load_line f.name p.load ++ flat_map format_fault_line p.format_faults ++ flat_map method_fault_line p.code_faults ++ flat_map link_line p.links ++ answer_lines f.references p.answers
+part_text f p =
+    load_line f.name p.load ++ flat_map format_fault_line p.format_faults ++ flat_map method_fault_line p.code_faults
+    ++ flat_map link_line p.links ++ answer_lines f.references p.answers

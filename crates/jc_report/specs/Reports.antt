@@ -1,5 +1,6 @@
 -- The report of files.
-use Rattle.std.specs.Prelude.{◌≡◌, ℕ, ◌==◌, Bool, true, false, ◌||◌, not, List, map, length, Option, Some, None, Result, Ok, Err, option_and_then}
+use Rattle.std.specs.Prelude.{◌≡◌, ℕ, ◌==◌, Bool, true, false, ◌||◌, not, List, map, length}
+use Rattle.std.specs.Prelude.{Option, Some, None, Result, Ok, Err, option_and_then}
 use Rattle.std.specs.FinMap as fin
 use Rattle.std.specs.List.{All, Contains, filter, list_any}
 use Rattle.std.specs.List.Sorted.{IsStrictlySortedBy}
@@ -15,7 +16,7 @@ use Rattle.jc_classes.specs.Parts.{IsPart, Part}
 use Rattle.jc_classes.specs.Resolution.{Answer}
 use Rattle.jc_classes.specs.Resolution.{Answer as answer}
 use Rattle.jc_classes.specs.Worlds.{World}
-use Rattle.jc_link.specs.Prefixes.{is_outside}
+use Rattle.jc_link.specs.Prefixes.{is_covered}
 use Rattle.jc_link.specs.Tables.{or_built_in, stands_by}
 use Rattle.jc_report.specs.Files.{Files}
 use Rattle.jc_report.specs.FileRows.{FileRow, is_unreadable, rows, winner}
@@ -37,7 +38,7 @@ facts_at f name = option_and_then (λ path. facts_there path (fin.get f path)) (
 
 -- a file's class, else the built-in one, else what is outside
 abbrev pub world_of : Files → List Name → World
-world_of f prefixes name = stands_by (or_built_in (facts_at f name) name) (is_outside prefixes name)
+world_of f prefixes name = stands_by (or_built_in (facts_at f name) name) (is_covered prefixes name)
 
 -- ---- reports
 
@@ -59,6 +60,10 @@ pub record Report : Type 0 where
 abbrev pub name_of : Class → Name
 name_of c = c.facts.name
 
+-- of those that are circular
+abbrev pub circular_names : List Class → List Name
+circular_names classes = map name_of (filter (λ c. c.part.circular) classes)
+
 -- the class is what the files give of its name, with the part that it has over all of them
 pub record IsClassOf (f : Files) (prefixes : List Name) (c : Class) : Type 0 where
   pub facts : facts_at f (name_of c) ≡ Some c.facts
@@ -75,7 +80,7 @@ pub record IsReport (f : Files) (prefixes : List Name) (r : Report) : Type 0 whe
   pub rises : IsStrictlySortedBy name_cmp (map name_of r.classes)
   pub sound : All (IsClassOf f prefixes) r.classes
   pub complete : (name : Name) (c : Facts) → facts_at f name ≡ Some c → Contains (map name_of r.classes) name
-  pub circular : r.circular ≡ map name_of (filter (λ c. c.part.circular) r.classes)
+  pub circular : r.circular ≡ circular_names r.classes
   pub provided : AreRows r.provided (GivesRow provided_rows r.classes)
   pub required : AreRows r.required (GivesRow required_rows r.classes)
 
@@ -89,13 +94,15 @@ is_load_error (loading.Fails e x) = true
 abbrev pub is_error : Answer → Bool
 is_error (answer.ToClass c flags) = false
 is_error (answer.ToMember c x) = false
-is_error (answer.Beyond n) = false
+is_error (answer.Outside n) = false
 is_error answer.NotLoaded = false
-is_error (answer.Wrong e n) = true
+is_error (answer.Error e n) = true
 
 -- a format or code fault, a load error, an instruction that does not link or an error answer
 abbrev pub is_wrong_part : Part → Bool
-is_wrong_part p = not (length p.format_faults == 0) || not (length p.code_faults == 0) || is_load_error p.load || not (length p.links == 0) || list_any is_error p.answers
+is_wrong_part p =
+    not (length p.format_faults == 0) || not (length p.code_faults == 0) || is_load_error p.load
+    || not (length p.links == 0) || list_any is_error p.answers
 
 -- an unreadable file, or a class with one of these
 abbrev pub is_wrong : Report → Bool

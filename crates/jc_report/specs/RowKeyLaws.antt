@@ -17,4 +17,5 @@ RowsArePlain = (f : Files) (name : Name) (c : Facts) (p : Part) (row : Row) → 
     → (Contains (provided_rows c p) row → IsPlain row) × (Contains (required_rows c p) row → IsPlain row)
 
 abbrev pub KeysKeepOrder : Type 0
-KeysKeepOrder = (a b : Row) → IsPlain a → IsPlain b → (row_of (row_key a) ≡ a) × (row_cmp a b ≡ bytes_cmp (row_key a) (row_key b))
+KeysKeepOrder =
+    (a b : Row) → IsPlain a → IsPlain b → (row_of (row_key a) ≡ a) × (row_cmp a b ≡ bytes_cmp (row_key a) (row_key b))

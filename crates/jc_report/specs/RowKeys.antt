@@ -1,5 +1,6 @@
 -- A row as one string of bytes.
-use Rattle.std.specs.Prelude.{◌≡◌, ℕ, ◌==◌, Bool, false, List, [], ◌∷◌, ◌++◌, drop, if◌then◌else◌, map, slice_index_or}
+use Rattle.std.specs.Prelude.{◌≡◌, ℕ, ◌==◌, Bool, false, if◌then◌else◌}
+use Rattle.std.specs.Prelude.{List, [], ◌∷◌, ◌++◌, drop, map, slice_index_or}
 use Rattle.std.specs.List.{list_any}
 use Rattle.jc_classes.specs.declared.reference_kind.ReferenceKind.{ReferenceKind}
 use Rattle.jc_classes.specs.declared.reference_kind.ReferenceKind.TheVariants as kinds
@@ -36,10 +37,16 @@ after_zero (b ∷ bs) = if b == 0 then bs else after_zero bs
 
 -- the kind of its number
 abbrev pub kind_of : ℕ → ReferenceKind
-kind_of number = if number == 0 then kinds.Class else (if number == 1 then kinds.Field else (if number == 2 then kinds.Method else kinds.InterfaceMethod))
+kind_of number =
+    if number == 0 then kinds.Class else (if number == 1 then kinds.Field
+    else (if number == 2 then kinds.Method else kinds.InterfaceMethod))
 
 abbrev pub row_of : List ℕ → Row
 row_of key =
     let rest = after_zero key in
     let texts = drop 1 rest in
-    record { class = before_zero key; kind = kind_of (slice_index_or rest 0 0); key = record { name = before_zero texts; descriptor = after_zero texts } }
+    record {
+      class = before_zero key;
+      kind = kind_of (slice_index_or rest 0 0);
+      key = record { name = before_zero texts; descriptor = after_zero texts };
+    }

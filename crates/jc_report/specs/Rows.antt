@@ -23,7 +23,10 @@ kind_number kinds.InterfaceMethod = 3
 
 -- by class, then by kind, then by name, then by descriptor
 abbrev pub row_cmp : Row → Row → Ordering
-row_cmp a b = ordering_then (name_cmp a.class b.class) (ordering_then (nat_cmp (kind_number a.kind) (kind_number b.kind)) (ordering_then (name_cmp a.key.name b.key.name) (name_cmp a.key.descriptor b.key.descriptor)))
+row_cmp a b =
+    ordering_then (name_cmp a.class b.class)
+    (ordering_then (nat_cmp (kind_number a.kind) (kind_number b.kind))
+    (ordering_then (name_cmp a.key.name b.key.name) (name_cmp a.key.descriptor b.key.descriptor)))
 
 -- the rows of which P holds, in their order, each once
 pub record AreRows (rows : List Row) (P : Row → Type 0) : Type 0 where

@@ -28,6 +28,10 @@ pub record IsTree (f : Files) (t : Tree) : Type 0 where
   pub outcomes : fin.entries t.outcomes ≡ map outcome (fin.entries f)
   pub classes : (name : Name) → class_at t.classes name ≡ facts_at f name
 
+-- it is kept of these files and of one more, where none stood
+abbrev pub HasOneMore : Files → (path bytes : List ℕ) → Tree → Type 0
+HasOneMore f path bytes t = (fin.contains_key f path ≡ false) × IsTree (fin.insert f path bytes) t
+
 -- a file is refused where one stands at its path, and else only for memory
 abbrev pub is_there : AddError → Bool
 is_there errors.AlreadyThere = true

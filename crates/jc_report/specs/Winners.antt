@@ -12,4 +12,5 @@ NamesAt f path name = (bytes : List ℕ) × (map.get f path ≡ Some bytes) × (
 
 -- the file at the path names the class, and each other that does has a greater path
 abbrev pub IsWinner : Files → List ℕ → List ℕ → Type 0
-IsWinner f name path = NamesAt f path name × ((other : List ℕ) → NamesAt f other name → other ≢ path → bytes_cmp path other ≡ Less)
+IsWinner f name path =
+    NamesAt f path name × ((other : List ℕ) → NamesAt f other name → other ≢ path → bytes_cmp path other ≡ Less)

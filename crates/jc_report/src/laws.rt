@@ -3,7 +3,7 @@
 ghost use Rattle.std.specs.Prelude.{◌≡◌, ◌↔◌, ℕ, List, Some, None};
 ghost use Rattle.jc_report.specs.Files.{Files};
 ghost use Rattle.jc_report.specs.FileRows.{winner};
-ghost use Rattle.jc_report.specs.ReportLaws.{ReportIsOne};
+ghost use Rattle.jc_report.specs.ReportLaws.{ErrorsAreTold, ReportIsOne, WrongAmongAll};
 ghost use Rattle.jc_report.specs.RowKeyLaws.{KeysKeepOrder, RowsArePlain};
 ghost use Rattle.jc_report.specs.Winners.{NamesAt, IsWinner};
 
@@ -20,6 +20,12 @@ pub fn winners_are_least()
 /// Files and outside prefixes have one report.
 pub fn report_is_one()
     ensures { ReportIsOne }
+{}
+
+/// The text of what makes a report wrong, of all that is asked for, is empty exactly where nothing of it is.
+pub fn errors_are_told()
+    ensures told { ErrorsAreTold }
+    ensures all { WrongAmongAll }
 {}
 
 /// The classes and names in the rows that a class file gives hold no byte 0.

@@ -3,6 +3,7 @@
 #![tactic(auto)]
 
 mod class_rows;
+mod errors_text;
 mod file_row;
 mod file_row_text;
 mod laws;
@@ -17,13 +18,16 @@ mod row_key;
 mod row_set;
 mod tree;
 
+pub use errors_text::write_errors;
 pub use file_row::{FileRow, FileState};
 pub use file_row_text::{write_file_row, write_refusal};
-pub use laws::{keys_keep_order, report_is_one, rows_are_plain, winners_are_least};
+pub use laws::{
+    errors_are_told, keys_keep_order, report_is_one, rows_are_plain, winners_are_least,
+};
 pub use part_text::write_part;
 pub use provided_rows::{ProvidedRows, provided_in_order};
-pub use report::{Class, Report, is_wrong_part};
-pub use report_text::{write_name, write_report, write_row};
+pub use report::{Class, TreeReport, is_wrong_part};
+pub use report_text::{Section, write_heading, write_name, write_report, write_row};
 pub use row::Row;
 pub use row_key::required_keys;
 pub use tree::{AddError, Tree};

@@ -6,7 +6,7 @@ ghost use Rattle.std.specs.Option.{option_map};
 ghost use Rattle.jc_classes.specs.Lent.{key_lent, member_lent};
 ghost use Rattle.jc_report.specs.RowView.{row_lent};
 ghost use Rattle.jc_report.specs.inside.MemberRows as member_rows;
-ghost use Rattle.jc_report.specs.inside.MemberRows.{key_row, keys_after, members_by, open_key, open_keys};
+ghost use Rattle.jc_report.specs.inside.MemberRows.{key_row, members_by, open_key, rows_by};
 
 use crate::class_rows::{is_open, is_open_method};
 use crate::row::Row;
@@ -25,22 +25,22 @@ pub(crate) struct MemberRows<'a> {
 }
 
 impl<'a> Model for MemberRows<'a> {
-    ghost use Rattle.std.specs.Prelude.{List, map};
+    ghost use Rattle.std.specs.Prelude.{List};
     ghost use Rattle.std.specs.Option.{option_map};
     ghost use Rattle.std.specs.Slice.Iter.{iter_rest};
     ghost use Rattle.jc_classes.specs.Lent.{key_lent};
     ghost use Rattle.jc_report.specs.Rows as rows;
-    ghost use Rattle.jc_report.specs.inside.MemberRows.{key_row, keys_after, open_keys};
+    ghost use Rattle.jc_report.specs.inside.MemberRows.{rows_after};
 
     ghost Value = { List rows.Row };
 
-    ghost view = { λ a. map (key_row a.facts.now.name a.kind) (keys_after (option_map key_lent a.last) (open_keys a.kind a.facts.now (iter_rest a.order))) };
+    ghost view = { λ a. rows_after a.kind a.facts.now (option_map key_lent a.last) (iter_rest a.order) };
 }
 
 impl<'a> MemberRows<'a> {
     /// The rows of the fields, or else of the methods, by their numbers in order.
     pub(crate) fn of(facts: &'a Facts, kind: ReferenceKind, order: &'a [u16]) -> MemberRows<'a>
-        ensures { result ≡ map (key_row facts.now.name kind) (keys_after None (open_keys kind facts.now order.now)) }
+        ensures { result ≡ rows_by kind facts.now order.now }
     {
         MemberRows {
             facts,

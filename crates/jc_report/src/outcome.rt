@@ -11,11 +11,11 @@ use std::marker::Model;
 
 /// The name of the class that a file names, or why it names none.
 #[derive(Drop)]
-pub(crate) struct Outcome {
+pub(crate) struct FileOutcome {
     class: Result<Vec<u8>, ParseError>,
 }
 
-impl Model for Outcome {
+impl Model for FileOutcome {
     ghost use Rattle.std.specs.Prelude.{List, Result, ℕ};
     ghost use Rattle.jc_view.specs.declared.parse_error.ParseError.{ParseError};
     ghost use Rattle.jc_report.specs.inside.Outcomes.{outcome_held};
@@ -25,20 +25,20 @@ impl Model for Outcome {
     ghost view = { λ outcome. outcome_held outcome.class };
 }
 
-impl Outcome {
+impl FileOutcome {
     /// A class's name.
-    pub(crate) fn named(alloc: Global, name: &[u8]) -> Result<Outcome, NoMemory>
+    pub(crate) fn named(alloc: Global, name: &[u8]) -> Result<FileOutcome, NoMemory>
         ensures { IfOk result (λ outcome. outcome ≡ Ok name.now) }
     {
         let class = Ok(Vec::from_slice(alloc, name)?);
-        Ok(Outcome { class })
+        Ok(FileOutcome { class })
     }
 
     /// The refusal of a file that names no class.
-    pub(crate) fn refused(refusal: ParseError) -> Outcome
+    pub(crate) fn refused(refusal: ParseError) -> FileOutcome
         ensures { result ≡ Err refusal }
     {
-        Outcome {
+        FileOutcome {
             class: Err(refusal),
         }
     }

@@ -8,7 +8,9 @@ ghost use Rattle.jc_classes.specs.Facts.{Key as KeyValue};
 ghost use Rattle.jc_classes.specs.Lent.{key_lent, reference_lent};
 ghost use Rattle.jc_resolve.specs.Answers.{answer_of, loading_of};
 ghost use Rattle.jc_resolve.specs.Linked.{link_lent};
-ghost use Rattle.jc_report.specs.PartText.{answer_line, answer_lines, answer_text, error_text, format_fault_line, kind_text, link_line, load_line, load_text, member_text, method_fault_line, named_text, part_text, reference_text};
+ghost use Rattle.jc_report.specs.PartText.{answer_line, answer_lines, answer_text, answered_text, error_text, format_fault_line, kind_text};
+ghost use Rattle.jc_report.specs.PartText.{link_line, link_text, load_line, load_text, member_text, method_fault_line, named_text};
+ghost use Rattle.jc_report.specs.PartText.{part_text, reference_text};
 
 use jc_base::Output;
 use jc_classes::{Facts, Key, LinkageError, Reference, ReferenceKind};
@@ -51,7 +53,7 @@ fn write_load<W: Output>(out: &mut TextWriter<'_, W>, load: &Loading)
 }
 
 /// An error, and the name of the class at fault.
-fn write_error<W: Output>(out: &mut TextWriter<'_, W>, error: LinkageError, name: &[u8])
+pub(crate) fn write_error<W: Output>(out: &mut TextWriter<'_, W>, error: LinkageError, name: &[u8])
     ensures { Sends W.written W.failures out.old out.new (error_text error name.now) }
 {
     out.text(b"error ");
@@ -110,7 +112,15 @@ fn write_links<W: Output>(out: &mut TextWriter<'_, W>, links: Links<'_>)
 fn write_link<W: Output>(out: &mut TextWriter<'_, W>, link: Link<'_>)
     ensures { Sends W.written W.failures out.old out.new (link_line (link_lent link.entry)) }
 {
-    out.text(b"  link ");
+    out.text(b"  ");
+    write_link_text(out, link);
+}
+
+/// An instruction that does not link, and LF.
+pub(crate) fn write_link_text<W: Output>(out: &mut TextWriter<'_, W>, link: Link<'_>)
+    ensures { Sends W.written W.failures out.old out.new (link_text (link_lent link.entry)) }
+{
+    out.text(b"link ");
     out.decimal(link.method);
     out.text(b" ");
     out.decimal(link.place);
@@ -138,7 +148,19 @@ fn write_answer_line<W: Output>(
 )
     ensures { Sends W.written W.failures out.old out.new (answer_line (reference_lent reference.entry) (answer_of answer.entry)) }
 {
-    out.text(b"  #");
+    out.text(b"  ");
+    write_answered(out, reference, answer);
+}
+
+/// A reference and the answer to it, and LF.
+pub(crate) fn write_answered<W: Output>(
+    out: &mut TextWriter<'_, W>,
+    reference: Reference<'_>,
+    answer: Answer<'_>,
+)
+    ensures { Sends W.written W.failures out.old out.new (answered_text (reference_lent reference.entry) (answer_of answer.entry)) }
+{
+    out.text(b"#");
     out.decimal(reference.index);
     out.text(b" ");
     write_reference(out, reference);
@@ -189,7 +211,8 @@ fn write_member<W: Output>(
     name: &[u8],
     descriptor: &[u8],
 )
-    ensures { (key : KeyValue) → key.name ≡ name.now → key.descriptor ≡ descriptor.now → Sends W.written W.failures out.old out.new (member_text class.now key) }
+    ensures { (key : KeyValue) → key.name ≡ name.now → key.descriptor ≡ descriptor.now
+        → Sends W.written W.failures out.old out.new (member_text class.now key) }
 {
     out.shown(class);
     write_shown(out, b".", name);

@@ -59,7 +59,8 @@ fn rows_by<'a>(
     fields: &'a [u16],
     methods: &'a [u16],
 ) -> ProvidedRows<'a>
-    ensures { result ≡ map row_lent (option_to_list class.entry) ++ rows_by kinds.Field facts.now fields.now ++ rows_by kinds.Method facts.now methods.now }
+    ensures { result ≡ map row_lent (option_to_list class.entry)
+        ++ rows_by kinds.Field facts.now fields.now ++ rows_by kinds.Method facts.now methods.now }
 {
     ProvidedRows {
         class,

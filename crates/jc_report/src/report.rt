@@ -1,7 +1,7 @@
 //! The report of a tree of class files.
 
 ghost use Rattle.std.specs.Prelude.{◌≡◌, ◌≤◌, ◌++◌, ◌==◌, [], not, IfOk, OnOk, length, map};
-ghost use Rattle.std.specs.List.{filter, list_any};
+ghost use Rattle.std.specs.List.{list_any};
 ghost use Rattle.std.specs.List.Sorted.{IsStrictlySortedBy};
 ghost use Rattle.jc_classes.specs.Names.{name_cmp};
 ghost use Rattle.jc_classes.specs.Parts.{IsPart};
@@ -10,16 +10,19 @@ ghost use Rattle.jc_link.specs.Tables.{world};
 ghost use Rattle.jc_resolve.specs.Answers.{kind_of, loading_of};
 ghost use Rattle.jc_report.specs.ClassRows.{provided_rows, required_rows};
 ghost use Rattle.jc_report.specs.Files.{Files};
-ghost use Rattle.jc_report.specs.FileRows.{is_unreadable, rows};
+ghost use Rattle.jc_report.specs.FileRows.{rows};
 ghost use Rattle.jc_report.specs.FileRowView as lent;
-ghost use Rattle.jc_report.specs.Reports.{GivesRow, IsReport, is_error, is_load_error, is_wrong, is_wrong_part, name_of};
+ghost use Rattle.jc_report.specs.Reports.{GivesRow, IsReport, circular_names, is_error, is_load_error, is_wrong};
+ghost use Rattle.jc_report.specs.Reports.{is_wrong_part, name_of};
+ghost use Rattle.jc_report.specs.ErrorsText.{is_wrong_among, is_wrong_class, is_wrong_file, prefixes_lent};
 ghost use Rattle.jc_report.specs.Rows.{AreRows};
 ghost use Rattle.jc_report.specs.RowView.{row_lent};
 ghost use Rattle.jc_report.specs.Trees.{IsTree};
 ghost use Rattle.jc_report.specs.inside.ReportShown.{AreClasses};
 
 use crate::class_rows::push_required;
-use crate::file_row::{FileRow, FileState};
+use crate::errors_text::{is_asked, is_unreadable};
+use crate::file_row::FileRow;
 use crate::provided_rows::{ProvidedRows, provided_in_order};
 use crate::row::Row;
 use crate::row_set::put_in_order;
@@ -41,7 +44,7 @@ pub struct Class<'t> {
 /// The report of a tree: what each file is, the part of each class, which of these are circular, and what
 /// they provide and require.
 #[derive(Drop)]
-pub struct Report<'t> {
+pub struct TreeReport<'t> {
     files: Vec<FileRow<'t>>,
     classes: Vec<Class<'t>>,
     provided: Vec<Row<'t>>,
@@ -56,7 +59,7 @@ impl<'t> Model for Class<'t> {
     ghost view = { λ a. record { facts = a.facts.now; part = a.part } };
 }
 
-impl<'t> Model for Report<'t> {
+impl<'t> Model for TreeReport<'t> {
     ghost use Rattle.jc_report.specs.Reports as specs;
 
     ghost Value = { specs.Report };
@@ -82,32 +85,32 @@ impl<'t> Class<'t> {
     }
 }
 
-impl<'t> Report<'t> {
+impl<'t> TreeReport<'t> {
     /// Makes the part of each class of a tree, once, by name, and the report of all.
     pub fn make(
         alloc: Global,
         tree: &'t Tree,
         outside: &Outside,
         meter: &mut Meter,
-    ) -> Result<Report<'t>, NoMemory>
+    ) -> Result<TreeReport<'t>, NoMemory>
         ensures report { (f : Files) → IsTree f tree.now → IfOk result (λ r. IsReport f outside.now r) }
         ensures made { IfOk result (λ r. meter.new.made ≡ counted meter.old.made (length r.classes)) }
         ensures made_rise { meter.old.made ≤ meter.new.made }
         ensures asks_rise { meter.old.asks ≤ meter.new.asks }
     {
-        let mut report = Report::empty(alloc);
+        let mut report = TreeReport::empty(alloc);
         report.fill(alloc, tree, outside, meter)?;
         Ok(report)
     }
 
     /// A report of nothing.
-    fn empty(alloc: Global) -> Report<'t>
+    fn empty(alloc: Global) -> TreeReport<'t>
         ensures files { result.files ≡ [] }
         ensures classes { result.classes ≡ [] }
         ensures provided { result.provided ≡ [] }
         ensures required { result.required ≡ [] }
     {
-        Report {
+        TreeReport {
             files: Vec::new(alloc),
             classes: Vec::new(alloc),
             provided: Vec::new(alloc),
@@ -143,7 +146,15 @@ impl<'t> Report<'t> {
     pub fn wrong(&self) -> bool
         ensures { result ≡ is_wrong self.now }
     {
-        has_unreadable(self.files()) || has_wrong_part(self.classes())
+        self.wrong_among(None)
+    }
+
+    /// Whether such a file or class is among those whose paths and names begin with one of these prefixes, or
+    /// among all.
+    pub fn wrong_among(&self, only: Option<&Outside>) -> bool
+        ensures { result ≡ is_wrong_among (prefixes_lent only.entry) self.now }
+    {
+        has_unreadable(self.files(), only) || has_wrong_part(self.classes(), only)
     }
 
     /// What each file is, by path.
@@ -156,7 +167,7 @@ impl<'t> Report<'t> {
     /// The classes that the files give, by name.
     pub fn classes(&self) -> &[Class<'t>]
         ensures by_name { result.now ≡ self.now.classes }
-        ensures circular { self.now.circular ≡ map name_of (filter (λ c. c.part.circular) result.now) }
+        ensures circular { self.now.circular ≡ circular_names result.now }
     {
         self.classes.as_slice()
     }
@@ -235,7 +246,8 @@ fn part_of(
 /// What the classes provide, which rise by name.
 fn fill_provided<'t>(rows: &mut Vec<Row<'t>>, classes: &[Class<'t>]) -> Result<(), NoMemory>
     requires { map row_lent rows.old.items ≡ [] }
-    ensures { IsStrictlySortedBy name_cmp (map name_of classes.now) → OnOk result (AreRows (map row_lent rows.new.items) (GivesRow provided_rows classes.now)) }
+    ensures { IsStrictlySortedBy name_cmp (map name_of classes.now)
+        → OnOk result (AreRows (map row_lent rows.new.items) (GivesRow provided_rows classes.now)) }
 {
     for class in classes {
         push_all(rows, provided_in_order(class.facts, &class.part))?;
@@ -265,26 +277,40 @@ fn fill_required<'t>(rows: &mut Vec<Row<'t>>, classes: &[Class<'t>]) -> Result<(
     Ok(())
 }
 
-fn has_unreadable(files: &[FileRow<'_>]) -> bool
-    ensures { result ≡ list_any is_unreadable (map lent.row_lent files.now) }
+fn has_unreadable(files: &[FileRow<'_>], only: Option<&Outside>) -> bool
+    ensures { result ≡ list_any (is_wrong_file (prefixes_lent only.entry)) (map lent.row_lent files.now) }
 {
     for row in files {
-        if let FileState::Unreadable(_) = row.state {
+        if is_wrong_file(row, only) {
             return true;
         }
     }
     false
 }
 
-fn has_wrong_part(classes: &[Class<'_>]) -> bool
-    ensures { result ≡ list_any (λ c. is_wrong_part c.part) classes.now }
+fn has_wrong_part(classes: &[Class<'_>], only: Option<&Outside>) -> bool
+    ensures { result ≡ list_any (is_wrong_class (prefixes_lent only.entry)) classes.now }
 {
     for class in classes {
-        if is_wrong_part(&class.part) {
+        if is_wrong_class(class, only) {
             return true;
         }
     }
     false
+}
+
+/// Whether a file is asked for and unreadable.
+pub(crate) fn is_wrong_file(row: &FileRow<'_>, only: Option<&Outside>) -> bool
+    ensures { result ≡ is_wrong_file (prefixes_lent only.entry) (lent.row_lent row.now) }
+{
+    is_asked(only, row.path) && is_unreadable(row)
+}
+
+/// Whether a class is asked for and wrong.
+fn is_wrong_class(class: &Class<'_>, only: Option<&Outside>) -> bool
+    ensures { result ≡ is_wrong_class (prefixes_lent only.entry) class.now }
+{
+    is_asked(only, class.facts.name()) && is_wrong_part(&class.part)
 }
 
 /// Whether a class has a fault or does not load, an instruction does not link, or a reference is answered by an

@@ -1,20 +1,20 @@
 //! What is kept of the files of a tree.
 
-ghost use Rattle.std.specs.Prelude.{◌≡◌, ◌≤◌, IfErr, IfOk, List, OnOk, Some, false, option_map, ℕ};
+ghost use Rattle.std.specs.Prelude.{◌≡◌, ◌≤◌, IfErr, IfOk, List, OnOk, Some, ℕ};
 ghost use Rattle.std.specs.FinMap as map;
 ghost use Rattle.jc_view.specs.Outcome.{class_named, class_read};
 ghost use Rattle.jc_view.specs.Refusal.{IsNamed};
 ghost use Rattle.jc_classes.specs.FactsOf.{facts_of};
-ghost use Rattle.jc_link.specs.Tables.{class_at, record_at};
+ghost use Rattle.jc_link.specs.Tables.{class_at};
 ghost use Rattle.jc_report.specs.declared.tree.AddError.TheVariants as errors;
 ghost use Rattle.jc_report.specs.Files.{Files};
 ghost use Rattle.jc_report.specs.FileRows.{state_by, state_of};
 ghost use Rattle.jc_report.specs.FileRowView.{state_lent};
-ghost use Rattle.jc_report.specs.Trees.{IsTree, is_there};
-ghost use Rattle.jc_report.specs.inside.Kept.{kept, kept_read, put_back};
+ghost use Rattle.jc_report.specs.Trees.{HasOneMore, IsTree, is_there};
+ghost use Rattle.jc_report.specs.inside.Kept.{kept, kept_read, path_kept, put_back};
 
 use crate::file_row::FileState;
-use crate::outcome::Outcome;
+use crate::outcome::FileOutcome;
 use jc_base::{ByteMap, NoMemory};
 use jc_classes::{Facts, less};
 use jc_file::{ClassView, ParseError, parse};
@@ -28,7 +28,7 @@ use std::marker::Model;
 #[derive(Drop)]
 pub struct Tree {
     alloc: Global,
-    pub(crate) outcomes: ByteMap<Outcome>,
+    pub(crate) outcomes: ByteMap<FileOutcome>,
     pub(crate) table: Table,
 }
 
@@ -43,15 +43,13 @@ pub enum AddError {
 
 impl Model for Tree {
     ghost use Rattle.jc_report.specs.Trees as specs;
-    ghost use Rattle.std.specs.Coded.{coded_list, coded_result, coded_ℕ};
-    ghost use Rattle.std.specs.FinMap as map;
     ghost use Rattle.jc_link.specs.contracts.table.Table as tables;
     ghost use Rattle.jc_view.specs.contracts.parse_error.ParseError as refusals;
-    ghost use Rattle.jc_report.specs.inside.TreeCode.{tree_code};
+    ghost use Rattle.jc_report.specs.inside.TreeCode.{outcomes_code, tree_code};
 
     ghost Value = { specs.Tree };
 
-    ghost coded = { tree_code (map.code (coded_list coded_ℕ) (coded_result (coded_list coded_ℕ) refusals.the_row.coded)) tables.the_row.coded };
+    ghost coded = { tree_code (outcomes_code refusals.the_row.coded) tables.the_row.coded };
 
     ghost view = { λ a. record { outcomes = a.outcomes; classes = a.table } };
 }
@@ -89,7 +87,7 @@ impl Tree {
     /// The tree with one more file. Of several files that name one class the one whose path is least gives
     /// it, in whatever order they are added.
     pub fn add(self, path: &[u8], bytes: &[u8]) -> Result<Tree, AddError>
-        ensures ok { (f : Files) → IsTree f self → IfOk result (λ tree. (map.contains_key f path.now ≡ false) × IsTree (map.insert f path.now bytes.now) tree) }
+        ensures ok { (f : Files) → IsTree f self → IfOk result (HasOneMore f path.now bytes.now) }
         ensures err { (f : Files) → IsTree f self → IfErr result (λ e. map.contains_key f path.now ≡ is_there e) }
     {
         let mut tree = self;
@@ -99,7 +97,7 @@ impl Tree {
 
     /// Takes a file in. After an error nothing is said of the tree.
     fn take_in(&mut self, path: &[u8], bytes: &[u8]) -> Result<(), AddError>
-        ensures ok { (f : Files) → IsTree f self.old → OnOk result ((map.contains_key f path.now ≡ false) × IsTree (map.insert f path.now bytes.now) self.new) }
+        ensures ok { (f : Files) → IsTree f self.old → OnOk result (HasOneMore f path.now bytes.now self.new) }
         ensures err { (f : Files) → IsTree f self.old → IfErr result (λ e. map.contains_key f path.now ≡ is_there e) }
     {
         if self.contains(path) {
@@ -112,7 +110,7 @@ impl Tree {
     }
 
     /// Reads a file, and keeps its class where no lesser path gives it.
-    fn read(&mut self, path: &[u8], bytes: &[u8]) -> Result<Outcome, NoMemory>
+    fn read(&mut self, path: &[u8], bytes: &[u8]) -> Result<FileOutcome, NoMemory>
         ensures outcomes { self.new.outcomes ≡ self.old.outcomes }
         ensures classes { OnOk result (self.new.classes ≡ kept_read self.old.classes path.now (class_read bytes.now)) }
         ensures outcome { IfOk result (λ outcome. outcome ≡ class_named bytes.now) }
@@ -121,12 +119,12 @@ impl Tree {
         match parse(self.alloc, bytes) {
             Ok(view) => self.read_class(path, &view),
             Err(ParseError::NoMemory) => Err(NoMemory),
-            Err(refusal) => Ok(Outcome::refused(refusal)),
+            Err(refusal) => Ok(FileOutcome::refused(refusal)),
         }
     }
 
     /// Keeps the class of a file, unless one with a lesser path gives it.
-    fn read_class(&mut self, path: &[u8], view: &ClassView<'_>) -> Result<Outcome, NoMemory>
+    fn read_class(&mut self, path: &[u8], view: &ClassView<'_>) -> Result<FileOutcome, NoMemory>
         ensures outcomes { self.new.outcomes ≡ self.old.outcomes }
         ensures classes { OnOk result (self.new.classes ≡ kept self.old.classes path.now (facts_of path.now view.now)) }
         ensures named { IfOk result (λ outcome. (name : List ℕ) × IsNamed view.now name × (outcome ≡ Ok name)) }
@@ -135,7 +133,7 @@ impl Tree {
         if let Some(before) = self.put(facts)? {
             self.put_lesser(before, path)?;
         }
-        Outcome::named(self.alloc, view.name())
+        FileOutcome::named(self.alloc, view.name())
     }
 
     /// Puts a class back that was taken out for one from this path, where its own path is less.
@@ -163,10 +161,11 @@ impl Tree {
     pub(crate) fn state<'t>(
         &'t self,
         path: &'t [u8],
-        outcome: &'t Outcome,
+        outcome: &'t FileOutcome,
         meter: &mut Meter,
     ) -> FileState<'t>
-        ensures state { (f : Files) (bytes : List ℕ) → IsTree f self.now → map.get f path.now ≡ Some bytes → outcome.now ≡ class_named bytes → state_lent result ≡ state_of f path.now outcome.now }
+        ensures state { (f : Files) (bytes : List ℕ) → IsTree f self.now → map.get f path.now ≡ Some bytes
+            → outcome.now ≡ class_named bytes → state_lent result ≡ state_of f path.now outcome.now }
         ensures made { meter.new.made ≡ meter.old.made }
         ensures asks_rise { meter.old.asks ≤ meter.new.asks }
     {
@@ -178,7 +177,7 @@ impl Tree {
 
     /// What a file is that names a class.
     fn class_state<'t>(&'t self, path: &'t [u8], name: &'t [u8], meter: &mut Meter) -> FileState<'t>
-        ensures state { state_lent result ≡ state_by path.now name.now (option_map (λ facts. facts.path) (record_at self.now.classes name.now)) }
+        ensures state { state_lent result ≡ state_by path.now name.now (path_kept self.now.classes name.now) }
         ensures made { meter.new.made ≡ meter.old.made }
         ensures asks_rise { meter.old.asks ≤ meter.new.asks }
     {

@@ -1,4 +1,5 @@
 pub mod IfOks
-pub mod Look
+pub mod FieldWalk
+pub mod Looks
 pub mod Choose
 pub mod Chain

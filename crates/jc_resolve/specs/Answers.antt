@@ -14,17 +14,17 @@ use Rattle.jc_resolve.specs.declared.answers.AnswerKind.TheVariants as kinds
 abbrev pub answer_of : Answer → defs.Answer
 answer_of (made.ToClass n flags) = answer.ToClass n.now flags
 answer_of (made.ToMember n x) = answer.ToMember n.now (member_lent x)
-answer_of (made.Outside n) = answer.Beyond n.now
+answer_of (made.Outside n) = answer.Outside n.now
 answer_of made.NotLoaded = answer.NotLoaded
-answer_of (made.Error e n) = answer.Wrong e n.now
+answer_of (made.Error e n) = answer.Error e n.now
 
 -- what an answer says, without its texts
 abbrev pub kind_of : defs.Answer → AnswerKind
 kind_of (answer.ToClass n flags) = kinds.Found
 kind_of (answer.ToMember n x) = kinds.Found
-kind_of (answer.Beyond n) = kinds.Outside
+kind_of (answer.Outside n) = kinds.Outside
 kind_of answer.NotLoaded = kinds.NotLoaded
-kind_of (answer.Wrong e n) = kinds.Error e
+kind_of (answer.Error e n) = kinds.Error e
 
 abbrev pub loading_of : Loading → How
 loading_of loading.Loaded = how.Loaded

@@ -1,11 +1,16 @@
 -- Classes by numbers.
-use Rattle.std.specs.Prelude.{◌≡◌, ℕ, ◌<◌, List, [], map, length, slice_index_or}
+use Rattle.std.specs.Prelude.{◌≡◌, ℕ, ◌<◌, List, [], map, length, slice_index_or, Option, option_map}
 use Rattle.std.specs.List.{Contains}
 use Rattle.std.specs.declared.vec.Vec.{Vec}
 use Rattle.std.specs.declared.alloc.Global.{Global}
+use Rattle.jc_classes.specs.Facts.{Reference}
+use Rattle.jc_classes.specs.LinkErrors.{LinkFault, links_of}
+use Rattle.jc_classes.specs.Loading.{Load, Loading}
 use Rattle.jc_classes.specs.Names.{Name, names_of}
 use Rattle.jc_classes.specs.Numbers.{name_at, IsOnce}
-use Rattle.jc_classes.specs.Worlds.{World, Stands, supers_of}
+use Rattle.jc_classes.specs.Parts.{AreAnswers, class_of}
+use Rattle.jc_classes.specs.Resolution.{Answer}
+use Rattle.jc_classes.specs.Worlds.{World, Stands, references_of, supers_of}
 use Rattle.jc_classes.specs.Worlds.Stands.{Nothing}
 use Rattle.jc_classes.specs.Lent.{stands_of}
 use Rattle.jc_classes.specs.declared.standing.Standing.{Standing}
@@ -14,26 +19,51 @@ use Rattle.jc_classes.specs.declared.standing.Standing.{Standing}
 pub record Numbered : Type 0 where
   pub names : List Name
   pub records : List Stands
-  pub rows : List (List ℕ)
+  pub supertypes : List (List ℕ)
+
+abbrev pub node_name : Numbered → ℕ → Name
+node_name h i = name_at h.names i
 
 abbrev pub record_of : Numbered → ℕ → Stands
 record_of h i = slice_index_or h.records i Nothing
 
-abbrev pub row_of : Numbered → ℕ → List ℕ
-row_of h i = slice_index_or h.rows i []
+abbrev pub supertypes_of : Numbered → ℕ → List ℕ
+supertypes_of h i = slice_index_or h.supertypes i []
 
 -- as they are lent
 abbrev pub numbered : List (Vec ℕ Global) → List Standing → List (Vec ℕ Global) → Numbered
-numbered names standing ups = record { names = names_of names; records = map stands_of standing; rows = map (λ (v : Vec ℕ Global). v.items) ups }
+numbered names standing supertypes = record {
+  names = names_of names;
+  records = map stands_of standing;
+  supertypes = map (λ (v : Vec ℕ Global). v.items) supertypes;
+}
 
 -- each name stands once, and what is named as a supertype has a number
 pub record IsClosed (h : Numbered) : Type 0 where
   pub records : length h.records ≡ length h.names
-  pub size : length h.rows ≡ length h.names
+  pub size : length h.supertypes ≡ length h.names
   pub once : IsOnce h.names
-  pub within : (a b : ℕ) → Contains (row_of h a) b → b < length h.names
-  pub rows : (i : ℕ) → i < length h.names → map (name_at h.names) (row_of h i) ≡ supers_of (record_of h i)
+  pub within : (a b : ℕ) → Contains (supertypes_of h a) b → b < length h.names
+  pub supertypes : (i : ℕ) → i < length h.names → map (name_at h.names) (supertypes_of h i) ≡ supers_of (record_of h i)
 
 -- a world has at each name what stands there
 abbrev pub Agrees : World → Numbered → Type 0
 Agrees m h = (i : ℕ) → i < length h.names → m (name_at h.names i) ≡ record_of h i
+
+-- ---- the references of a class
+
+abbrev pub references_at : Numbered → ℕ → List Reference
+references_at h i = references_of (record_of h i)
+
+-- the numbers of the classes that references name
+abbrev pub AreClassesOf : Numbered → List Reference → List (Option ℕ) → Type 0
+AreClassesOf h rs nodes = map (option_map (name_at h.names)) nodes ≡ map (λ (r : Reference). class_of r.named) rs
+
+-- the errors of its instructions, where its references have these answers
+abbrev pub links_at : Numbered → ℕ → List Answer → List LinkFault
+links_at h i answers = links_of (node_name h i) (record_of h i) answers
+
+-- the answers to them, in every world that agrees
+abbrev pub TellsAnswers : Numbered → ℕ → List Answer → Type 0
+TellsAnswers h i answers = (m : World) (how : Loading) → Agrees m h → Load m (node_name h i) how
+    → AreAnswers m (node_name h i) how (references_at h i) answers

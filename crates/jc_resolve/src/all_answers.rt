@@ -1,26 +1,22 @@
 //! The answers to all references of a class.
 
-ghost use Rattle.std.specs.Prelude.{◌≡◌, ◌≢◌, ◌<◌, ℕ, length, map, Some, option_map, IfOk, IfSome, OnOk};
-ghost use Rattle.std.specs.List.{Contains};
+ghost use Rattle.std.specs.Prelude.{◌≡◌, ◌<◌, length, map, IfOk, IfSome, OnOk};
 ghost use Rattle.jc_classes.specs.Facts.{Reference};
-ghost use Rattle.jc_classes.specs.LinkErrors.{links_of};
-ghost use Rattle.jc_classes.specs.Parts.{AreAnswers, class_of};
-ghost use Rattle.jc_classes.specs.Worlds.{World, references_of};
-ghost use Rattle.jc_lookup.specs.inside.Indexed.{name_at, record_at, IsIndexed};
-ghost use Rattle.jc_lookup.specs.inside.Loading.{load_at};
-ghost use Rattle.jc_lookup.specs.inside.Shown.{indexed_of};
-ghost use Rattle.jc_lookup.specs.inside.Above.{Knows};
-ghost use Rattle.jc_resolve.specs.inside.Answered.{AreAnswered, AreNumbered, IsAnsweredAt};
-ghost use Rattle.jc_resolve.specs.inside.Resolved.{loading_of, TellsLoads, TellsGood};
+ghost use Rattle.jc_numbered.specs.inside.Shown.{indexed_of};
+ghost use Rattle.jc_resolve.specs.inside.Answered.{node_links, node_references, AreAnswered, AreNodesOf, AreNumbered, TellsNodeAnswers};
+ghost use Rattle.jc_resolve.specs.inside.Answered.{AreAllAnswered, IsAnsweredBefore, IsOneMore};
+ghost use Rattle.jc_resolve.specs.inside.Looks.{reach_of, size_of};
+ghost use Rattle.jc_resolve.specs.inside.Resolved.{TellsGood};
+ghost use Rattle.jc_resolve.specs.inside.Rooms.{IsRoom};
 
 use crate::answer_list::Answers;
 use crate::entry::Entry;
 use crate::linked::Linked;
-use crate::references::resolve;
+use crate::look::Look;
+use crate::room::Room;
 use jc_base::NoMemory;
 use jc_classes::{Facts, Standing};
-use jc_graph::Seen;
-use jc_lookup::{Above, Classes, Load};
+use jc_numbered::{Classes, Load};
 use std::alloc::Global;
 
 /// A reference by its number, and the number of the class that it names. Of those that name one class those that
@@ -58,41 +54,28 @@ fn by_class(alloc: Global, facts: &Facts, nodes: &[Option<usize>]) -> Result<Vec
     Ok(order)
 }
 
-/// Answers the reference of a number. `above` and `covered` are room to look in.
+/// Answers the reference of a number.
 fn answer_one(
     alloc: Global,
-    classes: &Classes,
-    loads: &[Load],
-    above: &mut Above,
-    covered: &mut Seen,
-    class: usize,
+    look: &Look,
+    room: &mut Room,
     facts: &Facts,
     nodes: &[Option<usize>],
     entries: &mut Vec<Entry>,
     number: usize,
 ) -> Result<(), NoMemory>
-    requires loads { length loads.now ≡ length classes.now.standing.now }
-    requires good { TellsGood (indexed_of classes.now) loads.now }
-    requires above { Knows (length classes.now.standing.now) (indexed_of classes.now) above.old }
-    requires covered { length covered.old.flags ≡ length classes.now.standing.now }
-    requires class { class < length classes.now.standing.now }
-    requires loaded { load_at loads.now class ≡ Load.Loaded }
-    requires nodes { map (option_map (name_at (indexed_of classes.now))) nodes.now ≡ map (λ (r : Reference). class_of r.named) facts.now.references }
-    requires within { (v : ℕ) → Contains nodes.now (Some v) → v < length classes.now.standing.now }
-    requires room { length entries.old.items ≡ length facts.now.references }
-    ensures above { OnOk result (Knows (length classes.now.standing.now) (indexed_of classes.now) above.new) }
-    ensures covered { OnOk result (length covered.new.flags ≡ length classes.now.standing.now) }
-    ensures room { OnOk result (length entries.new.items ≡ length facts.now.references) }
-    ensures answered { OnOk result ((at : ℕ) → (at ≢ number → IsAnsweredAt (indexed_of classes.now) loads.now class facts.now.references entries.old.items at)
-        → IsAnsweredAt (indexed_of classes.now) loads.now class facts.now.references entries.new.items at) }
+    requires nodes { AreNodesOf (size_of look.now) (reach_of look.now) facts.now.references nodes.now }
+    requires room { IsRoom look.now.classes.now room.old }
+    requires size { length entries.old.items ≡ length facts.now.references }
+    ensures room { OnOk result (IsRoom look.now.classes.now room.new) }
+    ensures size { OnOk result (length entries.new.items ≡ length facts.now.references) }
+    ensures answered { OnOk result (IsOneMore look.now facts.now.references number entries.old.items entries.new.items) }
 {
     let Some(reference) = facts.reference(number) else {
         return Ok(());
     };
     let node = nodes[number];
-    let entry = resolve(
-        alloc, classes, loads, above, covered, class, reference, node,
-    )?;
+    let entry = look.resolve(alloc, room, reference, node)?;
     entries[number] = entry;
     Ok(())
 }
@@ -101,33 +84,22 @@ fn answer_one(
 /// same.
 fn answer_next(
     alloc: Global,
-    classes: &Classes,
-    loads: &[Load],
-    above: &mut Above,
-    covered: &mut Seen,
-    class: usize,
+    look: &Look,
+    room: &mut Room,
     facts: &Facts,
     nodes: &[Option<usize>],
     entries: &mut Vec<Entry>,
     before: Option<usize>,
     number: usize,
 ) -> Result<(), NoMemory>
-    requires loads { length loads.now ≡ length classes.now.standing.now }
-    requires good { TellsGood (indexed_of classes.now) loads.now }
-    requires above { Knows (length classes.now.standing.now) (indexed_of classes.now) above.old }
-    requires covered { length covered.old.flags ≡ length classes.now.standing.now }
-    requires class { class < length classes.now.standing.now }
-    requires loaded { load_at loads.now class ≡ Load.Loaded }
-    requires nodes { map (option_map (name_at (indexed_of classes.now))) nodes.now ≡ map (λ (r : Reference). class_of r.named) facts.now.references }
-    requires within { (v : ℕ) → Contains nodes.now (Some v) → v < length classes.now.standing.now }
-    requires room { length entries.old.items ≡ length facts.now.references }
+    requires nodes { AreNodesOf (size_of look.now) (reach_of look.now) facts.now.references nodes.now }
+    requires room { IsRoom look.now.classes.now room.old }
+    requires size { length entries.old.items ≡ length facts.now.references }
     requires number { number < length facts.now.references }
-    requires before { IfSome before (λ b. (b < length facts.now.references) × IsAnsweredAt (indexed_of classes.now) loads.now class facts.now.references entries.old.items b) }
-    ensures above { OnOk result (Knows (length classes.now.standing.now) (indexed_of classes.now) above.new) }
-    ensures covered { OnOk result (length covered.new.flags ≡ length classes.now.standing.now) }
-    ensures room { OnOk result (length entries.new.items ≡ length facts.now.references) }
-    ensures answered { OnOk result ((at : ℕ) → (at ≢ number → IsAnsweredAt (indexed_of classes.now) loads.now class facts.now.references entries.old.items at)
-        → IsAnsweredAt (indexed_of classes.now) loads.now class facts.now.references entries.new.items at) }
+    requires before { IfSome before (IsAnsweredBefore look.now facts.now.references entries.old.items) }
+    ensures room { OnOk result (IsRoom look.now.classes.now room.new) }
+    ensures size { OnOk result (length entries.new.items ≡ length facts.now.references) }
+    ensures answered { OnOk result (IsOneMore look.now facts.now.references number entries.old.items entries.new.items) }
 {
     if let Some(before) = before
         && facts.are_alike(before, number)
@@ -135,43 +107,30 @@ fn answer_next(
         entries[number] = entries[before];
         return Ok(());
     }
-    answer_one(
-        alloc, classes, loads, above, covered, class, facts, nodes, entries, number,
-    )
+    answer_one(alloc, look, room, facts, nodes, entries, number)
 }
 
 /// Answers each reference of a class that loads. What is above a class that several name is walked once, and what
 /// several ask for is looked up once.
 fn answer_each(
     alloc: Global,
-    classes: &Classes,
-    loads: &[Load],
-    above: &mut Above,
-    covered: &mut Seen,
-    class: usize,
+    look: &Look,
+    room: &mut Room,
     facts: &Facts,
     nodes: &[Option<usize>],
     entries: &mut Vec<Entry>,
 ) -> Result<(), NoMemory>
-    requires loads { length loads.now ≡ length classes.now.standing.now }
-    requires good { TellsGood (indexed_of classes.now) loads.now }
-    requires above { Knows (length classes.now.standing.now) (indexed_of classes.now) above.old }
-    requires covered { length covered.old.flags ≡ length classes.now.standing.now }
-    requires class { class < length classes.now.standing.now }
-    requires loaded { load_at loads.now class ≡ Load.Loaded }
-    requires nodes { map (option_map (name_at (indexed_of classes.now))) nodes.now ≡ map (λ (r : Reference). class_of r.named) facts.now.references }
-    requires within { (v : ℕ) → Contains nodes.now (Some v) → v < length classes.now.standing.now }
-    requires room { length entries.old.items ≡ length facts.now.references }
-    ensures room { OnOk result (length entries.new.items ≡ length facts.now.references) }
-    ensures answered { OnOk result ((at : ℕ) → at < length facts.now.references → IsAnsweredAt (indexed_of classes.now) loads.now class facts.now.references entries.new.items at) }
+    requires nodes { AreNodesOf (size_of look.now) (reach_of look.now) facts.now.references nodes.now }
+    requires room { IsRoom look.now.classes.now room.old }
+    requires size { length entries.old.items ≡ length facts.now.references }
+    ensures size { OnOk result (length entries.new.items ≡ length facts.now.references) }
+    ensures answered { OnOk result (AreAllAnswered look.now facts.now.references entries.new.items) }
 {
     let order = by_class(alloc, facts, nodes)?;
     let mut before = None;
     for asked in &order {
         let number = asked.number;
-        answer_next(
-            alloc, classes, loads, above, covered, class, facts, nodes, entries, before, number,
-        )?;
+        answer_next(alloc, look, room, facts, nodes, entries, before, number)?;
         before = Some(number);
     }
     Ok(())
@@ -180,34 +139,16 @@ fn answer_each(
 /// The answers to the references of a class that loads, by the numbers of classes.
 fn answer_all(
     alloc: Global,
-    classes: &Classes,
-    loads: &[Load],
-    class: usize,
+    look: &Look,
     facts: &Facts,
     nodes: &[Option<usize>],
 ) -> Result<Vec<Entry>, NoMemory>
-    requires loads { length loads.now ≡ length classes.now.standing.now }
-    requires good { TellsGood (indexed_of classes.now) loads.now }
-    requires class { class < length classes.now.standing.now }
-    requires loaded { load_at loads.now class ≡ Load.Loaded }
-    requires nodes { map (option_map (name_at (indexed_of classes.now))) nodes.now ≡ map (λ (r : Reference). class_of r.named) facts.now.references }
-    requires within { (v : ℕ) → Contains nodes.now (Some v) → v < length classes.now.standing.now }
-    ensures { IfOk result (λ entries. AreAnswered (indexed_of classes.now) loads.now class facts.now.references entries.items) }
+    requires { AreNodesOf (size_of look.now) (reach_of look.now) facts.now.references nodes.now }
+    ensures { IfOk result (λ es. AreAnswered (reach_of look.now) look.now.loads.now look.now.class facts.now.references es.items) }
 {
-    let mut above = Above::new(alloc, classes.len())?;
-    let mut covered = Seen::new(alloc, classes.len())?;
+    let mut room = Room::new(alloc, look.classes)?;
     let mut entries = none_loaded(alloc, facts)?;
-    answer_each(
-        alloc,
-        classes,
-        loads,
-        &mut above,
-        &mut covered,
-        class,
-        facts,
-        nodes,
-        &mut entries,
-    )?;
+    answer_each(alloc, look, &mut room, facts, nodes, &mut entries)?;
     Ok(entries)
 }
 
@@ -230,12 +171,16 @@ fn entries_of(
     requires loads { length loads.now ≡ length classes.now.standing.now }
     requires good { TellsGood (indexed_of classes.now) loads.now }
     requires class { class < length classes.now.standing.now }
-    requires nodes { map (option_map (name_at (indexed_of classes.now))) nodes.now ≡ map (λ (r : Reference). class_of r.named) facts.now.references }
-    requires within { (v : ℕ) → Contains nodes.now (Some v) → v < length classes.now.standing.now }
+    requires nodes { AreNodesOf (length classes.now.standing.now) (indexed_of classes.now) facts.now.references nodes.now }
     ensures { IfOk result (λ entries. AreAnswered (indexed_of classes.now) loads.now class facts.now.references entries.items) }
 {
     if let Load::Loaded = loads[class] {
-        answer_all(alloc, classes, loads, class, facts, nodes)
+        let look = Look {
+            classes,
+            loads,
+            class,
+        };
+        answer_all(alloc, &look, facts, nodes)
     } else {
         none_loaded(alloc, facts)
     }
@@ -252,12 +197,9 @@ pub(crate) fn linked(
     requires loads { length loads.now ≡ length classes.now.standing.now }
     requires good { TellsGood (indexed_of classes.now) loads.now }
     requires class { class < length classes.now.standing.now }
-    requires nodes { map (option_map (name_at (indexed_of classes.now))) nodes.now ≡ map (λ (r : Reference). class_of r.named) (references_of (record_at (indexed_of classes.now) class)) }
-    requires within { (v : ℕ) → Contains nodes.now (Some v) → v < length classes.now.standing.now }
-    ensures answers { IfOk result (λ linked. (m : World) → TellsLoads m (indexed_of classes.now) (length classes.now.standing.now) loads.now
-        → IsIndexed m (indexed_of classes.now)
-        → AreAnswers m (name_at (indexed_of classes.now) class) (loading_of (indexed_of classes.now) (load_at loads.now class)) (references_of (record_at (indexed_of classes.now) class)) linked.answers) }
-    ensures links { IfOk result (λ linked. linked.links ≡ links_of (name_at (indexed_of classes.now) class) (record_at (indexed_of classes.now) class) linked.answers) }
+    requires nodes { AreNodesOf (length classes.now.standing.now) (indexed_of classes.now) (node_references classes.now class) nodes.now }
+    ensures answers { IfOk result (λ linked. TellsNodeAnswers classes.now loads.now class linked.answers) }
+    ensures links { IfOk result (λ linked. linked.links ≡ node_links classes.now class linked.answers) }
 {
     let facts = match classes.at(class) {
         Standing::Class(facts) => facts,

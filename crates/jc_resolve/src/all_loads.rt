@@ -2,18 +2,16 @@
 
 ghost use Rattle.std.specs.Prelude.{◌≡◌, ◌<◌, length, map, IfOk};
 ghost use Rattle.std.specs.List.{All};
-ghost use Rattle.jc_classes.specs.Worlds.{World};
-ghost use Rattle.jc_graph.specs.Graph.{TellsCircular, IsOrder};
-ghost use Rattle.jc_lookup.specs.inside.Indexed.{IsIndexed};
-ghost use Rattle.jc_lookup.specs.inside.Shown.{indexed_of};
+ghost use Rattle.jc_graph.specs.Graph.{TellsCircular};
+ghost use Rattle.jc_numbered.specs.inside.Shown.{indexed_of};
 ghost use Rattle.jc_graph.specs.Graph.{ups_of};
-ghost use Rattle.jc_resolve.specs.inside.Resolved.{TellsLoads};
-ghost use Rattle.jc_resolve.specs.inside.Loading.{load_of, is_good, TellsRank};
+ghost use Rattle.jc_resolve.specs.inside.Resolved.{AreLoads};
+ghost use Rattle.jc_resolve.specs.inside.Loading.{load_of, is_good, IsSorted, TellsRank};
 
 use jc_base::NoMemory;
 use jc_classes::{LinkageError, Standing};
 use jc_graph::Sorted;
-use jc_lookup::{Classes, Load, judge_each};
+use jc_numbered::{Classes, Load, judge_each};
 use std::alloc::Global;
 
 /// How a node loads, where it is known how its supertypes do.
@@ -37,7 +35,7 @@ fn load_one(classes: &Classes, circular: &[bool], loads: &[Load], node: usize) -
                     loads,
                     node,
                     facts.superclass().is_some(),
-                    classes.row(node),
+                    classes.supertypes(node),
                 )
             }
         }
@@ -50,11 +48,10 @@ pub(crate) fn load_all(
     classes: &Classes,
     sorted: &Sorted,
 ) -> Result<Vec<Load>, NoMemory>
-    requires circular { TellsCircular (ups_of classes.now.ups.now) (length classes.now.standing.now) sorted.now.circular.items }
-    requires order { IsOrder (ups_of classes.now.ups.now) (length classes.now.standing.now) sorted.now.circular.items sorted.now.order.items }
+    requires circular { TellsCircular (ups_of classes.now.supertypes.now) (length classes.now.standing.now) sorted.now.circular.items }
+    requires order { IsSorted (length classes.now.standing.now) (indexed_of classes.now) sorted.now }
     ensures size { IfOk result (λ v. length v.items ≡ length classes.now.standing.now) }
-    ensures loads { IfOk result (λ v. (m : World) → IsIndexed m (indexed_of classes.now)
-        → TellsLoads m (indexed_of classes.now) (length classes.now.standing.now) v.items) }
+    ensures loads { IfOk result (λ v. AreLoads (length classes.now.standing.now) (indexed_of classes.now) v.items) }
 {
     let mut loads = vec![in alloc; Load::Loaded; classes.len()]?;
     for at in 0..sorted.order.len() {

@@ -4,17 +4,17 @@ ghost use Rattle.std.specs.Prelude.{◌≡◌, ◌<◌, ℕ, [], Some, length, o
 ghost use Rattle.jc_classes.specs.Facts.{Reference as Refers};
 ghost use Rattle.jc_classes.specs.Lent.{reference_lent};
 ghost use Rattle.jc_classes.specs.Names.{Name};
-ghost use Rattle.jc_lookup.specs.inside.Indexed.{name_at};
-ghost use Rattle.jc_lookup.specs.inside.Shown.{indexed_of};
+ghost use Rattle.jc_numbered.specs.inside.Indexed.{name_at};
+ghost use Rattle.jc_numbered.specs.inside.Shown.{indexed_of};
 ghost use Rattle.jc_resolve.specs.Answers.{answer_of, kind_of};
-ghost use Rattle.jc_resolve.specs.inside.Entries.{IsFront, IsWithin, entries_shown, entry_shown, text_at};
+ghost use Rattle.jc_resolve.specs.inside.Entries.{IsFront, IsSame, IsWithin, entries_shown, entry_shown, text_at};
 ghost use Rattle.jc_resolve.specs.inside.Naming.{AreNames, AreSame, IsNumberOf, references_in};
 
 use crate::answers::{Answer, AnswerKind};
 use crate::entry::Entry;
 use jc_base::NoMemory;
 use jc_classes::{Member, Reference, References, TextList};
-use jc_lookup::Classes;
+use jc_numbered::Classes;
 use std::alloc::Global;
 use std::marker::Model;
 
@@ -99,7 +99,7 @@ impl Naming {
         ensures names { OnOk result (AreNames (name_at (indexed_of classes.now)) self.new) }
         ensures front { OnOk result (IsFront self.old.texts self.new.texts) }
         ensures within { IfOk result (IsWithin (length self.new.texts)) }
-        ensures same { IfOk result (λ named. (r : Refers) → entry_shown (text_at self.new.texts) r named ≡ entry_shown (name_at (indexed_of classes.now)) r entry) }
+        ensures same { IfOk result (λ named. IsSame (text_at self.new.texts) (name_at (indexed_of classes.now)) named entry) }
     {
         match entry {
             Entry::ToMember(flags, node) => {

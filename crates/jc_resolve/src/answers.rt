@@ -1,19 +1,14 @@
 //! The answer of each reference of a class.
 
-ghost use Rattle.std.specs.Prelude.{◌≡◌, ◌<◌, length};
-ghost use Rattle.jc_classes.specs.Facts.{Reference};
-ghost use Rattle.jc_classes.specs.Worlds.{World, text_of};
-ghost use Rattle.jc_classes.specs.Resolution.{ResolvesClass, class_answer};
-ghost use Rattle.jc_lookup.specs.inside.Indexed.{name_at, IsIndexed};
-ghost use Rattle.jc_lookup.specs.inside.Shown.{indexed_of};
-ghost use Rattle.jc_resolve.specs.inside.Entries.{entry_shown};
-ghost use Rattle.jc_resolve.specs.inside.Resolved.{loading_of, named_of, IsWithinAll, TellsLoads};
-ghost use Rattle.jc_lookup.specs.inside.Loading.{load_at, sees};
+ghost use Rattle.std.specs.Prelude.{◌<◌};
+ghost use Rattle.jc_resolve.specs.inside.Looks.{size_of, TellsClass, TellsNode};
+ghost use Rattle.jc_resolve.specs.inside.Resolved.{IsWithinAll};
 
 use crate::entry::Entry;
+use crate::look::Look;
 use crate::resolve::NamedNode;
 use jc_classes::{LinkageError, Member};
-use jc_lookup::{Classes, Load, can_see};
+use jc_numbered::{Load, can_see};
 
 /// The answer of a reference, with lent texts.
 #[derive(Clone, Copy)]
@@ -43,46 +38,36 @@ pub enum AnswerKind {
     Error(LinkageError),
 }
 
-/// The answer of a reference to the class of a node, which has these flags, or to an array of it.
-fn node_entry(classes: &Classes, loads: &[Load], class: usize, node: usize, flags: u16) -> Entry
-    requires class { class < length classes.now.standing.now }
-    requires node { node < length classes.now.standing.now }
-    requires loads { length loads.now ≡ length classes.now.standing.now }
-    ensures { (r : Reference) → entry_shown (name_at (indexed_of classes.now)) r result ≡ class_answer (text_of r.named) (name_at (indexed_of classes.now) node) (loading_of (indexed_of classes.now) (load_at loads.now node)) (sees (indexed_of classes.now) class node) flags }
-{
-    match loads[node] {
-        Load::Loaded => {
-            if can_see(classes, class, node) {
-                Entry::ToClass(flags)
-            } else {
-                Entry::Error(LinkageError::IllegalAccess, node)
+impl<'l, 'c, 't> Look<'l, 'c, 't> {
+    /// The answer of a reference to the class of a node, which has these flags, or to an array of it.
+    fn node_entry(&self, node: usize, flags: u16) -> Entry
+        requires { node < size_of self.now }
+        ensures { TellsNode self.now node flags result }
+    {
+        match self.loads[node] {
+            Load::Loaded => {
+                if can_see(self.classes, self.class, node) {
+                    Entry::ToClass(flags)
+                } else {
+                    Entry::Error(LinkageError::IllegalAccess, node)
+                }
             }
+            Load::Outside => Entry::Outside(node),
+            Load::Fails(error, about) => Entry::Error(error, about),
         }
-        Load::Outside => Entry::Outside(node),
-        Load::Fails(error, about) => Entry::Error(error, about),
     }
-}
 
-/// The answer of a reference to a class.
-pub(crate) fn resolve_class(
-    classes: &Classes,
-    loads: &[Load],
-    class: usize,
-    reference: NamedNode,
-) -> Entry
-    requires reference { IsWithinAll (length classes.now.standing.now) reference }
-    requires class { class < length classes.now.standing.now }
-    requires loads { length loads.now ≡ length classes.now.standing.now }
-    ensures { (m : World) (r : Reference) → TellsLoads m (indexed_of classes.now) (length classes.now.standing.now) loads.now
-        → IsIndexed m (indexed_of classes.now)
-        → named_of (indexed_of classes.now) reference (text_of r.named) ≡ r.named
-        → ResolvesClass m (name_at (indexed_of classes.now) class) r.named (entry_shown (name_at (indexed_of classes.now)) r result) }
-{
-    match reference {
-        NamedNode::Class(node) => node_entry(classes, loads, class, node, classes.flags(node)),
-        NamedNode::Array(element) => match element {
-            Some(node) => node_entry(classes, loads, class, node, 0),
-            None => Entry::ToClass(0),
-        },
+    /// The answer of a reference to a class (JVMS 5.4.3.1).
+    pub(crate) fn class_entry(&self, named: NamedNode) -> Entry
+        requires { IsWithinAll (size_of self.now) named }
+        ensures { TellsClass self.now named result }
+    {
+        match named {
+            NamedNode::Class(node) => self.node_entry(node, self.classes.flags(node)),
+            NamedNode::Array(element) => match element {
+                Some(node) => self.node_entry(node, 0),
+                None => Entry::ToClass(0),
+            },
+        }
     }
 }

@@ -2,17 +2,15 @@
 
 ghost use Rattle.std.specs.Prelude.{◌≡◌};
 ghost use Rattle.jc_classes.specs.Facts.{Reference};
-ghost use Rattle.jc_classes.specs.Lent.{key_lent, member_lent};
-ghost use Rattle.jc_lookup.specs.inside.Indexed.{Indexed, name_at};
-ghost use Rattle.jc_lookup.specs.inside.Settled.{answer_of};
-ghost use Rattle.jc_resolve.specs.inside.Entries.{HasKey, IsKeyed, IsKeyedOutcome, entry_shown};
-ghost use Rattle.jc_resolve.specs.inside.Resolved.{begun_of, ended_of, outcome_of};
-ghost use Rattle.jc_classes.specs.Resolution.Answer.{ToMember};
+ghost use Rattle.jc_classes.specs.Lent.{key_lent};
+ghost use Rattle.jc_numbered.specs.inside.Indexed.{Indexed, name_at};
+ghost use Rattle.jc_resolve.specs.inside.Entries.{entry_shown};
+ghost use Rattle.jc_resolve.specs.inside.Resolved.{begun_of, ended_of};
+ghost use Rattle.jc_resolve.specs.inside.Shows.{ShowsHit, ShowsOutcome, ShowsSettled};
 
 use crate::resolve::{Begun, Outcome};
 use jc_classes::{Key, LinkageError, same};
-use jc_lookup::Hit;
-use jc_lookup::settle::Settled;
+use jc_numbered::{Hit, Settled};
 
 /// The answer of a reference. Its texts are the reference's own, or the name of a class by its number.
 #[derive(Clone, Copy)]
@@ -39,14 +37,14 @@ fn begun_entry(begun: Begun) -> Entry
 {
     match begun {
         Begun::At(_) => Entry::NotLoaded,
-        Begun::Beyond(node) => Entry::Outside(node),
+        Begun::Outside(node) => Entry::Outside(node),
         Begun::Fails(error, node) => Entry::Error(error, node),
     }
 }
 
 /// The answer of a reference that finds a member.
 fn hit_entry(hit: Hit<'_>, key: Key<'_>) -> Entry
-    ensures { (x : Indexed) (r : Reference) → r.key ≡ key_lent key.entry → IsKeyed r.key (member_lent hit.entry.member) → entry_shown (name_at x) r result ≡ ToMember (name_at x hit.entry.node) (member_lent hit.entry.member) }
+    ensures { ShowsHit (key_lent key.entry) hit.entry result }
 {
     if same(hit.member.descriptor, key.descriptor) {
         Entry::ToMember(hit.member.flags, hit.node)
@@ -57,11 +55,11 @@ fn hit_entry(hit: Hit<'_>, key: Key<'_>) -> Entry
 
 /// The answer of a reference for which look-up began. `missing` is the error where nothing is there.
 fn settled_entry(settled: Settled<'_>, missing: LinkageError, key: Key<'_>) -> Entry
-    ensures { (x : Indexed) (r : Reference) → r.key ≡ key_lent key.entry → HasKey r.key settled.entry → entry_shown (name_at x) r result ≡ answer_of x r.named missing settled.entry }
+    ensures { ShowsSettled (key_lent key.entry) missing settled.entry result }
 {
     match settled {
         Settled::To(hit) => hit_entry(hit, key),
-        Settled::Beyond(node) => Entry::Outside(node),
+        Settled::Outside(node) => Entry::Outside(node),
         Settled::Hidden(node) => Entry::Error(LinkageError::IllegalAccess, node),
         Settled::Missing => Entry::OwnError(missing),
     }
@@ -69,7 +67,7 @@ fn settled_entry(settled: Settled<'_>, missing: LinkageError, key: Key<'_>) -> E
 
 /// The answer of a reference to a member.
 pub(crate) fn outcome_entry(outcome: Outcome<'_>, missing: LinkageError, key: Key<'_>) -> Entry
-    ensures { (x : Indexed) (r : Reference) → r.key ≡ key_lent key.entry → IsKeyedOutcome r.key outcome.entry → entry_shown (name_at x) r result ≡ outcome_of x r.named missing outcome.entry }
+    ensures { ShowsOutcome (key_lent key.entry) missing outcome.entry result }
 {
     match outcome {
         Outcome::Ends(begun) => begun_entry(begun),

@@ -1,19 +1,17 @@
 //! Classes by numbers, of which it is known how each loads (JVMS 5.3.5), and the answers to their references
 //! (JVMS 5.4.3).
 
-ghost use Rattle.std.specs.Prelude.{◌≡◌, ◌<◌, ℕ, length, map, Some, option_map, IfOk};
+ghost use Rattle.std.specs.Prelude.{◌≡◌, ◌<◌, ℕ, length, Some, IfOk};
 ghost use Rattle.std.specs.Bool.{Decides};
 ghost use Rattle.std.specs.List.{Contains};
-ghost use Rattle.jc_classes.specs.Facts.{Reference};
-ghost use Rattle.jc_classes.specs.LinkErrors.{links_of};
-ghost use Rattle.jc_classes.specs.Loading.{Load as Loads, Loading as How};
+ghost use Rattle.jc_classes.specs.Loading.{Load as Loads};
 ghost use Rattle.jc_classes.specs.Names.{names_of, object as java_lang_object};
 ghost use Rattle.jc_classes.specs.Numbers.{name_at};
-ghost use Rattle.jc_classes.specs.Parts.{AreAnswers, class_of};
-ghost use Rattle.jc_classes.specs.Worlds.{World, Above, references_of};
+ghost use Rattle.jc_classes.specs.Worlds.{World, Above};
 ghost use Rattle.jc_resolve.specs.Answers.{loading_of};
-ghost use Rattle.jc_lookup.specs.inside.Shown.{indexed_of};
-ghost use Rattle.jc_resolve.specs.Numbered.{Agrees, IsClosed, numbered, record_of};
+ghost use Rattle.jc_numbered.specs.inside.Shown.{indexed_of};
+ghost use Rattle.jc_resolve.specs.Numbered.{links_at, node_name, numbered, references_at};
+ghost use Rattle.jc_resolve.specs.Numbered.{Agrees, AreClassesOf, IsClosed, TellsAnswers};
 ghost use Rattle.jc_resolve.specs.inside.Resolved.{loading_of as loading_at};
 
 use crate::all_answers::linked;
@@ -21,7 +19,7 @@ use crate::linked::Linked;
 use crate::loaded::{Loaded, load_classes};
 use jc_base::NoMemory;
 use jc_classes::{LinkageError, Standing};
-use jc_lookup::{Classes, Load};
+use jc_numbered::{Classes, Load};
 use std::alloc::Global;
 use std::marker::Model;
 
@@ -44,13 +42,13 @@ pub struct Hierarchy<'c, 't> {
 
 impl<'c, 't> Model for Hierarchy<'c, 't> {
     ghost use Rattle.std.specs.Prelude.{length};
-    ghost use Rattle.jc_lookup.specs.inside.Shown.{indexed_of};
+    ghost use Rattle.jc_numbered.specs.inside.Shown.{indexed_of};
     ghost use Rattle.jc_resolve.specs.Numbered.{Numbered, numbered};
     ghost use Rattle.jc_resolve.specs.inside.Loaded.{IsLoaded};
 
     ghost Value = { Numbered };
 
-    ghost view = { λ a. numbered a.classes.names.now a.classes.standing.now a.classes.ups.now };
+    ghost view = { λ a. numbered a.classes.names.now a.classes.standing.now a.classes.supertypes.now };
 
     ghost invariant = { λ a. IsLoaded (length a.classes.standing.now) (indexed_of a.classes) a.loads.items a.circular.items };
 }
@@ -75,19 +73,19 @@ impl<'c, 't> Hierarchy<'c, 't> {
         alloc: Global,
         names: &'c [Vec<u8>],
         standing: &'c [Standing<'t>],
-        ups: &'c [Vec<usize>],
+        supertypes: &'c [Vec<usize>],
         object: usize,
     ) -> Result<Hierarchy<'c, 't>, NoMemory>
-        requires closed { IsClosed (numbered names.now standing.now ups.now) }
+        requires closed { IsClosed (numbered names.now standing.now supertypes.now) }
         requires object { object < length names.now }
         requires object_name { name_at (names_of names.now) object ≡ java_lang_object }
-        ensures { IfOk result (λ h. h ≡ numbered names.now standing.now ups.now) }
+        ensures { IfOk result (λ h. h ≡ numbered names.now standing.now supertypes.now) }
     {
         let Loaded {
             classes,
             loads,
             circular,
-        } = load_classes(alloc, names, standing, ups, object)?;
+        } = load_classes(alloc, names, standing, supertypes, object)?;
         Ok(Hierarchy {
             classes,
             loads,
@@ -98,7 +96,7 @@ impl<'c, 't> Hierarchy<'c, 't> {
     /// Whether a class is its own superclass or superinterface.
     pub fn is_circular(&self, class: usize) -> bool
         requires { class < length self.now.names }
-        ensures { (m : World) → Agrees m self.now → Decides result (Above m (name_at self.now.names class) (name_at self.now.names class)) }
+        ensures { (m : World) → Agrees m self.now → Decides result (Above m (node_name self.now class) (node_name self.now class)) }
     {
         self.circular[class]
     }
@@ -106,7 +104,7 @@ impl<'c, 't> Hierarchy<'c, 't> {
     /// How a class loads.
     pub fn loading(&self, alloc: Global, class: usize) -> Result<Loading, NoMemory>
         requires { class < length self.now.names }
-        ensures { IfOk result (λ l. (m : World) → Agrees m self.now → Loads m (name_at self.now.names class) (loading_of l)) }
+        ensures { IfOk result (λ l. (m : World) → Agrees m self.now → Loads m (node_name self.now class) (loading_of l)) }
     {
         name_loading(alloc, &self.classes, self.loads[class])
     }
@@ -120,11 +118,10 @@ impl<'c, 't> Hierarchy<'c, 't> {
         nodes: &[Option<usize>],
     ) -> Result<Linked, NoMemory>
         requires class { class < length self.now.names }
-        requires nodes { map (option_map (name_at self.now.names)) nodes.now ≡ map (λ (r : Reference). class_of r.named) (references_of (record_of self.now class)) }
+        requires nodes { AreClassesOf self.now (references_at self.now class) nodes.now }
         requires within { (v : ℕ) → Contains nodes.now (Some v) → v < length self.now.names }
-        ensures answers { IfOk result (λ linked. (m : World) (how : How) → Agrees m self.now → Loads m (name_at self.now.names class) how
-            → AreAnswers m (name_at self.now.names class) how (references_of (record_of self.now class)) linked.answers) }
-        ensures links { IfOk result (λ linked. linked.links ≡ links_of (name_at self.now.names class) (record_of self.now class) linked.answers) }
+        ensures answers { IfOk result (λ linked. TellsAnswers self.now class linked.answers) }
+        ensures links { IfOk result (λ linked. linked.links ≡ links_at self.now class linked.answers) }
     {
         linked(alloc, &self.classes, self.loads.as_slice(), class, nodes)
     }

@@ -12,9 +12,11 @@ mod hierarchy;
 mod link_targets;
 mod linked;
 mod loaded;
+mod look;
 mod methods;
 mod references;
 mod resolve;
+mod room;
 mod superinterfaces;
 
 pub use answer_list::Answers;

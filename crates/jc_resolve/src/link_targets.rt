@@ -1,12 +1,13 @@
 //! What the instructions of a class are judged by (JVMS 6.5), of the references that they name.
 
-ghost use Rattle.std.specs.Prelude.{◌≡◌, ℕ, None, length, slice_index_or, if◌then◌else◌, ◌==◌, IfOk, OnOk};
+ghost use Rattle.std.specs.Prelude.{◌≡◌, None, length, IfOk, OnOk};
 ghost use Rattle.jc_classes.specs.Lent.{reference_lent};
 ghost use Rattle.jc_classes.specs.LinkErrors.{is_init, method_name};
 ghost use Rattle.jc_classes.specs.Lent.{member_lent};
 ghost use Rattle.jc_resolve.specs.Answers.{answer_of};
 ghost use Rattle.jc_resolve.specs.inside.LinkTargets as specs;
-ghost use Rattle.jc_resolve.specs.inside.LinkTargets.{AreResolved, class_judged, final_judged, judged, line, member_judged, static_judged, target_of};
+ghost use Rattle.jc_resolve.specs.inside.LinkTargets.{class_judged, final_judged, target_judged, line, member_judged, static_judged};
+ghost use Rattle.jc_resolve.specs.inside.LinkTargets.{target_of, AreResolved, IsPut};
 
 use crate::answer_list::Answers;
 use crate::answers::Answer;
@@ -89,7 +90,7 @@ fn put(
     index: u16,
     resolved: Option<Resolved>,
 ) -> Result<(), NoMemory>
-    ensures { OnOk result ((at : ℕ) → slice_index_or table.new.items at None ≡ (if index == at then resolved else slice_index_or table.old.items at None)) }
+    ensures { OnOk result (IsPut index resolved table.old.items table.new.items) }
 {
     let index = index as usize;
     if index >= table.len() {
@@ -126,7 +127,7 @@ pub(crate) fn judge(
     one: MethodUse,
     target: Target,
 ) -> Option<(LinkageError, AtFault)>
-    ensures { result ≡ judged (method_name facts.now one.method) one.kind target }
+    ensures { result ≡ target_judged (method_name facts.now one.method) one.kind target }
 {
     match target {
         Target::Class(flags) => judge_class(one.kind, flags),

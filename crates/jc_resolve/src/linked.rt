@@ -7,7 +7,7 @@ ghost use Rattle.jc_classes.specs.LinkErrors.{link_of, links_in};
 ghost use Rattle.jc_resolve.specs.Linked.{link_lent};
 ghost use Rattle.jc_resolve.specs.inside.LinkTargets.{AreResolved};
 ghost use Rattle.jc_resolve.specs.inside.Links as specs;
-ghost use Rattle.jc_resolve.specs.inside.Links.{class_at, class_told, link_shown};
+ghost use Rattle.jc_resolve.specs.inside.Links.{class_at, class_told, link_shown, links_shown};
 ghost use Rattle.jc_resolve.specs.inside.Naming.{references_in};
 
 use crate::answer_list::Answers;
@@ -197,7 +197,7 @@ fn links_of(
     answers: &Answers,
 ) -> Result<Vec<LinkEntry>, NoMemory>
     requires { length answers.now ≡ length facts.now.references }
-    ensures { IfOk result (λ links. map (link_shown facts.now.references answers.now) links.items ≡ links_in own.now facts.now answers.now) }
+    ensures { IfOk result (λ links. links_shown facts.now.references answers.now links.items ≡ links_in own.now facts.now answers.now) }
 {
     let table = resolved_by_index(alloc, own, facts, answers)?;
     let mut links = Vec::new(alloc);

@@ -2,17 +2,17 @@
 
 ghost use Rattle.std.specs.Prelude.{◌≡◌, ◌<◌, ℕ, length, false, IfOk};
 ghost use Rattle.jc_graph.specs.Seen.{flag_at};
-ghost use Rattle.jc_lookup.specs.inside.Shown.{indexed_of};
+ghost use Rattle.jc_numbered.specs.inside.Shown.{indexed_of};
 ghost use Rattle.jc_classes.specs.Names.{object as java_lang_object};
-ghost use Rattle.jc_lookup.specs.inside.Indexed.{name_at};
-ghost use Rattle.jc_resolve.specs.inside.Net.{IsNet, bare};
+ghost use Rattle.jc_numbered.specs.inside.Indexed.{name_at};
+ghost use Rattle.jc_resolve.specs.inside.Gathered.{IsGathered, bare};
 ghost use Rattle.jc_resolve.specs.inside.Loaded.{IsLoaded};
 
 use crate::all_loads::{good_all, load_all, rank_all};
 use jc_base::NoMemory;
 use jc_classes::Standing;
 use jc_graph::sort_nodes;
-use jc_lookup::{Classes, Load, package_ends};
+use jc_numbered::{Classes, Load, package_ends};
 use std::alloc::Global;
 
 /// Classes with how each loads, and whether it is circular.
@@ -36,28 +36,28 @@ pub(crate) fn load_classes<'c, 't>(
     alloc: Global,
     names: &'c [Vec<u8>],
     standing: &'c [Standing<'t>],
-    ups: &'c [Vec<usize>],
+    supertypes: &'c [Vec<usize>],
     object: usize,
 ) -> Result<Loaded<'c, 't>, NoMemory>
-    requires net { IsNet (length standing.now) (bare names.now standing.now ups.now) }
-    requires size { length ups.now ≡ length standing.now }
+    requires net { IsGathered (length standing.now) (bare names.now standing.now supertypes.now) }
+    requires size { length supertypes.now ≡ length standing.now }
     requires object { object < length standing.now }
-    requires object_name { name_at (bare names.now standing.now ups.now) object ≡ java_lang_object }
+    requires object_name { name_at (bare names.now standing.now supertypes.now) object ≡ java_lang_object }
     ensures names { IfOk result (λ c. c.classes.names.now ≡ names.now) }
     ensures standing { IfOk result (λ c. c.classes.standing.now ≡ standing.now) }
-    ensures ups { IfOk result (λ c. c.classes.ups.now ≡ ups.now) }
+    ensures supertypes { IfOk result (λ c. c.classes.supertypes.now ≡ supertypes.now) }
     ensures loaded { IfOk result (λ c. IsLoaded (length standing.now) (indexed_of c.classes) c.loads.items c.circular.items) }
 {
     let unloaded = Classes {
         names,
         standing,
-        ups,
+        supertypes,
         object,
         rank: Vec::new(alloc),
         good: unset(alloc, standing.len())?,
         package_ends: package_ends(alloc, names)?,
     };
-    let sorted = sort_nodes(alloc, ups)?;
+    let sorted = sort_nodes(alloc, supertypes)?;
     let loads = load_all(alloc, &unloaded, &sorted)?;
     let rank = rank_all(alloc, sorted.order.as_slice(), standing.len())?;
     let good = good_all(alloc, loads.as_slice())?;
@@ -65,7 +65,7 @@ pub(crate) fn load_classes<'c, 't>(
     let classes = Classes {
         names,
         standing,
-        ups,
+        supertypes,
         object,
         rank,
         good,

@@ -1,29 +1,26 @@
-//! The answer of a reference.
+//! The answer of a reference to a member.
 
-ghost use Rattle.std.specs.Prelude.{◌≡◌, ◌<◌, ℕ, length, true, IfOk, OnOk};
-ghost use Rattle.jc_classes.specs.Names.{Name, object as java_lang_object};
-ghost use Rattle.jc_classes.specs.Worlds.{World};
-ghost use Rattle.jc_classes.specs.Facts.Named.{Class, Array};
-ghost use Rattle.jc_classes.specs.Loading.{Loading};
-ghost use Rattle.jc_classes.specs.declared.linkage_error.LinkageError.TheVariants.{NoField, NoMethod};
-ghost use Rattle.jc_classes.specs.Resolution.{Starts, ResolvesField, ResolvesMethod, ResolvesInterfaceMethod, class_answer, start_of, object_start};
-ghost use Rattle.std.specs.Prelude.{Some};
+ghost use Rattle.std.specs.Prelude.{◌≡◌, ◌<◌, ℕ, true, IfOk, OnOk};
 ghost use Rattle.jc_classes.specs.Lent.{key_lent};
-ghost use Rattle.jc_lookup.specs.inside.Indexed.{Indexed, name_at, good_at, IsIndexed};
-ghost use Rattle.jc_lookup.specs.inside.Shown.{indexed_of};
-ghost use Rattle.jc_lookup.specs.inside.Above.{Knows};
-ghost use Rattle.jc_lookup.specs.inside.Access.{named_at, IsTarget};
+ghost use Rattle.jc_classes.specs.Names.{Name};
+ghost use Rattle.jc_classes.specs.Resolution.{ResolvesField, ResolvesInterfaceMethod, ResolvesMethod};
+ghost use Rattle.jc_classes.specs.declared.linkage_error.LinkageError.TheVariants.{NoField, NoMethod};
+ghost use Rattle.jc_numbered.specs.inside.Access.{named_at, IsTarget};
+ghost use Rattle.jc_numbered.specs.inside.Indexed.{Indexed, good_at};
 ghost use Rattle.jc_resolve.specs.inside.Entries.{IsKeyedOutcome};
-ghost use Rattle.jc_resolve.specs.inside.Resolved.{loading_of, begun_of, named_of, element_of, target_at, outcome_of, IsWithinAll, TellsLoads, TellsGood};
+ghost use Rattle.jc_resolve.specs.inside.Looks.{reach_of, size_of, TellsMember, TellsStart};
+ghost use Rattle.jc_resolve.specs.inside.Resolved.{element_of, named_of, target_at, IsWithinAll};
+ghost use Rattle.jc_resolve.specs.inside.Resolved.{StartsInArray, StartsInClass, StartsInObject};
+ghost use Rattle.jc_resolve.specs.inside.Rooms.{IsRoom};
 
 use crate::fields::find_field;
+use crate::look::Look;
 use crate::methods::{find_interface_method, find_method};
+use crate::room::Room;
 use jc_base::NoMemory;
 use jc_classes::{Key, LinkageError};
 use jc_file::AccessFlag;
-use jc_graph::Seen;
-use jc_lookup::settle::{Settled, settle};
-use jc_lookup::{Above, Classes, Load, Target, can_see};
+use jc_numbered::{Load, Settled, Target, can_see, settle};
 use std::alloc::Global;
 
 /// What a Class constant names: a class, or an array with its innermost class.
@@ -38,7 +35,7 @@ pub(crate) enum NamedNode {
 pub(crate) enum Begun {
     At(usize),
     /// The class is outside.
-    Beyond(usize),
+    Outside(usize),
     Fails(LinkageError, usize),
 }
 
@@ -53,7 +50,7 @@ pub(crate) enum Outcome<'a> {
 
 /// Where look-up begins for a class, by how it loads and whether it is accessible.
 fn class_begun(sees: bool, load: Load, node: usize) -> Begun
-    ensures start { (x : Indexed) (l : Loading) (flags : ℕ) → begun_of x result ≡ start_of (Class (name_at x node)) (class_answer (name_at x node) (name_at x node) (loading_of x load) sees flags) l }
+    ensures start { StartsInClass sees load node result }
     ensures at { (v : ℕ) → result ≡ Begun.At v → (v ≡ node) × (load ≡ Load.Loaded) }
 {
     match load {
@@ -64,26 +61,26 @@ fn class_begun(sees: bool, load: Load, node: usize) -> Begun
                 Begun::Fails(LinkageError::IllegalAccess, node)
             }
         }
-        Load::Outside => Begun::Beyond(node),
+        Load::Outside => Begun::Outside(node),
         Load::Fails(fault, other) => Begun::Fails(fault, other),
     }
 }
 
 /// Where look-up begins for an array of a primitive type: at `java/lang/Object`.
 fn object_begun(object: usize, load: Load) -> Begun
-    ensures start { (x : Indexed) → name_at x object ≡ java_lang_object → begun_of x result ≡ object_start (loading_of x load) }
+    ensures start { StartsInObject object load result }
     ensures at { (v : ℕ) → result ≡ Begun.At v → (v ≡ object) × (load ≡ Load.Loaded) }
 {
     match load {
         Load::Loaded => Begun::At(object),
-        Load::Outside => Begun::Beyond(object),
+        Load::Outside => Begun::Outside(object),
         Load::Fails(fault, other) => Begun::Fails(fault, other),
     }
 }
 
 /// Where look-up begins for an array of a class, by how that loads and whether it is accessible.
 fn element_begun(sees: bool, load: Load, node: usize, object: usize, object_load: Load) -> Begun
-    ensures start { (x : Indexed) (text : Name) (flags : ℕ) → name_at x object ≡ java_lang_object → begun_of x result ≡ start_of (Array text (Some (name_at x node))) (class_answer text (name_at x node) (loading_of x load) sees flags) (loading_of x object_load) }
+    ensures start { StartsInArray sees load node object object_load result }
     ensures at { (v : ℕ) → result ≡ Begun.At v → (v ≡ object) × (object_load ≡ Load.Loaded) }
 {
     match load {
@@ -99,33 +96,6 @@ fn element_begun(sees: bool, load: Load, node: usize, object: usize, object_load
     }
 }
 
-/// Where look-up of a member begins.
-fn begin(classes: &Classes, loads: &[Load], class: usize, reference: NamedNode) -> Begun
-    requires reference { IsWithinAll (length classes.now.standing.now) reference }
-    requires class { class < length classes.now.standing.now }
-    requires loads { length loads.now ≡ length classes.now.standing.now }
-    requires good { TellsGood (indexed_of classes.now) loads.now }
-    ensures at { (v : ℕ) → result ≡ Begun.At v → (v < length classes.now.standing.now) × (good_at (indexed_of classes.now) v ≡ true) }
-    ensures target { (v : ℕ) → result ≡ Begun.At v → IsTarget (length classes.now.standing.now) (indexed_of classes.now) (target_at reference) }
-    ensures starts { (m : World) (text : Name) → TellsLoads m (indexed_of classes.now) (length classes.now.standing.now) loads.now
-        → IsIndexed m (indexed_of classes.now)
-        → Starts m (name_at (indexed_of classes.now) class) (named_of (indexed_of classes.now) reference text) (begun_of (indexed_of classes.now) result) }
-{
-    match reference {
-        NamedNode::Class(node) => class_begun(can_see(classes, class, node), loads[node], node),
-        NamedNode::Array(element) => match element {
-            None => object_begun(classes.object, loads[classes.object]),
-            Some(node) => element_begun(
-                can_see(classes, class, node),
-                loads[node],
-                node,
-                classes.object,
-                loads[classes.object],
-            ),
-        },
-    }
-}
-
 /// What a reference names, without names.
 pub(crate) fn target_of(reference: NamedNode) -> Target
     ensures named { (x : Indexed) (text : Name) → named_at x result text (element_of x reference) ≡ named_of x reference text }
@@ -137,116 +107,137 @@ pub(crate) fn target_of(reference: NamedNode) -> Target
     }
 }
 
-/// The answer of a reference to a field.
-pub(crate) fn resolve_field<'a>(
-    alloc: Global,
-    classes: &'a Classes,
-    loads: &[Load],
-    above: &mut Above,
-    covered: &mut Seen,
-    class: usize,
-    reference: NamedNode,
-    key: Key,
-) -> Result<Outcome<'a>, NoMemory>
-    requires reference { IsWithinAll (length classes.now.standing.now) reference }
-    requires class { class < length classes.now.standing.now }
-    requires class_good { good_at (indexed_of classes.now) class ≡ true }
-    requires loads { length loads.now ≡ length classes.now.standing.now }
-    requires good { TellsGood (indexed_of classes.now) loads.now }
-    requires above { Knows (length classes.now.standing.now) (indexed_of classes.now) above.old }
-    requires covered { length covered.old.flags ≡ length classes.now.standing.now }
-    ensures above { OnOk result (Knows (length classes.now.standing.now) (indexed_of classes.now) above.new) }
-    ensures keyed { IfOk result (IsKeyedOutcome (key_lent key.entry)) }
-    ensures covered { OnOk result (length covered.new.flags ≡ length classes.now.standing.now) }
-    ensures found { IfOk result (λ r. (m : World) (text : Name) → TellsLoads m (indexed_of classes.now) (length classes.now.standing.now) loads.now
-        → IsIndexed m (indexed_of classes.now)
-        → ResolvesField m (name_at (indexed_of classes.now) class) (named_of (indexed_of classes.now) reference text) (key_lent key.entry) (outcome_of (indexed_of classes.now) (named_of (indexed_of classes.now) reference text) NoField r)) }
-{
-    match begin(classes, loads, class, reference) {
-        Begun::At(start) => {
-            let found = find_field(alloc, classes, covered, start, key)?;
-            let target = target_of(reference);
-            let settled = settle(alloc, classes, above, class, target, start, found)?;
-            Ok(Outcome::Settled(settled))
-        }
-        other => Ok(Outcome::Ends(other)),
-    }
-}
-
-/// The answer of a reference to a method.
-pub(crate) fn resolve_method<'a>(
-    alloc: Global,
-    classes: &'a Classes,
-    loads: &[Load],
-    above: &mut Above,
-    covered: &mut Seen,
-    class: usize,
-    reference: NamedNode,
-    key: Key,
-) -> Result<Outcome<'a>, NoMemory>
-    requires reference { IsWithinAll (length classes.now.standing.now) reference }
-    requires class { class < length classes.now.standing.now }
-    requires class_good { good_at (indexed_of classes.now) class ≡ true }
-    requires loads { length loads.now ≡ length classes.now.standing.now }
-    requires good { TellsGood (indexed_of classes.now) loads.now }
-    requires above { Knows (length classes.now.standing.now) (indexed_of classes.now) above.old }
-    requires covered { length covered.old.flags ≡ length classes.now.standing.now }
-    ensures above { OnOk result (Knows (length classes.now.standing.now) (indexed_of classes.now) above.new) }
-    ensures keyed { IfOk result (IsKeyedOutcome (key_lent key.entry)) }
-    ensures covered { OnOk result (length covered.new.flags ≡ length classes.now.standing.now) }
-    ensures found { IfOk result (λ r. (m : World) (text : Name) → TellsLoads m (indexed_of classes.now) (length classes.now.standing.now) loads.now
-        → IsIndexed m (indexed_of classes.now)
-        → ResolvesMethod m (name_at (indexed_of classes.now) class) (named_of (indexed_of classes.now) reference text) (key_lent key.entry) (outcome_of (indexed_of classes.now) (named_of (indexed_of classes.now) reference text) NoMethod r)) }
-{
-    match begin(classes, loads, class, reference) {
-        Begun::At(start) => {
-            if AccessFlag::Interface.is_in(classes.flags(start)) {
-                return Ok(Outcome::Ends(Begun::Fails(LinkageError::Incompatible, start)));
+impl<'l, 'c, 't> Look<'l, 'c, 't> {
+    /// Where look-up of a member begins.
+    fn begin(&self, named: NamedNode) -> Begun
+        requires { IsWithinAll (size_of self.now) named }
+        ensures at { (v : ℕ) → result ≡ Begun.At v → (v < size_of self.now) × (good_at (reach_of self.now) v ≡ true) }
+        ensures target { (v : ℕ) → result ≡ Begun.At v → IsTarget (size_of self.now) (reach_of self.now) (target_at named) }
+        ensures starts { TellsStart self.now named result }
+    {
+        let classes = self.classes;
+        match named {
+            NamedNode::Class(node) => {
+                class_begun(can_see(classes, self.class, node), self.loads[node], node)
             }
-            let found = find_method(alloc, classes, above, covered, start, key)?;
-            let target = target_of(reference);
-            let settled = settle(alloc, classes, above, class, target, start, found)?;
-            Ok(Outcome::Settled(settled))
+            NamedNode::Array(element) => match element {
+                None => object_begun(classes.object, self.loads[classes.object]),
+                Some(node) => element_begun(
+                    can_see(classes, self.class, node),
+                    self.loads[node],
+                    node,
+                    classes.object,
+                    self.loads[classes.object],
+                ),
+            },
         }
-        other => Ok(Outcome::Ends(other)),
     }
-}
 
-/// The answer of a reference to an interface method.
-pub(crate) fn resolve_interface_method<'a>(
-    alloc: Global,
-    classes: &'a Classes,
-    loads: &[Load],
-    above: &mut Above,
-    covered: &mut Seen,
-    class: usize,
-    reference: NamedNode,
-    key: Key,
-) -> Result<Outcome<'a>, NoMemory>
-    requires reference { IsWithinAll (length classes.now.standing.now) reference }
-    requires class { class < length classes.now.standing.now }
-    requires class_good { good_at (indexed_of classes.now) class ≡ true }
-    requires loads { length loads.now ≡ length classes.now.standing.now }
-    requires good { TellsGood (indexed_of classes.now) loads.now }
-    requires above { Knows (length classes.now.standing.now) (indexed_of classes.now) above.old }
-    requires covered { length covered.old.flags ≡ length classes.now.standing.now }
-    ensures above { OnOk result (Knows (length classes.now.standing.now) (indexed_of classes.now) above.new) }
-    ensures keyed { IfOk result (IsKeyedOutcome (key_lent key.entry)) }
-    ensures covered { OnOk result (length covered.new.flags ≡ length classes.now.standing.now) }
-    ensures found { IfOk result (λ r. (m : World) (text : Name) → TellsLoads m (indexed_of classes.now) (length classes.now.standing.now) loads.now
-        → IsIndexed m (indexed_of classes.now)
-        → ResolvesInterfaceMethod m (name_at (indexed_of classes.now) class) (named_of (indexed_of classes.now) reference text) (key_lent key.entry) (outcome_of (indexed_of classes.now) (named_of (indexed_of classes.now) reference text) NoMethod r)) }
-{
-    match begin(classes, loads, class, reference) {
-        Begun::At(start) => {
-            if !AccessFlag::Interface.is_in(classes.flags(start)) {
-                return Ok(Outcome::NoInterface);
+    /// The answer of a reference to a field (JVMS 5.4.3.2).
+    pub(crate) fn field(
+        &self,
+        alloc: Global,
+        room: &mut Room,
+        named: NamedNode,
+        key: Key,
+    ) -> Result<Outcome<'l>, NoMemory>
+        requires named { IsWithinAll (size_of self.now) named }
+        requires room { IsRoom self.now.classes.now room.old }
+        ensures room { OnOk result (IsRoom self.now.classes.now room.new) }
+        ensures keyed { IfOk result (IsKeyedOutcome (key_lent key.entry)) }
+        ensures found { IfOk result (TellsMember ResolvesField NoField self.now named (key_lent key.entry)) }
+    {
+        let classes = self.classes;
+        match self.begin(named) {
+            Begun::At(start) => {
+                let found = find_field(alloc, classes, &mut room.covered, start, key)?;
+                let target = target_of(named);
+                let settled = settle(
+                    alloc,
+                    classes,
+                    &mut room.above,
+                    self.class,
+                    target,
+                    start,
+                    found,
+                )?;
+                Ok(Outcome::Settled(settled))
             }
-            let found = find_interface_method(alloc, classes, above, covered, start, key)?;
-            let target = target_of(reference);
-            let settled = settle(alloc, classes, above, class, target, start, found)?;
-            Ok(Outcome::Settled(settled))
+            other => Ok(Outcome::Ends(other)),
         }
-        other => Ok(Outcome::Ends(other)),
+    }
+
+    /// The answer of a reference to a method (JVMS 5.4.3.3).
+    pub(crate) fn method(
+        &self,
+        alloc: Global,
+        room: &mut Room,
+        named: NamedNode,
+        key: Key,
+    ) -> Result<Outcome<'l>, NoMemory>
+        requires named { IsWithinAll (size_of self.now) named }
+        requires room { IsRoom self.now.classes.now room.old }
+        ensures room { OnOk result (IsRoom self.now.classes.now room.new) }
+        ensures keyed { IfOk result (IsKeyedOutcome (key_lent key.entry)) }
+        ensures found { IfOk result (TellsMember ResolvesMethod NoMethod self.now named (key_lent key.entry)) }
+    {
+        let classes = self.classes;
+        match self.begin(named) {
+            Begun::At(start) => {
+                if AccessFlag::Interface.is_in(classes.flags(start)) {
+                    return Ok(Outcome::Ends(Begun::Fails(LinkageError::Incompatible, start)));
+                }
+                let found = find_method(alloc, classes, room, start, key)?;
+                let target = target_of(named);
+                let settled = settle(
+                    alloc,
+                    classes,
+                    &mut room.above,
+                    self.class,
+                    target,
+                    start,
+                    found,
+                )?;
+                Ok(Outcome::Settled(settled))
+            }
+            other => Ok(Outcome::Ends(other)),
+        }
+    }
+
+    /// The answer of a reference to an interface method (JVMS 5.4.3.4).
+    pub(crate) fn interface_method(
+        &self,
+        alloc: Global,
+        room: &mut Room,
+        named: NamedNode,
+        key: Key,
+    ) -> Result<Outcome<'l>, NoMemory>
+        requires named { IsWithinAll (size_of self.now) named }
+        requires room { IsRoom self.now.classes.now room.old }
+        ensures room { OnOk result (IsRoom self.now.classes.now room.new) }
+        ensures keyed { IfOk result (IsKeyedOutcome (key_lent key.entry)) }
+        ensures found { IfOk result (TellsMember ResolvesInterfaceMethod NoMethod self.now named (key_lent key.entry)) }
+    {
+        let classes = self.classes;
+        match self.begin(named) {
+            Begun::At(start) => {
+                if !AccessFlag::Interface.is_in(classes.flags(start)) {
+                    return Ok(Outcome::NoInterface);
+                }
+                let found = find_interface_method(alloc, classes, room, start, key)?;
+                let target = target_of(named);
+                let settled = settle(
+                    alloc,
+                    classes,
+                    &mut room.above,
+                    self.class,
+                    target,
+                    start,
+                    found,
+                )?;
+                Ok(Outcome::Settled(settled))
+            }
+            other => Ok(Outcome::Ends(other)),
+        }
     }
 }

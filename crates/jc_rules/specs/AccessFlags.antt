@@ -119,12 +119,18 @@ has_two_accesses bits = two_of (has bits public) (has bits private) (has bits pr
 
 -- of a class (JVMS 4.1, table 4.1-B)
 abbrev pub class_flags : List AccessFlag
-class_flags = flags.Public ∷ flags.Final ∷ flags.Super ∷ flags.Interface ∷ flags.Abstract ∷ flags.Synthetic ∷ flags.Annotation ∷ flags.Enum ∷ []
+class_flags =
+    flags.Public ∷ flags.Final ∷ flags.Super ∷ flags.Interface ∷ flags.Abstract
+    ∷ flags.Synthetic ∷ flags.Annotation ∷ flags.Enum ∷ []
 
 -- of a field (JVMS 4.5, table 4.5-A)
 abbrev pub field_flags : List AccessFlag
-field_flags = flags.Public ∷ flags.Private ∷ flags.Protected ∷ flags.Static ∷ flags.Final ∷ flags.Volatile ∷ flags.Transient ∷ flags.Synthetic ∷ flags.Enum ∷ []
+field_flags =
+    flags.Public ∷ flags.Private ∷ flags.Protected ∷ flags.Static ∷ flags.Final
+    ∷ flags.Volatile ∷ flags.Transient ∷ flags.Synthetic ∷ flags.Enum ∷ []
 
 -- of a method (JVMS 4.6, table 4.6-A)
 abbrev pub method_flags : List AccessFlag
-method_flags = flags.Public ∷ flags.Private ∷ flags.Protected ∷ flags.Static ∷ flags.Final ∷ flags.Synchronized ∷ flags.Bridge ∷ flags.Varargs ∷ flags.Native ∷ flags.Abstract ∷ flags.Strict ∷ flags.Synthetic ∷ []
+method_flags =
+    flags.Public ∷ flags.Private ∷ flags.Protected ∷ flags.Static ∷ flags.Final ∷ flags.Synchronized ∷ flags.Bridge
+    ∷ flags.Varargs ∷ flags.Native ∷ flags.Abstract ∷ flags.Strict ∷ flags.Synthetic ∷ []

@@ -1,5 +1,6 @@
 -- The format faults of a class file: the places where each rule is broken.
-use Rattle.std.specs.Prelude.{ℕ, Bool, true, false, ◌&&◌, List, [], ◌∷◌, length, map, take, filter, Option, Some, None, slice_get}
+use Rattle.std.specs.Prelude.{ℕ, Bool, true, false, ◌&&◌, List, [], ◌∷◌}
+use Rattle.std.specs.Prelude.{length, map, take, filter, Option, Some, None, slice_get}
 use Rattle.std.specs.List.{flat_map, list_any, range_with_len}
 use Rattle.std.specs.Option.{option_map_or}
 use Rattle.jc_base.specs.Bytes.{same_bytes}
@@ -12,7 +13,10 @@ use Rattle.jc_view.specs.ClassFile.{Member, ClassFile, all_slots, constant_at}
 use Rattle.jc_view.specs.Lookups.{utf8_at}
 use Rattle.jc_view.specs.Places.{PlacedAttribute}
 use Rattle.jc_view.specs.AttributeReading.{all_attributes}
-use Rattle.jc_rules.specs.FormatRules.{breaks_f1, breaks_f2, breaks_f3, breaks_f4, breaks_f5, breaks_f6, breaks_f7, breaks_f8, breaks_f9, breaks_f10, breaks_f11, breaks_f12, breaks_f13, breaks_f14, breaks_f15, breaks_f16, breaks_f17, breaks_f19, breaks_f20, breaks_f21, breaks_f23, breaks_f24, breaks_f25, breaks_f26, breaks_f27, breaks_f28, breaks_f29, breaks_f30}
+use Rattle.jc_rules.specs.FormatRules.{breaks_f1, breaks_f2, breaks_f3, breaks_f4, breaks_f5, breaks_f6, breaks_f7}
+use Rattle.jc_rules.specs.FormatRules.{breaks_f8, breaks_f9, breaks_f10, breaks_f11, breaks_f12, breaks_f13, breaks_f14}
+use Rattle.jc_rules.specs.FormatRules.{breaks_f15, breaks_f16, breaks_f17, breaks_f19, breaks_f20, breaks_f21, breaks_f23}
+use Rattle.jc_rules.specs.FormatRules.{breaks_f24, breaks_f25, breaks_f26, breaks_f27, breaks_f28, breaks_f29, breaks_f30}
 
 -- ---- places, rising
 
@@ -41,7 +45,10 @@ attributes_with c test = map (λ a. a.place) (filter test (all_attributes c))
 
 -- a member's name and descriptor, where both are there
 abbrev pub key_of : ClassFile → Member → Option (List ℕ × List ℕ)
-key_of c m = option_map_or (λ name. option_map_or (λ descriptor. Some (name, descriptor)) (utf8_at c m.descriptor) None) (utf8_at c m.name) None
+key_of c m =
+    option_map_or
+    (λ name. option_map_or (λ descriptor. Some (name, descriptor)) (utf8_at c m.descriptor) None)
+    (utf8_at c m.name) None
 
 abbrev pub same_key : List ℕ × List ℕ → List ℕ × List ℕ → Bool
 same_key a b = same_bytes a.0 b.0 && same_bytes a.1 b.1
@@ -53,7 +60,9 @@ has_key c members key = list_any (λ m. option_map_or (same_key key) (key_of c m
 -- the numbers of those whose key an earlier one has
 abbrev pub repeated : ClassFile → List Member → List ℕ
 repeated c members =
-    passing (λ n. option_map_or (λ m. option_map_or (has_key c (take n members)) (key_of c m) false) (slice_get members n) false) 0 (length members)
+    passing
+    (λ n. option_map_or (λ m. option_map_or (has_key c (take n members)) (key_of c m) false) (slice_get members n) false)
+    0 (length members)
 
 -- ---- the faults
 

@@ -1,5 +1,6 @@
 -- Which constants, classes, fields, methods and attributes break a rule of the format: a test for each rule.
-use Rattle.std.specs.Prelude.{ℕ, Bool, true, false, not, ◌&&◌, ◌||◌, ◌==◌, nat_lt, nat_le, List, [], ◌∷◌, length, sum_by, Option, Some, None, is_some, is_none, if◌then◌else◌, codes}
+use Rattle.std.specs.Prelude.{ℕ, Bool, true, false, not, ◌&&◌, ◌||◌, ◌==◌, nat_lt, nat_le, List, []}
+use Rattle.std.specs.Prelude.{◌∷◌, length, sum_by, Option, Some, None, is_some, is_none, if◌then◌else◌, codes}
 use Rattle.std.specs.List.{list_all, list_any}
 use Rattle.std.specs.Option.{option_map_or}
 use Rattle.jc_base.specs.Bytes.{same_bytes}
@@ -13,12 +14,15 @@ use Rattle.jc_view.specs.declared.constant_pool.ConstantKind.{ConstantKind}
 use Rattle.jc_view.specs.declared.constant_pool.ConstantKind.TheVariants as kinds
 use Rattle.jc_view.specs.declared.attribute_kind.AttributeKind.{AttributeKind}
 use Rattle.jc_view.specs.declared.attribute_kind.AttributeKind.TheVariants as attributes
-use Rattle.jc_view.specs.ConstantPool.{Constant, Utf8, Class, String, Fieldref, Methodref, InterfaceMethodref, NameAndType, MethodHandle, MethodType, InvokeDynamic, index_value}
+use Rattle.jc_view.specs.ConstantPool.{Constant, Utf8, Class, String, Fieldref, Methodref, InterfaceMethodref}
+use Rattle.jc_view.specs.ConstantPool.{NameAndType, MethodHandle, MethodType, InvokeDynamic, index_value}
 use Rattle.jc_view.specs.ClassFile.{Attribute, Member, ClassFile, class_text_at, constant_at}
-use Rattle.jc_rules.specs.AccessFlags.{public, private, protected, static, final, super, synchronized, volatile, bridge, transient, native, interface, abstract, strict, enum, annotation, has, has_two_accesses}
+use Rattle.jc_rules.specs.AccessFlags.{public, private, protected, static, final, super, synchronized, volatile, bridge}
+use Rattle.jc_rules.specs.AccessFlags.{transient, native, interface, abstract, strict, enum, annotation, has, has_two_accesses}
 use Rattle.jc_view.specs.Lookups.{utf8_at, is_kind, is_entry, name_of, descriptor_at, name_at, fails, lacks, passes}
 use Rattle.jc_view.specs.Places.{PlacedAttribute}
-use Rattle.jc_view.specs.Attributes.{is_recognised, Bootstrap, bootstrap_attributes, codes_of, exceptions_of, first_index, second_index, values_of}
+use Rattle.jc_view.specs.Attributes.{is_recognised, Bootstrap, bootstrap_attributes, codes_of}
+use Rattle.jc_view.specs.Attributes.{exceptions_of, first_index, second_index, values_of}
 use Rattle.jc_view.specs.AttributeReading.{code_in, exceptions_in, bootstraps_in}
 
 -- ---- texts
@@ -170,8 +174,9 @@ breaks_f14 c index = lacks is_class_text (class_text_at c index)
 -- a constant that a bootstrap method takes (JVMS 4.7.23)
 abbrev pub is_argument : Constant → Bool
 is_argument constant =
-    is_kind kinds.String constant || is_kind kinds.Class constant || is_kind kinds.Integer constant || is_kind kinds.Long constant
-    || is_kind kinds.Float constant || is_kind kinds.Double constant || is_kind kinds.MethodHandle constant || is_kind kinds.MethodType constant
+    is_kind kinds.String constant || is_kind kinds.Class constant || is_kind kinds.Integer constant
+    || is_kind kinds.Long constant || is_kind kinds.Float constant || is_kind kinds.Double constant
+    || is_kind kinds.MethodHandle constant || is_kind kinds.MethodType constant
 
 abbrev pub is_bootstrap : ClassFile → Bootstrap → Bool
 is_bootstrap c m = is_entry c kinds.MethodHandle m.method && list_all (λ index. passes is_argument (constant_at c index)) m.arguments
@@ -194,7 +199,8 @@ breaks_f16 c f = lacks is_field_text (utf8_at c f.descriptor)
 abbrev pub are_constant_flags : ℕ → Bool
 are_constant_flags flags =
     has flags public && has flags static && has flags final
-    && not (has flags private) && not (has flags protected) && not (has flags volatile) && not (has flags transient) && not (has flags enum)
+    && not (has flags private) && not (has flags protected)
+    && not (has flags volatile) && not (has flags transient) && not (has flags enum)
 
 abbrev pub breaks_f17 : ClassFile → Member → Bool
 breaks_f17 c f =
@@ -220,10 +226,12 @@ names_other c kind a = length a.bytes == 2 && not (is_entry c kind (index_value 
 abbrev pub misfits : ClassFile → List ℕ → Attribute → Bool
 misfits c descriptor a = option_map_or (λ kind. names_other c kind a) (constant_kind_of descriptor) true
 
+-- a ConstantValue of the field is not of its type
+abbrev pub has_misfit : ClassFile → Member → Bool
+has_misfit c f = passes (λ descriptor. list_any (misfits c descriptor) (values_of c f)) (utf8_at c f.descriptor)
+
 abbrev pub breaks_f25 : ClassFile → Member → Bool
-breaks_f25 c f =
-    has f.flags static
-    && (nat_le 2 (length (values_of c f)) || passes (λ descriptor. list_any (misfits c descriptor) (values_of c f)) (utf8_at c f.descriptor))
+breaks_f25 c f = has f.flags static && (nat_le 2 (length (values_of c f)) || has_misfit c f)
 
 -- ---- methods (JVMS 4.6)
 
@@ -278,10 +286,16 @@ breaks_f23 c m =
 abbrev pub breaks_f24 : ClassFile → Member → Bool
 breaks_f24 c m = list_any (λ a. is_none (code_in a.bytes)) (codes_of c m)
 
+-- the bytes are no list of classes
+abbrev pub lacks_classes : ClassFile → List ℕ → Bool
+lacks_classes c bytes = lacks (list_all (is_entry c kinds.Class)) (exceptions_in bytes)
+
+-- nor are those of an Exceptions of the method
+abbrev pub has_bad_exceptions : ClassFile → Member → Bool
+has_bad_exceptions c m = list_any (λ a. lacks_classes c a.bytes) (exceptions_of c m)
+
 abbrev pub breaks_f26 : ClassFile → Member → Bool
-breaks_f26 c m =
-    nat_le 2 (length (exceptions_of c m))
-    || list_any (λ a. lacks (list_all (is_entry c kinds.Class)) (exceptions_in a.bytes)) (exceptions_of c m)
+breaks_f26 c m = nat_le 2 (length (exceptions_of c m)) || has_bad_exceptions c m
 
 -- ---- attributes (JVMS 4.7)
 
@@ -298,13 +312,24 @@ is_missized c kind len a = is_recognised c kind a.holder a.attribute && not (len
 
 abbrev pub breaks_f29 : ClassFile → PlacedAttribute → Bool
 breaks_f29 c a =
-    is_missized c attributes.ConstantValue 2 a || is_missized c attributes.SourceFile 2 a || is_missized c attributes.Signature 2 a
-    || is_missized c attributes.EnclosingMethod 4 a || is_missized c attributes.Synthetic 0 a || is_missized c attributes.Deprecated 0 a
+    is_missized c attributes.ConstantValue 2 a || is_missized c attributes.SourceFile 2 a
+    || is_missized c attributes.Signature 2 a || is_missized c attributes.EnclosingMethod 4 a
+    || is_missized c attributes.Synthetic 0 a || is_missized c attributes.Deprecated 0 a
 
 abbrev pub lacks_method : ClassFile → ConstantIndex → Bool
 lacks_method c index = not (index.0 == 0) && not (is_entry c kinds.NameAndType index)
 
+-- a SourceFile or a Signature names no text
+abbrev pub lacks_text : ClassFile → PlacedAttribute → Bool
+lacks_text c a =
+    (is_sized c attributes.SourceFile 2 a || is_sized c attributes.Signature 2 a)
+    && not (is_entry c kinds.Utf8 (first_index a))
+
+-- an EnclosingMethod names no class, or a method that is none
+abbrev pub encloses_amiss : ClassFile → PlacedAttribute → Bool
+encloses_amiss c a =
+    is_sized c attributes.EnclosingMethod 4 a
+    && (not (is_entry c kinds.Class (first_index a)) || lacks_method c (second_index a))
+
 abbrev pub breaks_f30 : ClassFile → PlacedAttribute → Bool
-breaks_f30 c a =
-    (is_sized c attributes.SourceFile 2 a || is_sized c attributes.Signature 2 a) && not (is_entry c kinds.Utf8 (first_index a))
-    || is_sized c attributes.EnclosingMethod 4 a && (not (is_entry c kinds.Class (first_index a)) || lacks_method c (second_index a))
+breaks_f30 c a = lacks_text c a || encloses_amiss c a

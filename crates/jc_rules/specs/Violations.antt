@@ -1,6 +1,7 @@
 -- What it means that a rule of the format is broken at a place, in the standard's terms: `faults_are_violations` says that the
 -- tests of FormatRules decide it. A rule over an entry or a text that is missing is not broken, unless it asks for it.
-use Rattle.std.specs.Prelude.{◌++◌, ◌≡◌, ◌≢◌, ◌⊎◌, ℕ, ◌<◌, ◌≤◌, List, [], ◌∷◌, length, sum_by, Some, None, slice_get, All, Contains, IsTrue, codes}
+use Rattle.std.specs.Prelude.{◌++◌, ◌≡◌, ◌≢◌, ◌↔◌, ◌⊎◌, ℕ, ◌<◌, ◌≤◌, List, []}
+use Rattle.std.specs.Prelude.{◌∷◌, length, sum_by, Some, None, slice_get, All, Contains, IsTrue, codes}
 use Rattle.std.specs.List.{flat_map}
 use Rattle.jc_base.specs.Endian.{big_number}
 use Rattle.jc_base.specs.ModifiedUtf8.{IsWellSpelled}
@@ -14,12 +15,16 @@ use Rattle.jc_view.specs.declared.attribute_kind.AttributeKind.TheVariants as at
 use Rattle.jc_view.specs.declared.attribute_kind.Holder.{Holder}
 use Rattle.jc_rules.specs.declared.fault.FormatRule.{FormatRule}
 use Rattle.jc_rules.specs.declared.fault.FormatRule.TheVariants as rules
-use Rattle.jc_view.specs.ConstantPool.{Constant, Utf8, Class, String, Fieldref, Methodref, InterfaceMethodref, NameAndType, MethodHandle, MethodType as MethodTypeEntry, InvokeDynamic, kind_of, index_value}
+use Rattle.jc_view.specs.ConstantPool.{Constant, Utf8, Class, String, Fieldref, Methodref, InterfaceMethodref, NameAndType}
+use Rattle.jc_view.specs.ConstantPool.{MethodHandle, MethodType as MethodTypeEntry, InvokeDynamic, kind_of, index_value}
 use Rattle.jc_view.specs.ClassFile.{Attribute, Member, ClassFile, constant_at}
-use Rattle.jc_rules.specs.AccessFlags.{public, private, protected, static, final, super, synchronized, volatile, bridge, transient, native, interface, abstract, strict, enum, annotation, has}
+use Rattle.jc_rules.specs.AccessFlags.{public, private, protected, static, final, super, synchronized, volatile}
+use Rattle.jc_rules.specs.AccessFlags.{bridge, transient, native, interface, abstract, strict, enum, annotation, has}
 use Rattle.jc_view.specs.Lookups.{signature_entry}
 use Rattle.jc_view.specs.Places.{PlacedAttribute, fields_in, methods_in, attributes_in, member_attributes}
-use Rattle.jc_view.specs.Attributes.{code_attributes, attribute_name, belongs_to, Code, IsCodeOf, AreExceptionsOf, Bootstrap, AreBootstrapsOf, bootstrap_attributes, values_of, codes_of, exceptions_of, first_index, second_index}
+use Rattle.jc_view.specs.Attributes.{of_kind, code_attributes, attribute_name, belongs_to, Code, IsCodeOf}
+use Rattle.jc_view.specs.Attributes.{AreExceptionsOf, Bootstrap, AreBootstrapsOf, bootstrap_attributes}
+use Rattle.jc_view.specs.Attributes.{values_of, codes_of, exceptions_of, first_index, second_index}
 
 -- ---- what stands in the constants
 
@@ -41,11 +46,15 @@ HasClassText c Is index = (name : ConstantIndex) × IsEntry c index (Class name)
 
 -- the name that the NameAndType at the index gives is so
 abbrev pub GivesName : ClassFile → (List ℕ → Type 0) → ConstantIndex → Type 0
-GivesName c Is entry = (name : ConstantIndex) × (descriptor : ConstantIndex) × IsEntry c entry (NameAndType name descriptor) × HasText c Is name
+GivesName c Is entry =
+    (name : ConstantIndex) × (descriptor : ConstantIndex) × IsEntry c entry (NameAndType name descriptor)
+    × HasText c Is name
 
 -- the descriptor that it gives is so
 abbrev pub GivesDescriptor : ClassFile → (List ℕ → Type 0) → ConstantIndex → Type 0
-GivesDescriptor c Is entry = (name : ConstantIndex) × (descriptor : ConstantIndex) × IsEntry c entry (NameAndType name descriptor) × HasText c Is descriptor
+GivesDescriptor c Is entry =
+    (name : ConstantIndex) × (descriptor : ConstantIndex) × IsEntry c entry (NameAndType name descriptor)
+    × HasText c Is descriptor
 
 -- the name of the member to which a reference refers is so
 abbrev pub RefersTo : ClassFile → (List ℕ → Type 0) → Constant → Type 0
@@ -76,7 +85,8 @@ IsObject text = text ≡ codes "java/lang/Object"
 abbrev pub LacksMemberEntries : ClassFile → ConstantIndex → ConstantIndex → Type 0
 LacksMemberEntries c class entry = ¬ NamesKind c kinds.Class class ⊎ ¬ NamesKind c kinds.NameAndType entry
 
--- an index inside a constant, a MethodHandle's aside, names no entry of the kind that belongs there (JVMS 4.4.1 to 4.4.3, 4.4.6, 4.4.9, 4.4.10)
+-- an index inside a constant, a MethodHandle's aside, names no entry of the kind that belongs there
+-- (JVMS 4.4.1 to 4.4.3, 4.4.6, 4.4.9, 4.4.10)
 abbrev pub BreaksF1 : ClassFile → Constant → Type 0
 BreaksF1 c (Class name) = ¬ NamesKind c kinds.Utf8 name
 BreaksF1 c (String text) = ¬ NamesKind c kinds.Utf8 text
@@ -128,7 +138,8 @@ IsBracketed name = (rest : List ℕ) × (name ≡ 60 ∷ rest)
 
 -- a method's name begins with `<`, and is not `<init>`, or returns a value (JVMS 4.4.2)
 abbrev pub BreaksF7 : ClassFile → Constant → Type 0
-BreaksF7 c (Methodref class entry) = GivesName c (λ name. IsBracketed name × (¬ IsInit name ⊎ GivesDescriptor c ReturnsValue entry)) entry
+BreaksF7 c (Methodref class entry) =
+    GivesName c (λ name. IsBracketed name × (¬ IsInit name ⊎ GivesDescriptor c ReturnsValue entry)) entry
 BreaksF7 c constant = ⊥
 
 -- a handle of this kind, in a file of this version, may refer to such an entry (JVMS 4.4.8)
@@ -205,7 +216,9 @@ BreaksF14 c index = ¬ HasClassText c IsClassName index
 
 -- the kinds of a bootstrap method's arguments (JVMS 4.7.23)
 abbrev pub argument_kinds : List ConstantKind
-argument_kinds = kinds.String ∷ kinds.Class ∷ kinds.Integer ∷ kinds.Long ∷ kinds.Float ∷ kinds.Double ∷ kinds.MethodHandle ∷ kinds.MethodType ∷ []
+argument_kinds =
+    kinds.String ∷ kinds.Class ∷ kinds.Integer ∷ kinds.Long ∷ kinds.Float ∷ kinds.Double
+    ∷ kinds.MethodHandle ∷ kinds.MethodType ∷ []
 
 abbrev pub IsArgument : ClassFile → ConstantIndex → Type 0
 IsArgument c index = (entry : Constant) × IsEntry c index entry × Contains argument_kinds (kind_of entry)
@@ -217,7 +230,8 @@ IsBootstrap c m = NamesKind c kinds.MethodHandle m.method × All (IsArgument c) 
 abbrev pub BreaksF27 : ClassFile → Type 0
 BreaksF27 c =
     (2 ≤ length (bootstrap_attributes c))
-    ⊎ (a : Attribute) × Contains (bootstrap_attributes c) a × ¬ ((methods : List Bootstrap) × AreBootstrapsOf a.bytes methods × All (IsBootstrap c) methods)
+    ⊎ (a : Attribute) × Contains (bootstrap_attributes c) a
+    × ¬ ((methods : List Bootstrap) × AreBootstrapsOf a.bytes methods × All (IsBootstrap c) methods)
 
 -- ---- members (JVMS 4.5, 4.6)
 
@@ -238,7 +252,10 @@ pub record IsRepeated (c : ClassFile) (members : List Member) (n : ℕ) : Type 0
 
 -- two of the three kinds of access
 abbrev pub HasTwoAccesses : ℕ → Type 0
-HasTwoAccesses flags = Has flags public × Has flags private ⊎ Has flags public × Has flags protected ⊎ Has flags private × Has flags protected
+HasTwoAccesses flags =
+    Has flags public × Has flags private
+    ⊎ Has flags public × Has flags protected
+    ⊎ Has flags private × Has flags protected
 
 -- ---- fields (JVMS 4.5)
 
@@ -271,20 +288,24 @@ BreaksF17 c f =
 -- a static field's descriptor, and the kind of the constant that initializes it (JVMS 4.7.2)
 abbrev pub initializers : List (List ℕ × ConstantKind)
 initializers =
-    (codes "I", kinds.Integer) ∷ (codes "S", kinds.Integer) ∷ (codes "C", kinds.Integer) ∷ (codes "B", kinds.Integer) ∷ (codes "Z", kinds.Integer)
-    ∷ (codes "F", kinds.Float) ∷ (codes "J", kinds.Long) ∷ (codes "D", kinds.Double) ∷ (codes "Ljava/lang/String;", kinds.String) ∷ []
+    (codes "I", kinds.Integer) ∷ (codes "S", kinds.Integer) ∷ (codes "C", kinds.Integer)
+    ∷ (codes "B", kinds.Integer) ∷ (codes "Z", kinds.Integer)
+    ∷ (codes "F", kinds.Float) ∷ (codes "J", kinds.Long) ∷ (codes "D", kinds.Double)
+    ∷ (codes "Ljava/lang/String;", kinds.String) ∷ []
 
 -- no constant initializes a field with this descriptor, or one of another kind than the two bytes of the attribute name
 abbrev pub Misfits : ClassFile → List ℕ → Attribute → Type 0
 Misfits c descriptor a =
     ((kind : ConstantKind) → ¬ Contains initializers (descriptor, kind))
-    ⊎ (kind : ConstantKind) × Contains initializers (descriptor, kind) × ((length a.bytes ≡ 2) × ¬ NamesKind c kind (index_value a.bytes))
+    ⊎ (kind : ConstantKind) × Contains initializers (descriptor, kind)
+    × ((length a.bytes ≡ 2) × ¬ NamesKind c kind (index_value a.bytes))
 
 -- a static field has two ConstantValue, or one that does not fit its type (JVMS 4.7.2)
 abbrev pub BreaksF25 : ClassFile → Member → Type 0
 BreaksF25 c f =
     Has f.flags static
-    × ((2 ≤ length (values_of c f)) ⊎ HasText c (λ descriptor. (a : Attribute) × Contains (values_of c f) a × Misfits c descriptor a) f.descriptor)
+    × ((2 ≤ length (values_of c f))
+    ⊎ HasText c (λ descriptor. (a : Attribute) × Contains (values_of c f) a × Misfits c descriptor a) f.descriptor)
 
 -- ---- methods (JVMS 4.6)
 
@@ -302,7 +323,9 @@ BreaksF20 c m = ¬ HasText c (λ text. (type : MethodType) × IsMethod text type
 
 -- what no abstract method has
 abbrev pub HasMoreThanAbstract : ℕ → Type 0
-HasMoreThanAbstract flags = Has flags private ⊎ Has flags static ⊎ Has flags final ⊎ Has flags synchronized ⊎ Has flags native ⊎ Has flags strict
+HasMoreThanAbstract flags =
+    Has flags private ⊎ Has flags static ⊎ Has flags final ⊎ Has flags synchronized
+    ⊎ Has flags native ⊎ Has flags strict
 
 -- one of the two flags alone
 abbrev pub HasOneOf : ℕ → ℕ → ℕ → Type 0
@@ -317,7 +340,9 @@ AreBadInterfaceFlags major flags =
 
 -- what no constructor has
 abbrev pub HasMoreThanConstructor : ℕ → Type 0
-HasMoreThanConstructor flags = Has flags static ⊎ Has flags final ⊎ Has flags synchronized ⊎ Has flags bridge ⊎ Has flags native ⊎ Has flags abstract
+HasMoreThanConstructor flags =
+    Has flags static ⊎ Has flags final ⊎ Has flags synchronized ⊎ Has flags bridge
+    ⊎ Has flags native ⊎ Has flags abstract
 
 -- a method's flags do not go together; those of the class's initializer mean nothing (JVMS 4.6)
 abbrev pub BreaksF21 : ClassFile → Member → Type 0
@@ -344,13 +369,20 @@ BreaksF24 c m = (a : Attribute) × Contains (codes_of c m) a × ((k : Code) → 
 abbrev pub BreaksF26 : ClassFile → Member → Type 0
 BreaksF26 c m =
     (2 ≤ length (exceptions_of c m))
-    ⊎ (a : Attribute) × Contains (exceptions_of c m) a × ¬ ((list : List ConstantIndex) × AreExceptionsOf a.bytes list × All (NamesKind c kinds.Class) list)
+    ⊎ (a : Attribute) × Contains (exceptions_of c m) a
+    × ¬ ((list : List ConstantIndex) × AreExceptionsOf a.bytes list × All (NamesKind c kinds.Class) list)
 
 -- ---- attributes (JVMS 4.7)
 
 -- an attribute of this holder has the name of this kind, where the kind belongs
 abbrev pub IsRecognised : ClassFile → AttributeKind → Holder → Attribute → Type 0
 IsRecognised c kind holder a = IsTrue (belongs_to kind holder) × HasText c (λ name. name ≡ attribute_name kind) a.name
+
+-- of the attributes of a holder, those of a kind are those that are recognised as of it
+abbrev pub AreRecognised : ClassFile → AttributeKind → Holder → Type 0
+AreRecognised c kind holder =
+    (list : List Attribute) (a : Attribute)
+    → Contains (of_kind c kind holder list) a ↔ Contains list a × IsRecognised c kind holder a
 
 -- an attribute's name is no Utf8 (JVMS 4.7)
 abbrev pub BreaksF28 : ClassFile → PlacedAttribute → Type 0
@@ -359,11 +391,14 @@ BreaksF28 c a = (text : List ℕ) → ¬ IsEntry c a.attribute.name (Utf8 text)
 -- the attributes of fixed length (JVMS 4.7.2, 4.7.7 to 4.7.10, 4.7.15)
 abbrev pub fixed_lengths : List (AttributeKind × ℕ)
 fixed_lengths =
-    (attributes.ConstantValue, 2) ∷ (attributes.SourceFile, 2) ∷ (attributes.Signature, 2) ∷ (attributes.EnclosingMethod, 4) ∷ (attributes.Synthetic, 0) ∷ (attributes.Deprecated, 0) ∷ []
+    (attributes.ConstantValue, 2) ∷ (attributes.SourceFile, 2) ∷ (attributes.Signature, 2)
+    ∷ (attributes.EnclosingMethod, 4) ∷ (attributes.Synthetic, 0) ∷ (attributes.Deprecated, 0) ∷ []
 
 -- an attribute of fixed length has another (JVMS 4.7.2, 4.7.7 to 4.7.10, 4.7.15)
 abbrev pub BreaksF29 : ClassFile → PlacedAttribute → Type 0
-BreaksF29 c a = (fixed : AttributeKind × ℕ) × Contains fixed_lengths fixed × (IsRecognised c fixed.0 a.holder a.attribute × (length a.attribute.bytes ≢ fixed.1))
+BreaksF29 c a =
+    (fixed : AttributeKind × ℕ) × Contains fixed_lengths fixed
+    × (IsRecognised c fixed.0 a.holder a.attribute × (length a.attribute.bytes ≢ fixed.1))
 
 -- recognised as of the kind, and of the length
 abbrev pub IsSized : ClassFile → AttributeKind → ℕ → PlacedAttribute → Type 0
@@ -393,11 +428,15 @@ outer_attributes c = flat_map member_attributes (fields_in c) ++ flat_map member
 
 -- the attribute stands inside the Code that another is
 abbrev pub IsInside : ClassFile → PlacedAttribute → PlacedAttribute → Type 0
-IsInside c outer a = IsRecognised c attributes.Code outer.holder outer.attribute × (k : Code) × IsCodeOf outer.attribute.bytes k × Contains (code_attributes outer k) a
+IsInside c outer a =
+    IsRecognised c attributes.Code outer.holder outer.attribute
+    × (k : Code) × IsCodeOf outer.attribute.bytes k × Contains (code_attributes outer k) a
 
 -- an attribute of the class file: one of those, or one inside a Code
 abbrev pub IsAttributeOf : ClassFile → PlacedAttribute → Type 0
-IsAttributeOf c a = Contains (outer_attributes c) a ⊎ (outer : PlacedAttribute) × Contains (outer_attributes c) outer × IsInside c outer a
+IsAttributeOf c a =
+    Contains (outer_attributes c) a
+    ⊎ (outer : PlacedAttribute) × Contains (outer_attributes c) outer × IsInside c outer a
 
 -- the attribute that begins at this place breaks a rule
 abbrev pub AtAttribute : (PlacedAttribute → Type 0) → ClassFile → ℕ → Type 0

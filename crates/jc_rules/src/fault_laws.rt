@@ -1,12 +1,11 @@
 //! Laws of the format faults: functions without a body, whose contracts say what the tests of the
 //! rules mean.
 
-ghost use Rattle.std.specs.Prelude.{◌≡◌, [], ◌∷◌, ◌↔◌, ℕ, List, Contains};
+ghost use Rattle.std.specs.Prelude.{◌≡◌, [], ◌∷◌, ◌↔◌, ℕ, Contains};
 ghost use Rattle.jc_view.specs.declared.attribute_kind.AttributeKind.{AttributeKind};
 ghost use Rattle.jc_view.specs.declared.attribute_kind.Holder.{Holder};
 ghost use Rattle.jc_rules.specs.declared.fault.FormatRule.{FormatRule};
-ghost use Rattle.jc_view.specs.ClassFile.{Attribute, ClassFile, layout};
-ghost use Rattle.jc_view.specs.Attributes.{of_kind};
+ghost use Rattle.jc_view.specs.ClassFile.{ClassFile, layout};
 ghost use Rattle.jc_view.specs.Outcome.{AreBytes};
 ghost use Rattle.std.specs.List.Sorted.{IsStrictlySortedBy};
 ghost use Rattle.jc_rules.specs.declared.fault.Fault.{Fault};
@@ -14,14 +13,15 @@ ghost use Rattle.jc_rules.specs.FaultOrder.{fault_cmp};
 ghost use Rattle.jc_rules.specs.Faults.{faults, places};
 ghost use Rattle.jc_rules.specs.Examples.{final_and_abstract, with_nameless_class, without_code};
 ghost use Rattle.jc_view.specs.Examples.{class_a_data};
-ghost use Rattle.jc_rules.specs.Violations.{IsRecognised, Violates};
+ghost use Rattle.jc_rules.specs.Violations.{AreRecognised, Violates};
 
 use jc_base::{descriptors_are_decided, texts_are_decided};
 use jc_view::attributes_are_read;
 
 /// A rule is found broken at a place just where it is, in a class file whose bytes are below 256.
 pub fn faults_are_violations()
-    ensures { (c : ClassFile) (rule : FormatRule) (place : ℕ) → AreBytes (layout c) → Contains (places c rule) place ↔ Violates rule c place }
+    ensures { (c : ClassFile) (rule : FormatRule) (place : ℕ) → AreBytes (layout c)
+        → Contains (places c rule) place ↔ Violates rule c place }
 {
     texts_are_decided();
     descriptors_are_decided();
@@ -30,7 +30,7 @@ pub fn faults_are_violations()
 
 /// The attributes of a kind are those with its name, where the kind belongs.
 pub fn attributes_are_recognised()
-    ensures { (c : ClassFile) (kind : AttributeKind) (holder : Holder) (attributes : List Attribute) (a : Attribute) → Contains (of_kind c kind holder attributes) a ↔ Contains attributes a × IsRecognised c kind holder a }
+    ensures { (c : ClassFile) (kind : AttributeKind) (holder : Holder) → AreRecognised c kind holder }
 {}
 
 /// The faults of a class file stand by rule and then by place, each once, and there is one for each

@@ -1,5 +1,6 @@
 -- How the program ends, and what it tells on standard error.
-use Rattle.std.specs.Prelude.{◌≡◌, ℕ, ◌≤◌, ◌⊎◌, Bool, true, false, List, [], ◌∷◌, ◌++◌, Option, Some, Result, Ok, Err, MatchOption, codes, decimal}
+use Rattle.std.specs.Prelude.{◌≡◌, ℕ, ◌≤◌, ◌⊎◌, Bool, true, false, List, [], ◌∷◌, ◌++◌, codes, decimal}
+use Rattle.std.specs.Prelude.{Option, Some, Result, Ok, Err, MatchOption}
 use Rattle.std.specs.FinMap as map
 use Rattle.std.specs.Io.KnownBytes.{Appends, Keeps}
 use Rattle.jc_base.specs.Device.{MoreFaults, WritesFront}
@@ -14,12 +15,12 @@ use Rattle.jc_text.specs.Escapes.{path_text}
 use Rattle.jc_input.specs.EditErrors.{edit_code, edit_error_name}
 use Rattle.jc_lines.specs.Checks.{Answer, CheckFault, ChecksAs, FileRefused, FileUnread, WriteFailed, added}
 use Rattle.jc_lines.specs.Checks as checks
+use Rattle.jc_lines.specs.declared.checking.CheckForm.{CheckForm}
 use Rattle.jc_list.specs.Listing.{WritesBeginning}
 use Rattle.jc_lines.specs.ListedText.{file_text, is_faulty_file}
 use Rattle.jc_edits.specs.Edits.{size_fault}
 use Rattle.jc_edits.specs.SessionState.{HeldFiles}
-use Rattle.jc_input.specs.Sources.{SourceAnswers}
-use Rattle.jc_lines.specs.Runs.{RunsAs}
+use Rattle.jc_lines.specs.Runs.{RunsByAnswers, left_by}
 use Rattle.jc_report.specs.Reports.{IsReport, Report, is_wrong}
 
 -- why the program ends with a line on standard error
@@ -51,10 +52,11 @@ IsOutcome (Err e) h outcome = outcome ≡ Err (fault_of e)
 abbrev pub begun : List (List ℕ) → HeldFiles
 begun prefixes = record { files = map.empty; prefixes = prefixes }
 
--- a run over the input, with no files at first, by the answers that its source gave
-abbrev pub RunsByAnswers : List (List ℕ) → Result Ended RunError → HeldFiles → (input coming before now : Option (List ℕ)) → Type 0
-RunsByAnswers prefixes ending held input coming before now =
-    (bytes : List ℕ) → input ≡ Some bytes → (s : SourceAnswers) × RunsAs (begun prefixes) s bytes ending (record { held = held; source = Some []; coming = coming; before = before; now = now })
+-- a run over the input, with no files at first, by the answers that its source gave, had this outcome
+abbrev pub RunsSession : Outcome → (input coming before now : Option (List ℕ)) → Type 0
+RunsSession outcome input coming before now =
+    (prefixes : List (List ℕ)) × (ending : Result Ended RunError) × (held : HeldFiles) × IsOutcome ending held outcome
+    × RunsByAnswers (begun prefixes) input ending (left_by held (Some []) coming before now)
 
 -- the listing of a file was written, or why the bytes are none, or not all of it
 abbrev pub ListsFile : List ℕ → Outcome → (before now : Option (List ℕ)) → Type 0
@@ -65,7 +67,9 @@ ListsFile bytes outcome before now =
 
 -- the file at a path was listed, by what the source answered
 abbrev pub ListsAs : (path : List ℕ) → Result (List ℕ) SourceError → Outcome → (before now : Option (List ℕ)) → Type 0
-ListsAs path (Ok bytes) outcome before now = MatchOption (size_fault bytes) (ListsFile bytes outcome before now) (λ _. (outcome ≡ Err (Refused errors.TooLarge path)) × Keeps before now)
+ListsAs path (Ok bytes) outcome before now =
+    MatchOption (size_fault bytes) (ListsFile bytes outcome before now)
+    (λ _. (outcome ≡ Err (Refused errors.TooLarge path)) × Keeps before now)
 ListsAs path (Err sources.Unread) outcome before now = (outcome ≡ Err (Unread path)) × Keeps before now
 ListsAs path (Err sources.NoMemory) outcome before now = (outcome ≡ Err NoMemory) × Keeps before now
 
@@ -84,8 +88,9 @@ abbrev pub Checks : Outcome → (before now : Option (List ℕ)) → Type 0
 Checks outcome before now =
     ((outcome ≡ Err NoMemory) × Keeps before now)
     ⊎ ((folder : List ℕ) × (outcome ≡ Err (Unread folder)) × Keeps before now)
-    ⊎ ((prefixes : List (List ℕ)) × (paths : List (List ℕ)) × (answers : List Answer) × (checked : Result Bool CheckFault) × (outcome ≡ outcome_of_check checked)
-    × ChecksAs prefixes (added map.empty paths answers) checked before now)
+    ⊎ ((prefixes : List (List ℕ)) × (form : CheckForm) × (paths : List (List ℕ)) × (answers : List Answer) × (checked : Result Bool CheckFault)
+    × (outcome ≡ outcome_of_check checked)
+    × ChecksAs prefixes form (added map.empty paths answers) checked before now)
 
 -- the first word
 abbrev pub NamesCommand : (command : List ℕ) → (words : List (List ℕ)) → Type 0
@@ -93,11 +98,13 @@ NamesCommand command words = (behind : List (List ℕ)) × (words ≡ command �
 
 -- the words were refused, or there was no memory for them; or the command that they name was done: a run, a listing
 -- of a file, or a check of a tree. Nothing but a run touches the input, of which a function tells what is left
-abbrev pub Performs : {R : Type 0} → (remaining : R → Option (List ℕ)) → (words : List (List ℕ)) → Outcome → (input coming : R) → (before now : Option (List ℕ)) → Type 0
+abbrev pub Performs : {R : Type 0} → (remaining : R → Option (List ℕ)) → (words : List (List ℕ)) → Outcome
+    → (input coming : R) → (before now : Option (List ℕ)) → Type 0
 Performs remaining words outcome input coming before now =
     (((outcome ≡ Err Usage) ⊎ (outcome ≡ Err NoMemory)) × (coming ≡ input) × Keeps before now)
-    ⊎ (NamesCommand (codes "session") words × ((prefixes : List (List ℕ)) × (ending : Result Ended RunError) × (held : HeldFiles) × IsOutcome ending held outcome × RunsByAnswers prefixes ending held (remaining input) (remaining coming) before now))
-    ⊎ (NamesCommand (codes "list") words × (coming ≡ input) × ((path : List ℕ) × (answer : Result (List ℕ) SourceError) × ListsAs path answer outcome before now))
+    ⊎ (NamesCommand (codes "session") words × RunsSession outcome (remaining input) (remaining coming) before now)
+    ⊎ (NamesCommand (codes "list") words × (coming ≡ input)
+    × ((path : List ℕ) × (answer : Result (List ℕ) SourceError) × ListsAs path answer outcome before now))
     ⊎ (NamesCommand (codes "check") words × (coming ≡ input) × Checks outcome before now)
 
 abbrev pub fault_status : Fault → ℕ
@@ -120,7 +127,8 @@ fault_text Input = codes "jclink: cannot read input\n"
 fault_text Output = codes "jclink: cannot write\n"
 fault_text NoMemory = codes "jclink: no memory\n"
 fault_text (Unread path) = codes "jclink: cannot read " ++ path_text path ++ codes "\n"
-fault_text (Refused e path) = codes "jclink: refused " ++ decimal (edit_code e) ++ codes " " ++ edit_error_name e ++ codes " " ++ path_text path ++ codes "\n"
+fault_text (Refused e path) =
+    codes "jclink: refused " ++ decimal (edit_code e) ++ codes " " ++ edit_error_name e ++ codes " " ++ path_text path ++ codes "\n"
 
 -- the text was written, or a proper beginning of it and then the device failed
 abbrev pub WritesUnlessFailed : List ℕ → (before after : Option (List ℕ)) (old new : ℕ) → Type 0

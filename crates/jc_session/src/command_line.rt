@@ -8,9 +8,10 @@ ghost use Rattle.jc_input.specs.declared.run_error.Ended.{Ended};
 ghost use Rattle.jc_input.specs.declared.run_error.RunError.{RunError};
 ghost use Rattle.jc_edits.specs.SessionState.{HeldFiles, held_of};
 ghost use Rattle.jc_lines.specs.Checks.{Answer, CheckFault, ChecksAs, GivesAnswers, added};
-ghost use Rattle.jc_lines.specs.Runs.{RunsAs};
-ghost use Rattle.jc_input.specs.Sources.{SourceAnswers, TakesAnswer, answer_of};
-ghost use Rattle.jc_session.specs.Statuses.{begun, Checks, CountsInput, CountsOutput, ListsAs, Outcome, Performs, RunsByAnswers, Tells, IsOutcome, outcome_of_check, status_of};
+ghost use Rattle.jc_lines.specs.Runs.{RunsByAnswers, RunsFrom, left_by};
+ghost use Rattle.jc_input.specs.Sources.{TakesAnswer, answer_of};
+ghost use Rattle.jc_session.specs.Statuses.{Checks, CountsInput, CountsOutput, IsOutcome, ListsAs, Outcome, Performs, Tells};
+ghost use Rattle.jc_session.specs.Statuses.{begun, outcome_of_check, status_of};
 ghost use Rattle.jc_session.specs.inside.LentFaults.{outcome_lent};
 
 use crate::fault::{Fault, tell};
@@ -19,7 +20,7 @@ use crate::walk::{WalkFault, class_files};
 use crate::words::{Request, asked};
 use jc_base::{Input, Output};
 use jc_edits::{EditError, LARGEST_FILE, Session};
-use jc_lines::{FileSource, Source, SourceError, check, list_file, run};
+use jc_lines::{CheckForm, FileSource, Source, SourceError, check, list_file, run};
 use jc_link::Outside;
 use std::alloc::Global;
 use std::rt::Files;
@@ -57,7 +58,9 @@ pub fn program<F: Files + AllocGlobal, R: Input, W: Output, E: Output>(
             )
         }
         Ok(Request::List(path)) => list(rt.alloc(), &mut FileSource::new(rt), path, out, err),
-        Ok(Request::Check(outside, folder)) => check_folder(rt, &outside, folder, out, err),
+        Ok(Request::Check(outside, form, folder)) => {
+            check_folder(rt, &outside, &form, folder, out, err)
+        }
         Err(fault) => conclude(err, Err(fault)),
     }
 }
@@ -66,6 +69,7 @@ pub fn program<F: Files + AllocGlobal, R: Input, W: Output, E: Output>(
 fn check_folder<'a, F: Files + AllocGlobal, W: Output, E: Output>(
     rt: &'a F,
     outside: &Outside,
+    form: &CheckForm,
     folder: &'a str,
     out: &mut W,
     err: &mut E,
@@ -79,7 +83,7 @@ fn check_folder<'a, F: Files + AllocGlobal, W: Output, E: Output>(
     match class_files(rt, folder) {
         Ok(paths) => {
             let mut source = FolderSource::new(rt, folder);
-            check_files(rt.alloc(), outside, &paths, &mut source, out, err)
+            check_files(rt.alloc(), outside, form, &paths, &mut source, out, err)
         }
         Err(WalkFault::Unread(path)) => conclude(err, Err(Fault::Unread(&path))),
         Err(WalkFault::NoMemory) => conclude(err, Err(Fault::NoMemory)),
@@ -90,6 +94,7 @@ fn check_folder<'a, F: Files + AllocGlobal, W: Output, E: Output>(
 fn check_files<S: Source, W: Output, E: Output>(
     alloc: Global,
     outside: &Outside,
+    form: &CheckForm,
     paths: &[Vec<u8>],
     source: &mut S,
     out: &mut W,
@@ -97,12 +102,12 @@ fn check_files<S: Source, W: Output, E: Output>(
 ) -> u8
     ensures { (answers : List Answer) × (checked : Result Bool CheckFault)
         × GivesAnswers (S.answers source.old) (names_of paths.now) answers (S.answers source.new)
-        × ChecksAs outside.now (added map.empty (names_of paths.now) answers) checked (W.written out.old) (W.written out.new)
+        × ChecksAs outside.now form.now (added map.empty (names_of paths.now) answers) checked (W.written out.old) (W.written out.new)
         × (result ≡ status_of (outcome_of_check checked))
         × CountsOutput (outcome_of_check checked) (W.failures out.old) (W.failures out.new)
         × Tells (outcome_of_check checked) (E.written err.old) (E.written err.new) (E.failures err.old) (E.failures err.new) }
 {
-    match check(alloc, outside, paths, source, out) {
+    match check(alloc, outside, form, paths, source, out) {
         Ok(wrong) => conclude(err, Ok(wrong)),
         Err(error) => conclude(err, Err(Fault::from(error))),
     }
@@ -160,15 +165,10 @@ fn serve<S: Source, R: Input, W: Output, E: Output>(
         × CountsInput outcome (R.failures input.old) (R.failures input.new)
         × CountsOutput outcome (W.failures out.old) (W.failures out.new)
         × Tells outcome (E.written err.old) (E.written err.new) (E.failures err.old) (E.failures err.new)
-        × ((bytes : List ℕ) (s : SourceAnswers) → R.remaining input.old ≡ Some bytes → S.answers source.old ≡ Some s
-        → RunsAs (begun outside) s bytes ending (record {
-          held = held;
-          source = S.answers source.new;
-          coming = R.remaining input.new;
-          before = W.written out.old;
-          now = W.written out.new;
-        }))
-        × RunsByAnswers outside ending held (R.remaining input.old) (R.remaining input.new) (W.written out.old) (W.written out.new) }
+        × RunsFrom (begun outside) (S.answers source.old) (R.remaining input.old) ending
+        (left_by held (S.answers source.new) (R.remaining input.new) (W.written out.old) (W.written out.new))
+        × RunsByAnswers (begun outside) (R.remaining input.old) ending
+        (left_by held (Some []) (R.remaining input.new) (W.written out.old) (W.written out.new)) }
 {
     let outcome = perform(alloc, outside, source, input, out);
     conclude(err, outcome)
@@ -186,15 +186,10 @@ fn perform<S: Source, R: Input, W: Output>(
         × IsOutcome ending held (outcome_lent result)
         × CountsInput (outcome_lent result) (R.failures input.old) (R.failures input.new)
         × CountsOutput (outcome_lent result) (W.failures out.old) (W.failures out.new)
-        × ((bytes : List ℕ) (s : SourceAnswers) → R.remaining input.old ≡ Some bytes → S.answers source.old ≡ Some s
-        → RunsAs (begun outside) s bytes ending (record {
-          held = held;
-          source = S.answers source.new;
-          coming = R.remaining input.new;
-          before = W.written out.old;
-          now = W.written out.new;
-        }))
-        × RunsByAnswers outside ending held (R.remaining input.old) (R.remaining input.new) (W.written out.old) (W.written out.new) }
+        × RunsFrom (begun outside) (S.answers source.old) (R.remaining input.old) ending
+        (left_by held (S.answers source.new) (R.remaining input.new) (W.written out.old) (W.written out.new))
+        × RunsByAnswers (begun outside) (R.remaining input.old) ending
+        (left_by held (Some []) (R.remaining input.new) (W.written out.old) (W.written out.new)) }
 {
     let mut session = Session::new(alloc, outside)?;
     run_through(alloc, &mut session, source, input, out)
@@ -212,22 +207,10 @@ fn run_through<S: Source, R: Input, W: Output>(
         × IsOutcome ending (held_of session.new) (outcome_lent result)
         × CountsInput (outcome_lent result) (R.failures input.old) (R.failures input.new)
         × CountsOutput (outcome_lent result) (W.failures out.old) (W.failures out.new)
-        × ((bytes : List ℕ) (s : SourceAnswers) → R.remaining input.old ≡ Some bytes → S.answers source.old ≡ Some s
-        → RunsAs (held_of session.old) s bytes ending (record {
-          held = held_of session.new;
-          source = S.answers source.new;
-          coming = R.remaining input.new;
-          before = W.written out.old;
-          now = W.written out.new;
-        }))
-        × ((bytes : List ℕ) → R.remaining input.old ≡ Some bytes → (s : SourceAnswers)
-        × RunsAs (held_of session.old) s bytes ending (record {
-          held = held_of session.new;
-          source = Some [];
-          coming = R.remaining input.new;
-          before = W.written out.old;
-          now = W.written out.new;
-        })) }
+        × RunsFrom (held_of session.old) (S.answers source.old) (R.remaining input.old) ending
+        (left_by (held_of session.new) (S.answers source.new) (R.remaining input.new) (W.written out.old) (W.written out.new))
+        × RunsByAnswers (held_of session.old) (R.remaining input.old) ending
+        (left_by (held_of session.new) (Some []) (R.remaining input.new) (W.written out.old) (W.written out.new)) }
 {
     match run(alloc, session, source, input, out) {
         Ok(_) => Ok(session.report().wrong()),

@@ -42,7 +42,8 @@ impl Fault<'_> {
 
 /// Writes the line that tells a fault. That it can't be told changes nothing.
 pub(crate) fn tell<E: Output>(err: &mut E, fault: Fault<'_>)
-    ensures { WritesUnlessFailed (fault_text (fault_lent fault.entry)) (E.written err.old) (E.written err.new) (E.failures err.old) (E.failures err.new) }
+    ensures { WritesUnlessFailed (fault_text (fault_lent fault.entry))
+        (E.written err.old) (E.written err.new) (E.failures err.old) (E.failures err.new) }
 {
     let mut text = TextWriter::new(err);
     write_fault(&mut text, fault);

@@ -14,5 +14,6 @@ pub use jc_edits::{
     winners_are_least, write_report,
 };
 pub use jc_lines::{
-    CheckError, Ended, FileSource, MemSource, RunError, Source, SourceError, check, one_run, run,
+    CheckError, CheckForm, Ended, FileSource, MemSource, RunError, Source, SourceError, check,
+    one_run, run,
 };

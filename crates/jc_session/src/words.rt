@@ -5,11 +5,12 @@ ghost use Rattle.clap.specs.Matches.{first_value, found_of};
 ghost use Rattle.clap.specs.Values.{kind_of};
 ghost use Rattle.jc_session.specs.Statuses.{NamesCommand, NoMemory, Usage};
 ghost use Rattle.jc_session.specs.inside.LentFaults.{fault_lent};
-ghost use Rattle.jc_session.specs.inside.Requests.{AreRefused, AsksFor, HoldsGiven, command_of, given_among};
+ghost use Rattle.jc_session.specs.inside.Requests.{AreRefused, AsksFor, AsksForm, HoldsGiven, command_of, given_among};
 
 use crate::fault::Fault;
 use clap::error::ErrorKind;
 use clap::{Arg, ArgAction, ArgMatches, Command};
+use jc_lines::CheckForm;
 use jc_link::{Outside, OutsideError};
 use std::alloc::{AllocError, Global};
 
@@ -19,11 +20,11 @@ pub(crate) enum Request<'w> {
     Session(Outside),
     /// The listing of the file at a path.
     List(&'w str),
-    /// The report of the files below a folder.
-    Check(Outside, &'w str),
+    /// The report of the files below a folder, or what makes it wrong.
+    Check(Outside, CheckForm, &'w str),
 }
 
-/// What the words ask for: `session`, `list` and a path, or `check`, prefixes and a folder.
+/// What the words ask for: `session` and prefixes, `list` and a path, or `check`, its options and a folder.
 pub(crate) fn asked<'w>(alloc: Global, words: &'w [&'w str]) -> Result<Request<'w>, Fault<'w>>
     ensures command { IfOk result (λ request. NamesCommand (command_of request) (map (λ word. word.now) words.now)) }
     ensures fault { IfErr result (λ fault. (fault_lent fault ≡ Usage) ⊎ (fault_lent fault ≡ NoMemory)) }
@@ -68,15 +69,35 @@ fn list_request<'w>(matches: &ArgMatches<'w>) -> Result<Request<'w>, Fault<'w>>
     }
 }
 
-/// The folder to check, and the outside prefixes.
+/// The folder to check, the outside prefixes, and what is written of the report.
 fn check_request<'w>(alloc: Global, matches: &ArgMatches<'w>) -> Result<Request<'w>, Fault<'w>>
     ensures command { IfOk result (λ request. command_of request ≡ codes "check") }
     ensures asks { IfOk result (AsksFor (found_of matches.now)) }
     ensures fault { IfErr result (λ fault. (fault_lent fault ≡ Usage) ⊎ (fault_lent fault ≡ NoMemory)) }
 {
     match matches.get_str("DIR") {
-        Some(folder) => Ok(Request::Check(outside(alloc, matches)?, folder)),
+        Some(folder) => {
+            let form = form(alloc, matches)?;
+            Ok(Request::Check(outside(alloc, matches)?, form, folder))
+        }
         None => Err(Fault::Usage),
+    }
+}
+
+/// What is written of the report: with `--errors` what makes it wrong, of what each `--only` names. `--only` alone is
+/// usage.
+fn form<'w>(alloc: Global, matches: &ArgMatches<'w>) -> Result<CheckForm, Fault<'w>>
+    ensures asks { IfOk result (AsksForm (found_of matches.now)) }
+    ensures fault { IfErr result (λ fault. (fault_lent fault ≡ Usage) ⊎ (fault_lent fault ≡ NoMemory)) }
+{
+    match (matches.get_flag("errors"), matches.get_strs("only")) {
+        (false, None) => Ok(CheckForm::Report),
+        (false, Some(_)) => Err(Fault::Usage),
+        (true, None) => Ok(CheckForm::Errors(None)),
+        (true, Some(prefixes)) => {
+            let only = given_prefixes(alloc, prefixes)?;
+            Ok(CheckForm::Errors(Some(only)))
+        }
     }
 }
 
@@ -92,7 +113,7 @@ fn outside<'w>(alloc: Global, matches: &ArgMatches<'w>) -> Result<Outside, Fault
     }
 }
 
-/// The outside prefixes that are given. One that is refused is usage.
+/// The prefixes that are given. One that is refused is usage.
 fn given_prefixes<'w>(alloc: Global, prefixes: &[&'w str]) -> Result<Outside, Fault<'w>>
     ensures held { IfOk result (HoldsGiven (Some (map (λ prefix. prefix.now) prefixes.now))) }
     ensures refused { IfErr result (λ fault. fault_lent fault ≡ Usage → AreRefused (Some (map (λ prefix. prefix.now) prefixes.now))) }
@@ -140,7 +161,7 @@ fn with_subcommand<'a>(
 }
 
 fn session_command<'a>(alloc: Global) -> Result<Command<'a>, AllocError> {
-    Command::new(alloc, "session").arg(outside_option(alloc))
+    Command::new(alloc, "session").arg(prefix_option(alloc, "outside"))
 }
 
 fn list_command<'a>(alloc: Global) -> Result<Command<'a>, AllocError> {
@@ -149,14 +170,18 @@ fn list_command<'a>(alloc: Global) -> Result<Command<'a>, AllocError> {
 }
 
 fn check_command<'a>(alloc: Global) -> Result<Command<'a>, AllocError> {
+    let errors = Arg::new(alloc, "errors")
+        .long("errors")
+        .action(ArgAction::SetTrue);
     let folder = Arg::new(alloc, "DIR").required(true);
     Command::new(alloc, "check")
-        .arg(outside_option(alloc))?
+        .arg(errors)?
+        .arg(prefix_option(alloc, "only"))?
+        .arg(prefix_option(alloc, "outside"))?
         .arg(folder)
 }
 
-fn outside_option<'a>(alloc: Global) -> Arg<'a> {
-    Arg::new(alloc, "outside")
-        .long("outside")
-        .action(ArgAction::Append)
+/// An option that may be given several times.
+fn prefix_option<'a>(alloc: Global, name: &'a str) -> Arg<'a> {
+    Arg::new(alloc, name).long(name).action(ArgAction::Append)
 }

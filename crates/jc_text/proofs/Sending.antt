@@ -7,7 +7,7 @@ use Rattle.std.specs.Io.KnownBytes.{Appends, Keeps}
 use Rattle.jc_base.proofs.WrittenFronts.{front_of_first, front_of_second}
 use Rattle.jc_base.specs.Device.{CountsFault, MoreFaults, WritesFront, more}
 use Rattle.jc_text.specs.declared.text_writer.TextWriter.{TextWriter}
-use Rattle.jc_text.specs.Sends.{IsFresh, Outcome, Adds, Fails, Drops, Sends}
+use Rattle.jc_text.specs.Sends.{IsFresh, Sent, Adds, Fails, Drops, Sends}
 
 -- ---- one text behind another
 
@@ -33,7 +33,7 @@ front_kept old mid new waits first second part kept =
     subst (WritesFront old new) (append_assoc waits first second) (n, within, Appends-kept old mid new _ wrote kept)
 
 outcome_then : {W : Type 0} {written : W → Option (List ℕ)} {failures : W → ℕ} {a b c : TextWriter W} {first second : List ℕ}
-    → Outcome written failures a b first → Outcome written failures b c second → Outcome written failures a c (first ++ second)
+    → Sent written failures a b first → Sent written failures b c second → Sent written failures a c (first ++ second)
 outcome_then {W} {written} {failures} {a} {b} {c} {first} {second} (Adds e f front p wrote count) (Adds g h moved q wrote_more count_more) =
     Adds e h (front ++ moved) (waits_on a.pending first second front b.pending moved c.pending p q) (Appends-trans _ _ _ front moved wrote wrote_more) (count_more ∙ count)
 outcome_then {W} {written} {failures} {a} {b} {c} {first} {second} (Adds e f front p wrote count) (Fails g h n within part fault) =
@@ -57,7 +57,7 @@ p ⟫ q = record {
   outcome = outcome_then p.outcome q.outcome;
 }
 
-outcome_nothing : {W : Type 0} (written : W → Option (List ℕ)) (failures : W → ℕ) (a : TextWriter W) → (a.failed ≡ true) ⊎ (a.failed ≡ false) → Outcome written failures a a []
+outcome_nothing : {W : Type 0} (written : W → Option (List ℕ)) (failures : W → ℕ) (a : TextWriter W) → (a.failed ≡ true) ⊎ (a.failed ≡ false) → Sent written failures a a []
 outcome_nothing written failures a (inl e) = Drops e e (Keeps-refl _) refl
 outcome_nothing written failures a (inr e) = Adds e e [] (append-nil a.pending) (Appends-nil _) refl
 
@@ -104,7 +104,7 @@ all_sent {written = written} {failures = failures} {start = start} {now = now} s
 -- ---- what the output has in the end
 
 sent_whole : {W : Type 0} {written : W → Option (List ℕ)} {failures : W → ℕ} {start end : TextWriter W} {text : List ℕ} → start.pending ≡ [] → end.pending ≡ [] → end.failed ≡ false
-    → Outcome written failures start end text → Appends (written start.out.now) (written end.out.now) text × (failures end.out.now ≡ failures start.out.now)
+    → Sent written failures start end text → Appends (written start.out.now) (written end.out.now) text × (failures end.out.now ≡ failures start.out.now)
 sent_whole {written = written} {start = start} {end = end} {text = text} from to works (Adds e f front p wrote count) =
     let same : front ≡ text = sym (append-nil front) ∙ ap (λ l. front ++ l) (sym to) ∙ sym p ∙ ap (λ l. l ++ text) from in
     (subst (Appends (written start.out.now) (written end.out.now)) same wrote, count)
@@ -116,7 +116,7 @@ pub sent : {W : Type 0} {written : W → Option (List ℕ)} {failures : W → �
 sent from whole to = sent_whole from.empty to.empty to.working whole.outcome
 
 sent_front : {W : Type 0} {written : W → Option (List ℕ)} {failures : W → ℕ} {start end : TextWriter W} {text : List ℕ} → start.pending ≡ [] → start.failed ≡ false → end.failed ≡ true
-    → Outcome written failures start end text
+    → Sent written failures start end text
     → WritesFront (written start.out.now) (written end.out.now) text × MoreFaults (failures start.out.now) (failures end.out.now) × (failures start.out.now ≤ failures end.out.now)
 sent_front from works failed (Adds e f front p wrote count) = absurd cc
 sent_front {written = written} {start = start} {end = end} {text = text} from works failed (Fails e f n within part fault) =

@@ -7,13 +7,13 @@ use Rattle.std.specs.Result.{is_err}
 use Rattle.std.specs.Io.KnownBytes.{Appends}
 use Rattle.jc_base.specs.Device.{CountsFault, WritesFront}
 use Rattle.jc_text.specs.declared.text_writer.TextWriter.{TextWriter}
-use Rattle.jc_text.specs.Sends.{Outcome, Adds, Fails, Drops, Sends}
+use Rattle.jc_text.specs.Sends.{Sent, Adds, Fails, Drops, Sends}
 
 -- what waited and the text were written together
 pub outcome_of_write : {W T E : Type 0} {written : W → Option (List ℕ)} {failures : W → ℕ} {old new : TextWriter W} (text bytes : List ℕ) (r : Result T E)
     → old.failed ≡ false → new.failed ≡ is_err r → new.pending ≡ [] → bytes ≡ old.pending ++ text
     → OnOk r (Appends (written old.out.now) (written new.out.now) bytes) → OnErr r (WritesFront (written old.out.now) (written new.out.now) bytes)
-    → CountsFault r (failures old.out.now) (failures new.out.now) → Outcome written failures old new text
+    → CountsFault r (failures old.out.now) (failures new.out.now) → Sent written failures old new text
 outcome_of_write text bytes (Ok x) working failed empty all ok front count =
     Adds working failed bytes (sym all ∙ sym (append-nil bytes) ∙ ap (λ l. bytes ++ l) (sym empty)) ok count
 outcome_of_write {written = written} {old = old} {new = new} text bytes (Err x) working failed empty all ok front count =
@@ -22,12 +22,12 @@ outcome_of_write {written = written} {old = old} {new = new} text bytes (Err x) 
 
 -- a write had failed
 pub outcome_of_none : {W : Type 0} {written : W → Option (List ℕ)} {failures : W → ℕ} {old new : TextWriter W} (text : List ℕ)
-    → old.failed ≡ true → new.failed ≡ true → new.out.now ≡ old.out.now → Outcome written failures old new text
+    → old.failed ≡ true → new.failed ≡ true → new.out.now ≡ old.out.now → Sent written failures old new text
 outcome_of_none {written = written} {failures = failures} {old = old} text failed fails same =
     Drops failed fails (rw same (Keeps-refl (written old.out.now))) (ap failures same)
 
 outcome_of_wait : {W : Type 0} {written : W → Option (List ℕ)} {failures : W → ℕ} {old new : TextWriter W} (text : List ℕ)
-    → (old.failed ≡ true) ⊎ (old.failed ≡ false) → new.failed ≡ old.failed → new.out.now ≡ old.out.now → new.pending ≡ old.pending ++ text → Outcome written failures old new text
+    → (old.failed ≡ true) ⊎ (old.failed ≡ false) → new.failed ≡ old.failed → new.out.now ≡ old.out.now → new.pending ≡ old.pending ++ text → Sent written failures old new text
 outcome_of_wait text (inl e) same out waits = outcome_of_none text e (same ∙ e) out
 outcome_of_wait {written = written} {failures = failures} {old = old} text (inr e) same out waits =
     Adds e (same ∙ e) [] (sym waits) (rw out (Appends-nil (written old.out.now))) (ap failures out)

@@ -10,16 +10,21 @@ pub record IsFresh {W : Type 0} (writer : TextWriter W) : Type 0 where
   pub working : writer.failed ≡ false
 
 -- the text was handed over, to an output whose bytes and whose failures these functions tell
-pub data Outcome {W : Type 0} (written : W → Option (List ℕ)) (failures : W → ℕ) (old new : TextWriter W) (text : List ℕ) : Type 0 where
+pub data Sent {W : Type 0} (written : W → Option (List ℕ)) (failures : W → ℕ) (old new : TextWriter W)
+    (text : List ℕ) : Type 0 where
   -- no write failed: a beginning of what waited and of the text was written, and the rest waits
-  Adds : old.failed ≡ false → new.failed ≡ false → (front : List ℕ) → old.pending ++ text ≡ front ++ new.pending → Appends (written old.out.now) (written new.out.now) front
-      → failures new.out.now ≡ failures old.out.now → Outcome written failures old new text
+  Adds : old.failed ≡ false → new.failed ≡ false → (front : List ℕ) → old.pending ++ text ≡ front ++ new.pending
+      → Appends (written old.out.now) (written new.out.now) front
+      → failures new.out.now ≡ failures old.out.now → Sent written failures old new text
   -- a write failed, and the output has a proper beginning
-  Fails : old.failed ≡ false → new.failed ≡ true → (n : ℕ) → n < length (old.pending ++ text) → Appends (written old.out.now) (written new.out.now) (take n (old.pending ++ text))
-      → MoreFaults (failures old.out.now) (failures new.out.now) → Outcome written failures old new text
+  Fails : old.failed ≡ false → new.failed ≡ true → (n : ℕ) → n < length (old.pending ++ text)
+      → Appends (written old.out.now) (written new.out.now) (take n (old.pending ++ text))
+      → MoreFaults (failures old.out.now) (failures new.out.now) → Sent written failures old new text
   -- one had failed before, and nothing was written
-  Drops : old.failed ≡ true → new.failed ≡ true → Keeps (written old.out.now) (written new.out.now) → failures new.out.now ≡ failures old.out.now → Outcome written failures old new text
+  Drops : old.failed ≡ true → new.failed ≡ true → Keeps (written old.out.now) (written new.out.now)
+      → failures new.out.now ≡ failures old.out.now → Sent written failures old new text
 
-pub record Sends {W : Type 0} (written : W → Option (List ℕ)) (failures : W → ℕ) (old new : TextWriter W) (text : List ℕ) : Type 0 where
+pub record Sends {W : Type 0} (written : W → Option (List ℕ)) (failures : W → ℕ) (old new : TextWriter W)
+    (text : List ℕ) : Type 0 where
   pub same_reference : new.out.ghost_name ≡ old.out.ghost_name
-  pub outcome : Outcome written failures old new text
+  pub outcome : Sent written failures old new text

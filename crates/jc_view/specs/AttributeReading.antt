@@ -1,5 +1,6 @@
 -- What is read in the bytes of attributes: `attributes_are_read` says that it is what `Attributes` defines.
-use Rattle.std.specs.Prelude.{ℕ, ◌+◌, ◌*◌, ◌^◌, ◌&&◌, ◌==◌, nat_lt, List, [], ◌∷◌, ◌++◌, length, take, drop, Option, Some, None, if◌then◌else◌, option_and_then}
+use Rattle.std.specs.Prelude.{◌≡◌, ◌↔◌, ℕ, ◌+◌, ◌*◌, ◌^◌, ◌&&◌, ◌==◌, nat_lt, List, [], ◌∷◌}
+use Rattle.std.specs.Prelude.{◌++◌, length, take, drop, Option, Some, None, if◌then◌else◌, option_and_then}
 use Rattle.std.specs.List.{flat_map}
 use Rattle.std.specs.Option.{option_map_or}
 use Rattle.jc_base.specs.Endian.{big_number}
@@ -8,6 +9,7 @@ use Rattle.jc_view.specs.declared.attribute_kind.AttributeKind.TheVariants as ki
 use Rattle.jc_view.specs.ConstantPool.{index_value}
 use Rattle.jc_view.specs.ClassFile.{ClassFile}
 use Rattle.jc_view.specs.Reading.{after, after_table, after_attribute, after_indexes, attribute_value, table_value}
+use Rattle.jc_view.specs.Outcome.{AreBytes}
 use Rattle.jc_view.specs.Places.{PlacedAttribute, fields_in, methods_in, attributes_in, member_attributes}
 use Rattle.jc_view.specs.Attributes.{Bootstrap, Code, Handler, code_attributes, is_recognised}
 
@@ -16,7 +18,12 @@ abbrev pub whole : {X : Type 0} → (List ℕ → Option (List ℕ)) → (List �
 whole after_it value b = option_and_then (λ rest. if length rest == 0 then Some (value b) else None) (after_it b)
 
 abbrev pub handler_value : List ℕ → Handler
-handler_value xs = record { start_pc = big_number 2 xs; end_pc = big_number 2 (drop 2 xs); handler_pc = big_number 2 (drop 4 xs); catch_type = index_value (drop 6 xs) }
+handler_value xs = record {
+  start_pc = big_number 2 xs;
+  end_pc = big_number 2 (drop 2 xs);
+  handler_pc = big_number 2 (drop 4 xs);
+  catch_type = index_value (drop 6 xs);
+}
 
 abbrev pub code_length : List ℕ → ℕ
 code_length xs = big_number 4 (drop 4 xs)
@@ -24,7 +31,9 @@ code_length xs = big_number 4 (drop 4 xs)
 -- behind 1 to 65,535 bytes of code and their count
 abbrev pub after_instructions : List ℕ → Option (List ℕ)
 after_instructions xs =
-    option_and_then (λ rest. if nat_lt 0 (code_length xs) && nat_lt (code_length xs) (2 ^ 16) then after (code_length xs) rest else None) (after 8 xs)
+    option_and_then
+    (λ rest. if nat_lt 0 (code_length xs) && nat_lt (code_length xs) (2 ^ 16) then after (code_length xs) rest else None)
+    (after 8 xs)
 
 abbrev pub after_handlers : List ℕ → Option (List ℕ)
 after_handlers xs = after_table (after 8) xs
@@ -63,6 +72,10 @@ bootstrap_value xs = record { method = index_value xs; arguments = table_value (
 
 abbrev pub bootstraps_in : List ℕ → Option (List Bootstrap)
 bootstraps_in b = whole (after_table after_bootstrap) (table_value after_bootstrap bootstrap_value) b
+
+-- a function reads in bytes the one content that they are by a relation, and nothing where they are none
+abbrev pub ReadsExactly : {X : Type 0} → (List ℕ → Option X) → (List ℕ → X → Type 0) → Type 0
+ReadsExactly {X = X} read IsContent = (b : List ℕ) (x : X) → AreBytes b → (read b ≡ Some x) ↔ IsContent b x
 
 -- the well-formed Code that an attribute of a method is
 abbrev pub code_of : ClassFile → PlacedAttribute → Option Code

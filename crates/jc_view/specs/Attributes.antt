@@ -1,5 +1,6 @@
 -- The attributes that are recognised, and what is read in them (JVMS 4.7).
-use Rattle.std.specs.Prelude.{◌≡◌, ℕ, ◌+◌, ◌<◌, ◌^◌, Bool, true, false, ◌&&◌, List, ◌++◌, length, drop, filter, codes}
+use Rattle.std.specs.Prelude.{◌≡◌, ℕ, ◌+◌, ◌<◌, ◌^◌, Bool, true, false}
+use Rattle.std.specs.Prelude.{◌&&◌, List, ◌++◌, length, drop, filter, codes}
 use Rattle.jc_base.specs.Bytes.{same_bytes}
 use Rattle.jc_base.specs.Endian.{big_bytes}
 use Rattle.jc_view.specs.declared.constant_pool.ConstantIndex.{ConstantIndex}
@@ -81,7 +82,9 @@ handler_bytes h = big_bytes 2 h.start_pc ++ big_bytes 2 h.end_pc ++ big_bytes 2 
 
 -- what stands before its attributes
 abbrev pub code_front : Code → List ℕ
-code_front k = big_bytes 2 k.max_stack ++ big_bytes 2 k.max_locals ++ big_bytes 4 (length k.code) ++ k.code ++ counted handler_bytes k.handlers
+code_front k =
+    big_bytes 2 k.max_stack ++ big_bytes 2 k.max_locals
+    ++ big_bytes 4 (length k.code) ++ k.code ++ counted handler_bytes k.handlers
 
 unfoldable pub code_bytes : Code → List ℕ
 code_bytes k = code_front k ++ counted attribute_bytes k.attributes

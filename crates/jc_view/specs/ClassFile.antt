@@ -1,9 +1,11 @@
 -- A class file as plain data, and its bytes (JVMS 4.1, 4.4 to 4.7).
-use Rattle.std.specs.Prelude.{◌≡◌, ℕ, ◌+◌, ◌<◌, ◌^◌, ◌⊎◌, List, [], ◌∷◌, ◌++◌, length, Option, Some, None, if◌then◌else◌, ◌==◌, nat_lt, ◌-◌, option_and_then}
+use Rattle.std.specs.Prelude.{◌≡◌, ℕ, ◌+◌, ◌<◌, ◌^◌, ◌⊎◌, List, [], ◌∷◌, ◌++◌, length}
+use Rattle.std.specs.Prelude.{Option, Some, None, if◌then◌else◌, ◌==◌, nat_lt, ◌-◌, option_and_then}
 use Rattle.std.specs.List.{flat_map, AllByRecursion}
 use Rattle.jc_base.specs.Endian.{big_bytes}
 use Rattle.jc_view.specs.declared.constant_pool.ConstantIndex.{ConstantIndex}
-use Rattle.jc_view.specs.ConstantPool.{Constant, constant_bytes, FitsConstant, kind_of, is_wide, index_bytes, IsIndex, class_entry, utf8_text}
+use Rattle.jc_view.specs.ConstantPool.{Constant, constant_bytes, FitsConstant, kind_of}
+use Rattle.jc_view.specs.ConstantPool.{is_wide, index_bytes, IsIndex, class_entry, utf8_text}
 
 pub record Attribute : Type 0 where
   pub name : ConstantIndex
@@ -59,10 +61,16 @@ head_bytes c = big_bytes 4 magic ++ big_bytes 2 c.minor ++ big_bytes 2 c.major +
 
 -- what stands behind the constants
 abbrev pub tail_bytes : ClassFile → List ℕ
-tail_bytes c = big_bytes 2 c.flags ++ index_bytes c.this_class ++ index_bytes c.super_class ++ counted index_bytes c.interfaces ++ counted member_bytes c.fields ++ counted member_bytes c.methods ++ counted attribute_bytes c.attributes
+tail_bytes c =
+    big_bytes 2 c.flags ++ index_bytes c.this_class ++ index_bytes c.super_class ++ counted index_bytes c.interfaces
+    ++ counted member_bytes c.fields ++ counted member_bytes c.methods ++ counted attribute_bytes c.attributes
 
 unfoldable pub layout : ClassFile → List ℕ
 layout c = head_bytes c ++ flat_map constant_bytes c.constants ++ tail_bytes c
+
+-- the bytes of the one are no front of the other's, unless both are the same class file
+abbrev pub AreApart : ClassFile → ClassFile → Type 0
+AreApart c d = (rest : List ℕ) → layout c ++ rest ≡ layout d → (rest ≡ []) × (c ≡ d)
 
 -- ---- what has a layout
 

@@ -1,6 +1,7 @@
 -- Constants, their tags and their bytes (JVMS 4.4).
 use Rattle.jc_base.specs.Endian.{big_number, big_bytes}
-use Rattle.std.specs.Prelude.{ℕ, ◌<◌, ◌^◌, Bool, true, false, List, [], ◌∷◌, ◌++◌, length, Option, Some, None, if◌then◌else◌, ◌==◌, codes}
+use Rattle.std.specs.Prelude.{ℕ, ◌<◌, ◌^◌, Bool, true, false, List, [], ◌∷◌, ◌++◌}
+use Rattle.std.specs.Prelude.{length, Option, Some, None, if◌then◌else◌, ◌==◌, codes}
 use Rattle.jc_view.specs.declared.constant_pool.ConstantIndex.{ConstantIndex}
 use Rattle.jc_view.specs.declared.constant_pool.ConstantKind.{ConstantKind}
 use Rattle.jc_view.specs.declared.constant_pool.ConstantKind.TheVariants as kinds
@@ -73,7 +74,10 @@ kind_name kinds.InvokeDynamic = codes "InvokeDynamic"
 
 -- each kind, once
 abbrev pub all_kinds : List ConstantKind
-all_kinds = kinds.Utf8 ∷ kinds.Integer ∷ kinds.Float ∷ kinds.Long ∷ kinds.Double ∷ kinds.Class ∷ kinds.String ∷ kinds.Fieldref ∷ kinds.Methodref ∷ kinds.InterfaceMethodref ∷ kinds.NameAndType ∷ kinds.MethodHandle ∷ kinds.MethodType ∷ kinds.InvokeDynamic ∷ []
+all_kinds =
+    kinds.Utf8 ∷ kinds.Integer ∷ kinds.Float ∷ kinds.Long ∷ kinds.Double ∷ kinds.Class ∷ kinds.String
+    ∷ kinds.Fieldref ∷ kinds.Methodref ∷ kinds.InterfaceMethodref ∷ kinds.NameAndType
+    ∷ kinds.MethodHandle ∷ kinds.MethodType ∷ kinds.InvokeDynamic ∷ []
 
 abbrev pub with_tag : ℕ → List ConstantKind → Option ConstantKind
 with_tag tag [] = None

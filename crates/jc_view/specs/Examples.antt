@@ -23,7 +23,9 @@ abbrev pub class_a_data : ClassFile
 class_a_data = record {
   minor = 0;
   major = 52;
-  constants = pool.Class (record { 0 = 2 }) ∷ pool.Utf8 (codes "A") ∷ pool.Class (record { 0 = 4 }) ∷ pool.Utf8 (codes "java/lang/Object") ∷ [];
+  constants =
+      pool.Class (record { 0 = 2 }) ∷ pool.Utf8 (codes "A")
+      ∷ pool.Class (record { 0 = 4 }) ∷ pool.Utf8 (codes "java/lang/Object") ∷ [];
   flags = 0x21;
   this_class = record { 0 = 1 };
   super_class = record { 0 = 3 };

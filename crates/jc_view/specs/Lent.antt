@@ -3,11 +3,14 @@ use Rattle.jc_view.specs.declared.constant_pool.Constant.{Constant}
 use Rattle.jc_view.specs.declared.constant_pool.Constant.TheVariants as lent
 use Rattle.jc_view.specs.ConstantPool as pool
 use Rattle.jc_view.specs.declared.code.ExceptionHandler.{ExceptionHandler}
-use Rattle.std.specs.Prelude.{◌≡◌, ℕ, List, [], ◌∷◌, map, Option}
+use Rattle.std.specs.Prelude.{◌≡◌, ℕ, List, [], ◌∷◌, map, Option, Some}
+use Rattle.std.specs.List.{Contains}
 use Rattle.std.specs.Option.{MatchOption}
 use Rattle.jc_view.specs.declared.constant_pool.ConstantIndex.{ConstantIndex}
-use Rattle.jc_view.specs.ClassFile.{ClassFile, class_text_at}
-use Rattle.jc_view.specs.Places.{PlacedAttribute, PlacedMember}
+use Rattle.jc_view.specs.ClassFile.{ClassFile, class_text_at, constant_at, layout}
+use Rattle.jc_view.specs.Lookups.{utf8_at}
+use Rattle.jc_view.specs.Places.{PlacedAttribute, PlacedMember, HasBytesAt, HasInstructionsAt, IsLent}
+use Rattle.jc_view.specs.AttributeReading.{all_attributes, code_of}
 use Rattle.jc_view.specs.Attributes.{Code, Handler}
 
 -- ---- what an iterator has still to give
@@ -51,11 +54,15 @@ interface_names interfaces = map (class_text_at interfaces.class) interfaces.lef
 
 abbrev pub GivesMember : MembersLeft → Option LentMember → MembersLeft → Type 0
 GivesMember old result new =
-    (new.class ≡ old.class) × MatchOption result ((old.left ≡ []) × (new.left ≡ [])) (λ item. (old.left ≡ item.member ∷ new.left) × (item.class ≡ old.class))
+    (new.class ≡ old.class)
+    × MatchOption result ((old.left ≡ []) × (new.left ≡ []))
+    (λ item. (old.left ≡ item.member ∷ new.left) × (item.class ≡ old.class))
 
 abbrev pub GivesAttribute : AttributesLeft → Option LentAttribute → AttributesLeft → Type 0
 GivesAttribute old result new =
-    (new.class ≡ old.class) × MatchOption result ((old.left ≡ []) × (new.left ≡ [])) (λ item. (old.left ≡ item.attribute ∷ new.left) × (item.class ≡ old.class))
+    (new.class ≡ old.class)
+    × MatchOption result ((old.left ≡ []) × (new.left ≡ []))
+    (λ item. (old.left ≡ item.attribute ∷ new.left) × (item.class ≡ old.class))
 
 -- ---- constants
 
@@ -80,3 +87,25 @@ constant_of (lent.InvokeDynamic bootstrap name_and_type) = pool.InvokeDynamic bo
 
 abbrev pub handler_of : ExceptionHandler → Handler
 handler_of h = record { start_pc = h.start_pc; end_pc = h.end_pc; handler_pc = h.handler_pc; catch_type = h.catch_type }
+
+-- ---- where what is lent lies in the file
+
+-- each text is the part of the file at its constant's place
+abbrev pub TextsLieIn : ClassFile → Type 0
+TextsLieIn c = (index : ConstantIndex) (text : List ℕ) → utf8_at c index ≡ Some text → IsLent c index text
+
+-- the text of each Class is that of the Utf8 that it names
+abbrev pub ClassTextsLieIn : ClassFile → Type 0
+ClassTextsLieIn c =
+    (index : ConstantIndex) (text : List ℕ) → class_text_at c index ≡ Some text
+    → (entry : ConstantIndex) × (constant_at c index ≡ Some (pool.Class entry)) × IsLent c entry text
+
+-- the instructions of each Code are the part behind the numbers at its front
+abbrev pub InstructionsLieIn : ClassFile → Type 0
+InstructionsLieIn c =
+    (a : PlacedAttribute) (k : Code) → Contains (all_attributes c) a → code_of c a ≡ Some k
+    → HasInstructionsAt (layout c) a.place k.code
+
+-- the bytes of each attribute are the part behind its name and its length
+abbrev pub AttributesLieIn : ClassFile → Type 0
+AttributesLieIn c = (a : PlacedAttribute) → Contains (all_attributes c) a → HasBytesAt (layout c) a

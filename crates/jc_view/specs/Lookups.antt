@@ -3,7 +3,8 @@ use Rattle.std.specs.Prelude.{ℕ, Bool, true, false, not, ◌==◌, List, Optio
 use Rattle.std.specs.Option.{option_map_or}
 use Rattle.jc_view.specs.declared.constant_pool.ConstantIndex.{ConstantIndex}
 use Rattle.jc_view.specs.declared.constant_pool.ConstantKind.{ConstantKind}
-use Rattle.jc_view.specs.ConstantPool.{Constant, Fieldref, Methodref, InterfaceMethodref, NameAndType, InvokeDynamic, kind_of, tag_of, utf8_text}
+use Rattle.jc_view.specs.ConstantPool.{Constant, Fieldref, Methodref, InterfaceMethodref}
+use Rattle.jc_view.specs.ConstantPool.{NameAndType, InvokeDynamic, kind_of, tag_of, utf8_text}
 use Rattle.jc_view.specs.ClassFile.{ClassFile, constant_at}
 
 -- the text of the Utf8 entry

@@ -7,6 +7,7 @@ abbrev pub KeepsEnd : Reading → Reading → Type 0
 KeepsEnd old new = new.place + length new.rest ≡ old.place + length old.rest
 
 -- Some: the part's value, and the cursor stands behind the part; None: the part is cut
-abbrev pub Lends : {X Y : Type 0} → (X → Y) → (List ℕ → Option (List ℕ)) → (List ℕ → Y) → Reading → Option X → Reading → Type 0
+abbrev pub Lends : {X Y : Type 0} → (X → Y) → (List ℕ → Option (List ℕ)) → (List ℕ → Y)
+    → Reading → Option X → Reading → Type 0
 Lends view after_part value old None new = after_part old.rest ≡ None
 Lends view after_part value old (Some x) new = (after_part old.rest ≡ Some new.rest) × KeepsEnd old new × (view x ≡ value old.rest)

@@ -1,5 +1,6 @@
 -- The class file that bytes are and the class that they name, or why there is none, as functions.
-use Rattle.std.specs.Prelude.{◌<◌, ℕ, List, slice_index, Option, Some, None, Result, Ok, if◌then◌else◌, option_and_then}
+use Rattle.std.specs.Prelude.{◌≡◌, ◌<◌, ℕ, List, slice_index, Option, Some}
+use Rattle.std.specs.Prelude.{None, Result, Ok, if◌then◌else◌, option_and_then}
 use Rattle.jc_base.specs.TextTests.{is_class_text}
 use Rattle.jc_view.specs.declared.parse_error.ParseError.{ParseError}
 use Rattle.jc_view.specs.declared.parse_error.ParseError.TheVariants as errors
@@ -34,3 +35,7 @@ class_read b = do
   found ← parts_at (record { place = 0; rest = b })
   name ← or_refusal (name_in (class_value b found.0.places found.0.tail)) errors.NoName
   Ok (class_value b found.0.places found.0.tail)
+
+-- where the bytes are the layout of the class file and this is its name, they are read as it
+abbrev pub IsReadAs : List ℕ → ClassFile → List ℕ → Type 0
+IsReadAs b c name = IsLayoutOf c b → IsNamed c name → class_read b ≡ Ok c

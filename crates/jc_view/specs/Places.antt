@@ -1,5 +1,6 @@
 -- Members and attributes, each with the place in the file where it begins: a number of bytes from its front.
-use Rattle.std.specs.Prelude.{◌≡◌, ℕ, ◌+◌, Bool, true, false, List, [], ◌∷◌, ◌++◌, length, Option, Some, None, option_and_then, take, drop, slice_get}
+use Rattle.std.specs.Prelude.{◌≡◌, ℕ, ◌+◌, Bool, true, false, List, [], ◌∷◌, ◌++◌}
+use Rattle.std.specs.Prelude.{length, Option, Some, None, option_and_then, take, drop, slice_get}
 use Rattle.std.specs.List.{flat_map}
 use Rattle.jc_view.specs.ConstantPool.{Constant, constant_bytes, kind_of, is_wide, index_bytes}
 use Rattle.jc_view.specs.declared.constant_pool.ConstantIndex.{ConstantIndex}
@@ -84,6 +85,7 @@ pub record IsLent (c : ClassFile) (index : ConstantIndex) (text : List ℕ) : Ty
 abbrev pub HasBytesAt : List ℕ → PlacedAttribute → Type 0
 HasBytesAt bytes a = take (length a.attribute.bytes) (drop (a.place + 6) bytes) ≡ a.attribute.bytes
 
--- the instructions of a Code are the part behind the name, the length, max_stack, max_locals and their own length of the attribute at the place
+-- the instructions of a Code are the part behind the name, the length, max_stack, max_locals and their own length of the
+-- attribute at the place
 abbrev pub HasInstructionsAt : List ℕ → ℕ → List ℕ → Type 0
 HasInstructionsAt bytes place code = take (length code) (drop (place + 14) bytes) ≡ code

@@ -1,5 +1,7 @@
 -- What the parts of `parse` take from the front of the bytes. Its theorem speaks of `layout` alone.
-use Rattle.std.specs.Prelude.{ℕ, zero, suc, ◌+◌, ◌-◌, ◌*◌, Bool, true, false, not, ◌&&◌, ◌||◌, List, [], ◌∷◌, ◌++◌, length, take, drop, Option, Some, None, Result, Ok, Err, if◌then◌else◌, ◌==◌, nat_lt, unwrap_or, option_and_then}
+use Rattle.std.specs.Prelude.{ℕ, zero, suc, ◌+◌, ◌-◌, ◌*◌, Bool, true, false, not, ◌&&◌}
+use Rattle.std.specs.Prelude.{◌||◌, List, [], ◌∷◌, ◌++◌, length, take, drop, Option, Some, None}
+use Rattle.std.specs.Prelude.{Result, Ok, Err, if◌then◌else◌, ◌==◌, nat_lt, unwrap_or, option_and_then}
 use Rattle.std.specs.Option.{option_map_or}
 use Rattle.jc_base.specs.Endian.{big_number}
 use Rattle.jc_base.specs.Cursor.{Reading}
@@ -175,7 +177,8 @@ entries_from (suc left) is_second reading = do
   others ← entries_from left entry.0.is_wide entry.1
   Ok (entry.0.offset ∷ others.0, others.1)
 
-abbrev pub with_front : List (Option ℕ) → Result (List (Option ℕ) × Reading) ParseError → Result (List (Option ℕ) × Reading) ParseError
+abbrev pub with_front : List (Option ℕ) → Result (List (Option ℕ) × Reading) ParseError
+    → Result (List (Option ℕ) × Reading) ParseError
 with_front front read = read >>= λ x. Ok (front ++ x.0, x.1)
 
 -- the places of a constant pool with this count, by index
@@ -207,7 +210,8 @@ class_with minor major constants xs = record {
 
 -- the class file in these bytes whose constants begin at these places, and whose other parts at that place
 unfoldable pub class_value : List ℕ → List (Option ℕ) → ℕ → ClassFile
-class_value bytes places tail = class_with (big_number 2 (drop 4 bytes)) (big_number 2 (drop 6 bytes)) (constants_at bytes places) (drop tail bytes)
+class_value bytes places tail =
+    class_with (big_number 2 (drop 4 bytes)) (big_number 2 (drop 6 bytes)) (constants_at bytes places) (drop tail bytes)
 
 abbrev pub is_accepted : ℕ → ℕ → Bool
 is_accepted major minor = major == 51 || (major == 52 && minor == 0)

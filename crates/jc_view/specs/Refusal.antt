@@ -1,5 +1,6 @@
 -- Which bytes are a readable class file, and why others are not.
-use Rattle.std.specs.Prelude.{◌≡◌, ◌≢◌, ℕ, ◌+◌, ◌-◌, ◌<◌, ◌≤◌, ◌⊎◌, List, ◌∷◌, ◌++◌, length, take, drop, Some}
+use Rattle.std.specs.Prelude.{◌≡◌, ◌≢◌, ℕ, ◌+◌, ◌-◌, ◌<◌, ◌≤◌}
+use Rattle.std.specs.Prelude.{◌⊎◌, List, ◌∷◌, ◌++◌, length, take, drop, Some}
 use Rattle.std.specs.List.{flat_map, AllByRecursion}
 use Rattle.jc_base.specs.Endian.{big_number}
 use Rattle.jc_base.specs.Names.{IsClassName}
@@ -56,6 +57,9 @@ pub record IsNamed (c : ClassFile) (name : List ℕ) : Type 0 where
   pub text : constant_at c entry ≡ Some (pool.Utf8 name)
   pub class_name : IsClassName name
 
+abbrev pub IsNameless : ClassFile → Type 0
+IsNameless c = (name : List ℕ) → ¬ IsNamed c name
+
 abbrev pub IsReadable : List ℕ → Type 0
 IsReadable b = (c : ClassFile) × IsLayoutOf c b × ((name : List ℕ) × IsNamed c name)
 
@@ -68,7 +72,7 @@ Applies (errors.Tag at) b = (10 ≤ length b) × (o : Owes 10 (drop 10 b) (pool_
 Applies (errors.Wide at) b = (10 ≤ length b) × (o : Owes 10 (drop 10 b) (pool_size b) at) × (o.left ≡ 1) × IsWideTag o.tag
 Applies (errors.Trailing at) b = (at < length b) × (c : ClassFile) × IsLayoutOf c (take at b)
 Applies errors.Short b = (at : ℕ) (c : ClassFile) → ¬ IsLayoutOf c (take at b)
-Applies errors.NoName b = (c : ClassFile) × IsLayoutOf c b × ((name : List ℕ) → ¬ IsNamed c name)
+Applies errors.NoName b = (c : ClassFile) × IsLayoutOf c b × IsNameless c
 Applies errors.NoMemory b = ⊥
 
 -- the number of a refusal, by which refusals are ordered

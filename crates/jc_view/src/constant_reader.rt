@@ -7,6 +7,7 @@ ghost use Rattle.jc_view.specs.inside.ConstantRead.{constant_read, kind_read};
 ghost use Rattle.jc_view.specs.ConstantPool.{index_value, kind_of, utf8_text};
 ghost use Rattle.jc_base.specs.Endian.{big_number};
 ghost use Rattle.jc_view.specs.Moves.{Lends};
+ghost use Rattle.jc_view.specs.declared.constant_pool.ConstantKind.TheVariants as kinds;
 ghost use Rattle.jc_view.specs.ClassFile.{ClassFile, constant_at};
 ghost use Rattle.jc_view.specs.Lookups.{utf8_at};
 ghost use Rattle.jc_view.specs.inside.ConstantPlaces.{Holds};
@@ -161,7 +162,7 @@ pub(crate) fn read_pair(cursor: &mut Cursor) -> Option<(ConstantIndex, ConstantI
 }
 
 fn read_method_handle<'a>(cursor: &mut Cursor<'a>) -> Option<Constant<'a>>
-    ensures { Lends constant_of (after_body ConstantKind.MethodHandle) (body_value ConstantKind.MethodHandle) cursor.old result cursor.new }
+    ensures { Lends constant_of (after_body kinds.MethodHandle) (body_value kinds.MethodHandle) cursor.old result cursor.new }
 {
     let kind = cursor.u1()?;
     let reference = read_index(cursor)?;
@@ -169,7 +170,7 @@ fn read_method_handle<'a>(cursor: &mut Cursor<'a>) -> Option<Constant<'a>>
 }
 
 fn read_invoke_dynamic<'a>(cursor: &mut Cursor<'a>) -> Option<Constant<'a>>
-    ensures { Lends constant_of (after_body ConstantKind.InvokeDynamic) (body_value ConstantKind.InvokeDynamic) cursor.old result cursor.new }
+    ensures { Lends constant_of (after_body kinds.InvokeDynamic) (body_value kinds.InvokeDynamic) cursor.old result cursor.new }
 {
     let bootstrap = cursor.u2()?;
     let name_and_type = read_index(cursor)?;

@@ -1,25 +1,21 @@
 //! Laws of the definitions: functions without a body, whose contracts are the laws.
 
-ghost use Rattle.std.specs.Prelude.{◌≡◌, ◌↔◌, ◌++◌, [], ◌∷◌, ℕ, List, Some, Ok, Err, take, codes};
+ghost use Rattle.std.specs.Prelude.{◌≡◌, ◌↔◌, ◌++◌, [], ◌∷◌, ℕ, List, Ok, Err, take, codes};
 ghost use Rattle.jc_view.specs.Examples.{class_a, class_a_data, head, constants, tail};
 ghost use Rattle.jc_view.specs.declared.parse_error.ParseError.{ParseError};
-ghost use Rattle.jc_view.specs.ConstantPool.{Class};
-ghost use Rattle.jc_view.specs.ClassFile.{class_text_at, constant_at, ClassFile, layout, FitsClassFile};
-ghost use Rattle.jc_view.specs.Refusal.{Applies, IsLayoutOf, IsNamed, IsReadable, IsRefusal};
-ghost use Rattle.jc_view.specs.Attributes.{Code, IsCodeOf, AreExceptionsOf, Bootstrap, AreBootstrapsOf};
-ghost use Rattle.jc_view.specs.AttributeReading.{code_of, code_in, exceptions_in, bootstraps_in, all_attributes};
-ghost use Rattle.std.specs.List.{Contains};
-ghost use Rattle.jc_view.specs.declared.constant_pool.ConstantIndex.{ConstantIndex};
-ghost use Rattle.jc_view.specs.Lookups.{utf8_at};
-ghost use Rattle.jc_view.specs.Places.{HasInstructionsAt, PlacedAttribute, IsLent, HasBytesAt};
-ghost use Rattle.jc_view.specs.Outcome.{AreBytes, NamesClass, class_named, class_read};
+ghost use Rattle.jc_view.specs.ClassFile.{AreApart, ClassFile, layout, FitsClassFile};
+ghost use Rattle.jc_view.specs.Refusal.{Applies, IsLayoutOf, IsReadable, IsRefusal};
+ghost use Rattle.jc_view.specs.Attributes.{IsCodeOf, AreExceptionsOf, AreBootstrapsOf};
+ghost use Rattle.jc_view.specs.AttributeReading.{ReadsExactly, code_in, exceptions_in, bootstraps_in};
+ghost use Rattle.jc_view.specs.Lent.{TextsLieIn, ClassTextsLieIn, InstructionsLieIn, AttributesLieIn};
+ghost use Rattle.jc_view.specs.Outcome.{AreBytes, IsReadAs, NamesClass, class_named, class_read};
 
 use jc_base::texts_are_decided;
 
 /// The class that bytes name and the class file that they are, as functions, and the refusals, are what
 /// the definitions say.
 pub fn outcomes_are_exact()
-    ensures read { (b : List ℕ) (c : ClassFile) (name : List ℕ) → AreBytes b → IsLayoutOf c b → IsNamed c name → class_read b ≡ Ok c }
+    ensures read { (b : List ℕ) (c : ClassFile) (name : List ℕ) → AreBytes b → IsReadAs b c name }
     ensures unread { (b : List ℕ) (e : ParseError) → AreBytes b → IsRefusal b e → class_read b ≡ Err e }
     ensures named { (b name : List ℕ) → AreBytes b → (class_named b ≡ Ok name) ↔ NamesClass b name }
     ensures refused { (b : List ℕ) (e : ParseError) → AreBytes b → (class_named b ≡ Err e) ↔ IsRefusal b e }
@@ -30,25 +26,25 @@ pub fn outcomes_are_exact()
 /// What is read in the bytes of a `Code`, an `Exceptions` or a `BootstrapMethods` attribute is the one
 /// well-formed content that they are.
 pub fn attributes_are_read()
-    ensures code { (b : List ℕ) (k : Code) → AreBytes b → (code_in b ≡ Some k) ↔ IsCodeOf b k }
-    ensures exceptions { (b : List ℕ) (names : List ConstantIndex) → AreBytes b → (exceptions_in b ≡ Some names) ↔ AreExceptionsOf b names }
-    ensures bootstraps { (b : List ℕ) (methods : List Bootstrap) → AreBytes b → (bootstraps_in b ≡ Some methods) ↔ AreBootstrapsOf b methods }
+    ensures code { ReadsExactly code_in IsCodeOf }
+    ensures exceptions { ReadsExactly exceptions_in AreExceptionsOf }
+    ensures bootstraps { ReadsExactly bootstraps_in AreBootstrapsOf }
 {}
 
 /// The text of a constant is the part of the file at the constant's place, and that of a Class at the
 /// Utf8's that it names; the bytes of an attribute, one inside a `Code` too, are the part behind its place, its name
 /// and its length; and a `Code`'s instructions the part behind the numbers at its front.
 pub fn texts_lie_in_the_layout()
-    ensures texts { (c : ClassFile) (index : ConstantIndex) (text : List ℕ) → FitsClassFile c → utf8_at c index ≡ Some text → IsLent c index text }
-    ensures class_texts { (c : ClassFile) (index : ConstantIndex) (text : List ℕ) → FitsClassFile c → class_text_at c index ≡ Some text → (entry : ConstantIndex) × (constant_at c index ≡ Some (Class entry)) × IsLent c entry text }
-    ensures codes { (c : ClassFile) (a : PlacedAttribute) (k : Code) → FitsClassFile c → Contains (all_attributes c) a → code_of c a ≡ Some k → HasInstructionsAt (layout c) a.place k.code }
-    ensures attributes { (c : ClassFile) (a : PlacedAttribute) → FitsClassFile c → Contains (all_attributes c) a → HasBytesAt (layout c) a }
+    ensures texts { (c : ClassFile) → FitsClassFile c → TextsLieIn c }
+    ensures class_texts { (c : ClassFile) → FitsClassFile c → ClassTextsLieIn c }
+    ensures codes { (c : ClassFile) → FitsClassFile c → InstructionsLieIn c }
+    ensures attributes { (c : ClassFile) → FitsClassFile c → AttributesLieIn c }
 {}
 
 /// No class file's bytes are a proper front of another's, a class file has its bytes alone, and at
 /// most one refusal is the first that applies.
 pub fn layouts_are_apart()
-    ensures fronts { (c d : ClassFile) (rest : List ℕ) → FitsClassFile c → FitsClassFile d → layout c ++ rest ≡ layout d → (rest ≡ []) × (c ≡ d) }
+    ensures fronts { (c d : ClassFile) → FitsClassFile c → FitsClassFile d → AreApart c d }
     ensures one_record { (b : List ℕ) (c d : ClassFile) → IsLayoutOf c b → IsLayoutOf d b → c ≡ d }
     ensures refusals { (b : List ℕ) (e f : ParseError) → IsRefusal b e → IsRefusal b f → e ≡ f }
     ensures readable { (b : List ℕ) (e : ParseError) → IsReadable b → ¬ Applies e b }

@@ -2,7 +2,9 @@
 
 ghost use Rattle.std.specs.Prelude.{◌≡◌, ◌<◌, IfOk, IfSome, ◌≢◌, IfErr};
 ghost use Rattle.jc_view.specs.declared.parse_error.ParseError.TheVariants.{NoMemory};
-ghost use Rattle.jc_view.specs.Reading.{after, after_attribute, after_member, after_table, after_indexes, after_tail, after_body, first_constant, entry_at, entry, pool_at, head_at, last_at, parts_at, numbers_value, is_accepted};
+ghost use Rattle.jc_view.specs.Reading.{after, after_attribute, after_member, after_table, after_indexes};
+ghost use Rattle.jc_view.specs.Reading.{after_tail, after_body, first_constant, entry_at, entry, pool_at};
+ghost use Rattle.jc_view.specs.Reading.{head_at, last_at, parts_at, numbers_value, is_accepted};
 ghost use Rattle.jc_view.specs.inside.Outcomes.{MovesBehind, Takes, HasGoodHead};
 ghost use Rattle.jc_view.specs.Moves.{Lends};
 ghost use Rattle.jc_view.specs.inside.PartsFound.{parts, numbers};

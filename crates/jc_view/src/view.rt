@@ -8,9 +8,9 @@ ghost use Rattle.jc_view.specs.ConstantPool.{kind_of};
 ghost use Rattle.jc_view.specs.Lookups.{descriptor_at, is_entry, name_at, utf8_at};
 ghost use Rattle.jc_view.specs.Places.{fields_in, methods_in, attributes_in, IsLent};
 ghost use Rattle.jc_view.specs.Lent.{constant_of};
-ghost use Rattle.jc_view.specs.inside.ConstantPlaces.{Holds};
+ghost use Rattle.jc_view.specs.inside.ConstantPlaces.{Holds, IsNamedAt};
 ghost use Rattle.jc_view.specs.Outcome.{AreBytes};
-ghost use Rattle.jc_view.specs.Refusal.{HasHead, IsLayoutOf, IsNamed, IsReadable, IsRefusal};
+ghost use Rattle.jc_view.specs.Refusal.{HasHead, IsLayoutOf, IsNamed, IsNameless, IsReadable, IsRefusal};
 
 use crate::attribute_kind::Holder;
 use crate::attributes::Attributes;
@@ -280,8 +280,8 @@ fn class_name<'a>(
     offsets: &[Option<usize>],
     index: ConstantIndex,
 ) -> Option<&'a [u8]>
-    ensures some { (c : ClassFile) → Holds bytes.now offsets.now c → c.this_class ≡ index → IfSome result (λ name. IsNamed c name.now) }
-    ensures none { (c : ClassFile) → Holds bytes.now offsets.now c → c.this_class ≡ index → IfNone result ((name : List ℕ) → ¬ IsNamed c name) }
+    ensures some { (c : ClassFile) → IsNamedAt c bytes.now offsets.now index → IfSome result (λ name. IsNamed c name.now) }
+    ensures none { (c : ClassFile) → IsNamedAt c bytes.now offsets.now index → IfNone result (IsNameless c) }
 {
     let name = class_text(bytes, offsets, index)?;
     if is_class_name(name) {

@@ -15,6 +15,11 @@ pub record AreParams (params : List (List ℕ)) : Type 0 where
   pub each : All IsFieldDescriptor params
   pub few : sum_by slots_of params ≤ 255
 
+-- the parameters at the front of the text, the result and the slots are those of some method
+abbrev pub AreParts : List ℕ → Option (List ℕ) → ℕ → Type 0
+AreParts text result slots =
+    AreParams (fields_of text) × IfSome result IsFieldDescriptor × (slots ≡ sum_by slots_of (fields_of text))
+
 -- the text begins with parameters that take so many slots, and the rest follows
 pub record ReadsParams (text : List ℕ) (slots : ℕ) (rest : List ℕ) : Type 0 where
   pub each : All IsFieldDescriptor (fields_of text)

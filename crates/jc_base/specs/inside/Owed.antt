@@ -1,5 +1,6 @@
 -- What the judge of signatures still owes: each entry of its stack, as symbols of the grammar.
-use Rattle.std.specs.Prelude.{◌≡◌, ℕ, ◌<◌, ◌↔◌, List, [], ◌∷◌, ◌++◌, length, Contains, Option, Some, None, MatchOption, fold}
+use Rattle.std.specs.Prelude.{◌≡◌, ℕ, ◌<◌, ◌↔◌, List, [], ◌∷◌, ◌++◌}
+use Rattle.std.specs.Prelude.{length, Contains, Option, Some, None, MatchOption, fold}
 use Rattle.jc_base.specs.declared.signatures.SigKind.{SigKind}
 use Rattle.jc_base.specs.declared.signatures.SigKind.TheVariants as kind
 use Rattle.jc_base.specs.declared.signatures.Owed.{Owed}
@@ -7,7 +8,9 @@ use Rattle.jc_base.specs.declared.signatures.Owed.TheVariants as entry
 use Rattle.jc_base.specs.declared.signatures.After.{After}
 use Rattle.jc_base.specs.declared.signatures.Step.{Step}
 use Rattle.jc_base.specs.Names.{Lacks}
-use Rattle.jc_base.specs.Signatures.{Symbol, Mark, Identifier, Maybe, Many, Result, Throws, Thrown, JavaType, ReferenceType, ClassType, Package, SimpleClass, Suffix, Argument, Params, Param, Bound, Derives, IsIdentifier, identifier_stops}
+use Rattle.jc_base.specs.Signatures.{Symbol, Mark, Identifier, Maybe, Many, Result, Throws, Thrown, JavaType}
+use Rattle.jc_base.specs.Signatures.{ReferenceType, ClassType, Package, SimpleClass, Suffix, Argument}
+use Rattle.jc_base.specs.Signatures.{Params, Param, Bound, Derives, IsIdentifier, identifier_stops}
 
 abbrev pub symbols_of : Owed → List Symbol
 symbols_of entry.Class = Maybe Params ∷ ClassType ∷ []
@@ -135,6 +138,13 @@ GivesTop kind old new answer =
     (λ entry. (c : ℕ) (rest : List ℕ) →
     Derives (stack_before old (tail_of kind)) (c ∷ rest)
     ↔ Derives (symbols_of entry ++ stack_before new (tail_of kind)) (c ∷ rest))
+
+-- the answer to an empty stack: what may be repeated, if anything may
+abbrev pub GivesRepeated : SigKind → Option Owed → Type 0
+GivesRepeated kind answer =
+    MatchOption answer ((c : ℕ) (rest : List ℕ) → ¬ Derives (tail_of kind) (c ∷ rest))
+    (λ entry. (c : ℕ) (rest : List ℕ)
+    → Derives (tail_of kind) (c ∷ rest) ↔ Derives (symbols_of entry ++ tail_of kind) (c ∷ rest))
 
 -- one step of the stack
 pub record StackStep (kind : SigKind) (old new : List Owed) (text : List ℕ) (step : Step) : Type 0 where

@@ -1,4 +1,5 @@
 -- Locality: a rule asks only for names that are above what it was asked for.
+use Rattle.jc_classes.specs.Resolution.{Answer as answer}
 use Rattle.std.proofs.Common.{◌≡◌, true, false, List, [], ◌∷◌, ◌++◌, map, Option, Some, None, refl, sym, ap, subst, inl, inr, ⊎_elim, zero, arith}
 use Rattle.std.specs.List.{Contains}
 use Rattle.std.specs.Option.{option_to_list, option_map_or}
@@ -18,7 +19,6 @@ use Rattle.jc_classes.specs.Resolution.{class_answer, ResolvesClass as rclass, S
 use Rattle.jc_classes.specs.Resolution.Starts.{starts}
 use Rattle.jc_classes.specs.Resolution.Start.{At}
 use Rattle.jc_classes.specs.Resolution.{start_of, object_start}
-use Rattle.jc_classes.specs.Resolution.Answer.{ToClass, ToMember, Beyond, NotLoaded, Wrong}
 use Rattle.jc_classes.specs.Loading.Loading.{Loaded, Outside, Fails}
 use Rattle.jc_classes.specs.Facts.Named.{Class, Array}
 
@@ -184,9 +184,9 @@ module _ (R : Name → Type 0) (m n : World) (g : Agree R m n) where
     pub load_there : {x : Name} {a : Loading} → R x → Load m x a → Load n x a
     load_there {x = x} r (load.missing e) = load.missing (along R m n g (λ q. q ≡ stands.Nothing) x r e)
     load_there {x = x} r (load.outside e) = load.outside (along R m n g (λ q. q ≡ stands.Outside) x r e)
-    load_there {x = x} r (load.faulty {r = y} e o) = load.faulty (along R m n g (λ q. q ≡ stands.Record y) x r e) o
-    load_there {x = x} r (load.round {r = y} e o a) = load.round (along R m n g (λ q. q ≡ stands.Record y) x r e) o (above_there R m n g r a)
-    load_there {x = x} r (load.through {r = y} e o z l) = load.through (along R m n g (λ q. q ≡ stands.Record y) x r e) o (λ a. z (above_there R n m back3 r a))
+    load_there {x = x} r (load.faulty {r = y} e o) = load.faulty (along R m n g (λ q. q ≡ stands.Class y) x r e) o
+    load_there {x = x} r (load.round {r = y} e o a) = load.round (along R m n g (λ q. q ≡ stands.Class y) x r e) o (above_there R m n g r a)
+    load_there {x = x} r (load.through {r = y} e o z l) = load.through (along R m n g (λ q. q ≡ stands.Class y) x r e) o (λ a. z (above_there R n m back3 r a))
         (each_there r (λ s h. g.closed x s r (subst (λ q. Contains (supers_of q) s) (sym e) (subst (λ ss. Contains ss s) (parents_are y) h))) l)
 
     pub each_there : {x : Name} {ps : List Parent} {a : Loading} → R x → Each ps → LoadEach m x ps a → LoadEach n x ps a
@@ -234,16 +234,16 @@ module _ (R : Name → Type 0) (m n : World) (g : Agree R m n) where
   object_within (Fails y x) c o e = absurd cc
 
   start_within : (t : Named) (a : Answer) (l : Loading) (c : Name) → R object → Holds R t → At c ≡ start_of t a l → R c
-  start_within (Class t) (ToClass x f) l c o h e = subst R (sym (at_is e)) h
-  start_within (Class t) (ToMember x y) l c o h e = absurd cc
-  start_within (Class t) (Beyond x) l c o h e = absurd cc
-  start_within (Class t) NotLoaded l c o h e = absurd cc
-  start_within (Class t) (Wrong y x) l c o h e = absurd cc
-  start_within (Array t i) (ToClass x f) l c o h e = object_within l c o e
-  start_within (Array t i) (ToMember x y) l c o h e = object_within l c o e
-  start_within (Array t i) (Beyond x) l c o h e = object_within l c o e
-  start_within (Array t i) NotLoaded l c o h e = object_within l c o e
-  start_within (Array t i) (Wrong y x) l c o h e = absurd cc
+  start_within (Class t) (answer.ToClass x f) l c o h e = subst R (sym (at_is e)) h
+  start_within (Class t) (answer.ToMember x y) l c o h e = absurd cc
+  start_within (Class t) (answer.Outside x) l c o h e = absurd cc
+  start_within (Class t) answer.NotLoaded l c o h e = absurd cc
+  start_within (Class t) (answer.Error y x) l c o h e = absurd cc
+  start_within (Array t i) (answer.ToClass x f) l c o h e = object_within l c o e
+  start_within (Array t i) (answer.ToMember x y) l c o h e = object_within l c o e
+  start_within (Array t i) (answer.Outside x) l c o h e = object_within l c o e
+  start_within (Array t i) answer.NotLoaded l c o h e = object_within l c o e
+  start_within (Array t i) (answer.Error y x) l c o h e = absurd cc
 
   starts_within : {d : Name} {t : Named} {c : Name} → R object → Holds R t → Starts m d t (At c) → R c
   starts_within {t = t} {c = c} o h (starts {a} {l} x y e) = start_within t a l c o h e

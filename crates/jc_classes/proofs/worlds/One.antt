@@ -1,4 +1,6 @@
 -- A reference has at most one answer.
+use Rattle.jc_classes.specs.Worlds.{Stands as stands}
+use Rattle.jc_classes.specs.Resolution.{Answer as answer}
 use Rattle.std.proofs.Common.{◌≡◌, Bool, true, false, List, Option, Some, None, refl, sym, ap, subst, ◌∙◌}
 use Rattle.std.proofs.lemmas.Bool.{false≢true}
 use Rattle.std.specs.declared.cmp.Ordering.{Ordering}
@@ -9,7 +11,6 @@ use Rattle.std.specs.FinMap.{nat_cmp-IsAntisymmetric, slice_cmp-IsAntisymmetric}
 use Rattle.jc_classes.specs.Facts.{is_faulty, Facts, Key, Member, Named}
 use Rattle.jc_classes.specs.Names.{Name, name_cmp, name_less, object}
 use Rattle.jc_classes.specs.Worlds.{World, Stands, Found, flags_of, is_interface}
-use Rattle.jc_classes.specs.Worlds.Stands.{Record, Outside, Nothing}
 use Rattle.jc_classes.specs.FieldLookup.{FindsField, FindsFirst}
 use Rattle.jc_classes.specs.FieldLookup.{FindsField as field}
 use Rattle.jc_classes.specs.FieldLookup.{FindsFirst as first}
@@ -27,7 +28,6 @@ use Rattle.jc_classes.specs.Resolution.{Answer, Start, ResolvesClass, Starts, st
 use Rattle.jc_classes.specs.Resolution.{ResolvesClass as rclass}
 use Rattle.jc_classes.specs.Resolution.Starts.{starts}
 use Rattle.jc_classes.specs.Resolution.Start.{At, Ends}
-use Rattle.jc_classes.specs.Resolution.Answer.{Beyond, Wrong}
 use Rattle.jc_classes.specs.Resolution.{Settles as settles}
 use Rattle.jc_classes.specs.Resolution.{ResolvesField as rfield}
 use Rattle.jc_classes.specs.Resolution.{ResolvesMethod as rmethod}
@@ -46,16 +46,16 @@ apart e f = absurd (false≢true (sym f ∙ e))
 none_some : {X A : Type 0} {x : X} → None ≡ Some x → A
 none_some e = absurd cc
 
-record_nothing : {A : Type 0} {o : Stands} {r : Facts} → o ≡ Record r → o ≡ Nothing → A
+record_nothing : {A : Type 0} {o : Stands} {r : Facts} → o ≡ stands.Class r → o ≡ stands.Nothing → A
 record_nothing e f = absurd cc
 
-record_outside : {A : Type 0} {o : Stands} {r : Facts} → o ≡ Record r → o ≡ Outside → A
+record_outside : {A : Type 0} {o : Stands} {r : Facts} → o ≡ stands.Class r → o ≡ stands.Outside → A
 record_outside e f = absurd cc
 
-nothing_outside : {A : Type 0} {o : Stands} → o ≡ Nothing → o ≡ Outside → A
+nothing_outside : {A : Type 0} {o : Stands} → o ≡ stands.Nothing → o ≡ stands.Outside → A
 nothing_outside e f = absurd cc
 
-record_one : {o : Stands} {x y : Facts} → o ≡ Record x → o ≡ Record y → x ≡ y
+record_one : {o : Stands} {x y : Facts} → o ≡ stands.Class x → o ≡ stands.Class y → x ≡ y
 record_one e f = cc
 
 at_home : (c : Name) (x y : Member) → x ≡ y → Some (let f : Found = record { home = c; member = x } in f) ≡ Some (record { home = c; member = y })
@@ -188,7 +188,7 @@ settles_one (settles.found u) (settles.found v) = refl
 settles_one (settles.found u) (settles.hidden n) = absurd (n u)
 settles_one (settles.hidden n) (settles.found u) = absurd (n u)
 settles_one (settles.hidden n) (settles.hidden p) = refl
-settles_one (settles.beyond {n} i l) (settles.beyond {n = p} j r) = ap Beyond (same_least n p (r n i) (l p j))
+settles_one (settles.beyond {n} i l) (settles.beyond {n = p} j r) = ap answer.Outside (same_least n p (r n i) (l p j))
 settles_one (settles.beyond {n} i l) (settles.nowhere q) = absurd (q n i)
 settles_one (settles.nowhere q) (settles.beyond {n} i l) = absurd (q n i)
 settles_one (settles.nowhere q) (settles.nowhere r) = refl
@@ -221,7 +221,7 @@ rmethod_one (rmethod.ends s) (rmethod.ends r) = ends_one (start_one s r)
 rmethod_one (rmethod.ends s) (rmethod.interface r i e) = at_ends (start_one r s)
 rmethod_one (rmethod.ends s) (rmethod.looks r i f g) = at_ends (start_one r s)
 rmethod_one (rmethod.interface s i e) (rmethod.ends r) = at_ends (start_one s r)
-rmethod_one (rmethod.interface s i e) (rmethod.interface r j f) = e ∙ ap (Wrong Incompatible) (at_one (start_one s r)) ∙ sym f
+rmethod_one (rmethod.interface s i e) (rmethod.interface r j f) = e ∙ ap (answer.Error Incompatible) (at_one (start_one s r)) ∙ sym f
 rmethod_one {m = m} (rmethod.interface s i e) (rmethod.looks r j f g) = apart (ap (λ c. is_interface (m c)) (at_one (start_one r s)) ∙ i) j
 rmethod_one (rmethod.looks s i x y) (rmethod.ends r) = at_ends (start_one s r)
 rmethod_one {m = m} (rmethod.looks s i x y) (rmethod.interface r j e) = apart (ap (λ c. is_interface (m c)) (at_one (start_one s r)) ∙ j) i

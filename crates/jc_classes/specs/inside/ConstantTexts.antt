@@ -23,7 +23,10 @@ key_shown texts pair = record { name = text_at texts pair.0; descriptor = text_a
 
 -- the name and the descriptor that the NameAndType of an index gives
 abbrev pub key_at : ClassFile → ConstantIndex → Option Key
-key_at c entry = option_and_then (λ name. option_and_then (λ descriptor. Some (record { name = name; descriptor = descriptor })) (descriptor_at c entry)) (name_at c entry)
+key_at c entry =
+    option_and_then
+    (λ name. option_and_then (λ descriptor. Some (record { name = name; descriptor = descriptor })) (descriptor_at c entry))
+    (name_at c entry)
 
 -- constants of the kind are references to classes or to members (JVMS 4.4.1, 4.4.2)
 abbrev pub is_reference : ConstantKind → Bool

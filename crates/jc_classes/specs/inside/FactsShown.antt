@@ -13,7 +13,12 @@ abbrev pub member_shown : List (List ℕ) → MemberEntry → Member
 member_shown texts entry = record { name = text_at texts entry.name; descriptor = text_at texts entry.descriptor; flags = entry.flags }
 
 abbrev pub reference_shown : List (List ℕ) → ReferenceEntry → Reference
-reference_shown texts entry = record { index = entry.index; kind = entry.kind; named = named_by (text_at texts entry.class); key = record { name = text_at texts entry.name; descriptor = text_at texts entry.descriptor } }
+reference_shown texts entry = record {
+  index = entry.index;
+  kind = entry.kind;
+  named = named_by (text_at texts entry.class);
+  key = record { name = text_at texts entry.name; descriptor = text_at texts entry.descriptor };
+}
 
 abbrev pub facts_shown : Inside → Facts
 facts_shown a = record {

@@ -1,5 +1,6 @@
 -- Members in the order by which they are found.
-use Rattle.std.specs.Prelude.{◌≡◌, ℕ, ◌<◌, ◌≤◌, false, cond, List, length, map, slice_get, slice_index, Option, Some, None, option_and_then}
+use Rattle.std.specs.Prelude.{◌≡◌, ℕ, ◌<◌, ◌≤◌, false, cond, List, length}
+use Rattle.std.specs.Prelude.{map, slice_get, slice_index, Option, Some, None, option_and_then}
 use Rattle.std.specs.declared.cmp.Ordering.TheVariants.{Less}
 use Rattle.std.specs.Ordering.{is_lt}
 use Rattle.jc_classes.specs.Facts.{Key, Member}

@@ -24,7 +24,8 @@ pub record IsRank (sorted : List Name) (text : Name) (rank : ℕ) : Type 0 where
 pub record AreRanks (texts : List Name) (ranks : List ℕ) : Type 0 where
   pub size : length ranks ≡ length texts
   pub within : (number : ℕ) → number < length texts → slice_index ranks number < length texts
-  pub order : (a b : ℕ) → a < length texts → b < length texts → nat_cmp (slice_index ranks a) (slice_index ranks b) ≡ name_cmp (text_at texts a) (text_at texts b)
+  pub order : (a b : ℕ) → a < length texts → b < length texts
+      → nat_cmp (slice_index ranks a) (slice_index ranks b) ≡ name_cmp (text_at texts a) (text_at texts b)
 
 -- the numbers of the members' texts are below a bound
 abbrev pub AreBelow : ℕ → List MemberEntry → Type 0

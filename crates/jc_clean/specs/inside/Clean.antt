@@ -1,6 +1,7 @@
 -- What keeps the rules of the format.
-use Rattle.std.specs.Prelude.{◌≡◌, ℕ, ◌+◌, ◌<◌, ◌≤◌, Bool, false, not, ◌&&◌, ◌||◌, if◌then◌else◌, List, [], Some}
-use Rattle.std.specs.List.{AllByRecursion}
+use Rattle.std.specs.Prelude.{◌≡◌, ℕ, ◌+◌, ◌<◌, ◌≤◌, Bool, false}
+use Rattle.std.specs.Prelude.{not, ◌&&◌, ◌||◌, if◌then◌else◌, List, [], Some, is_none}
+use Rattle.std.specs.List.{AllByRecursion, flat_map}
 use Rattle.jc_base.specs.Bytes.{same_bytes}
 use Rattle.jc_view.specs.declared.attribute_kind.AttributeKind.{AttributeKind}
 use Rattle.jc_view.specs.declared.attribute_kind.AttributeKind.TheVariants as kinds
@@ -9,10 +10,14 @@ use Rattle.jc_view.specs.ConstantPool.{Constant}
 use Rattle.jc_view.specs.ClassFile.{Attribute, ClassFile, Member, all_slots, constant_at}
 use Rattle.jc_view.specs.Places.{PlacedAttribute}
 use Rattle.jc_view.specs.Attributes.{attribute_name, is_recognised}
-use Rattle.jc_view.specs.AttributeReading.{all_attributes}
+use Rattle.jc_view.specs.AttributeReading.{all_attributes, code_in, with_inner}
+use Rattle.jc_view.specs.Lent.{LentAttribute}
 use Rattle.jc_rules.specs.Faults.{repeated}
 use Rattle.jc_rules.specs.AccessFlags.{has, native, abstract}
-use Rattle.jc_rules.specs.FormatRules.{is_named_clinit, breaks_f1, breaks_f2, breaks_f3, breaks_f4, breaks_f5, breaks_f6, breaks_f7, breaks_f8, breaks_f9, breaks_f10, breaks_f11, breaks_f12, breaks_f13, breaks_f14, breaks_f15, breaks_f16, breaks_f17, breaks_f19, breaks_f20, breaks_f21, breaks_f23, breaks_f24, breaks_f25, breaks_f26, breaks_f27, breaks_f28, breaks_f29, breaks_f30}
+use Rattle.jc_rules.specs.FormatRules.{is_named_clinit, lacks_classes, breaks_f1, breaks_f2, breaks_f3, breaks_f4, breaks_f5, breaks_f6}
+use Rattle.jc_rules.specs.FormatRules.{breaks_f7, breaks_f8, breaks_f9, breaks_f10, breaks_f11, breaks_f12, breaks_f13, breaks_f14}
+use Rattle.jc_rules.specs.FormatRules.{breaks_f15, breaks_f16, breaks_f17, breaks_f19, breaks_f20, breaks_f21, breaks_f23}
+use Rattle.jc_rules.specs.FormatRules.{breaks_f24, breaks_f25, breaks_f26, breaks_f27, breaks_f28, breaks_f29, breaks_f30}
 
 -- a constant keeps the rules over constants
 pub record IsKept (c : ClassFile) (constant : Constant) : Type 0 where
@@ -74,7 +79,18 @@ bit b = if b then 1 else 0
 
 -- an attribute is noted, if it is of a kind: there was none before, and it doesn't pass a test
 abbrev pub IsNoted : ClassFile → AttributeKind → (Attribute → Bool) → PlacedAttribute → Bool → Bool → Type 0
-IsNoted c kind test a had has = (bit had + bit (is_recognised c kind a.holder a.attribute) ≡ bit has) × ((is_recognised c kind a.holder a.attribute && test a.attribute) ≡ false)
+IsNoted c kind test a had has =
+    (bit had + bit (is_recognised c kind a.holder a.attribute) ≡ bit has)
+    × ((is_recognised c kind a.holder a.attribute && test a.attribute) ≡ false)
+
+-- a Code is noted, and none that isn't well-formed
+abbrev pub NotesCode : LentAttribute → Bool → Bool → Type 0
+NotesCode lent had has = IsNoted lent.class kinds.Code (λ a. is_none (code_in a.bytes)) lent.attribute had has
+
+-- an Exceptions is noted, and none that is no list of classes
+abbrev pub NotesExceptions : LentAttribute → Bool → Bool → Type 0
+NotesExceptions lent had has =
+    IsNoted lent.class kinds.Exceptions (λ a. lacks_classes lent.class a.bytes) lent.attribute had has
 
 pub record IsKeptMethod (c : ClassFile) (m : Member) : Type 0 where
   pub named : IsNamedAsMethod c m
@@ -92,6 +108,14 @@ pub record IsKeptAttribute (c : ClassFile) (a : PlacedAttribute) : Type 0 where
   pub f28 : breaks_f28 c a ≡ false
   pub f29 : breaks_f29 c a ≡ false
   pub f30 : breaks_f30 c a ≡ false
+
+-- the attribute and those inside it keep the rules
+abbrev pub IsKeptWithInner : ClassFile → PlacedAttribute → Type 0
+IsKeptWithInner c a = AllByRecursion (IsKeptAttribute c) (with_inner c a)
+
+-- attributes and those inside them do
+abbrev pub AreKeptWithInner : ClassFile → List PlacedAttribute → Type 0
+AreKeptWithInner c attributes = AllByRecursion (IsKeptAttribute c) (flat_map (with_inner c) attributes)
 
 -- no member repeats an earlier one
 pub record AreApart (c : ClassFile) : Type 0 where

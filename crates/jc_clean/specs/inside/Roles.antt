@@ -26,7 +26,8 @@ fits role text = false
 -- the constant of an index serves in a role
 abbrev pub serves : ClassFile → Role → ConstantIndex → Bool
 serves c roles.Class index = passes (fits roles.ClassOrArray) (class_text_at c index)
-serves c roles.FieldEntry index = passes (fits roles.FieldDescriptor) (descriptor_at c index) && passes (fits roles.FieldName) (name_at c index)
+serves c roles.FieldEntry index =
+    passes (fits roles.FieldDescriptor) (descriptor_at c index) && passes (fits roles.FieldName) (name_at c index)
 serves c roles.MethodEntry index =
     passes (fits roles.MethodDescriptor) (descriptor_at c index)
     && passes (fits roles.MethodName) (name_at c index)
@@ -62,7 +63,8 @@ with_role s roles.MethodEntry = record s { method_entry = true; some = true }
 
 -- the constants of a class file serve in the roles that are known of them
 pub record AllServe (c : ClassFile) (known : List RoleSet) : Type 0 where
-  pub roles : (i : ℕ) (s : RoleSet) → slice_get known i ≡ Some s → (role : Role) → has_role s role ≡ true → serves c role (record { 0 = i }) ≡ true
+  pub roles : (i : ℕ) (s : RoleSet) → slice_get known i ≡ Some s → (role : Role) → has_role s role ≡ true
+      → serves c role (record { 0 = i }) ≡ true
   pub some : (i : ℕ) (s : RoleSet) → slice_get known i ≡ Some s → s.some ≡ true → (role : Role) × (has_role s role ≡ true)
 
 abbrev pub AreServed : known.Inside → Type 0

@@ -1,5 +1,6 @@
 -- The sizes that texts of a class give, by the indexes of its constants.
-use Rattle.std.specs.Prelude.{◌≡◌, ℕ, ◌<◌, ◌≤◌, List, length, Option, Some, None, option_and_then, slice_index_or, sum_by, if◌then◌else◌}
+use Rattle.std.specs.Prelude.{◌≡◌, ℕ, ◌+◌, ◌<◌, ◌≤◌, List, length, Option, Some, Result, OnOk}
+use Rattle.std.specs.Prelude.{None, option_and_then, slice_index_or, sum_by, if◌then◌else◌}
 use Rattle.std.specs.Option.{option_map, option_map_or}
 use Rattle.jc_base.specs.Descriptors.{slots_of}
 use Rattle.jc_base.specs.DescriptorTests.{method_type_of}
@@ -41,6 +42,11 @@ AreKnown c known = (i : ℕ) (slots : Option ℕ) → slice_index_or known i Non
 pub record Fills {X : Type 0} (none : X) (value : ℕ → X) (n : ℕ) (xs : List X) : Type 0 where
   pub at : (i : ℕ) → i < n → slice_index_or xs i none ≡ value i
   pub short : length xs ≤ n
+
+-- a list that has the values before n gets the value of n too, where memory is not refused
+abbrev pub FillsNext : {X T E : Type 0} → X → ℕ → X → Result T E → List X → List X → Type 0
+FillsNext {X = X} none n here result old new =
+    (value : ℕ → X) → Fills none value n old → value n ≡ here → OnOk result (Fills none value (n + 1) new)
 
 -- the sizes at the indexes before n
 pub record AreSizesBefore (c : ClassFile) (n : ℕ) (sizes : Sizes) : Type 0 where

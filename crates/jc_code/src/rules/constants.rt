@@ -1,11 +1,11 @@
 //! The rules over the constants that instructions name, and over other operands.
 
-ghost use Rattle.std.specs.Prelude.{◌≡◌, ◌+◌, ◌==◌, ◌&&◌, not};
-ghost use Rattle.jc_view.specs.declared.constant_pool.ConstantKind.TheVariants as kinds;
-ghost use Rattle.jc_view.specs.Lookups.{fails, is_entry, passes};
-ghost use Rattle.jc_code.specs.declared.insn.Insn.TheVariants as insns;
-ghost use Rattle.jc_code.specs.Insns.{invokespecial};
-ghost use Rattle.jc_code.specs.CodeRules.{is_init, is_special, referred_name, slots_at, breaks_s6, breaks_s7, breaks_s8, breaks_s9, breaks_s10, breaks_s11, breaks_s12, breaks_s13, breaks_s14, breaks_s15, breaks_s16, breaks_s17, breaks_s18, breaks_s19, breaks_s20, breaks_s21};
+ghost use Rattle.std.specs.Prelude.{◌≡◌};
+ghost use Rattle.jc_view.specs.Lookups.{passes};
+ghost use Rattle.jc_code.specs.CodeRules.{is_bad_special, is_other_count, is_right_entry, is_special, referred_name};
+ghost use Rattle.jc_code.specs.CodeRules.{breaks_s6, breaks_s7, breaks_s8, breaks_s9, breaks_s10, breaks_s11};
+ghost use Rattle.jc_code.specs.CodeRules.{breaks_s12, breaks_s13, breaks_s14, breaks_s15, breaks_s16};
+ghost use Rattle.jc_code.specs.CodeRules.{breaks_s17, breaks_s18, breaks_s19, breaks_s20, breaks_s21};
 
 use crate::insn::Insn;
 use crate::opcode::Opcode;
@@ -93,7 +93,7 @@ pub(crate) fn breaks_s12(scope: &Scope, insn: &Insn) -> bool
 
 /// Whether the method of an interface takes another number of slots, with the receiver.
 pub(crate) fn is_other_count(scope: &Scope, index: ConstantIndex, count: u8) -> bool
-    ensures { result ≡ (is_entry scope.now.class kinds.InterfaceMethodref index && fails (λ slots. count == slots + 1) (slots_at scope.now.class index)) }
+    ensures { result ≡ is_other_count scope.now.class index count }
 {
     match scope.sizes.slots(index) {
         Some(slots) => u16::from(count) != u16::from(slots) + 1,
@@ -149,7 +149,7 @@ pub(crate) fn breaks_s16(scope: &Scope, insn: &Insn) -> bool
 
 /// Whether an invocation names an entry that it may name.
 pub(crate) fn is_right_entry(scope: &Scope, opcode: Opcode, index: ConstantIndex) -> bool
-    ensures { result ≡ not (breaks_s9 scope.now (insns.Invoke opcode index)) && not (breaks_s10 scope.now (insns.Invoke opcode index)) }
+    ensures { result ≡ is_right_entry scope.now opcode index }
 {
     if opcode == Opcode::INVOKEVIRTUAL {
         scope.class().is_entry(ConstantKind::Methodref, index)
@@ -160,7 +160,7 @@ pub(crate) fn is_right_entry(scope: &Scope, opcode: Opcode, index: ConstantIndex
 
 /// Whether it names a special method that it may not invoke.
 pub(crate) fn is_bad_special(scope: &Scope, opcode: Opcode, index: ConstantIndex) -> bool
-    ensures { result ≡ passes (λ name. is_special name && not (opcode == invokespecial && is_init name)) (referred_name scope.now.class index) }
+    ensures { result ≡ is_bad_special scope.now.class opcode index }
 {
     match referred_name(scope.class(), index) {
         Some(name) => is_special(name) && !(opcode == Opcode::INVOKESPECIAL && is_init(name)),

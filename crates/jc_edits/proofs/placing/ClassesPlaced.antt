@@ -14,7 +14,7 @@ use Rattle.jc_view.specs.Outcome.{class_named, class_read}
 use Rattle.jc_classes.specs.Facts.{Facts}
 use Rattle.jc_classes.specs.FactsOf.{class_name, facts_of}
 use Rattle.jc_classes.specs.Names.{Name, name_less, same_name}
-use Rattle.jc_held.specs.Steps.{is_class}
+use Rattle.jc_linkage.specs.Steps.{is_class}
 use Rattle.jc_report.specs.Files.{Files}
 use Rattle.jc_report.specs.FileRows.{names, names_by, winner}
 use Rattle.jc_report.specs.Reports.{facts_at}

@@ -4,14 +4,14 @@ use Rattle.std.specs.FinMap as fin
 use Rattle.jc_base.proofs.maps.FiniteMaps.{eq_by_cmp-bytes_cmp, get-remove_same, insert-remove}
 use Rattle.jc_classes.specs.Facts.{Facts}
 use Rattle.jc_classes.specs.Names.{Name, same_name}
-use Rattle.jc_held.specs.Affected.{IsBounded}
-use Rattle.jc_held.specs.Steps as steps
-use Rattle.jc_held.specs.Steps.{Classes, changed, class_by, counts, is_class, is_first, is_step, step_class, step_name}
-use Rattle.jc_held.specs.declared.step.Step.{Step}
+use Rattle.jc_linkage.specs.Affected.{IsBounded}
+use Rattle.jc_linkage.specs.Steps as steps
+use Rattle.jc_linkage.specs.Steps.{Classes, changed, class_by, counts, is_class, is_first, is_step, step_class, step_name}
+use Rattle.jc_linkage.specs.declared.step.Step.{Step}
 use Rattle.jc_report.specs.Files.{Files}
 use Rattle.jc_report.specs.FileRows.{winner}
 use Rattle.jc_report.specs.Reports.{facts_at, world_of}
-use Rattle.jc_link.specs.Prefixes.{is_outside}
+use Rattle.jc_link.specs.Prefixes.{is_covered}
 use Rattle.jc_link.specs.Tables.{or_built_in, stands_by}
 use Rattle.jc_input.specs.Changes.{Change, Adds, Replaces, Removes, path_of, bytes_of}
 use Rattle.jc_edits.specs.Edits as edits
@@ -168,8 +168,8 @@ module _ (f after : Files) (path : List ℕ) (o : Option (List ℕ)) (first : Op
   same_touched = λ i n. touched_at n i
 
   -- and the steps' bound is the edit's
-  pub bounded_after : (prefixes : List Name) (made asks : ℕ) → IsBounded (λ n. is_some (new n)) (λ n. stands_by (or_built_in (new n) n) (is_outside prefixes n)) (steps.is_touched old first put) made asks
+  pub bounded_after : (prefixes : List Name) (made asks : ℕ) → IsBounded (λ n. is_some (new n)) (λ n. stands_by (or_built_in (new n) n) (is_covered prefixes n)) (steps.is_touched old first put) made asks
       → IsBounded (gives after) (world_of after prefixes) (is_touched f after path) made asks
   bounded_after prefixes made asks h =
       subst (λ t. IsBounded (gives after) (world_of after prefixes) t made asks) same_touched
-      (subst (λ (m : Classes). IsBounded (λ n. is_some (m n)) (λ n. stands_by (or_built_in (m n) n) (is_outside prefixes n)) (steps.is_touched old first put) made asks) same_after h)
+      (subst (λ (m : Classes). IsBounded (λ n. is_some (m n)) (λ n. stands_by (or_built_in (m n) n) (is_covered prefixes n)) (steps.is_touched old first put) made asks) same_after h)

@@ -4,7 +4,7 @@ use Rattle.std.specs.FinMap as fin
 use Rattle.jc_base.proofs.maps.FiniteMaps.{get-remove_same}
 use Rattle.jc_classes.specs.Names.{Name}
 use Rattle.jc_classes.proofs.worlds.Parts.{hits_either}
-use Rattle.jc_link.specs.Prefixes.{is_outside}
+use Rattle.jc_link.specs.Prefixes.{is_covered}
 use Rattle.jc_link.specs.Tables.{or_built_in, stands_by}
 use Rattle.jc_input.specs.Changes.{bytes_of, path_of}
 use Rattle.jc_report.specs.Files.{Files}
@@ -39,7 +39,7 @@ files_differ f e prefixes n untouched =
     let path = path_of e in
     let stands = subst (λ g. is_touched f g path n ≡ false) (put_after f e) untouched in
     let same = same_class f path (bytes_of e) n stands ∙ ap (λ g. facts_at g n) (sym (put_after f e)) in
-    ap (λ o. stands_by (or_built_in o n) (is_outside prefixes n)) same
+    ap (λ o. stands_by (or_built_in o n) (is_covered prefixes n)) same
 
 pub affected_either_way : AffectedEitherWay
 affected_either_way f e prefixes d =

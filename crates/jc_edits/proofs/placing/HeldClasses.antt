@@ -5,11 +5,11 @@ use Rattle.std.specs.Prelude.{Option, IfSome}
 use Rattle.jc_classes.specs.Names.{Name}
 use Rattle.jc_classes.specs.NameLists.{Lists}
 use Rattle.jc_classes.specs.Parts.{IsPart, Part, Reach}
-use Rattle.jc_link.specs.Prefixes.{is_outside}
+use Rattle.jc_link.specs.Prefixes.{is_covered}
 use Rattle.jc_link.specs.Tables.{or_built_in, stands_by}
 use Rattle.jc_classes.specs.Loading.{same_bool}
-use Rattle.jc_held.specs.Affected.{IsBounded}
-use Rattle.jc_held.specs.Steps.{Classes}
+use Rattle.jc_linkage.specs.Affected.{IsBounded}
+use Rattle.jc_linkage.specs.Steps.{Classes}
 use Rattle.jc_report.specs.Files.{Files}
 use Rattle.jc_report.specs.Reports.{facts_at, world_of}
 use Rattle.jc_edits.specs.Touched.{gives, is_turned}
@@ -18,19 +18,19 @@ module _ (f : Files) (prefixes : List Name) (classes : Classes) (held : (n : Nam
   same_classes : classes ≡ facts_at f
   same_classes = λ i n. held n i
 
-  pub part_of_files : (name : Name) (part : Option (Bor Part)) → IfSome part (λ p. IsPart (λ n. stands_by (or_built_in (classes n) n) (is_outside prefixes n)) name p.now)
+  pub part_of_files : (name : Name) (part : Option (Bor Part)) → IfSome part (λ p. IsPart (λ n. stands_by (or_built_in (classes n) n) (is_covered prefixes n)) name p.now)
       → IfSome part (λ p. IsPart (world_of f prefixes) name p.now)
   part_of_files name part h =
-      subst (λ (m : Classes). IfSome part (λ p. IsPart (λ n. stands_by (or_built_in (m n) n) (is_outside prefixes n)) name p.now)) same_classes h
+      subst (λ (m : Classes). IfSome part (λ p. IsPart (λ n. stands_by (or_built_in (m n) n) (is_covered prefixes n)) name p.now)) same_classes h
 
   pub dependants_of_files : (name : Name) (names : List Name)
-      → Lists names (λ d. (is_some (classes d) ≡ true) × Reach (λ n. stands_by (or_built_in (classes n) n) (is_outside prefixes n)) d name)
+      → Lists names (λ d. (is_some (classes d) ≡ true) × Reach (λ n. stands_by (or_built_in (classes n) n) (is_covered prefixes n)) d name)
       → Lists names (λ d. (gives f d ≡ true) × Reach (world_of f prefixes) d name)
   dependants_of_files name names h =
-      subst (λ (m : Classes). Lists names (λ d. (is_some (m d) ≡ true) × Reach (λ n. stands_by (or_built_in (m n) n) (is_outside prefixes n)) d name)) same_classes h
+      subst (λ (m : Classes). Lists names (λ d. (is_some (m d) ≡ true) × Reach (λ n. stands_by (or_built_in (m n) n) (is_covered prefixes n)) d name)) same_classes h
 
   pub turned_of_files : (old : List Name) (made asks : ℕ)
-      → IsBounded (λ n. is_some (classes n)) (λ n. stands_by (or_built_in (classes n) n) (is_outside prefixes n)) (λ n. not (is_some (or_built_in (classes n) n)) && not (same_bool (is_outside old n) (is_outside prefixes n))) made asks
+      → IsBounded (λ n. is_some (classes n)) (λ n. stands_by (or_built_in (classes n) n) (is_covered prefixes n)) (λ n. not (is_some (or_built_in (classes n) n)) && not (same_bool (is_covered old n) (is_covered prefixes n))) made asks
       → IsBounded (gives f) (world_of f prefixes) (is_turned f old prefixes) made asks
   turned_of_files old made asks h =
-      subst (λ (m : Classes). IsBounded (λ n. is_some (m n)) (λ n. stands_by (or_built_in (m n) n) (is_outside prefixes n)) (λ n. not (is_some (or_built_in (m n) n)) && not (same_bool (is_outside old n) (is_outside prefixes n))) made asks) same_classes h
+      subst (λ (m : Classes). IsBounded (λ n. is_some (m n)) (λ n. stands_by (or_built_in (m n) n) (is_covered prefixes n)) (λ n. not (is_some (or_built_in (m n) n)) && not (same_bool (is_covered old n) (is_covered prefixes n))) made asks) same_classes h

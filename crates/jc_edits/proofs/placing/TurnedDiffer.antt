@@ -3,7 +3,7 @@ use Rattle.std.proofs.Common.{◌≡◌, ◌&&◌, Bool, true, false, Option, So
 use Rattle.std.specs.Prelude.{is_some}
 use Rattle.jc_classes.specs.Facts.{Facts}
 use Rattle.jc_classes.specs.Loading.{same_bool}
-use Rattle.jc_link.specs.Prefixes.{is_outside}
+use Rattle.jc_link.specs.Prefixes.{is_covered}
 use Rattle.jc_link.specs.Tables.{or_built_in, stands_by}
 use Rattle.jc_report.specs.Reports.{facts_at}
 use Rattle.jc_edits.specs.Touched.{TurnedDiffer}
@@ -16,4 +16,4 @@ same_stand None false true e = absurd cc
 same_stand None false false e = refl
 
 pub turned_differ : TurnedDiffer
-turned_differ = λ f old new n e. same_stand (or_built_in (facts_at f n) n) (is_outside old n) (is_outside new n) e
+turned_differ = λ f old new n e. same_stand (or_built_in (facts_at f n) n) (is_covered old n) (is_covered new n) e

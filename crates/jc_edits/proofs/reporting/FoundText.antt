@@ -2,7 +2,7 @@
 use Rattle.std.proofs.Common.{List, Option, Some, None, refl, sym, subst}
 use Rattle.jc_classes.specs.Facts.{Facts}
 use Rattle.jc_classes.specs.Names.{Name}
-use Rattle.jc_held.specs.declared.classes.Class.{Class}
+use Rattle.jc_linkage.specs.declared.classes.Class.{Class}
 use Rattle.jc_report.specs.Files.{Files}
 use Rattle.jc_edits.specs.SaidPart.{SaysPart, SaysPartBy}
 use Rattle.jc_edits.specs.inside.Reporting.{IsFound, found_text}

@@ -11,8 +11,8 @@ use Rattle.jc_classes.specs.Facts.{Facts}
 use Rattle.jc_classes.specs.Names.{Name, name_cmp}
 use Rattle.jc_classes.specs.Parts.{IsPart, Part}
 use Rattle.jc_classes.specs.Worlds.{World}
-use Rattle.jc_held.specs.Linkages.{AreHeldClasses, HasPlainRows, IsHeldClass, Linkage, world_held}
-use Rattle.jc_link.specs.Prefixes.{is_outside}
+use Rattle.jc_linkage.specs.Linkages.{AreHeldClasses, HasPlainRows, IsHeldClass, Linkage, world_held}
+use Rattle.jc_link.specs.Prefixes.{is_covered}
 use Rattle.jc_link.specs.Tables.{class_at, or_built_in, stands_by}
 use Rattle.jc_report.specs.ClassRows.{provided_rows, required_rows}
 use Rattle.jc_report.specs.Files.{Files}
@@ -105,7 +105,7 @@ module _ (rows_by : Facts → Part → List Row) (classes : List Class) where
 
 module _ (f : Files) (a : Linkage) (meets : (name : Name) → class_at a.classes name ≡ facts_at f name) where
   worlds : world_held a ≡ world_of f a.prefixes
-  worlds = λ i name. stands_by (or_built_in (meets name i) name) (is_outside a.prefixes name)
+  worlds = λ i name. stands_by (or_built_in (meets name i) name) (is_covered a.prefixes name)
 
   pub plain_held : RowsArePlain → HasPlainRows a
   plain_held law = λ name c p row h. (law f name c p row (sym (meets name) ∙ h)).1

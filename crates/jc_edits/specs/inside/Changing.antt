@@ -1,5 +1,6 @@
 -- What an edit of files changes of the classes that they give.
-use Rattle.std.specs.Prelude.{◌≡◌, ℕ, Bool, true, List, Option, Some, None, Result, Ok, Err, option_map, option_and_then, if◌then◌else◌}
+use Rattle.std.specs.Prelude.{◌≡◌, ℕ, Bool, true, List, Option, Some, None, option_map, option_and_then}
+use Rattle.std.specs.Prelude.{Result, Ok, Err, if◌then◌else◌}
 use Rattle.std.specs.FinMap as map
 use Rattle.jc_view.specs.ClassFile.{ClassFile}
 use Rattle.jc_view.specs.declared.parse_error.ParseError.{ParseError}
@@ -7,8 +8,8 @@ use Rattle.jc_view.specs.Outcome.{class_named, class_read}
 use Rattle.jc_classes.specs.Facts.{Facts}
 use Rattle.jc_classes.specs.FactsOf.{class_name, facts_of}
 use Rattle.jc_classes.specs.Names.{Name, name_less}
-use Rattle.jc_held.specs.Steps.{class_by, step_name}
-use Rattle.jc_held.specs.declared.step.Step.{Step}
+use Rattle.jc_linkage.specs.Steps.{class_by, step_name}
+use Rattle.jc_linkage.specs.declared.step.Step.{Step}
 use Rattle.jc_report.specs.Files.{Files}
 use Rattle.jc_report.specs.FileRows.{winner}
 use Rattle.jc_report.specs.Reports.{facts_at}
@@ -34,8 +35,20 @@ lost_by f path (Err refusal) = None
 abbrev pub lost : Files → List ℕ → Option Name
 lost f path = option_and_then (λ b. lost_by f path (class_named b)) (map.get f path)
 
+-- the facts of the class that bytes give, or none, at a path
+abbrev pub IsWon : Files → (path : List ℕ) → (bytes : Option (List ℕ)) → Option Facts → Type 0
+IsWon f path bytes facts = facts ≡ won (map.remove f path) path bytes
+
+-- a step leaves at its name the class that the files but the one at the path give
+abbrev pub Uncovers : Files → (path : List ℕ) → Option Step → Type 0
+Uncovers f path step = (name : Name) → option_map step_name step ≡ Some name → class_by step ≡ facts_at (map.remove f path) name
+
+-- the winner among the files but the one at the path
+abbrev pub winner_but : Files → (path : List ℕ) → Name → Option (List ℕ)
+winner_but f path name = winner (map.remove f path) name
+
 -- these bytes, or none, are to stand at the path
-pub record AreChanges (f : Files) (path : List ℕ) (bytes : Option (List ℕ)) (lost_step : Option Step) (won_facts : Option Facts) : Type 0 where
-  pub put : won_facts ≡ won (map.remove f path) path bytes
-  pub name : option_map step_name lost_step ≡ lost f path
-  pub class : (name : Name) → option_map step_name lost_step ≡ Some name → class_by lost_step ≡ facts_at (map.remove f path) name
+pub record AreChanges (f : Files) (path : List ℕ) (bytes : Option (List ℕ)) (step : Option Step) (facts : Option Facts) : Type 0 where
+  pub put : IsWon f path bytes facts
+  pub name : option_map step_name step ≡ lost f path
+  pub class : Uncovers f path step

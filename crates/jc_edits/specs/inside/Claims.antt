@@ -1,12 +1,13 @@
 -- Which files name a class, as a map from names to the paths of the files.
-use Rattle.std.specs.Prelude.{◌≡◌, ◌≢◌, ℕ, Bool, false, List, [], ◌∷◌, Option, Some, None, Result, Ok, Err}
+use Rattle.std.specs.Prelude.{◌≡◌, ◌≢◌, ℕ, Bool, false, ◌&&◌, ◌||◌, not, List, [], ◌∷◌}
+use Rattle.std.specs.Prelude.{Option, Some, None, Result, Ok, Err}
 use Rattle.std.specs.FinMap as map
 use Rattle.std.specs.FinSet as set
-use Rattle.jc_base.specs.Bytes.{bytes_cmp}
+use Rattle.jc_base.specs.Bytes.{bytes_cmp, same_bytes}
 use Rattle.jc_view.specs.declared.parse_error.ParseError.{ParseError}
 use Rattle.jc_view.specs.Outcome.{class_named}
 use Rattle.jc_report.specs.Files.{Files}
-use Rattle.jc_report.specs.FileRows.{FileState, Unreadable, FileRow, state_by}
+use Rattle.jc_report.specs.FileRows.{FileState, Unreadable, FileRow, names, state_by}
 use Rattle.jc_report.specs.inside.Naming.{names_at}
 
 -- the paths of the files that name a class
@@ -44,6 +45,25 @@ first_claim claims name = first_path (map.get claims name)
 -- the claims are those of the files
 abbrev pub AreClaims : PathsByName → Files → Type 0
 AreClaims claims f = (name path : List ℕ) → has_claim claims name path ≡ names_at f path name
+
+-- ---- claims that are added, and that are taken out
+
+abbrev pub claim_of : (name path : List ℕ) → (n p : List ℕ) → Bool
+claim_of name path n p = same_bytes n name && same_bytes p path
+
+-- of the class that the bytes at a path name
+abbrev pub claim_at : (path bytes : List ℕ) → (n p : List ℕ) → Bool
+claim_at path bytes n p = same_bytes p path && names bytes n
+
+-- of the class that the bytes before name, and these do not
+abbrev pub stale_claim : (path before now : List ℕ) → (n p : List ℕ) → Bool
+stale_claim path before now n p = same_bytes p path && (names before n && not (names now n))
+
+abbrev pub AddsClaim : (these : List ℕ → List ℕ → Bool) → (old new : PathsByName) → Type 0
+AddsClaim these old new = (n p : List ℕ) → has_claim new n p ≡ (these n p || has_claim old n p)
+
+abbrev pub TakesClaim : (these : List ℕ → List ℕ → Bool) → (old new : PathsByName) → Type 0
+TakesClaim these old new = (n p : List ℕ) → has_claim new n p ≡ (not (these n p) && has_claim old n p)
 
 -- ---- rows by the claims
 

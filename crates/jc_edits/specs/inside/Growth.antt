@@ -2,7 +2,7 @@
 use Rattle.std.specs.Prelude.{◌≡◌, ◌&&◌, ◌||◌, ℕ, Bool, true, false, List, [], Option, Some, None, ⊤, if◌then◌else◌}
 use Rattle.std.specs.FinMap as map
 use Rattle.jc_base.specs.Bytes.{same_bytes}
-use Rattle.jc_edits.specs.declared.held.Grown.{Grown}
+use Rattle.jc_edits.specs.declared.claimed_files.Grown.{Grown}
 use Rattle.jc_report.specs.Files.{Files}
 use Rattle.jc_report.specs.FileRows.{names}
 use Rattle.jc_edits.specs.inside.Claims.{PathsByName, has_claim, AreClaims}

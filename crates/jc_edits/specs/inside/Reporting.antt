@@ -2,7 +2,7 @@
 use Rattle.std.specs.Prelude.{◌≡◌, ℕ, List, Option, Some, None, codes}
 use Rattle.jc_classes.specs.Names.{Name}
 use Rattle.jc_classes.specs.Parts.{IsPart}
-use Rattle.jc_held.specs.declared.classes.Class.{Class}
+use Rattle.jc_linkage.specs.declared.classes.Class.{Class}
 use Rattle.jc_link.specs.Tables.{class_at}
 use Rattle.jc_report.specs.Files.{Files}
 use Rattle.jc_report.specs.PartText.{part_text}

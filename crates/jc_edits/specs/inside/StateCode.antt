@@ -10,7 +10,9 @@ coded_names : Coded (List Name)
 coded_names = coded_list (coded_list coded_ℕ)
 
 abbrev pub files_code : Coded HeldFiles
-files_code = code_by (Files × List Name) (coded× (map.code (coded_list coded_ℕ) (coded_list coded_ℕ)) (coded_list (coded_list coded_ℕ))) (λ a. (a.files, a.prefixes)) (λ p. record { files = p.0; prefixes = p.1 }) (λ _. refl)
+files_code = code_by (Files × List Name)
+    (coded× (map.code (coded_list coded_ℕ) (coded_list coded_ℕ)) (coded_list (coded_list coded_ℕ)))
+    (λ a. (a.files, a.prefixes)) (λ p. record { files = p.0; prefixes = p.1 }) (λ _. refl)
 
 abbrev pub state_code : Coded SessionState
 state_code = code_by (HeldFiles × (ℕ × ℕ)) (coded× files_code (coded× coded_ℕ coded_ℕ))

@@ -1,5 +1,6 @@
 -- A walk over the nodes.
-use Rattle.std.specs.Prelude.{◌≡◌, ◌⊎◌, ℕ, ◌+◌, ◌*◌, ◌^◌, ◌<◌, ◌≤◌, Bool, true, false, List, [], ◌∷◌, ◌++◌, length, slice_index_or, slice_set, take, drop, ◌-◌}
+use Rattle.std.specs.Prelude.{◌≡◌, ◌⊎◌, ℕ, ◌+◌, ◌*◌, ◌^◌, ◌<◌, ◌≤◌, Bool, true, false}
+use Rattle.std.specs.Prelude.{List, [], ◌∷◌, ◌++◌, length, slice_index_or, slice_set, take, drop, ◌-◌}
 use Rattle.std.specs.List.{Contains, All}
 use Rattle.jc_graph.specs.declared.walk.Place.{Place}
 use Rattle.jc_graph.specs.declared.walk.Place.TheVariants.{Unseen, On, Done}
@@ -18,7 +19,14 @@ pub record State : Type 0 where
   pub order : List ℕ
 
 abbrev pub state_of : Walk → State
-state_of w = record { path = w.path.items; segments = w.segments.items; steps = w.steps.items; place = w.place.items; circular = w.circular.items; order = w.order.items }
+state_of w = record {
+  path = w.path.items;
+  segments = w.segments.items;
+  steps = w.steps.items;
+  place = w.place.items;
+  circular = w.circular.items;
+  order = w.order.items;
+}
 
 abbrev pub node_at : List ℕ → ℕ → ℕ
 node_at nodes i = slice_index_or nodes i 0
@@ -49,7 +57,8 @@ pub record Source (up : Ups) (s : State) (i : ℕ) : Type 0 where
 
 -- a step from the place p to w waits, or it was taken: w is done, or stands on the path and not before the segment of p
 pub data Told (s : State) (p w : ℕ) : Type 0 where
-  waits : (i : ℕ) → i < length s.steps → node_at s.steps i ≡ w → All (λ g. g.path_from ≤ p → g.steps_from ≤ i) s.segments → Told s p w
+  waits : (i : ℕ) → i < length s.steps → node_at s.steps i ≡ w
+      → All (λ g. g.path_from ≤ p → g.steps_from ≤ i) s.segments → Told s p w
   done : place_at s.place w ≡ Done → Told s p w
   back : (q : ℕ) → place_at s.place w ≡ On q → Leads s.segments p q → Told s p w
 
@@ -58,9 +67,11 @@ pub record IsPath (up : Ups) (s : State) : Type 0 where
   pub has_place : (v p : ℕ) → place_at s.place v ≡ On p → (p < length s.path) × (node_at s.path p ≡ v)
   pub first : (segment_at s.segments 0).path_from ≡ 0
   pub covers : length s.segments ≡ 0 → length s.path ≡ 0
-  pub rising : (j k : ℕ) → j ≤ k → k < length s.segments → (segment_at s.segments j).path_from ≤ (segment_at s.segments k).path_from
+  pub rising : (j k : ℕ) → j ≤ k → k < length s.segments
+      → (segment_at s.segments j).path_from ≤ (segment_at s.segments k).path_from
   pub within : All (λ g. (g.path_from ≤ length s.path) × (g.steps_from ≤ length s.steps)) s.segments
-  pub joined : (p q : ℕ) → p < length s.path → q < length s.path → Leads s.segments p q → Way up (node_at s.path p) (node_at s.path q)
+  pub joined : (p q : ℕ) → p < length s.path → q < length s.path → Leads s.segments p q
+      → Way up (node_at s.path p) (node_at s.path q)
   pub sources : (i : ℕ) → i < length s.steps → Source up s i
   pub told : (p w : ℕ) → p < length s.path → Contains (up (node_at s.path p)) w → Told s p w
 
@@ -70,7 +81,8 @@ pub record IsDone (up : Ups) (place : List Place) (circular : List Bool) (order 
   pub plain : (v : ℕ) → place_at place v ≡ Done → flag_at circular v ≡ false → Above up v v → ⊥
   pub listed : (v : ℕ) → place_at place v ≡ Done → Contains order v
   pub done : (k : ℕ) → k < length order → place_at place (node_at order k) ≡ Done
-  pub before : (k w : ℕ) → k < length order → flag_at circular (node_at order k) ≡ false → Contains (up (node_at order k)) w → (j : ℕ) × (j < k) × (node_at order j ≡ w)
+  pub before : (k w : ℕ) → k < length order → flag_at circular (node_at order k) ≡ false
+      → Contains (up (node_at order k)) w → (j : ℕ) × (j < k) × (node_at order j ≡ w)
 
 pub record IsWalk (up : Ups) (count : ℕ) (s : State) : Type 0 where
   pub places : length s.place ≡ count
@@ -89,6 +101,10 @@ visited up s v = record {
   circular = s.circular;
   order = s.order;
 }
+
+-- a node was seen: what is unseen now was so before, and is another node
+abbrev pub SeesNode : List Place → List Place → ℕ → Type 0
+SeesNode old new node = (v : ℕ) → place_at new v ≡ Unseen → (place_at old v ≡ Unseen) × (v ≡ node → ⊥)
 
 -- ---- how far a walk has come
 
@@ -128,7 +144,9 @@ last_nodes s = drop (last_segment s).path_from s.path
 
 -- whether a segment that is ended is on a ring
 abbrev pub TellsRing : Ups → List ℕ → Bool → Type 0
-TellsRing up nodes ring = (length nodes ≡ 1 → Decides ring (Contains (up (node_at nodes 0)) (node_at nodes 0))) × ((length nodes ≡ 1 → ⊥) → ring ≡ true)
+TellsRing up nodes ring =
+    (length nodes ≡ 1 → Decides ring (Contains (up (node_at nodes 0)) (node_at nodes 0)))
+    × ((length nodes ≡ 1 → ⊥) → ring ≡ true)
 
 abbrev pub ended : Bool → State → State
 ended ring s = record {

@@ -30,4 +30,5 @@ tree_of (Err error) = Err error
 
 -- a tree of the files at these paths was read from a source
 abbrev pub ReadsTree : (paths : List (List ℕ)) → (old new : Option SourceAnswers) → Result Tree CheckError → Type 0
-ReadsTree paths old new result = (answers : List Answer) × GivesAnswers old paths answers new × AddsAs (added map.empty paths answers) result
+ReadsTree paths old new result =
+    (answers : List Answer) × GivesAnswers old paths answers new × AddsAs (added map.empty paths answers) result

@@ -18,9 +18,9 @@ use Rattle.jc_input.specs.declared.edit.EditError.{EditError}
 use Rattle.jc_edits.specs.Edits.{judge_edit, after_edit}
 use Rattle.jc_edits.specs.Judged.{IsJudged}
 use Rattle.jc_input.specs.Lines.{Command, command_of}
-use Rattle.jc_input.specs.Sources.{SourceAnswers}
-use Rattle.jc_lines.specs.Runs.{LineMayLack}
-use Rattle.jc_lines.specs.Answers.{Reply, Says, Lists, Ends, Lacks, Replies}
+use Rattle.jc_input.specs.Sources.{SourceAnswers, next_answer}
+use Rattle.jc_lines.specs.Runs.{LineMayLack, MayLack}
+use Rattle.jc_lines.specs.Answers.{Reply, Says, Lists, Ends, Lacks, Replies, sourced_reply}
 
 -- the change that places bytes at a path
 abbrev pub placed : Placing → List ℕ → List ℕ → Change
@@ -37,18 +37,22 @@ abbrev pub said_by : {E : Type 0} → Result (Unit {0}) E → Result Next RunErr
 said_by (Ok done) = Ok next.Line
 said_by (Err fault) = Err run_errors.Write
 
--- the reply was given to files and prefixes h and answers to come s: they are new now, the source's answers to come are source, and what was written grew from before to after
-abbrev pub Gives : HeldFiles → SourceAnswers → Reply → Result Next RunError → (new : HeldFiles) (source : Option SourceAnswers) (before after : Option (List ℕ)) → Type 0
+-- the reply was given to files and prefixes h and answers to come s: they are new now, the source's answers to come are
+-- source, and what was written grew from before to after
+abbrev pub Gives : HeldFiles → SourceAnswers → Reply → Result Next RunError
+    → (new : HeldFiles) (source : Option SourceAnswers) (before after : Option (List ℕ)) → Type 0
 Gives h s (Says text held t) (Ok next.Line) new source before after = (new ≡ held) × (source ≡ Some t) × Appends before after text
 Gives h s (Says text held t) (Ok next.Nothing) new source before after = ⊥
 Gives h s (Says text held t) (Err run_errors.Read) new source before after = ⊥
-Gives h s (Says text held t) (Err run_errors.Write) new source before after = (new ≡ held) × (source ≡ Some t) × WritesFront before after text
+Gives h s (Says text held t) (Err run_errors.Write) new source before after =
+    (new ≡ held) × (source ≡ Some t) × WritesFront before after text
 Gives h s (Says text held t) (Err run_errors.NoMemory) new source before after = (new ≡ h) × (source ≡ Some t) × Keeps before after
 Gives h s (Lists text) (Ok next.Line) new source before after = (new ≡ h) × (source ≡ Some s) × Appends before after text
 Gives h s (Lists text) (Ok next.Nothing) new source before after = ⊥
 Gives h s (Lists text) (Err run_errors.Read) new source before after = ⊥
 Gives h s (Lists text) (Err run_errors.Write) new source before after = (new ≡ h) × (source ≡ Some s) × WritesFront before after text
-Gives h s (Lists text) (Err run_errors.NoMemory) new source before after = (new ≡ h) × (source ≡ Some s) × WritesBeginning before after text
+Gives h s (Lists text) (Err run_errors.NoMemory) new source before after =
+    (new ≡ h) × (source ≡ Some s) × WritesBeginning before after text
 Gives h s Ends (Ok next.Line) new source before after = ⊥
 Gives h s Ends (Ok next.Nothing) new source before after = (new ≡ h) × (source ≡ Some s) × Keeps before after
 Gives h s Ends (Err e) new source before after = ⊥
@@ -64,28 +68,48 @@ next_of (Ok ended.End) = Ok next.Nothing
 next_of (Err e) = Err e
 
 -- a reply that is owed was given
-abbrev pub GivesOwed : HeldFiles → SourceAnswers → Command → Result Next RunError → (new : HeldFiles) (source : Option SourceAnswers) (before after : Option (List ℕ)) → Type 0
+abbrev pub GivesOwed : HeldFiles → SourceAnswers → Command → Result Next RunError
+    → (new : HeldFiles) (source : Option SourceAnswers) (before after : Option (List ℕ)) → Type 0
 GivesOwed h s command result new source before after = (r : Reply) × Replies h s command r × Gives h s r result new source before after
 
 -- the same for what stands behind the last LF
-abbrev pub GivesLast : HeldFiles → SourceAnswers → List ℕ → Result Ended RunError → (new : HeldFiles) (source : Option SourceAnswers) (before after : Option (List ℕ)) → Type 0
+abbrev pub GivesLast : HeldFiles → SourceAnswers → List ℕ → Result Ended RunError
+    → (new : HeldFiles) (source : Option SourceAnswers) (before after : Option (List ℕ)) → Type 0
 GivesLast h s [] result new source before after = (result ≡ Ok ended.Eof) × (new ≡ h) × (source ≡ Some s) × Keeps before after
 GivesLast h s (x ∷ line) result new source before after = GivesOwed h s (command_of (x ∷ line)) (next_of result) new source before after
 
+-- memory is wanted only where it may be by the answers to come
+abbrev pub LacksOnlyIf : {T : Type 0} → Option SourceAnswers → (SourceAnswers → Type 0) → Result T RunError → Type 0
+LacksOnlyIf source may_lack_by result = (s : SourceAnswers) → source ≡ Some s → result ≡ Err run_errors.NoMemory → may_lack_by s
+
+-- ---- of a line that places bytes of the source
+
+abbrev pub placing_reply : HeldFiles → Placing → (path : List ℕ) → SourceAnswers → Reply
+placing_reply h placing path s = sourced_reply h s path (placed placing path)
+
+abbrev pub PlacingMayLack : HeldFiles → Placing → (path : List ℕ) → SourceAnswers → Type 0
+PlacingMayLack h placing path s = MayLack h (placed placing path) (next_answer s path)
+
 -- ---- whatever the source is: by the answers that it gave, and with any later ones
 
-abbrev pub GivesByAnswers : HeldFiles → Command → Result Next RunError → (new : HeldFiles) (before after : Option (List ℕ)) → Type 0
+abbrev pub GivesByAnswers : HeldFiles → Command → Result Next RunError
+    → (new : HeldFiles) (before after : Option (List ℕ)) → Type 0
 GivesByAnswers h command result new before after =
     (given : SourceAnswers) × ((later : SourceAnswers) →
-    GivesOwed h (given ++ later) command result new (Some later) before after × (result ≡ Err run_errors.NoMemory → LineMayLack h (given ++ later) command))
+    GivesOwed h (given ++ later) command result new (Some later) before after
+    × (result ≡ Err run_errors.NoMemory → LineMayLack h (given ++ later) command))
 
-abbrev pub GivesLastByAnswers : HeldFiles → List ℕ → Result Ended RunError → (new : HeldFiles) (before after : Option (List ℕ)) → Type 0
+abbrev pub GivesLastByAnswers : HeldFiles → List ℕ → Result Ended RunError
+    → (new : HeldFiles) (before after : Option (List ℕ)) → Type 0
 GivesLastByAnswers h line result new before after =
     (given : SourceAnswers) × ((later : SourceAnswers) →
-    GivesLast h (given ++ later) line result new (Some later) before after × (result ≡ Err run_errors.NoMemory → LineMayLack h (given ++ later) (command_of line)))
+    GivesLast h (given ++ later) line result new (Some later) before after
+    × (result ≡ Err run_errors.NoMemory → LineMayLack h (given ++ later) (command_of line)))
 
 -- the same of a line that is owed one reply
-abbrev pub GivesByReply : HeldFiles → (SourceAnswers → Reply) → (SourceAnswers → Type 0) → Result Next RunError → (new : HeldFiles) (before after : Option (List ℕ)) → Type 0
+abbrev pub GivesByReply : HeldFiles → (SourceAnswers → Reply) → (SourceAnswers → Type 0) → Result Next RunError
+    → (new : HeldFiles) (before after : Option (List ℕ)) → Type 0
 GivesByReply h reply_by may_lack_by result new before after =
     (given : SourceAnswers) × ((later : SourceAnswers) →
-    Gives h (given ++ later) (reply_by (given ++ later)) result new (Some later) before after × (result ≡ Err run_errors.NoMemory → may_lack_by (given ++ later)))
+    Gives h (given ++ later) (reply_by (given ++ later)) result new (Some later) before after
+    × (result ≡ Err run_errors.NoMemory → may_lack_by (given ++ later)))

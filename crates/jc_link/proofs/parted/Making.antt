@@ -17,14 +17,14 @@ use Rattle.jc_resolve.specs.Numbered.{Numbered, IsClosed, Agrees, record_of}
 use Rattle.jc_link.specs.Closures.{Closure, IsClosure}
 use Rattle.jc_link.specs.inside.Gathering.{IsNet, stand_at}
 
-pub closed_of : (found : List Name) (stands : List Stands) (rows : List (List ℕ)) (nodes : List (Option ℕ)) (at_object : ℕ) → IsNet found stands rows nodes at_object → IsClosed (record { names = found; records = stands; rows = rows })
-closed_of found stands rows nodes at_object n = record { records = n.all_stand; size = n.all_rows; once = n.once; within = n.within; rows = n.above }
+pub closed_of : (found : List Name) (stands : List Stands) (rows : List (List ℕ)) (nodes : List (Option ℕ)) (at_object : ℕ) → IsNet found stands rows nodes at_object → IsClosed (record { names = found; records = stands; supertypes = rows })
+closed_of found stands rows nodes at_object n = record { records = n.all_stand; size = n.all_rows; once = n.once; within = n.within; supertypes = n.above }
 
 module _ (m : World) (d : Name) (c : Closure) (k : IsClosure m d c) where
   at : (i : ℕ) → i < length c.found → stand_at c.stands i ≡ m (name_at c.found i)
   at i l = ap (λ z. stand_at z i) k.stands ∙ get_or-map m c.found i [] Nothing l
 
-  pub agrees : (rows : List (List ℕ)) → Agrees m (record { names = c.found; records = c.stands; rows = rows })
+  pub agrees : (rows : List (List ℕ)) → Agrees m (record { names = c.found; records = c.stands; supertypes = rows })
   agrees rows = λ i l. sym (at i l)
 
   -- what stands at the class itself
@@ -33,7 +33,7 @@ module _ (m : World) (d : Name) (c : Closure) (k : IsClosure m d c) where
 
 -- what numbered classes say of their first is the part of the class
 pub part_made : (m : World) (d : Name) (c : Closure) (rows : List (List ℕ)) (h : Numbered) (ring : Bool) (how : Loading) (found : List Answer) (errors : List LinkFault) (faults : List Fault) (wrong : List (ℕ × CodeFault)) (own_stands : Stands)
-    → IsClosure m d c → 0 < length c.found → h ≡ record { names = c.found; records = c.stands; rows = rows }
+    → IsClosure m d c → 0 < length c.found → h ≡ record { names = c.found; records = c.stands; supertypes = rows }
     → ((k : World) → Agrees k h → Decides ring (Above k (name_at h.names 0) (name_at h.names 0)))
     → ((k : World) → Agrees k h → Load k (name_at h.names 0) how)
     → ((k : World) (l : Loading) → Agrees k h → Load k (name_at h.names 0) l → AreAnswers k (name_at h.names 0) l (references_of (record_of h 0)) found)

@@ -1,4 +1,5 @@
 -- What is left to gather.
+use Rattle.jc_classes.specs.Worlds.{Stands as stands}
 use Rattle.std.proofs.Common.{◌≡◌, ℕ, ◌+◌, ◌-◌, ◌<◌, ◌≤◌, Bool, true, false, ◌||◌, cond, List, [], ◌∷◌, length, Option, Some, None, refl, sym, ap, ◌∙◌, arith, zero, suc}
 use Rattle.std.proofs.lemmas.Bool.{false≢true}
 use Rattle.std.specs.Cmp.{eq_by_cmp_equiv}
@@ -8,9 +9,8 @@ use Rattle.std.specs.FinMap.Entries.{find}
 use Rattle.jc_classes.specs.Facts.{Facts}
 use Rattle.jc_classes.specs.Names.{Name, name_cmp, same_name, object}
 use Rattle.jc_classes.specs.Worlds.{supers_of}
-use Rattle.jc_classes.specs.Worlds.Stands.{Record}
 use Rattle.jc_classes.specs.BuiltIn.{object_facts}
-use Rattle.jc_link.specs.Prefixes.{is_outside}
+use Rattle.jc_link.specs.Prefixes.{is_covered}
 use Rattle.jc_link.specs.Tables.{Places, placed, or_built_in, stands_by, world}
 use Rattle.jc_classes.proofs.worlds.NameTests.{same_is}
 use Rattle.jc_classes.specs.Numbers.{name_at, IsOnce}
@@ -27,7 +27,7 @@ asked names (suc k) n = same_name n (name_at names k) || asked names k n
 -- how many supertypes the class at a place has
 abbrev supers_count : Option Facts → ℕ
 supers_count None = 0
-supers_count (Some r) = length (supers_of (Record r))
+supers_count (Some r) = length (supers_of (stands.Class r))
 
 -- the supertypes of the classes that were not asked for
 pub weight : (Name → Bool) → List (Name × Option Facts) → ℕ
@@ -111,7 +111,7 @@ left_less t ps old new at next once l e longer same few =
     let f : (n : Name) → asked new (suc at) n ≡ (same_name n x || asked old at n) =
     λ n. ap (λ z. same_name n z || asked new at n) (same at l) ∙ ap (λ b. same_name n x || b) (same_asked old new at same (omega arith) n) in
     let w = weight_found (asked old at) (asked new (suc at)) x f (not_asked old at at once l (omega arith)) (fin.entries t) in
-    let s = supers_by (fin.get t x) x (is_outside ps x) in
+    let s = supers_by (fin.get t x) x (is_covered ps x) in
     let g = ap found_supers (fin.get-entries t x) in
     let q : next ≡ suc at = omega arith in
     let v = ap (λ k. weight (asked new k) (fin.entries t)) q in

@@ -4,7 +4,7 @@ use Rattle.std.specs.FinMap as map
 use Rattle.jc_base.proofs.maps.FiniteMaps.{bytes_cmp_total}
 use Rattle.jc_classes.specs.Facts.{Facts}
 use Rattle.jc_classes.specs.Names.{same_name}
-use Rattle.jc_link.specs.Prefixes.{is_outside}
+use Rattle.jc_link.specs.Prefixes.{is_covered}
 use Rattle.jc_link.specs.TableLaws.{PlacesChange, PrefixesDiffer, WorldsDiffer}
 use Rattle.jc_link.specs.Tables.{placed, or_built_in, record_at, stands_by}
 
@@ -19,11 +19,11 @@ places_change = λ places name place n. (
 )
 
 pub worlds_differ : WorldsDiffer
-worlds_differ = λ touched old new prefixes same n e. ap (λ o. stands_by (or_built_in o n) (is_outside prefixes n)) (same n e)
+worlds_differ = λ touched old new prefixes same n e. ap (λ o. stands_by (or_built_in o n) (is_covered prefixes n)) (same n e)
 
 by_record : (o : Option Facts) (a b : Bool) → (o ≡ None → a ≡ b) → stands_by o a ≡ stands_by o b
 by_record (Some facts) a b h = refl
 by_record None a b h = ap (stands_by None) (h refl)
 
 pub prefixes_differ : PrefixesDiffer
-prefixes_differ = λ touched places old new same n e. by_record (record_at places n) (is_outside old n) (is_outside new n) (same n e)
+prefixes_differ = λ touched places old new same n e. by_record (record_at places n) (is_covered old n) (is_covered new n) (same n e)

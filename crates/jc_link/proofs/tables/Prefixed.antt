@@ -6,7 +6,7 @@ use Rattle.jc_classes.specs.Names.{Name}
 use Rattle.jc_classes.specs.Parts.{Reach, names_in}
 use Rattle.jc_classes.specs.Parts.Reach.{itself, always, reference, upward}
 use Rattle.jc_classes.specs.Worlds.{references_of, supers_of}
-use Rattle.jc_link.specs.Prefixes.{is_outside}
+use Rattle.jc_link.specs.Prefixes.{is_covered}
 use Rattle.jc_link.specs.Tables.{Places, record_at, stands_by, world}
 
 -- what is outside has no supertypes and no references, and neither has what is nowhere
@@ -28,6 +28,6 @@ pub reach_stays : (places : Places) (old new : List Name) {d n : Name} → Reach
 reach_stays places old new itself = itself
 reach_stays places old new always = always
 reach_stays places old new {d = d} (reference {n = n} found) =
-    reference (subst (λ (rs : List Reference). Contains (names_in rs) n) (references_stay (record_at places d) (is_outside old d) (is_outside new d)) found)
+    reference (subst (λ (rs : List Reference). Contains (names_in rs) n) (references_stay (record_at places d) (is_covered old d) (is_covered new d)) found)
 reach_stays places old new (upward {mid = mid} {n = n} reached found) =
-    upward (reach_stays places old new reached) (subst (λ (ns : List Name). Contains ns n) (supers_stay (record_at places mid) (is_outside old mid) (is_outside new mid)) found)
+    upward (reach_stays places old new reached) (subst (λ (ns : List Name). Contains ns n) (supers_stay (record_at places mid) (is_covered old mid) (is_covered new mid)) found)

@@ -1,5 +1,6 @@
 -- A reach while it is gathered, by numbers.
-use Rattle.std.specs.Prelude.{◌≡◌, ◌++◌, ◌∷◌, ◌<◌, ℕ, List, [], map, length, Option, option_map, Some, slice_index_or}
+use Rattle.std.specs.Prelude.{◌≡◌, ◌++◌, ◌∷◌, ◌<◌, ℕ, List, [], map, length, slice_get, slice_index_or}
+use Rattle.std.specs.Prelude.{Option, option_map, Some}
 use Rattle.std.specs.List.{Contains}
 use Rattle.std.specs.declared.vec.Vec.{Vec}
 use Rattle.std.specs.declared.alloc.Global.{Global}
@@ -29,20 +30,30 @@ abbrev pub NumberReferences : List Name → List (Option ℕ) → List Reference
 NumberReferences names nodes references = map (option_map (name_at names)) nodes ≡ map (λ (r : Reference). class_of r.named) references
 
 -- the numbers of the classes that these references name were added
-pub record Nodes (old : List Name) (nodes : List (Option ℕ)) (new : List Name) (nodes2 : List (Option ℕ)) (added : List Reference) : Type 0 where
+pub record Nodes (old : List Name) (nodes : List (Option ℕ)) (new : List Name) (nodes2 : List (Option ℕ))
+    (added : List Reference) : Type 0 where
   pub grows : Grows old new (names_in added)
   pub within : (v : ℕ) → Contains nodes2 (Some v) → v < length new
-  pub named : map (option_map (name_at new)) nodes2 ≡ map (option_map (name_at old)) nodes ++ map (λ (r : Reference). class_of r.named) added
+  pub named :
+      map (option_map (name_at new)) nodes2
+      ≡ map (option_map (name_at old)) nodes ++ map (λ (r : Reference). class_of r.named) added
+
+-- of the reference at this place the number of its class was added
+abbrev pub NumbersAt : (old new : List Name) → List Reference → (place : ℕ) → Option ℕ → Type 0
+NumbersAt old new references place node =
+    (r : Reference) → slice_get references place ≡ Some r → Nodes old [] new (node ∷ []) (r ∷ [])
 
 -- what stands at the next name was added, with the row of its supertypes, which were numbered
-pub record IsReached (old : List Name) (stands : List Stands) (rows : List (List ℕ)) (next : Stands) (new : List Name) (stands2 : List Stands) (rows2 : List (List ℕ)) : Type 0 where
+pub record IsReached (old : List Name) (stands : List Stands) (rows : List (List ℕ)) (next : Stands)
+    (new : List Name) (stands2 : List Stands) (rows2 : List (List ℕ)) : Type 0 where
   pub row : List ℕ
   pub numbered : Rows old [] new row (supers_of next)
   pub stands_more : stands2 ≡ stands ++ next ∷ []
   pub rows_more : rows2 ≡ rows ++ row ∷ []
 
 -- what stands at the first names, the rows of their supertypes, and names of the reach that wait
-pub record Gathering (m : World) (d : Name) (names : List Name) (stands : List Stands) (rows : List (List ℕ)) (nodes : List (Option ℕ)) : Type 0 where
+pub record Gathering (m : World) (d : Name) (names : List Name) (stands : List Stands) (rows : List (List ℕ))
+    (nodes : List (Option ℕ)) : Type 0 where
   pub once : IsOnce names
   pub first : (0 < length names) × (name_at names 0 ≡ d)
   pub object : Contains names object
@@ -55,7 +66,8 @@ pub record Gathering (m : World) (d : Name) (names : List Name) (stands : List S
   pub references_in : (v : ℕ) → Contains nodes (Some v) → v < length names
 
 -- what numbers, rows and nodes are to each other, whatever the world
-pub record IsNet (names : List Name) (stands : List Stands) (rows : List (List ℕ)) (nodes : List (Option ℕ)) (at_object : ℕ) : Type 0 where
+pub record IsNet (names : List Name) (stands : List Stands) (rows : List (List ℕ)) (nodes : List (Option ℕ))
+    (at_object : ℕ) : Type 0 where
   pub once : IsOnce names
   pub some : 0 < length names
   pub all_stand : length stands ≡ length names

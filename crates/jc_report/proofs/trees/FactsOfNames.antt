@@ -7,7 +7,7 @@ use Rattle.jc_view.specs.Outcome.{class_read}
 use Rattle.jc_classes.specs.Facts.{Facts}
 use Rattle.jc_classes.specs.FactsOf.{facts_of}
 use Rattle.jc_classes.specs.Names.{Name}
-use Rattle.jc_link.specs.Prefixes.{is_outside}
+use Rattle.jc_link.specs.Prefixes.{is_covered}
 use Rattle.jc_link.specs.Tables.{or_built_in, stands_by, world}
 use Rattle.jc_report.specs.Files.{Files}
 use Rattle.jc_report.specs.FileRows.{winner}
@@ -56,4 +56,4 @@ facts_named f name c h = named_by_winner f name c (winner f name) refl h
 
 -- the world of a tree's table is that of the files
 pub worlds_meet : (f : Files) (t : Tree) → IsTree f t → (prefixes : List Name) (name : Name) → world t.classes prefixes name ≡ world_of f prefixes name
-worlds_meet f t h prefixes name = ap (λ o. stands_by (or_built_in o name) (is_outside prefixes name)) (h.classes name)
+worlds_meet f t h prefixes name = ap (λ o. stands_by (or_built_in o name) (is_covered prefixes name)) (h.classes name)

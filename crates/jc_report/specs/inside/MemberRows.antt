@@ -46,6 +46,10 @@ keys_after last (key ∷ keys) = if is_last last key then keys_after last keys e
 abbrev pub key_row : Name → ReferenceKind → Key → Row
 key_row class kind key = record { class = class; kind = kind; key = key }
 
--- the rows of the open members of these numbers
+-- the rows of the open members of these numbers, behind a key
+abbrev pub rows_after : ReferenceKind → Facts → Option Key → List ℕ → List Row
+rows_after kind f last numbers = map (key_row f.name kind) (keys_after last (open_keys kind f numbers))
+
+-- the rows of all of them
 abbrev pub rows_by : ReferenceKind → Facts → List ℕ → List Row
-rows_by kind f numbers = map (key_row f.name kind) (keys_after None (open_keys kind f numbers))
+rows_by kind f numbers = rows_after kind f None numbers

@@ -1,20 +1,20 @@
 -- A report as it is held, and its classes.
 use Rattle.std.specs.Prelude.{◌≡◌, List, map, Some}
-use Rattle.std.specs.List.{All, Contains, filter}
+use Rattle.std.specs.List.{All, Contains}
 use Rattle.std.specs.List.Sorted.{IsStrictlySortedBy}
 use Rattle.jc_classes.specs.Facts.{Facts}
 use Rattle.jc_classes.specs.Names.{Name, name_cmp}
 use Rattle.jc_report.specs.Files.{Files}
 use Rattle.jc_report.specs.FileRowView as lent
-use Rattle.jc_report.specs.Reports.{Class, IsClassOf, Report, facts_at, name_of}
+use Rattle.jc_report.specs.Reports.{Class, IsClassOf, Report, circular_names, facts_at, name_of}
 use Rattle.jc_report.specs.RowView.{row_lent}
-use Rattle.jc_report.specs.declared.report.Report.TheInside.{Inside}
+use Rattle.jc_report.specs.declared.report.TreeReport.TheInside.{Inside}
 
 abbrev pub report_shown : Inside → Report
 report_shown a = record {
   files = map lent.row_lent a.files.items;
   classes = a.classes.items;
-  circular = map name_of (filter (λ c. c.part.circular) a.classes.items);
+  circular = circular_names a.classes.items;
   provided = map row_lent a.provided.items;
   required = map row_lent a.required.items;
 }

@@ -11,9 +11,9 @@ use Rattle.jc_classes.specs.Resolution.{Answer as answer}
 use Rattle.jc_classes.specs.Worlds.{World, text_of}
 use Rattle.jc_classes.specs.declared.reference_kind.ReferenceKind.{ReferenceKind}
 use Rattle.jc_classes.specs.declared.reference_kind.ReferenceKind.TheVariants as kind
-use Rattle.jc_lookup.specs.declared.loads.Load.{Load}
-use Rattle.jc_lookup.specs.inside.Indexed.{Indexed, name_at}
-use Rattle.jc_lookup.specs.inside.Loading.{load_at}
+use Rattle.jc_numbered.specs.declared.loads.Load.{Load}
+use Rattle.jc_numbered.specs.inside.Indexed.{Indexed, name_at}
+use Rattle.jc_numbered.specs.inside.Loading.{load_at}
 use Rattle.jc_resolve.specs.declared.entry.Entry.{Entry}
 use Rattle.jc_resolve.specs.declared.entry.Entry.TheVariants as entry
 use Rattle.jc_resolve.specs.inside.Answered.{IsAnsweredAt, IsAnsweredBy}
@@ -29,7 +29,7 @@ module _ (r s : Reference) (of_kind : r.kind ≡ s.kind) (of_named : r.named ≡
   same_shown name (entry.Outside n) = refl
   same_shown name entry.NotLoaded = refl
   same_shown name (entry.Error e n) = refl
-  same_shown name (entry.OwnError e) = ap (λ t. answer.Wrong e (text_of t)) of_named
+  same_shown name (entry.OwnError e) = ap (λ t. answer.Error e (text_of t)) of_named
 
   same_resolves : (m : World) (d : Name) (k : ReferenceKind) (a : Answer) → ResolvesOf m d k r a → ResolvesOf m d k s a
   same_resolves m d kind.Class a h = subst (λ t. ResolvesClass m d t a) of_named h

@@ -6,14 +6,14 @@ use Rattle.jc_classes.specs.Facts.Named.{Class, Array}
 use Rattle.jc_classes.specs.Loading.{Load, can_see}
 use Rattle.jc_classes.specs.Resolution.{Start, Starts, ResolvesClass as rclass, class_answer, start_of, object_start}
 use Rattle.jc_classes.specs.Resolution.Starts.{starts}
-use Rattle.jc_lookup.specs.inside.Indexed.{Indexed, name_at, record_at, IsGraph, IsIndexed}
+use Rattle.jc_numbered.specs.inside.Indexed.{Indexed, name_at, record_at, IsGraph, IsIndexed}
 use Rattle.jc_classes.specs.Resolution.Start.{Ends}
 use Rattle.jc_resolve.specs.declared.resolve.Begun.{Begun}
 use Rattle.jc_resolve.specs.declared.resolve.Begun.TheVariants as begun
 use Rattle.jc_resolve.specs.inside.Resolved.{loading_of, begun_of, ended_of, TellsLoads}
-use Rattle.jc_lookup.specs.inside.Loading.{load_at}
-use Rattle.jc_lookup.specs.declared.loads.Load.{Load as LoadState}
-use Rattle.jc_lookup.proofs.lookups.Bridge.{named}
+use Rattle.jc_numbered.specs.inside.Loading.{load_at}
+use Rattle.jc_numbered.specs.declared.loads.Load.{Load as LoadState}
+use Rattle.jc_numbered.proofs.lookups.Bridge.{named}
 
 module _ (m : World) (count : ℕ) (x : Indexed) (graph : IsGraph count x) (index : IsIndexed m x) (loads : List LoadState) (tells : TellsLoads m x count loads)
     (object : ℕ) (within : object < count) (is_object : name_at x object ≡ java_lang_object) (d : Name) where
@@ -40,5 +40,5 @@ module _ (m : World) (count : ℕ) (x : Indexed) (graph : IsGraph count x) (inde
 -- what does not begin ends
 pub begun_ends : (x : Indexed) (b : Begun) → ((v : ℕ) → b ≡ begun.At v → ⊥) → begun_of x b ≡ Ends (ended_of x (begun_of x b))
 begun_ends x (begun.At v) n = absurd (n v refl)
-begun_ends x (begun.Beyond v) n = refl
+begun_ends x (begun.Outside v) n = refl
 begun_ends x (begun.Fails f v) n = refl

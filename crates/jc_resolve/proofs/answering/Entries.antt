@@ -10,9 +10,9 @@ use Rattle.jc_classes.specs.Names.{Name, polymorphic_descriptor}
 use Rattle.jc_classes.specs.Parts.{AreAnswers}
 use Rattle.jc_classes.specs.Resolution.{Answer as answer}
 use Rattle.jc_classes.specs.Worlds.{World}
-use Rattle.jc_lookup.specs.declared.loads.Load.{Load}
-use Rattle.jc_lookup.specs.inside.Indexed.{Indexed, name_at, IsIndexed}
-use Rattle.jc_lookup.specs.inside.Loading.{load_at}
+use Rattle.jc_numbered.specs.declared.loads.Load.{Load}
+use Rattle.jc_numbered.specs.inside.Indexed.{Indexed, name_at, IsIndexed}
+use Rattle.jc_numbered.specs.inside.Loading.{load_at}
 use Rattle.jc_resolve.specs.Answers.{kind_of}
 use Rattle.jc_resolve.specs.declared.answers.AnswerKind.{AnswerKind}
 use Rattle.jc_resolve.specs.declared.entry.Entry.{Entry}
@@ -71,9 +71,9 @@ entry_stays : (a b : List Name) (r : Reference) (e : Entry) → IsFront a b → 
 entry_stays a b r (entry.ToClass flags) f l = refl
 entry_stays a b r (entry.ToMember flags n) f l = ap (λ z. answer.ToMember z (record { name = r.key.name; descriptor = r.key.descriptor; flags = flags })) (stays a b n f l)
 entry_stays a b r (entry.ToPolymorphic flags n) f l = ap (λ z. answer.ToMember z (record { name = r.key.name; descriptor = polymorphic_descriptor; flags = flags })) (stays a b n f l)
-entry_stays a b r (entry.Outside n) f l = ap answer.Beyond (stays a b n f l)
+entry_stays a b r (entry.Outside n) f l = ap answer.Outside (stays a b n f l)
 entry_stays a b r entry.NotLoaded f l = refl
-entry_stays a b r (entry.Error e n) f l = ap (answer.Wrong e) (stays a b n f l)
+entry_stays a b r (entry.Error e n) f l = ap (answer.Error e) (stays a b n f l)
 entry_stays a b r (entry.OwnError e) f l = refl
 
 pub within_more : (a b : List Name) (e : Entry) → IsFront a b → IsWithin (length a) e → IsWithin (length b) e

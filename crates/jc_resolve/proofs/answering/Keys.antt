@@ -9,9 +9,9 @@ use Rattle.jc_rules.specs.AccessFlags.{has, native, private, public, static, var
 use Rattle.jc_classes.proofs.worlds.NameTests.{same_is, same_self}
 use Rattle.std.proofs.lemmas.Bool.{false≢true}
 use Rattle.jc_classes.specs.Resolution.Answer.{ToMember}
-use Rattle.jc_lookup.specs.declared.classes.Hit.{Hit}
-use Rattle.jc_lookup.specs.declared.settle.Settled.{Settled}
-use Rattle.jc_lookup.specs.declared.settle.Settled.TheVariants as settled
+use Rattle.jc_numbered.specs.declared.classes.Hit.{Hit}
+use Rattle.jc_numbered.specs.declared.settled.Settled.{Settled}
+use Rattle.jc_numbered.specs.declared.settled.Settled.TheVariants as settled
 use Rattle.jc_resolve.specs.inside.Entries.{HasKey, IsKeyed}
 
 some_is : {X : Type 0} {x y : X} → Some x ≡ Some y → x ≡ y
@@ -91,7 +91,7 @@ open_keyed r k x e = open_keyed_of k (member (methods_of r) k) x (member_keyed (
 
 pub settled_keyed : (k : Key) (found : Option Hit) (s : Settled) → ((hit : Hit) → s ≡ settled.To hit → found ≡ Some hit) → IfSome found (λ h. IsKeyed k (member_lent h.member)) → HasKey k s
 settled_keyed k found (settled.To hit) h keyed = subst (λ o. IfSome o (λ (h : Hit). IsKeyed k (member_lent h.member))) (h hit refl) keyed
-settled_keyed k found (settled.Beyond v) h keyed = tt
+settled_keyed k found (settled.Outside v) h keyed = tt
 settled_keyed k found (settled.Hidden v) h keyed = tt
 settled_keyed k found settled.Missing h keyed = tt
 

@@ -7,13 +7,13 @@ use Rattle.jc_classes.specs.Facts.Named.{Array}
 use Rattle.jc_classes.specs.Resolution.{Answer, ResolvesClass, class_answer}
 use Rattle.jc_classes.specs.Resolution.{ResolvesClass as rclass}
 use Rattle.jc_classes.specs.Resolution.Answer.{ToClass}
-use Rattle.jc_lookup.specs.declared.loads.Load.{Load}
+use Rattle.jc_numbered.specs.declared.loads.Load.{Load}
 use Rattle.jc_resolve.specs.declared.resolve.NamedNode.{NamedNode}
 use Rattle.jc_resolve.specs.declared.resolve.NamedNode.TheVariants as by
-use Rattle.jc_lookup.specs.inside.Indexed.{Indexed, name_at, record_at, IsGraph, IsIndexed}
-use Rattle.jc_lookup.specs.inside.Loading.{load_at, sees}
+use Rattle.jc_numbered.specs.inside.Indexed.{Indexed, name_at, record_at, IsGraph, IsIndexed}
+use Rattle.jc_numbered.specs.inside.Loading.{load_at, sees}
 use Rattle.jc_resolve.specs.inside.Resolved.{loading_of, named_of, TellsLoads}
-use Rattle.jc_lookup.proofs.lookups.Bridge.{named}
+use Rattle.jc_numbered.proofs.lookups.Bridge.{named}
 use Rattle.jc_resolve.proofs.loading.Loadings.{sees_same}
 
 module _ (m : World) (count : ℕ) (x : Indexed) (graph : IsGraph count x) (index : IsIndexed m x) (loads : List Load) (told : TellsLoads m x count loads) where

@@ -20,7 +20,7 @@ use Rattle.jc_resolve.specs.declared.link_targets.AtFault.{AtFault}
 use Rattle.jc_resolve.specs.declared.link_targets.AtFault.TheVariants as at
 use Rattle.jc_resolve.specs.declared.link_targets.Target.{Target}
 use Rattle.jc_resolve.specs.declared.link_targets.Resolved.{Resolved}
-use Rattle.jc_resolve.specs.inside.LinkTargets.{AreResolved, Judged, judged, line, resolved_from, target_of, with_number}
+use Rattle.jc_resolve.specs.inside.LinkTargets.{AreResolved, Judged, target_judged, line, resolved_from, target_of, with_number}
 use Rattle.jc_resolve.specs.inside.Links.{class_at, class_told, entry_by, entry_of, link_shown}
 use Rattle.jc_resolve.proofs.linking.Tables.{behind}
 
@@ -43,7 +43,7 @@ module _ (d : Name) (method : Name) (r : Reference) where
   site = record { class = d; method = method; named = r.named }
 
   member_same : (kind : LinkKind) (home : Name) (x : Member)
-      → link_fault site kind (answer.ToMember home x) ≡ option_map (named r (answer.ToMember home x)) (option_and_then (judged method kind) (target_of d r (answer.ToMember home x)))
+      → link_fault site kind (answer.ToMember home x) ≡ option_map (named r (answer.ToMember home x)) (option_and_then (target_judged method kind) (target_of d r (answer.ToMember home x)))
   member_same kinds.GetStatic home x = line_same r (answer.ToMember home x) _ _ at.Answered None None refl
   member_same kinds.PutStatic home x =
       let ours = same_name home d && same_name method (codes "<clinit>") in
@@ -63,7 +63,7 @@ module _ (d : Name) (method : Name) (r : Reference) where
   member_same kinds.New home x = refl
 
   class_same : (kind : LinkKind) (c : Name) (flags : ℕ)
-      → link_fault site kind (answer.ToClass c flags) ≡ option_map (named r (answer.ToClass c flags)) (option_and_then (judged method kind) (target_of d r (answer.ToClass c flags)))
+      → link_fault site kind (answer.ToClass c flags) ≡ option_map (named r (answer.ToClass c flags)) (option_and_then (target_judged method kind) (target_of d r (answer.ToClass c flags)))
   class_same kinds.New c flags = line_same r (answer.ToClass c flags) _ _ at.Answered None None refl
   class_same kinds.GetStatic c flags = refl
   class_same kinds.PutStatic c flags = refl
@@ -74,12 +74,12 @@ module _ (d : Name) (method : Name) (r : Reference) where
   class_same kinds.InvokeStatic c flags = refl
   class_same kinds.InvokeInterface c flags = refl
 
-  fault_same : (kind : LinkKind) (a : Answer) → link_fault site kind a ≡ option_map (named r a) (option_and_then (judged method kind) (target_of d r a))
+  fault_same : (kind : LinkKind) (a : Answer) → link_fault site kind a ≡ option_map (named r a) (option_and_then (target_judged method kind) (target_of d r a))
   fault_same kind (answer.ToClass c flags) = class_same kind c flags
   fault_same kind (answer.ToMember home x) = member_same kind home x
-  fault_same kind (answer.Beyond n) = refl
+  fault_same kind (answer.Outside n) = refl
   fault_same kind answer.NotLoaded = refl
-  fault_same kind (answer.Wrong e n) = refl
+  fault_same kind (answer.Error e n) = refl
 
 module _ (d : Name) (method : Name) (u : MethodUse) (rs : List Reference) (answers : List Answer) where
   class_is : (number : ℕ) (r : Reference) (a : Answer) → slice_get rs number ≡ Some r → slice_get answers number ≡ Some a → (f : AtFault) → class_by r a f ≡ class_at rs answers number f
@@ -90,7 +90,7 @@ module _ (d : Name) (method : Name) (u : MethodUse) (rs : List Reference) (answe
   linked o = option_and_then (λ fault. Some (link_at u fault)) o
 
   abbrev shown : Option Resolved → Option LinkFault
-  shown o = option_map (link_shown rs answers) (option_and_then (λ (found : Resolved). option_map (entry_by u found) (judged method u.kind found.target)) o)
+  shown o = option_map (link_shown rs answers) (option_and_then (λ (found : Resolved). option_map (entry_by u found) (target_judged method u.kind found.target)) o)
 
   -- of a reference that is answered
   one_same : (number : ℕ) (r : Reference) (a : Answer) → slice_get rs number ≡ Some r → slice_get answers number ≡ Some a
@@ -101,9 +101,9 @@ module _ (d : Name) (method : Name) (u : MethodUse) (rs : List Reference) (answe
       of_judged t None = refl
       of_judged t (Some j) = ap (λ c. Some (link_at u (j.0, c))) (class_is number r a got told j.1)
 
-      by : (o : Option Target) → linked (option_map (named r a) (option_and_then (judged method u.kind) o)) ≡ shown (with_number number o)
+      by : (o : Option Target) → linked (option_map (named r a) (option_and_then (target_judged method u.kind) o)) ≡ shown (with_number number o)
       by None = refl
-      by (Some t) = of_judged t (judged method u.kind t)
+      by (Some t) = of_judged t (target_judged method u.kind t)
 
   abbrev site_at : Reference → Site
   site_at r = record { class = d; method = method; named = r.named }

@@ -15,19 +15,19 @@ use Rattle.jc_classes.proofs.worlds.One.{load_one}
 use Rattle.jc_classes.proofs.worlds.Local.{parents_are}
 use Rattle.jc_graph.specs.Graph as graphs
 use Rattle.jc_graph.specs.Graph.{TellsCircular, IsOrder}
-use Rattle.jc_lookup.specs.declared.loads.Load.{Load}
-use Rattle.jc_lookup.specs.declared.loads.Load.TheVariants.{Loaded, Outside, Fails}
-use Rattle.jc_lookup.specs.inside.Indexed.{Indexed, name_at, IsGraph, IsIndexed}
-use Rattle.jc_lookup.specs.inside.Loading.{load_at}
+use Rattle.jc_numbered.specs.declared.loads.Load.{Load}
+use Rattle.jc_numbered.specs.declared.loads.Load.TheVariants.{Loaded, Outside, Fails}
+use Rattle.jc_numbered.specs.inside.Indexed.{Indexed, name_at, IsGraph, IsIndexed}
+use Rattle.jc_numbered.specs.inside.Loading.{load_at}
 use Rattle.jc_resolve.specs.inside.Resolved.{loading_of, TellsLoads}
-use Rattle.jc_lookup.proofs.lookups.Bridge.{map_in, above_named}
+use Rattle.jc_numbered.proofs.lookups.Bridge.{map_in, above_named}
 use Rattle.jc_resolve.specs.inside.Loading.{is_good, rank_in, TellsRank}
 
 -- what a class that loads has: it is not above itself, and each of its supertypes loads or is outside
 pub record Loadable (m : World) (n : Name) : Type 0 where
   pub not_above : Above m n n → ⊥
   pub class : Facts
-  pub record_is : m n ≡ stands.Record class
+  pub record_is : m n ≡ stands.Class class
   pub each : LoadEach m n (parents class) loading.Loaded
 
 loaded_inv : {m : World} {n : Name} {a : Loading} → defs.Load m n a → a ≡ loading.Loaded → Loadable m n
@@ -95,20 +95,20 @@ load_good x Outside e = refl
 load_good x (Fails f v) e = ⊎_elim (λ q. absurd cc) (λ q. absurd cc) e
 
 module _ (m : World) (count : ℕ) (x : Indexed) (graph : IsGraph count x) (index : IsIndexed m x)
-    (flags : List Bool) (order ranks : List ℕ) (tells : TellsCircular x.up count flags) (ordered : IsOrder x.up count flags order) (ranked : TellsRank count order ranks)
+    (flags : List Bool) (order ranks : List ℕ) (tells : TellsCircular x.supertypes count flags) (ordered : IsOrder x.supertypes count flags order) (ranked : TellsRank count order ranks)
     (loads : List Load) (told : TellsLoads m x count loads) where
   named : {v : ℕ} → v < count → v < length x.names
   named l = omega (arith, graph.names, l)
 
   -- a node that has a step has a record, so it is not outside
-  no_step : (a b : ℕ) → a < count → Contains (x.up a) b → m (name_at x a) ≡ stands.Outside → ⊥
+  no_step : (a b : ℕ) → a < count → Contains (x.supertypes a) b → m (name_at x a) ≡ stands.Outside → ⊥
   no_step a b l c e =
-      let q = map_in (name_at x) (x.up a) b c in
-      let r : map (name_at x) (x.up a) ≡ [] = index.rows a (named l) ∙ ap supers_of (sym (index.records a (named l)) ∙ e) in
+      let q = map_in (name_at x) (x.supertypes a) b c in
+      let r : map (name_at x) (x.supertypes a) ≡ [] = index.supertypes a (named l) ∙ ap supers_of (sym (index.records a (named l)) ∙ e) in
       let s = subst (λ z. Contains z (name_at x b)) r q in
       omega (arith, s.1)
 
-  loadable : (a b : ℕ) → a < count → is_good (load_at loads a) ≡ true → Contains (x.up a) b → Loadable m (name_at x a)
+  loadable : (a b : ℕ) → a < count → is_good (load_at loads a) ≡ true → Contains (x.supertypes a) b → Loadable m (name_at x a)
   loadable a b l g c = ⊎_elim
       (λ e. loaded_inv (told a l) e)
       (λ e. ⊎_elim (λ o. absurd (no_step a b l c o)) (λ y. y) (outside_inv (told a l) e))
@@ -118,10 +118,10 @@ module _ (m : World) (count : ℕ) (x : Indexed) (graph : IsGraph count x) (inde
   flag_of a l not false e = e
   flag_of a l not true e = absurd (not (circular_there a l ((tells.tells a l).0 e)))
     where
-      circular_there : (v : ℕ) → v < count → graphs.Above x.up v v → Above m (name_at x v) (name_at x v)
+      circular_there : (v : ℕ) → v < count → graphs.Above x.supertypes v v → Above m (name_at x v) (name_at x v)
       circular_there v k r = above_named m count x graph index k r
 
-  pub falls : (a b : ℕ) → a < count → is_good (load_at loads a) ≡ true → Contains (x.up a) b → rank_in ranks b < rank_in ranks a
+  pub falls : (a b : ℕ) → a < count → is_good (load_at loads a) ≡ true → Contains (x.supertypes a) b → rank_in ranks b < rank_in ranks a
   falls a b l g c =
       let y = loadable a b l g c in
       let f = flag_of a l y.not_above (slice_index_or flags a false) refl in
@@ -131,17 +131,17 @@ module _ (m : World) (count : ℕ) (x : Indexed) (graph : IsGraph count x) (inde
       let low : rank_in ranks a ≤ k.0 = subst (λ z. rank_in ranks z ≤ k.0) ka p.0 in
       let at : rank_in order (rank_in ranks a) ≡ a = subst (λ z. rank_in order (rank_in ranks z) ≡ z) ka p.1 in
       let in' : rank_in ranks a < length order = omega (arith, k.1) in
-      let j = ordered.before (rank_in ranks a) b in' (ap (λ z. slice_index_or flags z false) at ∙ f) (subst (λ z. Contains (x.up z) b) (sym at) c) in
+      let j = ordered.before (rank_in ranks a) b in' (ap (λ z. slice_index_or flags z false) at ∙ f) (subst (λ z. Contains (x.supertypes z) b) (sym at) c) in
       let r = ranked.places j.0 (omega (arith, j.1)) in
       let s : rank_in ranks b ≤ j.0 = subst (λ z. rank_in ranks z ≤ j.0) j.2 r.0 in
       omega (arith, j.1)
 
-  pub stays : (a b : ℕ) → a < count → is_good (load_at loads a) ≡ true → Contains (x.up a) b → is_good (load_at loads b) ≡ true
+  pub stays : (a b : ℕ) → a < count → is_good (load_at loads a) ≡ true → Contains (x.supertypes a) b → is_good (load_at loads b) ≡ true
   stays a b l g c =
       let y = loadable a b l g c in
       let lb = graph.nodes a b c in
-      let q = map_in (name_at x) (x.up a) b c in
-      let r : map (name_at x) (x.up a) ≡ names_of (parents y.class) = index.rows a (named l) ∙ ap supers_of (sym (index.records a (named l)) ∙ y.record_is) ∙ sym (parents_are y.class) in
+      let q = map_in (name_at x) (x.supertypes a) b c in
+      let r : map (name_at x) (x.supertypes a) ≡ names_of (parents y.class) = index.supertypes a (named l) ∙ ap supers_of (sym (index.records a (named l)) ∙ y.record_is) ∙ sym (parents_are y.class) in
       let s = subst (λ z. Contains z (name_at x b)) r q in
       let e = each_good y.each refl (name_at x b) s.0 s.1 (get_or_default (names_of (parents y.class)) s.0 [] (name_at x b) s.1 ∙ s.2) in
       let same : e.0 ≡ loading_of x (load_at loads b) = load_one e.1 (told b lb) in

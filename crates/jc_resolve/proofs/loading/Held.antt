@@ -7,26 +7,26 @@ use Rattle.std.specs.declared.alloc.Global.{Global}
 use Rattle.jc_classes.specs.Lent.{stands_of}
 use Rattle.jc_classes.specs.Worlds.{World}
 use Rattle.jc_classes.specs.declared.standing.Standing.{Standing}
-use Rattle.jc_lookup.specs.inside.Indexed.{IsIndexed, filled}
-use Rattle.jc_resolve.specs.inside.Net.{IsNet}
+use Rattle.jc_numbered.specs.inside.Indexed.{IsIndexed, filled}
+use Rattle.jc_resolve.specs.inside.Gathered.{IsGathered}
 use Rattle.jc_resolve.specs.Numbered.{numbered, IsClosed, Agrees}
 
-row_within : (rows : List (List ℕ)) (a b : ℕ) → Contains (get_or rows a []) b → a < length rows
-row_within [] a b c = absurd (let l = c.1 in omega arith)
-row_within (r ∷ rows) zero b c = omega arith
-row_within (r ∷ rows) (suc a) b c = let l = row_within rows a b c in omega arith
+supertypes_within : (rows : List (List ℕ)) (a b : ℕ) → Contains (get_or rows a []) b → a < length rows
+supertypes_within [] a b c = absurd (let l = c.1 in omega arith)
+supertypes_within (r ∷ rows) zero b c = omega arith
+supertypes_within (r ∷ rows) (suc a) b c = let l = supertypes_within rows a b c in omega arith
 
 module _ (n : List (Vec ℕ Global)) (s : List Standing) (u : List (Vec ℕ Global)) where
-  pub net_closed : IsClosed (numbered n s u) → IsNet (length s) (filled n s u [] [])
+  pub net_closed : IsClosed (numbered n s u) → IsGathered (length s) (filled n s u [] [])
   net_closed h =
       let records = length-map s stands_of in
       record {
         names = sym h.records ∙ records;
         records = records;
         once = h.once;
-        nodes = λ a b c. let l = row_within (map (λ (v : Vec ℕ Global). v.items) u) a b c in let k = h.within a b c in (omega (arith, l, h.size, h.records, records), omega (arith, k, h.records, records));
-        rows = h.rows;
+        nodes = λ a b c. let l = supertypes_within (map (λ (v : Vec ℕ Global). v.items) u) a b c in let k = h.within a b c in (omega (arith, l, h.size, h.records, records), omega (arith, k, h.records, records));
+        supertypes = h.supertypes;
       }
 
-  pub index_held : (m : World) (rank : List ℕ) (good : List Bool) → IsNet (length s) (filled n s u rank good) → Agrees m (numbered n s u) → IsIndexed m (filled n s u rank good)
-  index_held m rank good net agrees = record { once = net.once; records = agrees; rows = net.rows }
+  pub index_held : (m : World) (rank : List ℕ) (good : List Bool) → IsGathered (length s) (filled n s u rank good) → Agrees m (numbered n s u) → IsIndexed m (filled n s u rank good)
+  index_held m rank good net agrees = record { once = net.once; records = agrees; supertypes = net.supertypes }

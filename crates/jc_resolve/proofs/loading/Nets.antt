@@ -16,17 +16,17 @@ use Rattle.jc_classes.specs.Loading.{Loading as loading}
 use Rattle.jc_resolve.specs.inside.Resolved.{IsWithinSome, loading_of, TellsLoads}
 use Rattle.std.proofs.Common.{take}
 use Rattle.jc_classes.proofs.worlds.NameTests.{same_is, same_self}
-use Rattle.jc_lookup.specs.declared.loads.Load.{Load}
+use Rattle.jc_numbered.specs.declared.loads.Load.{Load}
 use Rattle.jc_graph.specs.Graph.{TellsCircular, IsOrder}
 use Rattle.jc_graph.specs.Seen.{flag_at}
-use Rattle.jc_lookup.specs.inside.Indexed.{Indexed, name_at, record_at, rank_at, good_at, supers_before, IsGraph, IsIndexed, filled}
-use Rattle.jc_lookup.specs.inside.Loading.{load_at}
+use Rattle.jc_numbered.specs.inside.Indexed.{Indexed, name_at, record_at, rank_at, good_at, supers_before, IsGraph, IsIndexed, filled}
+use Rattle.jc_numbered.specs.inside.Loading.{load_at}
 use Rattle.jc_resolve.specs.inside.Loading.{is_good, TellsRank}
-use Rattle.jc_resolve.specs.inside.Net.{IsNet}
+use Rattle.jc_resolve.specs.inside.Gathered.{IsGathered}
 use Rattle.std.specs.declared.vec.Vec.{Vec}
 use Rattle.std.specs.declared.alloc.Global.{Global}
 use Rattle.jc_classes.specs.declared.standing.Standing.{Standing}
-use Rattle.jc_lookup.specs.declared.loads.Load.TheVariants as code
+use Rattle.jc_numbered.specs.declared.loads.Load.TheVariants as code
 use Rattle.jc_resolve.proofs.loading.Goods.{falls, stays}
 
 -- ---- the map that a net is
@@ -54,12 +54,12 @@ look_at (k ∷ ks) (r ∷ rs) once e (suc i) l =
 pub map_of : Indexed → World
 map_of x = look x.names x.records
 
-pub indexed_map : (count : ℕ) (x : Indexed) → IsNet count x → IsIndexed (map_of x) x
+pub indexed_map : (count : ℕ) (x : Indexed) → IsGathered count x → IsIndexed (map_of x) x
 unfolding map_of
 indexed_map count x net = record {
   once = net.once;
   records = λ i l. look_at x.names x.records net.once (net.records ∙ sym net.names) i l;
-  rows = net.rows;
+  supertypes = net.supertypes;
 }
 
 -- ---- the graph
@@ -68,16 +68,16 @@ first_few : (o : Option Name) (is : List Name) → cond (is_some o) 1 0 ≤ leng
 first_few None is = omega arith
 first_few (Some n) is = omega arith
 
-begins_at : (count : ℕ) (x : Indexed) → IsNet count x → (a : ℕ) → (o : Stands) → record_at x a ≡ o → supers_before (record_at x a) ≤ length (x.up a)
+begins_at : (count : ℕ) (x : Indexed) → IsGathered count x → (a : ℕ) → (o : Stands) → record_at x a ≡ o → supers_before (record_at x a) ≤ length (x.supertypes a)
 begins_at count x net a o e = by (under a (length x.names))
   where
     under : (i n : ℕ) → (i < n) ⊎ (n ≤ i)
     under i n = grind arith
 
-    by : (a < length x.names) ⊎ (length x.names ≤ a) → supers_before (record_at x a) ≤ length (x.up a)
+    by : (a < length x.names) ⊎ (length x.names ≤ a) → supers_before (record_at x a) ≤ length (x.supertypes a)
     by (inl l) =
-        let e = ap length (net.rows a l) in
-        let s = length-map (x.up a) (name_at x) in
+        let e = ap length (net.supertypes a l) in
+        let s = length-map (x.supertypes a) (name_at x) in
         let f = first_few (super_of (record_at x a)) (interfaces_of (record_at x a)) in
         omega arith
     by (inr l) =
@@ -85,9 +85,9 @@ begins_at count x net a o e = by (under a (length x.names))
         let q = ap (λ r. supers_before r) p in
         omega arith
 
-pub graph_of : (count : ℕ) (x : Indexed) → IsNet count x → length x.good ≡ count
-    → ((a b : ℕ) → a < count → good_at x a ≡ true → Contains (x.up a) b → rank_at x b < rank_at x a)
-    → ((a b : ℕ) → a < count → good_at x a ≡ true → Contains (x.up a) b → good_at x b ≡ true) → IsGraph count x
+pub graph_of : (count : ℕ) (x : Indexed) → IsGathered count x → length x.good ≡ count
+    → ((a b : ℕ) → a < count → good_at x a ≡ true → Contains (x.supertypes a) b → rank_at x b < rank_at x a)
+    → ((a b : ℕ) → a < count → good_at x a ≡ true → Contains (x.supertypes a) b → good_at x b ≡ true) → IsGraph count x
 graph_of count x net size falling staying = record {
   names = net.names;
   records = net.records;
@@ -104,12 +104,12 @@ good_is (a ∷ loads) zero l = refl
 good_is (a ∷ loads) (suc v) l = good_is loads v (omega arith)
 
 -- before it is known how the classes load, and after
-pub graph_first : (count : ℕ) (x : Indexed) → IsNet count x → length x.good ≡ count → ((v : ℕ) → good_at x v ≡ false) → IsGraph count x
+pub graph_first : (count : ℕ) (x : Indexed) → IsGathered count x → length x.good ≡ count → ((v : ℕ) → good_at x v ≡ false) → IsGraph count x
 graph_first count x net size none = graph_of count x net size (λ a b l g c. absurd (false≢true (sym (none a) ∙ g))) (λ a b l g c. absurd (false≢true (sym (none a) ∙ g)))
 
-pub graph_last : (count : ℕ) (x y : Indexed) → IsNet count x → IsGraph count x
-    → (flags : List Bool) (order : List ℕ) → TellsCircular x.up count flags → IsOrder x.up count flags order → (loads : List Load) → length loads ≡ count
-    → ((m : World) → IsIndexed m x → TellsLoads m x count loads) → IsNet count y → y.up ≡ x.up → y.good ≡ map is_good loads → TellsRank count order y.rank → IsGraph count y
+pub graph_last : (count : ℕ) (x y : Indexed) → IsGathered count x → IsGraph count x
+    → (flags : List Bool) (order : List ℕ) → TellsCircular x.supertypes count flags → IsOrder x.supertypes count flags order → (loads : List Load) → length loads ≡ count
+    → ((m : World) → IsIndexed m x → TellsLoads m x count loads) → IsGathered count y → y.supertypes ≡ x.supertypes → y.good ≡ map is_good loads → TellsRank count order y.rank → IsGraph count y
 graph_last count x y net graph flags order tells ordered loads size told net2 ups good ranked =
     let m = map_of x in
     let index = indexed_map count x net in
@@ -118,7 +118,7 @@ graph_last count x y net graph flags order tells ordered loads size told net2 up
     graph_of count y net2 (ap length good ∙ length-map loads is_good ∙ size)
     (λ a b l g c. falls m count x graph index flags order y.rank tells ordered ranked loads t a b l (sym (is a l) ∙ g) (subst (λ u. Contains (u a) b) ups c))
     (λ a b l g c.
-    let d : Contains (x.up a) b = subst (λ u. Contains (u a) b) ups c in
+    let d : Contains (x.supertypes a) b = subst (λ u. Contains (u a) b) ups c in
     is b (graph.nodes a b d) ∙ stays m count x graph index flags order y.rank tells ordered ranked loads t a b l (sym (is a l) ∙ g) d)
 
 -- ---- answers
@@ -132,11 +132,11 @@ answers_push m d l (s ∷ rs) (b ∷ more) r a h k = (h.0, answers_push m d l rs
 -- ---- as the code has it
 
 module _ (n : List (Vec ℕ Global)) (s : List Standing) (u : List (Vec ℕ Global)) (r r2 : List ℕ) (g g2 : List Bool) where
-  pub net_again : {count : ℕ} → IsNet count (filled n s u r g) → IsNet count (filled n s u r2 g2)
-  net_again net = record { names = net.names; records = net.records; once = net.once; nodes = net.nodes; rows = net.rows }
+  pub net_again : {count : ℕ} → IsGathered count (filled n s u r g) → IsGathered count (filled n s u r2 g2)
+  net_again net = record { names = net.names; records = net.records; once = net.once; nodes = net.nodes; supertypes = net.supertypes }
 
   pub index_again : {m : World} → IsIndexed m (filled n s u r g) → IsIndexed m (filled n s u r2 g2)
-  index_again index = record { once = index.once; records = index.records; rows = index.rows }
+  index_again index = record { once = index.once; records = index.records; supertypes = index.supertypes }
 
 pub good_from : (loads : List Load) (v : ℕ) → load_at loads v ≡ code.Loaded → flag_at (map is_good loads) v ≡ true
 good_from [] v e = absurd cc

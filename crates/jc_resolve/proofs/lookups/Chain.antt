@@ -3,8 +3,8 @@ use Rattle.std.proofs.Common.{◌≡◌, ℕ, ◌<◌, length, Option, Some, Non
 use Rattle.jc_classes.specs.Worlds.{World}
 use Rattle.jc_classes.specs.Facts.{Member, Key}
 use Rattle.jc_classes.specs.MethodLookup.{declared, FindsInClasses, FindsInClasses as chain}
-use Rattle.jc_lookup.specs.inside.Indexed.{Indexed, name_at, record_at, super_at, IsGraph, IsIndexed}
-use Rattle.jc_lookup.proofs.lookups.Chain.{super_is, super_none}
+use Rattle.jc_numbered.specs.inside.Indexed.{Indexed, name_at, record_at, super_at, IsGraph, IsIndexed}
+use Rattle.jc_numbered.proofs.lookups.Chain.{super_is, super_none}
 use Rattle.jc_resolve.specs.inside.Chain.{Leads}
 
 module _ (count : ℕ) (x : Indexed) (graph : IsGraph count x) where

@@ -9,13 +9,13 @@ use Rattle.jc_classes.specs.Facts.{Member, Key}
 use Rattle.jc_classes.specs.MethodLookup.{given_by, IsCandidate, IsMaximal, IsOnly, IsLeast, FindsAbove, FindsAbove as up}
 use Rattle.std.proofs.lemmas.List.Elements.{All-contains}
 use Rattle.jc_graph.specs.Seen.{flag_at, IsSeen}
-use Rattle.jc_lookup.specs.inside.Indexed.{Indexed, name_at, IsGraph, IsIndexed}
+use Rattle.jc_numbered.specs.inside.Indexed.{Indexed, name_at, IsGraph, IsIndexed}
 use Rattle.jc_graph.specs.Graph.{Above as AboveNode}
 use Rattle.jc_graph.specs.Seen.{TellsAbove}
-use Rattle.jc_lookup.specs.inside.Picks.{gives, offers, is_concrete, is_pick, IsLowest}
+use Rattle.jc_numbered.specs.inside.Picks.{gives, offers, is_concrete, is_pick, IsLowest}
 use Rattle.jc_resolve.specs.inside.Picks.{IsSole, TellsPick}
 use Rattle.jc_graph.proofs.marked.SeenLemmas.{contains_one}
-use Rattle.jc_lookup.proofs.lookups.Bridge.{filter_in, filter_out, named, node_in, above_named, above_numbered, same_node}
+use Rattle.jc_numbered.proofs.lookups.Bridge.{filter_in, filter_out, named, node_in, above_named, above_numbered, same_node}
 
 some_is : {X : Type 0} (o : Option X) (y : X) → o ≡ Some y → is_some o ≡ true
 some_is o y e = ap is_some e
@@ -37,18 +37,18 @@ not_true true e = absurd (false≢true e)
 not_true false e = refl
 
 module _ (m : World) (count : ℕ) (x : Indexed) (graph : IsGraph count x) (index : IsIndexed m x) (k : Key) (start : ℕ) (within : start < count)
-    (flags : List Bool) (list : List ℕ) (tells : TellsAbove count x.up (start ∷ []) flags list)
-    (covered : List Bool) (rest : List ℕ) (covers : TellsAbove count x.up (filter (offers x k) list) covered rest) where
+    (flags : List Bool) (list : List ℕ) (tells : TellsAbove count x.supertypes (start ∷ []) flags list)
+    (covered : List Bool) (rest : List ℕ) (covers : TellsAbove count x.supertypes (filter (offers x k) list) covered rest) where
   abbrev nodes : List ℕ
   nodes = filter (offers x k) list
 
   abbrev at_node : ℕ → Member → Found
   at_node v y = record { home = name_at x v; member = y }
 
-  listed_above : (v : ℕ) → Contains list v → AboveNode x.up start v
-  listed_above v c = let a = (tells.tells v).0 (tells.seen.flagged v c) in subst (λ z. AboveNode x.up z v) (sym (contains_one start a.0 a.1)) a.2
+  listed_above : (v : ℕ) → Contains list v → AboveNode x.supertypes start v
+  listed_above v c = let a = (tells.tells v).0 (tells.seen.flagged v c) in subst (λ z. AboveNode x.supertypes z v) (sym (contains_one start a.0 a.1)) a.2
 
-  above_listed : (v : ℕ) → AboveNode x.up start v → Contains list v
+  above_listed : (v : ℕ) → AboveNode x.supertypes start v → Contains list v
   above_listed v a = tells.seen.all.listed v ((tells.tells v).1 (start, (zero, omega arith, refl), a))
 
   given_named : (v : ℕ) → v < count → given_by (m (name_at x v)) k ≡ gives x k v

@@ -1,19 +1,31 @@
 -- Answers by numbers, one for each reference of a class.
-use Rattle.std.specs.Prelude.{◌≡◌, ℕ, List, length, map, slice_get, Some}
+use Rattle.std.specs.Prelude.{◌≡◌, ◌≢◌, ℕ, ◌<◌, List, length, map, slice_get, Option, Some, option_map}
+use Rattle.std.specs.List.{Contains}
 use Rattle.jc_classes.specs.Facts.{AreNumbers, Reference}
-use Rattle.jc_classes.specs.Parts.{AreAnswers, IsAnswer}
-use Rattle.jc_classes.specs.Worlds.{World}
-use Rattle.jc_lookup.specs.declared.loads.Load.{Load}
-use Rattle.jc_lookup.specs.inside.Indexed.{Indexed, name_at, IsIndexed}
-use Rattle.jc_lookup.specs.inside.Loading.{load_at}
+use Rattle.jc_classes.specs.LinkErrors.{LinkFault, links_of}
+use Rattle.jc_classes.specs.Parts.{AreAnswers, IsAnswer, class_of}
+use Rattle.jc_classes.specs.Resolution.{Answer}
+use Rattle.jc_classes.specs.Worlds.{World, references_of}
+use Rattle.jc_numbered.specs.declared.classes.Classes.{Classes}
+use Rattle.jc_numbered.specs.declared.loads.Load.{Load}
+use Rattle.jc_numbered.specs.inside.Indexed.{Indexed, name_at, record_at, IsIndexed}
+use Rattle.jc_numbered.specs.inside.Loading.{load_at}
+use Rattle.jc_numbered.specs.inside.Shown.{indexed_of}
 use Rattle.jc_resolve.specs.declared.all_answers.Asked.{Asked}
 use Rattle.jc_resolve.specs.declared.entry.Entry.{Entry}
+use Rattle.jc_resolve.specs.declared.look.Look.{Look}
 use Rattle.jc_resolve.specs.inside.Entries.{entries_shown, entry_shown}
+use Rattle.jc_resolve.specs.inside.Looks.{reach_of}
 use Rattle.jc_resolve.specs.inside.Resolved.{loading_of, TellsLoads}
 
 -- the numbers that are asked for are those below a count
 abbrev pub AreNumbered : ℕ → List Asked → Type 0
 AreNumbered count order = AreNumbers count (map (λ (a : Asked). a.number) order)
+
+-- the nodes of the classes that references name
+pub record AreNodesOf (count : ℕ) (x : Indexed) (rs : List Reference) (nodes : List (Option ℕ)) : Type 0 where
+  pub named : map (option_map (name_at x)) nodes ≡ map (λ (r : Reference). class_of r.named) rs
+  pub within : (v : ℕ) → Contains nodes (Some v) → v < count
 
 -- whatever the worlds are that have what stands at the names of x
 abbrev pub IsAnsweredBy : Indexed → List Load → ℕ → Reference → Entry → Type 0
@@ -22,8 +34,40 @@ IsAnsweredBy x loads class r e = (m : World) → TellsLoads m x (length x.names)
 
 -- the reference of a number has its answer
 abbrev pub IsAnsweredAt : Indexed → List Load → ℕ → List Reference → List Entry → ℕ → Type 0
-IsAnsweredAt x loads class rs entries at = (r : Reference) (e : Entry) → slice_get rs at ≡ Some r → slice_get entries at ≡ Some e → IsAnsweredBy x loads class r e
+IsAnsweredAt x loads class rs entries at = (r : Reference) (e : Entry) → slice_get rs at ≡ Some r → slice_get entries at ≡ Some e
+    → IsAnsweredBy x loads class r e
+
+-- so of a class that asks
+abbrev pub IsAnswered : Look → List Reference → List Entry → ℕ → Type 0
+IsAnswered l rs entries at = IsAnsweredAt (reach_of l) l.loads.now l.class rs entries at
+
+-- a reference of this number has its answer
+abbrev pub IsAnsweredBefore : Look → List Reference → List Entry → ℕ → Type 0
+IsAnsweredBefore l rs entries number = (number < length rs) × IsAnswered l rs entries number
+
+abbrev pub AreAllAnswered : Look → List Reference → List Entry → Type 0
+AreAllAnswered l rs entries = (at : ℕ) → at < length rs → IsAnswered l rs entries at
+
+-- a step answers the reference of this number, and leaves what was answered
+abbrev pub IsOneMore : Look → List Reference → ℕ → List Entry → List Entry → Type 0
+IsOneMore l rs number old new = (at : ℕ) → (at ≢ number → IsAnswered l rs old at) → IsAnswered l rs new at
 
 abbrev pub AreAnswered : Indexed → List Load → ℕ → List Reference → List Entry → Type 0
-AreAnswered x loads class rs entries = (length entries ≡ length rs) × ((m : World) → TellsLoads m x (length x.names) loads → IsIndexed m x
+AreAnswered x loads class rs entries = (length entries ≡ length rs)
+    × ((m : World) → TellsLoads m x (length x.names) loads → IsIndexed m x
     → AreAnswers m (name_at x class) (loading_of x (load_at loads class)) rs (entries_shown (name_at x) rs entries))
+
+-- ---- of the class of a number
+
+abbrev pub node_references : Classes → ℕ → List Reference
+node_references c class = references_of (record_at (indexed_of c) class)
+
+-- the errors of its instructions
+abbrev pub node_links : Classes → ℕ → List Answer → List LinkFault
+node_links c class answers = links_of (name_at (indexed_of c) class) (record_at (indexed_of c) class) answers
+
+-- the answers to its references
+abbrev pub TellsNodeAnswers : Classes → List Load → ℕ → List Answer → Type 0
+TellsNodeAnswers c loads class answers = (m : World)
+    → TellsLoads m (indexed_of c) (length c.standing.now) loads → IsIndexed m (indexed_of c)
+    → AreAnswers m (name_at (indexed_of c) class) (loading_of (indexed_of c) (load_at loads class)) (node_references c class) answers

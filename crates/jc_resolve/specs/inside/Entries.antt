@@ -6,8 +6,8 @@ use Rattle.jc_classes.specs.Names.{Name, polymorphic_descriptor}
 use Rattle.jc_classes.specs.Resolution as defs
 use Rattle.jc_classes.specs.Resolution.{Answer as answer}
 use Rattle.jc_classes.specs.Worlds.{text_of}
-use Rattle.jc_lookup.specs.declared.settle.Settled.{Settled}
-use Rattle.jc_lookup.specs.declared.settle.Settled.TheVariants as settled
+use Rattle.jc_numbered.specs.declared.settled.Settled.{Settled}
+use Rattle.jc_numbered.specs.declared.settled.Settled.TheVariants as settled
 use Rattle.jc_resolve.specs.declared.entry.Entry.{Entry}
 use Rattle.jc_resolve.specs.declared.entry.Entry.TheVariants as entry
 use Rattle.jc_resolve.specs.declared.resolve.Outcome.{Outcome}
@@ -16,12 +16,14 @@ use Rattle.jc_resolve.specs.declared.resolve.Outcome.TheVariants as outcome
 -- the answer of a reference, where numbers have these names
 abbrev pub entry_shown : (ℕ → Name) → Reference → Entry → defs.Answer
 entry_shown name r (entry.ToClass flags) = answer.ToClass (text_of r.named) flags
-entry_shown name r (entry.ToMember flags n) = answer.ToMember (name n) (record { name = r.key.name; descriptor = r.key.descriptor; flags = flags })
-entry_shown name r (entry.ToPolymorphic flags n) = answer.ToMember (name n) (record { name = r.key.name; descriptor = polymorphic_descriptor; flags = flags })
-entry_shown name r (entry.Outside n) = answer.Beyond (name n)
+entry_shown name r (entry.ToMember flags n) =
+    answer.ToMember (name n) (record { name = r.key.name; descriptor = r.key.descriptor; flags = flags })
+entry_shown name r (entry.ToPolymorphic flags n) =
+    answer.ToMember (name n) (record { name = r.key.name; descriptor = polymorphic_descriptor; flags = flags })
+entry_shown name r (entry.Outside n) = answer.Outside (name n)
 entry_shown name r entry.NotLoaded = answer.NotLoaded
-entry_shown name r (entry.Error e n) = answer.Wrong e (name n)
-entry_shown name r (entry.OwnError e) = answer.Wrong e (text_of r.named)
+entry_shown name r (entry.Error e n) = answer.Error e (name n)
+entry_shown name r (entry.OwnError e) = answer.Error e (text_of r.named)
 
 -- the answer to each reference, in order
 abbrev pub entries_shown : (ℕ → Name) → List Reference → List Entry → List defs.Answer
@@ -36,7 +38,7 @@ IsKeyed k x = (x.name ≡ k.name) × ((x.descriptor ≡ k.descriptor) ⊎ (x.des
 -- so has what is found
 abbrev pub HasKey : Key → Settled → Type 0
 HasKey k (settled.To hit) = IsKeyed k (member_lent hit.member)
-HasKey k (settled.Beyond v) = Unit {0}
+HasKey k (settled.Outside v) = Unit {0}
 HasKey k (settled.Hidden v) = Unit {0}
 HasKey k settled.Missing = Unit {0}
 
@@ -44,6 +46,10 @@ abbrev pub IsKeyedOutcome : Key → Outcome → Type 0
 IsKeyedOutcome k (outcome.Ends b) = Unit {0}
 IsKeyedOutcome k (outcome.Settled s) = HasKey k s
 IsKeyedOutcome k outcome.NoInterface = Unit {0}
+
+-- an entry tells the same of any reference, where numbers have these names, as another where they have those
+abbrev pub IsSame : (ℕ → Name) → (ℕ → Name) → Entry → Entry → Type 0
+IsSame f g a b = (r : Reference) → entry_shown f r a ≡ entry_shown g r b
 
 -- ---- by the numbers of texts
 

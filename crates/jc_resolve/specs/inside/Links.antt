@@ -14,16 +14,16 @@ use Rattle.jc_resolve.specs.declared.link_targets.AtFault.TheVariants as at
 use Rattle.jc_resolve.specs.declared.link_targets.Resolved.{Resolved}
 use Rattle.jc_resolve.specs.declared.linked.LinkEntry.{LinkEntry}
 use Rattle.jc_resolve.specs.declared.linked.Linked.TheInside.{Inside}
-use Rattle.jc_resolve.specs.inside.LinkTargets.{Judged, judged}
+use Rattle.jc_resolve.specs.inside.LinkTargets.{Judged, target_judged}
 use Rattle.jc_resolve.specs.inside.Naming.{references_in}
 
 -- the class that an answer tells: the one that is named, or the one that declares the member
 abbrev pub class_told : Answer → Name
 class_told (answer.ToClass c flags) = c
 class_told (answer.ToMember home x) = home
-class_told (answer.Beyond n) = []
+class_told (answer.Outside n) = []
 class_told answer.NotLoaded = []
-class_told (answer.Wrong e n) = []
+class_told (answer.Error e n) = []
 
 -- the class at fault, by the number of a reference
 abbrev pub class_at : List Reference → List Answer → ℕ → AtFault → Name
@@ -33,8 +33,11 @@ class_at rs answers number at.Named = option_map_or (λ r. text_of r.named) (sli
 abbrev pub link_shown : List Reference → List Answer → LinkEntry → LinkFault
 link_shown rs answers e = record { method = e.method; place = e.place; error = e.error; class = class_at rs answers e.reference e.fault }
 
+abbrev pub links_shown : List Reference → List Answer → List LinkEntry → List LinkFault
+links_shown rs answers entries = map (link_shown rs answers) entries
+
 abbrev pub linked_shown : Inside → specs.Linked
-linked_shown a = record { answers = a.answers; links = map (link_shown (references_in a.references) a.answers) a.links.items }
+linked_shown a = record { answers = a.answers; links = links_shown (references_in a.references) a.answers a.links.items }
 
 -- ---- of an instruction
 
@@ -46,4 +49,6 @@ entry_by u found j = record { method = u.method; place = u.place; reference = fo
 
 abbrev pub entry_of : Facts → List (Option Resolved) → MethodUse → Option LinkEntry
 entry_of f table u =
-    option_and_then (λ (found : Resolved). option_map (entry_by u found) (judged (method_name f u.method) u.kind found.target)) (resolved_at table u.index)
+    option_and_then
+    (λ (found : Resolved). option_map (entry_by u found) (target_judged (method_name f u.method) u.kind found.target))
+    (resolved_at table u.index)

@@ -5,22 +5,25 @@ use Rattle.jc_classes.specs.Worlds.{World, Stands, super_of}
 use Rattle.jc_classes.specs.Worlds.{Stands as stands}
 use Rattle.jc_classes.specs.Loading as defs
 use Rattle.jc_classes.specs.declared.linkage_error.LinkageError.TheVariants as fault
-use Rattle.jc_lookup.specs.declared.loads.Load.{Load}
-use Rattle.jc_lookup.specs.declared.loads.Load.TheVariants.{Loaded, Outside, Fails}
-use Rattle.jc_lookup.specs.inside.Indexed.{Indexed, name_at, record_at, IsIndexed}
-use Rattle.jc_lookup.specs.inside.Loading.{judged_each}
+use Rattle.jc_numbered.specs.declared.loads.Load.{Load}
+use Rattle.jc_numbered.specs.declared.loads.Load.TheVariants.{Loaded, Outside, Fails}
+use Rattle.jc_numbered.specs.inside.Indexed.{Indexed, name_at, record_at, IsIndexed}
+use Rattle.jc_graph.specs.Graph.{IsOrder}
+use Rattle.jc_graph.specs.declared.sorting.Sorted.{Sorted}
+use Rattle.jc_numbered.specs.inside.Loading.{judged_each}
 use Rattle.jc_resolve.specs.inside.Resolved.{loading_of}
 
 abbrev pub load_by : Stands → Bool → ℕ → Load → Load
 load_by stands.Nothing flag v each = Fails fault.NoClass v
 load_by stands.Outside flag v each = Outside
-load_by (stands.Record r) flag v each = cond (is_faulty r) (Fails fault.Format v) (cond flag (Fails fault.Circular v) each)
+load_by (stands.Class r) flag v each = cond (is_faulty r) (Fails fault.Format v) (cond flag (Fails fault.Circular v) each)
 
 abbrev pub has_super : Stands → Bool
 has_super s = is_some (super_of s)
 
 abbrev pub load_of : Indexed → List Bool → List Load → ℕ → Load
-load_of x flags loads v = load_by (record_at x v) (slice_index_or flags v false) v (judged_each x loads v (has_super (record_at x v)) (x.up v))
+load_of x flags loads v =
+    load_by (record_at x v) (slice_index_or flags v false) v (judged_each x loads v (has_super (record_at x v)) (x.supertypes v))
 
 -- the answer that is held for a node is how its name loads
 abbrev pub IsTold : Indexed → ℕ → Load → Type 0
@@ -31,10 +34,15 @@ is_good Loaded = true
 is_good Outside = true
 is_good (Fails f v) = false
 
+-- an order in which a class comes behind its supertypes
+abbrev pub IsSorted : ℕ → Indexed → Sorted → Type 0
+IsSorted count x s = IsOrder x.supertypes count s.circular.items s.order.items
+
 abbrev pub rank_in : List ℕ → ℕ → ℕ
 rank_in ranks v = slice_index_or ranks v 0
 
 -- the first place of each node in the order
 pub record TellsRank (count : ℕ) (order ranks : List ℕ) : Type 0 where
   pub size : length ranks ≡ count
-  pub places : (j : ℕ) → j < length order → (rank_in ranks (rank_in order j) ≤ j) × (rank_in order (rank_in ranks (rank_in order j)) ≡ rank_in order j)
+  pub places : (j : ℕ) → j < length order
+      → (rank_in ranks (rank_in order j) ≤ j) × (rank_in order (rank_in ranks (rank_in order j)) ≡ rank_in order j)

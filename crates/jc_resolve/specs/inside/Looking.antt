@@ -6,7 +6,7 @@ use Rattle.jc_classes.specs.Worlds.{World, Found}
 use Rattle.jc_classes.specs.Facts.{Key}
 use Rattle.jc_classes.specs.FieldLookup.{FindsField, FindsFirst}
 use Rattle.jc_graph.specs.Seen.{flag_at}
-use Rattle.jc_lookup.specs.inside.Indexed.{Indexed, name_at, rank_at, good_at, IsIndexed}
+use Rattle.jc_numbered.specs.inside.Indexed.{Indexed, name_at, rank_at, good_at, IsIndexed}
 
 abbrev pub names_at : Indexed → List ℕ → List Name
 names_at x vs = map (name_at x) vs

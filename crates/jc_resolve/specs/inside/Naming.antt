@@ -4,7 +4,7 @@ use Rattle.jc_classes.specs.Facts.{Reference}
 use Rattle.jc_classes.specs.Names.{Name}
 use Rattle.jc_resolve.specs.declared.answer_list.Naming.{Naming}
 use Rattle.jc_resolve.specs.declared.entry.Entry.{Entry}
-use Rattle.jc_resolve.specs.inside.Entries.{entry_shown, text_at}
+use Rattle.jc_resolve.specs.inside.Entries.{IsSame, text_at}
 
 abbrev pub references_in : Option (List Reference) → List Reference
 references_in None = []
@@ -20,6 +20,6 @@ AreNames name a = (node number : ℕ) → slice_get a.numbers.items node ≡ Som
 -- answers that tell the same of any references, by the numbers of these texts and of those classes
 abbrev pub AreSame : (ℕ → Name) → (ℕ → Name) → List Entry → List Entry → Type 0
 AreSame f g [] [] = Unit {0}
-AreSame f g (a ∷ as1) (b ∷ bs) = ((r : Reference) → entry_shown f r a ≡ entry_shown g r b) × AreSame f g as1 bs
+AreSame f g (a ∷ as1) (b ∷ bs) = IsSame f g a b × AreSame f g as1 bs
 AreSame f g [] (b ∷ bs) = ⊥
 AreSame f g (a ∷ as1) [] = ⊥

@@ -2,14 +2,18 @@
 use Rattle.std.specs.Prelude.{◌≡◌, ℕ, ◌⊎◌, Bool, true, false, List, Option, Some, None}
 use Rattle.std.specs.List.{Contains}
 use Rattle.jc_classes.specs.Facts.{Key}
-use Rattle.jc_lookup.specs.inside.Indexed.{Indexed}
-use Rattle.jc_lookup.specs.inside.Picks.{is_pick, IsLowest}
+use Rattle.jc_numbered.specs.inside.Indexed.{Indexed}
+use Rattle.jc_numbered.specs.inside.Picks.{is_pick, IsLowest}
+
+-- no other node of a list passes a test
+abbrev pub NoOther : (ℕ → Bool) → List ℕ → ℕ → Type 0
+NoOther p nodes v = (w : ℕ) → Contains nodes w → p w ≡ true → w ≡ v
 
 -- the one node of a list that passes a test
 pub record IsSole (p : ℕ → Bool) (nodes : List ℕ) (v : ℕ) : Type 0 where
   pub listed : Contains nodes v
   pub passes : p v ≡ true
-  pub only : (w : ℕ) → Contains nodes w → p w ≡ true → w ≡ v
+  pub only : NoOther p nodes v
 
 abbrev pub TellsSole : (ℕ → Bool) → List ℕ → Option ℕ → Type 0
 TellsSole p nodes None = (v : ℕ) → IsSole p nodes v → ⊥
@@ -22,4 +26,5 @@ TellsFirst p nodes (Some v) = Contains nodes v × (p v ≡ true)
 -- the one that is sole, or else the least
 abbrev pub TellsPick : Indexed → Key → List Bool → List ℕ → Option ℕ → Type 0
 TellsPick x k covered nodes None = (v : ℕ) → Contains nodes v → ⊥
-TellsPick x k covered nodes (Some v) = IsSole (is_pick x k covered) nodes v ⊎ (((w : ℕ) → IsSole (is_pick x k covered) nodes w → ⊥) × IsLowest x nodes v)
+TellsPick x k covered nodes (Some v) =
+    IsSole (is_pick x k covered) nodes v ⊎ (((w : ℕ) → IsSole (is_pick x k covered) nodes w → ⊥) × IsLowest x nodes v)

@@ -1,22 +1,22 @@
 -- The answer of a reference, by numbers.
-use Rattle.std.specs.Prelude.{◌≡◌, ℕ, ◌<◌, true, List, Option, Some, None, option_map}
-use Rattle.jc_classes.specs.Names.{Name}
+use Rattle.std.specs.Prelude.{◌≡◌, ℕ, ◌<◌, Bool, true, false, List, Option, Some, None, option_map}
+use Rattle.jc_classes.specs.Names.{Name, object as java_lang_object}
 use Rattle.jc_classes.specs.Worlds.{World, text_of}
 use Rattle.jc_classes.specs.Facts.{Named}
 use Rattle.jc_classes.specs.Facts.Named.{Class, Array}
 use Rattle.jc_classes.specs.Loading.{Loading, Load}
 use Rattle.jc_classes.specs.declared.linkage_error.LinkageError.TheVariants as error
 use Rattle.jc_classes.specs.Loading.{Loading as loading}
-use Rattle.jc_classes.specs.Resolution.{Answer, Start}
+use Rattle.jc_classes.specs.Resolution.{Answer, Start, class_answer, object_start, start_of}
 use Rattle.jc_classes.specs.Resolution.{Answer as answer, Start as start}
-use Rattle.jc_lookup.specs.inside.Indexed.{Indexed, name_at, good_at}
-use Rattle.jc_lookup.specs.inside.Loading.{load_at}
-use Rattle.jc_lookup.specs.declared.access.Target.{Target}
-use Rattle.jc_lookup.specs.declared.access.Target.TheVariants as target
-use Rattle.jc_lookup.specs.inside.Settled.{answer_of}
+use Rattle.jc_numbered.specs.inside.Indexed.{Indexed, name_at, good_at, IsIndexed}
+use Rattle.jc_numbered.specs.inside.Loading.{load_at}
+use Rattle.jc_numbered.specs.declared.access.Target.{Target}
+use Rattle.jc_numbered.specs.declared.access.Target.TheVariants as target
+use Rattle.jc_numbered.specs.inside.Settled.{answer_of}
 use Rattle.jc_classes.specs.declared.linkage_error.LinkageError.{LinkageError}
-use Rattle.jc_lookup.specs.declared.loads.Load.{Load as LoadState}
-use Rattle.jc_lookup.specs.declared.loads.Load.TheVariants as state
+use Rattle.jc_numbered.specs.declared.loads.Load.{Load as LoadState}
+use Rattle.jc_numbered.specs.declared.loads.Load.TheVariants as state
 use Rattle.jc_resolve.specs.declared.resolve.NamedNode.{NamedNode}
 use Rattle.jc_resolve.specs.declared.resolve.NamedNode.TheVariants as reference
 use Rattle.jc_resolve.specs.declared.resolve.Begun.{Begun}
@@ -33,8 +33,8 @@ loading_of x (state.Fails f v) = loading.Fails f (name_at x v)
 -- where look-up begins, by name
 abbrev pub begun_of : Indexed → Begun → Start
 begun_of x (begun.At v) = start.At (name_at x v)
-begun_of x (begun.Beyond v) = start.Ends (answer.Beyond (name_at x v))
-begun_of x (begun.Fails f v) = start.Ends (answer.Wrong f (name_at x v))
+begun_of x (begun.Outside v) = start.Ends (answer.Outside (name_at x v))
+begun_of x (begun.Fails f v) = start.Ends (answer.Error f (name_at x v))
 
 abbrev pub element_of : Indexed → NamedNode → Option Name
 element_of x (reference.Class v) = None
@@ -57,6 +57,15 @@ IsWithinAll count (reference.Array e) = IsWithinSome count e
 abbrev pub TellsLoads : World → Indexed → ℕ → List LoadState → Type 0
 TellsLoads m x count loads = (i : ℕ) → i < count → Load m (name_at x i) (loading_of x (load_at loads i))
 
+-- so in every world that has what stands at the names
+abbrev pub AreLoads : ℕ → Indexed → List LoadState → Type 0
+AreLoads count x loads = (m : World) → IsIndexed m x → TellsLoads m x count loads
+
+abbrev pub has_loaded : LoadState → Bool
+has_loaded state.Loaded = true
+has_loaded state.Outside = false
+has_loaded (state.Fails f v) = false
+
 -- what loads is good
 abbrev pub TellsGood : Indexed → List LoadState → Type 0
 TellsGood x loads = (v : ℕ) → load_at loads v ≡ state.Loaded → good_at x v ≡ true
@@ -69,8 +78,25 @@ ended_of x (start.Ends a) = a
 abbrev pub outcome_of : Indexed → Named → LinkageError → Outcome → Answer
 outcome_of x t missing (outcome.Ends b) = ended_of x (begun_of x b)
 outcome_of x t missing (outcome.Settled s) = answer_of x t missing s
-outcome_of x t missing outcome.NoInterface = answer.Wrong error.Incompatible (text_of t)
+outcome_of x t missing outcome.NoInterface = answer.Error error.Incompatible (text_of t)
 
 abbrev pub target_at : NamedNode → Target
 target_at (reference.Class v) = target.Class v
 target_at (reference.Array e) = target.Array
+
+-- ---- where look-up begins, by how classes load, whatever these are
+
+-- for the class of a node
+abbrev pub StartsInClass : Bool → LoadState → ℕ → Begun → Type 0
+StartsInClass sees load v b = (x : Indexed) (l : Loading) (flags : ℕ)
+    → begun_of x b ≡ start_of (Class (name_at x v)) (class_answer (name_at x v) (name_at x v) (loading_of x load) sees flags) l
+
+-- for an array of a primitive type
+abbrev pub StartsInObject : ℕ → LoadState → Begun → Type 0
+StartsInObject object load b = (x : Indexed) → name_at x object ≡ java_lang_object → begun_of x b ≡ object_start (loading_of x load)
+
+-- for an array of the class of a node
+abbrev pub StartsInArray : Bool → LoadState → ℕ → ℕ → LoadState → Begun → Type 0
+StartsInArray sees load v object object_load b = (x : Indexed) (text : Name) (flags : ℕ) → name_at x object ≡ java_lang_object
+    → begun_of x b ≡ start_of (Array text (Some (name_at x v))) (class_answer text (name_at x v) (loading_of x load) sees flags)
+    (loading_of x object_load)

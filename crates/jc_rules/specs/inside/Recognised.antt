@@ -15,7 +15,9 @@ of_kind_left kind it = filter (λ a. is_recognised it.class kind a.holder a.attr
 -- one step: the first of the kind
 abbrev pub GivesOfKind : AttributeKind → AttributesLeft → Option LentAttribute → AttributesLeft → Type 0
 GivesOfKind kind old result new =
-    (new.class ≡ old.class) × MatchOption result (of_kind_left kind old ≡ []) (λ item. (of_kind_left kind old ≡ item.attribute ∷ of_kind_left kind new) × (item.class ≡ old.class))
+    (new.class ≡ old.class)
+    × MatchOption result (of_kind_left kind old ≡ [])
+    (λ item. (of_kind_left kind old ≡ item.attribute ∷ of_kind_left kind new) × (item.class ≡ old.class))
 
 -- one of those of a kind passes
 abbrev pub any_of : ClassFile → AttributeKind → (Attribute → Bool) → List PlacedAttribute → Bool

@@ -6,8 +6,11 @@ use Rattle.jc_rules.specs.declared.fault.FormatRule.TheVariants as rules
 use Rattle.jc_view.specs.ConstantPool.{Constant}
 use Rattle.jc_view.specs.ClassFile.{Member, ClassFile}
 use Rattle.jc_view.specs.Places.{PlacedAttribute}
-use Rattle.jc_rules.specs.Faults.{passing, fault_at}
-use Rattle.jc_rules.specs.FormatRules.{breaks_f1, breaks_f2, breaks_f3, breaks_f4, breaks_f5, breaks_f6, breaks_f7, breaks_f8, breaks_f9, breaks_f10, breaks_f15, breaks_f16, breaks_f17, breaks_f19, breaks_f20, breaks_f21, breaks_f23, breaks_f24, breaks_f25, breaks_f26, breaks_f28, breaks_f29, breaks_f30}
+use Rattle.jc_rules.specs.Faults.{passing, fault_at, constants_with, those_with, attributes_with}
+use Rattle.jc_rules.specs.FormatRules.{breaks_f1, breaks_f2, breaks_f3, breaks_f4, breaks_f5, breaks_f6, breaks_f7, breaks_f8}
+use Rattle.jc_rules.specs.FormatRules.{breaks_f9, breaks_f10, breaks_f14, breaks_f15, breaks_f16}
+use Rattle.jc_rules.specs.FormatRules.{breaks_f17, breaks_f19, breaks_f20, breaks_f21}
+use Rattle.jc_rules.specs.FormatRules.{breaks_f23, breaks_f24, breaks_f25, breaks_f26, breaks_f28, breaks_f29, breaks_f30}
 
 -- those against a rule whose test n numbers pass, from first on
 abbrev pub found : FormatRule → (ℕ → Bool) → ℕ → ℕ → List Fault
@@ -56,3 +59,20 @@ attribute_breaks rules.F28 c a = breaks_f28 c a
 attribute_breaks rules.F29 c a = breaks_f29 c a
 attribute_breaks rules.F30 c a = breaks_f30 c a
 attribute_breaks rule c a = false
+
+-- ---- the faults of a class file against a rule, by what it is over
+
+abbrev pub constant_faults : FormatRule → ClassFile → List Fault
+constant_faults rule c = map (fault_at rule) (constants_with c (constant_breaks rule c))
+
+abbrev pub interface_faults : FormatRule → ClassFile → List Fault
+interface_faults rule c = map (fault_at rule) (those_with (breaks_f14 c) c.interfaces)
+
+abbrev pub field_faults : FormatRule → ClassFile → List Fault
+field_faults rule c = map (fault_at rule) (those_with (field_breaks rule c) c.fields)
+
+abbrev pub method_faults : FormatRule → ClassFile → List Fault
+method_faults rule c = map (fault_at rule) (those_with (method_breaks rule c) c.methods)
+
+abbrev pub attribute_faults : FormatRule → ClassFile → List Fault
+attribute_faults rule c = map (fault_at rule) (attributes_with c (attribute_breaks rule c))

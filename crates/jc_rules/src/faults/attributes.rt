@@ -1,12 +1,8 @@
 //! The faults of the attributes, rule by rule.
 
-ghost use Rattle.std.specs.Prelude.{◌≡◌, ◌++◌, [], ◌∷◌, map, OnOk};
-ghost use Rattle.std.specs.List.{flat_map};
-ghost use Rattle.jc_view.specs.Places.{member_attributes};
-ghost use Rattle.jc_view.specs.AttributeReading.{with_inner};
-ghost use Rattle.jc_rules.specs.Faults.{attributes_with, fault_at};
-ghost use Rattle.jc_rules.specs.inside.RuleTests.{attribute_breaks};
-ghost use Rattle.jc_rules.specs.inside.AttributeFaults.{faults_in};
+ghost use Rattle.std.specs.Prelude.{◌≡◌, ◌++◌, [], ◌∷◌, OnOk};
+ghost use Rattle.jc_rules.specs.inside.RuleTests.{attribute_faults};
+ghost use Rattle.jc_rules.specs.inside.AttributeFaults.{faults_in, faults_of_members, faults_of_one, faults_with_inner};
 
 use crate::fault::{Fault, FormatRule};
 use crate::faults::list::add_if;
@@ -20,7 +16,7 @@ pub(crate) fn add_attribute_faults(
     class: &ClassView,
     rule: FormatRule,
 ) -> Result<(), NoMemory>
-    ensures { OnOk result (faults.new.items ≡ faults.old.items ++ map (fault_at rule) (attributes_with class.now (attribute_breaks rule class.now))) }
+    ensures { OnOk result (faults.new.items ≡ faults.old.items ++ attribute_faults rule class.now) }
 {
     add_of_members(faults, class.fields(), rule)?;
     add_of_members(faults, class.methods(), rule)?;
@@ -33,7 +29,7 @@ fn add_of_members(
     members: Members,
     rule: FormatRule,
 ) -> Result<(), NoMemory>
-    ensures { OnOk result (faults.new.items ≡ faults.old.items ++ faults_in rule members.entry.class (flat_map (with_inner members.entry.class) (flat_map member_attributes members.entry.left))) }
+    ensures { OnOk result (faults.new.items ≡ faults.old.items ++ faults_of_members rule members.entry) }
 {
     for member in members {
         add_with_inner(faults, member.attributes(), rule)?;
@@ -47,7 +43,7 @@ fn add_with_inner(
     attributes: Attributes,
     rule: FormatRule,
 ) -> Result<(), NoMemory>
-    ensures { OnOk result (faults.new.items ≡ faults.old.items ++ faults_in rule attributes.entry.class (flat_map (with_inner attributes.entry.class) attributes.entry.left)) }
+    ensures { OnOk result (faults.new.items ≡ faults.old.items ++ faults_with_inner rule attributes.entry) }
 {
     for attribute in attributes {
         add_of_one(faults, &attribute, rule)?;
@@ -61,7 +57,7 @@ fn add_of_one(
     attribute: &Attribute,
     rule: FormatRule,
 ) -> Result<(), NoMemory>
-    ensures { OnOk result (faults.new.items ≡ faults.old.items ++ faults_in rule attribute.now.class (with_inner attribute.now.class attribute.now.attribute)) }
+    ensures { OnOk result (faults.new.items ≡ faults.old.items ++ faults_of_one rule attribute.now) }
 {
     add_own(faults, attribute, rule)?;
     match attribute.code() {

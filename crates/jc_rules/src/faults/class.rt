@@ -1,8 +1,8 @@
 //! The faults of the class itself.
 
 ghost use Rattle.std.specs.Prelude.{◌≡◌, ◌++◌, map, OnOk};
-ghost use Rattle.jc_rules.specs.Faults.{only_if, those_with, fault_at};
-ghost use Rattle.jc_rules.specs.FormatRules.{breaks_f14};
+ghost use Rattle.jc_rules.specs.Faults.{only_if, fault_at};
+ghost use Rattle.jc_rules.specs.inside.RuleTests.{interface_faults};
 
 use crate::fault::{Fault, FormatRule};
 use crate::faults::list::add_if;
@@ -28,7 +28,7 @@ pub(crate) fn add_interface_faults(
     texts: &TextTable,
     rule: FormatRule,
 ) -> Result<(), NoMemory>
-    ensures { OnOk result (faults.new.items ≡ faults.old.items ++ map (fault_at rule) (those_with (breaks_f14 texts.now) texts.now.interfaces)) }
+    ensures { OnOk result (faults.new.items ≡ faults.old.items ++ interface_faults rule texts.now) }
 {
     for (place, index) in texts.class().interface_indexes().enumerate() {
         add_if(faults, breaks_f14(texts, index), Fault { rule, place })?;

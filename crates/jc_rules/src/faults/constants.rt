@@ -6,7 +6,7 @@ ghost use Rattle.jc_view.specs.ClassFile.{constant_at};
 ghost use Rattle.jc_rules.specs.Faults.{constants_with, fault_at};
 ghost use Rattle.jc_rules.specs.FormatRules.{breaks_f11, told_by};
 ghost use Rattle.jc_view.specs.Attributes.{bootstrap_attributes};
-ghost use Rattle.jc_rules.specs.inside.RuleTests.{constant_breaks};
+ghost use Rattle.jc_rules.specs.inside.RuleTests.{constant_breaks, constant_faults};
 
 use crate::fault::{Fault, FormatRule};
 use crate::faults::list::add_if;
@@ -23,7 +23,7 @@ pub(crate) fn add_constant_faults(
     texts: &TextTable,
     rule: FormatRule,
 ) -> Result<(), NoMemory>
-    ensures { OnOk result (faults.new.items ≡ faults.old.items ++ map (fault_at rule) (constants_with texts.now (constant_breaks rule texts.now))) }
+    ensures { OnOk result (faults.new.items ≡ faults.old.items ++ constant_faults rule texts.now) }
 {
     for index in 1..texts.class().constant_count() {
         let place = index as usize;

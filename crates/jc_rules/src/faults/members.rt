@@ -1,8 +1,7 @@
 //! The faults of the fields and methods, rule by rule.
 
-ghost use Rattle.std.specs.Prelude.{◌≡◌, ◌++◌, map, OnOk};
-ghost use Rattle.jc_rules.specs.Faults.{those_with, fault_at};
-ghost use Rattle.jc_rules.specs.inside.RuleTests.{field_breaks, method_breaks};
+ghost use Rattle.std.specs.Prelude.{◌≡◌, ◌++◌, OnOk};
+ghost use Rattle.jc_rules.specs.inside.RuleTests.{field_faults, method_faults};
 
 use crate::fault::{Fault, FormatRule};
 use crate::faults::list::add_if;
@@ -17,7 +16,7 @@ pub(crate) fn add_field_faults(
     texts: &TextTable,
     rule: FormatRule,
 ) -> Result<(), NoMemory>
-    ensures { OnOk result (faults.new.items ≡ faults.old.items ++ map (fault_at rule) (those_with (field_breaks rule texts.now) texts.now.fields)) }
+    ensures { OnOk result (faults.new.items ≡ faults.old.items ++ field_faults rule texts.now) }
 {
     for (place, field) in texts.class().fields().enumerate() {
         add_if(
@@ -35,7 +34,7 @@ pub(crate) fn add_method_faults(
     texts: &TextTable,
     rule: FormatRule,
 ) -> Result<(), NoMemory>
-    ensures { OnOk result (faults.new.items ≡ faults.old.items ++ map (fault_at rule) (those_with (method_breaks rule texts.now) texts.now.methods)) }
+    ensures { OnOk result (faults.new.items ≡ faults.old.items ++ method_faults rule texts.now) }
 {
     for (place, method) in texts.class().methods().enumerate() {
         add_if(

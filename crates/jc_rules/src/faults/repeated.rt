@@ -5,6 +5,7 @@ ghost use Rattle.std.specs.List.{list_any};
 ghost use Rattle.std.specs.Option.{option_map_or};
 ghost use Rattle.indexmap.specs.IndexSet.{insert_key};
 ghost use Rattle.jc_rules.specs.Faults.{repeated, fault_at};
+ghost use Rattle.jc_rules.specs.inside.Repeated.{repeated_left};
 ghost use Rattle.jc_rules.specs.inside.TextNumbers.{same_numbers, AreNumbers, KeepsNumbers, IsNumberedKey};
 
 use crate::fault::{Fault, FormatRule};
@@ -52,7 +53,7 @@ fn add_repeated(
     rule: FormatRule,
 ) -> Result<(), NoMemory>
     requires { length members.left < 2 ^ 16 }
-    ensures { OnOk result (faults.new.items ≡ faults.old.items ++ map (fault_at rule) (repeated members.entry.class (map (λ m. m.member) members.entry.left))) }
+    ensures { OnOk result (faults.new.items ≡ faults.old.items ++ map (fault_at rule) (repeated_left members.entry)) }
 {
     let mut texts = TextNumbers::new(alloc, members.class())?;
     let mut seen = IndexSet::new(alloc);
@@ -70,7 +71,7 @@ fn add_each<'a>(
     requires few { length members.left < 2 ^ 16 }
     requires numbers { AreNumbers members.class texts.old }
     requires none { seen.old.keys ≡ [] }
-    ensures { OnOk result (faults.new.items ≡ faults.old.items ++ map (fault_at rule) (repeated members.entry.class (map (λ m. m.member) members.entry.left))) }
+    ensures { OnOk result (faults.new.items ≡ faults.old.items ++ map (fault_at rule) (repeated_left members.entry)) }
 {
     for (place, member) in members.enumerate() {
         let is_repeated = note(seen, numbered_key(texts, &member)?)?;

@@ -1,10 +1,9 @@
 //! Numbers for the texts of a class, so that texts are compared by their numbers.
 
-ghost use Rattle.std.specs.Prelude.{◌≡◌, ℕ, List, Some, cond, slice_get, slice_set, unwrap_or, IfOk, OnOk, OnErr};
+ghost use Rattle.std.specs.Prelude.{◌≡◌, Some, slice_get, slice_set, unwrap_or, IfOk, OnOk, OnErr};
 ghost use Rattle.std.specs.BTreeMap.{IsUnchanged};
 ghost use Rattle.std.specs.Option.{option_flatten};
-ghost use Rattle.jc_base.specs.Bytes.{same_bytes};
-ghost use Rattle.jc_rules.specs.inside.TextNumbers.{number_in, IsNumberAt, AreNumbers, KeepsNumbers};
+ghost use Rattle.jc_rules.specs.inside.TextNumbers.{number_in, IsNumberAt, AreNumbers, KeepsNumbers, NumbersText};
 
 use jc_base::NoMemory;
 use jc_view::{ClassView, ConstantIndex};
@@ -78,7 +77,7 @@ fn number_text<'a>(
     number: ConstantIndex,
 ) -> Result<ConstantIndex, NoMemory>
     ensures number { IfOk result (λ n. n ≡ unwrap_or (number_in numbers.old text.now) number) }
-    ensures ok { OnOk result ((q : List ℕ) → number_in numbers.new q ≡ cond (same_bytes text.now q) (Some (unwrap_or (number_in numbers.old text.now) number)) (number_in numbers.old q)) }
+    ensures ok { OnOk result (NumbersText numbers.old numbers.new text.now number) }
     ensures err { OnErr result (IsUnchanged numbers.old numbers.new) }
 {
     if let Some(known) = numbers.get(text) {

@@ -1,12 +1,9 @@
 //! The rules over attributes (JVMS 4.7).
 
-ghost use Rattle.std.specs.Prelude.{◌≡◌, ◌||◌, ◌&&◌, not};
-ghost use Rattle.jc_view.specs.declared.attribute_kind.AttributeKind.TheVariants as attributes;
-ghost use Rattle.jc_view.specs.declared.constant_pool.ConstantKind.TheVariants as kinds;
+ghost use Rattle.std.specs.Prelude.{◌≡◌};
 ghost use Rattle.jc_rules.specs.inside.RuleTests.{attribute_breaks};
-ghost use Rattle.jc_view.specs.Lookups.{is_entry};
-ghost use Rattle.jc_rules.specs.FormatRules.{is_sized, is_missized, lacks_method, breaks_f28, breaks_f29, breaks_f30};
-ghost use Rattle.jc_view.specs.Attributes.{first_index, second_index};
+ghost use Rattle.jc_rules.specs.FormatRules.{breaks_f28, breaks_f29, breaks_f30};
+ghost use Rattle.jc_rules.specs.FormatRules.{encloses_amiss, is_missized, is_sized, lacks_method, lacks_text};
 
 use crate::fault::FormatRule;
 use crate::rules::lookups::is_entry;
@@ -53,7 +50,7 @@ pub fn breaks_f30(attribute: &Attribute) -> bool
 
 /// Whether a `SourceFile` or a `Signature` names no text.
 fn lacks_text(attribute: &Attribute) -> bool
-    ensures { result ≡ ((is_sized attribute.now.class attributes.SourceFile 2 attribute.now.attribute || is_sized attribute.now.class attributes.Signature 2 attribute.now.attribute) && not (is_entry attribute.now.class kinds.Utf8 (first_index attribute.now.attribute))) }
+    ensures { result ≡ lacks_text attribute.now.class attribute.now.attribute }
 {
     (is_sized(attribute, AttributeKind::SourceFile, 2)
         || is_sized(attribute, AttributeKind::Signature, 2))
@@ -66,7 +63,7 @@ fn lacks_text(attribute: &Attribute) -> bool
 
 /// Whether an `EnclosingMethod` names no class, or a method that is none.
 fn encloses_amiss(attribute: &Attribute) -> bool
-    ensures { result ≡ (is_sized attribute.now.class attributes.EnclosingMethod 4 attribute.now.attribute && (not (is_entry attribute.now.class kinds.Class (first_index attribute.now.attribute)) || lacks_method attribute.now.class (second_index attribute.now.attribute))) }
+    ensures { result ≡ encloses_amiss attribute.now.class attribute.now.attribute }
 {
     let class = attribute.class();
     let bytes = attribute.bytes();

@@ -5,11 +5,12 @@ ghost use Rattle.jc_base.specs.Endian.{big_number};
 ghost use Rattle.std.specs.List.{list_all};
 ghost use Rattle.jc_view.specs.ClassFile.{constant_at};
 ghost use Rattle.jc_view.specs.Lent.{constant_of};
-ghost use Rattle.jc_view.specs.Reading.{after_table, table_value};
+ghost use Rattle.jc_view.specs.Reading.{after_table};
 ghost use Rattle.jc_view.specs.Moves.{Lends};
 ghost use Rattle.jc_view.specs.Lookups.{passes};
-ghost use Rattle.jc_view.specs.AttributeReading.{after_bootstrap, bootstrap_value, bootstraps_in};
+ghost use Rattle.jc_view.specs.AttributeReading.{after_bootstrap, bootstraps_in};
 ghost use Rattle.jc_rules.specs.FormatRules.{breaks_f27, is_argument, is_bootstrap, told_by};
+ghost use Rattle.jc_rules.specs.inside.BootstrapsRead.{are_bootstraps_at, is_bootstrap_at};
 ghost use Rattle.jc_view.specs.Attributes.{bootstrap_attributes};
 
 use crate::rules::lookups::is_entry;
@@ -68,7 +69,7 @@ fn are_bootstraps(class: &ClassView, bytes: &[u8]) -> bool
 
 /// Whether all are well-formed in the table of bootstrap methods that stands here, behind its count.
 fn read_bootstraps(class: &ClassView, cursor: &mut Cursor) -> Option<bool>
-    ensures { Lends (λ all. all) (after_table after_bootstrap) (λ xs. list_all (is_bootstrap class.now) (table_value after_bootstrap bootstrap_value xs)) cursor.old result cursor.new }
+    ensures { Lends (λ all. all) (after_table after_bootstrap) (are_bootstraps_at class.now) cursor.old result cursor.new }
 {
     let count = cursor.u2()?;
     let mut all = true;
@@ -81,7 +82,7 @@ fn read_bootstraps(class: &ClassView, cursor: &mut Cursor) -> Option<bool>
 /// Whether the bootstrap method that stands here is well-formed.
 #[tactic(auto, unfolding(jc_view::specs::AttributeReading::after_bootstrap))]
 fn read_bootstrap(class: &ClassView, cursor: &mut Cursor) -> Option<bool>
-    ensures { Lends (λ is_bootstrap. is_bootstrap) after_bootstrap (λ xs. is_bootstrap class.now (bootstrap_value xs)) cursor.old result cursor.new }
+    ensures { Lends (λ it. it) after_bootstrap (is_bootstrap_at class.now) cursor.old result cursor.new }
 {
     let method = read_index(cursor)?;
     let arguments = read_indexes(cursor)?;

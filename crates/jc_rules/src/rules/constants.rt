@@ -3,7 +3,9 @@
 ghost use Rattle.std.specs.Prelude.{◌≡◌};
 ghost use Rattle.jc_view.specs.Lent.{constant_of};
 ghost use Rattle.jc_rules.specs.inside.RuleTests.{constant_breaks};
-ghost use Rattle.jc_rules.specs.FormatRules.{lacks_member_entries, fails_beside, is_bad_special, fits_handle, is_name_amiss, breaks_f1, breaks_f2, breaks_f3, breaks_f4, breaks_f5, breaks_f6, breaks_f7, breaks_f8, breaks_f9, breaks_f10, breaks_f11, told_by};
+ghost use Rattle.jc_rules.specs.FormatRules.{lacks_member_entries, fails_beside, is_bad_special, fits_handle};
+ghost use Rattle.jc_rules.specs.FormatRules.{is_name_amiss, breaks_f1, breaks_f2, breaks_f3, breaks_f4, breaks_f5};
+ghost use Rattle.jc_rules.specs.FormatRules.{breaks_f6, breaks_f7, breaks_f8, breaks_f9, breaks_f10, breaks_f11, told_by};
 ghost use Rattle.jc_view.specs.Attributes.{bootstrap_attributes};
 
 use crate::fault::FormatRule;

@@ -5,8 +5,8 @@ ghost use Rattle.std.specs.List.{list_any};
 ghost use Rattle.jc_base.specs.Bytes.{same_bytes};
 ghost use Rattle.jc_view.specs.declared.attribute_kind.Holder.TheVariants as holders;
 ghost use Rattle.jc_rules.specs.inside.RuleTests.{field_breaks};
-ghost use Rattle.jc_view.specs.Lookups.{utf8_at, passes};
-ghost use Rattle.jc_rules.specs.FormatRules.{are_constant_flags, constant_kind_of, names_other, misfits, breaks_f15, breaks_f16, breaks_f17, breaks_f25};
+ghost use Rattle.jc_rules.specs.FormatRules.{are_constant_flags, constant_kind_of, has_misfit, names_other};
+ghost use Rattle.jc_rules.specs.FormatRules.{misfits, breaks_f15, breaks_f16, breaks_f17, breaks_f25};
 ghost use Rattle.jc_view.specs.Attributes.{values_of};
 
 use crate::fault::FormatRule;
@@ -89,7 +89,7 @@ pub fn breaks_f25(field: &Member) -> bool
 /// Whether a `ConstantValue` of the field is not of its type.
 fn has_misfit(field: &Member) -> bool
     requires { field.now.member.holder ≡ holders.Field }
-    ensures { result ≡ passes (λ descriptor. list_any (misfits field.now.class descriptor) (values_of field.now.class field.now.member.member)) (utf8_at field.now.class field.now.member.member.descriptor) }
+    ensures { result ≡ has_misfit field.now.class field.now.member.member }
 {
     match field.descriptor() {
         Some(descriptor) => has_other_type(field, descriptor),

@@ -1,7 +1,8 @@
 //! What an index into the constants leads to.
 
 ghost use Rattle.std.specs.Prelude.{◌≡◌};
-ghost use Rattle.jc_view.specs.Lookups.{is_kind, is_entry, name_and_type, signature_entry, name_and_type_at, name_at, descriptor_at, name_of};
+ghost use Rattle.jc_view.specs.Lookups.{is_kind, is_entry, name_and_type, signature_entry};
+ghost use Rattle.jc_view.specs.Lookups.{name_and_type_at, name_at, descriptor_at, name_of};
 ghost use Rattle.jc_view.specs.Lent.{constant_of};
 
 use crate::text_table::{Text, TextTable};

@@ -1,15 +1,16 @@
 //! The rules over methods (JVMS 4.6).
 
 ghost use Rattle.std.specs.Prelude.{◌≡◌, is_none};
-ghost use Rattle.std.specs.List.{list_all, list_any};
+ghost use Rattle.std.specs.List.{list_all};
 ghost use Rattle.jc_view.specs.declared.attribute_kind.Holder.TheVariants as holders;
 ghost use Rattle.jc_view.specs.declared.constant_pool.ConstantKind.TheVariants as kinds;
-ghost use Rattle.jc_view.specs.AttributeReading.{exceptions_in};
 ghost use Rattle.jc_rules.specs.inside.RuleTests.{method_breaks};
-ghost use Rattle.jc_view.specs.Lookups.{is_entry, lacks, passes};
+ghost use Rattle.jc_view.specs.Lookups.{is_entry, passes};
 ghost use Rattle.jc_base.specs.DescriptorTests.{method_type_of};
-ghost use Rattle.jc_rules.specs.FormatRules.{fits_slots, is_named_clinit, is_named_init, has_more_than_abstract, are_bad_interface_flags, has_more_than_constructor, breaks_f19, breaks_f20, breaks_f21, breaks_f23, breaks_f24, breaks_f26};
-ghost use Rattle.jc_view.specs.Attributes.{exceptions_of};
+ghost use Rattle.jc_rules.specs.FormatRules.{fits_slots, is_named_clinit, is_named_init, has_more_than_abstract};
+ghost use Rattle.jc_rules.specs.FormatRules.{are_bad_interface_flags, has_more_than_constructor};
+ghost use Rattle.jc_rules.specs.FormatRules.{has_bad_exceptions, lacks_classes, breaks_f19};
+ghost use Rattle.jc_rules.specs.FormatRules.{breaks_f20, breaks_f21, breaks_f23, breaks_f24, breaks_f26};
 
 use crate::fault::FormatRule;
 use crate::rules::access_flags::{
@@ -179,7 +180,7 @@ fn breaks_f26(method: &Member) -> bool
 #[tactic(auto, using(crate::proofs::kinds::AnyOfKind::any_of_member))]
 fn has_bad_exceptions(method: &Member) -> bool
     requires { method.now.member.holder ≡ holders.Method }
-    ensures { result ≡ list_any (λ a. lacks (list_all (is_entry method.now.class kinds.Class)) (exceptions_in a.bytes)) (exceptions_of method.now.class method.now.member.member) }
+    ensures { result ≡ has_bad_exceptions method.now.class method.now.member.member }
 {
     for attribute in method.attributes() {
         if attribute.is(AttributeKind::Exceptions)
@@ -193,7 +194,7 @@ fn has_bad_exceptions(method: &Member) -> bool
 
 /// Whether the bytes are no list of classes behind their count (JVMS 4.7.5).
 pub fn lacks_classes(class: &ClassView, bytes: &[u8]) -> bool
-    ensures { result ≡ lacks (list_all (is_entry class.now kinds.Class)) (exceptions_in bytes.now) }
+    ensures { result ≡ lacks_classes class.now bytes.now }
 {
     let mut cursor = Cursor::new(bytes);
     match read_indexes(&mut cursor) {

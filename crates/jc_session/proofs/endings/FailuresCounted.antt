@@ -36,4 +36,4 @@ counts_of_check (Err checks.NoMemory) n = refl
 pub input_unread : (outcome : Outcome) (before now : Option (List ℕ)) (n : ℕ) → Checks outcome before now → CountsInput outcome n n
 input_unread outcome before now n =
     ⊎_elim (λ h. subst (λ x. CountsInput x n n) (sym h.0) refl)
-    (⊎_elim (λ h. subst (λ x. CountsInput x n n) (sym h.1) refl) (λ h. subst (λ x. CountsInput x n n) (sym h.4) (counts_of_check h.3 n)))
+    (⊎_elim (λ h. subst (λ x. CountsInput x n n) (sym h.1) refl) (λ h. subst (λ x. CountsInput x n n) (sym h.5) (counts_of_check h.4 n)))

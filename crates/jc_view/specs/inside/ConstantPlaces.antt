@@ -1,6 +1,7 @@
 -- What the places of the constants tell.
 use Rattle.std.specs.Prelude.{◌≡◌, ℕ, List, ◌∷◌, Option, None}
 use Rattle.jc_view.specs.Places.{places_of}
+use Rattle.jc_view.specs.declared.constant_pool.ConstantIndex.{ConstantIndex}
 use Rattle.jc_view.specs.ClassFile.{ClassFile, layout, FitsClassFile}
 
 -- the bytes are those of a class file whose constants begin at these places
@@ -8,3 +9,7 @@ pub record Holds (bytes : List ℕ) (places : List (Option ℕ)) (c : ClassFile)
   pub fits : FitsClassFile c
   pub layout : layout c ≡ bytes
   pub are_places : places ≡ None ∷ places_of 10 c.constants
+
+-- and the Class constant of this index names it
+abbrev pub IsNamedAt : ClassFile → List ℕ → List (Option ℕ) → ConstantIndex → Type 0
+IsNamedAt c bytes places index = Holds bytes places c × (c.this_class ≡ index)

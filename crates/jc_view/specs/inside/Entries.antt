@@ -32,12 +32,18 @@ placed_attributes holder t = attributes_from holder t.cursor.place (entries afte
 abbrev pub LendsAttribute : Reading → Option AttributeEntry → Reading → Type 0
 LendsAttribute old None new = after_attribute old.rest ≡ None
 LendsAttribute old (Some a) new =
-    (after_attribute old.rest ≡ Some new.rest) × KeepsEnd old new × (attribute_of a ≡ attribute_value old.rest) × (a.place ≡ old.place) × (a.body.place ≡ old.place + 6)
+    (after_attribute old.rest ≡ Some new.rest) × KeepsEnd old new × (attribute_of a ≡ attribute_value old.rest)
+    × (a.place ≡ old.place) × (a.body.place ≡ old.place + 6)
 
 -- ---- members
 
 abbrev pub member_of : MemberEntry → Member
-member_of m = record { flags = m.flags; name = m.name; descriptor = m.descriptor; attributes = entries after_attribute attribute_value m.attributes }
+member_of m = record {
+  flags = m.flags;
+  name = m.name;
+  descriptor = m.descriptor;
+  attributes = entries after_attribute attribute_value m.attributes;
+}
 
 abbrev pub placed_member : Holder → MemberEntry → PlacedMember
 placed_member holder m = record { holder = holder; place = m.place; member = member_of m }
@@ -55,7 +61,8 @@ placed_members holder t = members_from holder t.cursor.place (entries after_memb
 abbrev pub LendsMember : Reading → Option MemberEntry → Reading → Type 0
 LendsMember old None new = after_member old.rest ≡ None
 LendsMember old (Some m) new =
-    (after_member old.rest ≡ Some new.rest) × KeepsEnd old new × (member_of m ≡ member_value old.rest) × (m.place ≡ old.place) × IsMemberEntry m
+    (after_member old.rest ≡ Some new.rest) × KeepsEnd old new × (member_of m ≡ member_value old.rest)
+    × (m.place ≡ old.place) × IsMemberEntry m
 
 -- ---- code
 

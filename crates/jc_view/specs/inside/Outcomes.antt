@@ -17,7 +17,8 @@ Fails errors.NoMemory read = Unit {0}
 Fails e read = read ≡ Err e
 
 -- Ok: what the definition reads, and the cursor stands where it stops
-abbrev pub Takes : {X A : Type 0} → (X → A) → (Reading → Result (A × Reading) ParseError) → Reading → Result X ParseError → Reading → Type 0
+abbrev pub Takes : {X A : Type 0} → (X → A) → (Reading → Result (A × Reading) ParseError)
+    → Reading → Result X ParseError → Reading → Type 0
 Takes view read old (Ok x) new = read old ≡ Ok (view x, new)
 Takes view read old (Err e) new = Fails e (read old)
 

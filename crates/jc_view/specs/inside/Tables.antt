@@ -20,7 +20,8 @@ IsWhole after_one t = IsSome (after_each after_one t.left t.cursor.rest)
 -- Some: the table that begins at the old place, and the cursor stands behind it; None: the table is cut
 abbrev pub LendsTable : (List ℕ → Option (List ℕ)) → Reading → Option Table → Reading → Type 0
 LendsTable after_it old None new = after_it old.rest ≡ None
-LendsTable after_it old (Some t) new = (after_it old.rest ≡ Some new.rest) × KeepsEnd old new × (t.left ≡ big_number 2 old.rest) × (t.cursor ≡ past 2 old)
+LendsTable after_it old (Some t) new =
+    (after_it old.rest ≡ Some new.rest) × KeepsEnd old new × (t.left ≡ big_number 2 old.rest) × (t.cursor ≡ past 2 old)
 
 -- the table begins with its count at the front of these bytes, in a file of this length
 pub record StandsAt (xs : List ℕ) (end : ℕ) (t : Table) : Type 0 where

@@ -15,5 +15,4 @@ pub returns-else-not-has_rules : goal.returns-else-not-has_rules
 returns-else-not-has_rules c = λ e.
     let lent = c.args.attribute.now in
     let at : utf8_at lent.class lent.attribute.attribute.name ≡ Some c.in-Some.name.now = sym c.name.ensures ∙ ap option_copied c.in-Some.is in
-    let others = c.keeps_rules.ensures e in
-    record { f28 = ap is_none at; f29 = others.0; f30 = others.1 }
+    record { f28 = ap is_none at; f29 = c.keeps_rules.ensures.f29 e; f30 = c.keeps_rules.ensures.f30 e }

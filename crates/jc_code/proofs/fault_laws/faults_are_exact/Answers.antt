@@ -5,4 +5,4 @@ pub returns-clause-rising : goal.returns-clause-rising
 returns-clause-rising c = faults_sorted
 
 pub returns-clause-exact : goal.returns-clause-exact
-returns-clause-exact c = λ class k items end fault is_code. (listed_violates class k items end fault is_code, violating_listed class k items end fault)
+returns-clause-exact c = λ class k items end is_code fault. (listed_violates class k items end fault is_code, violating_listed class k items end fault)

@@ -12,4 +12,4 @@ unfolding groups
 returns-clause-groups c = refl
 
 pub returns-clause-lengths : goal.returns-clause-lengths
-returns-clause-lengths c = spelling_length
+returns-clause-lengths c = λ at insn opcode s spelled what is sized. spelling_length at insn opcode s what spelled is sized

@@ -1,6 +1,6 @@
 use Rattle.std.proofs.Common.{◌∙◌, ap, subst, sym}
 use Rattle.jc_text.proofs.Sending.{HasSent, all_sent, none_sent, part_sent, sends_equal}
-use Rattle.jc_held.specs.ClassLent.{class_lent}
+use Rattle.jc_linkage.specs.ClassLent.{class_lent}
 use Rattle.jc_report.specs.ReportText.{name_line}
 use Rattle.jc_report.proofs.reports.CircularLines.{circular_lines, circular_next}
 use Rattle.jc_edits.proofs.report_text.write_circular.Goals as goal

@@ -17,9 +17,9 @@ returns g c =
     let circular = ap (λ (cs : List Class). map name_of (filter (λ c. c.part.circular) cs)) (again.2 ∙ ap (λ (r : Report). r.classes) same) ∙ sym made.1.circular in (
       made.0,
       made.1,
-      c.text.ensures ⟫ sends_equal (ap (flat_map row_text) (c.files.ensures ∙ sym made.1.files)) c.write_files.ensures
-          ⟫ c.text-2.ensures ⟫ sends_equal (ap (flat_map class_text) made.2) c.write_parts.ensures
-          ⟫ c.text-3.ensures ⟫ sends_equal (ap (flat_map name_line) circular) c.write_circular.ensures
-          ⟫ c.text-4.ensures ⟫ sends_equal (ap (flat_map row_line) (c.provided.ensures made.0 made.1)) c.write_provided.ensures
-          ⟫ c.text-5.ensures ⟫ sends_equal (ap (flat_map row_line) (c.required.ensures made.0 made.1)) c.write_required.ensures,
+      c.write_heading.ensures ⟫ sends_equal (ap (flat_map row_text) (c.files.ensures ∙ sym made.1.files)) c.write_files.ensures
+          ⟫ c.write_heading-2.ensures ⟫ sends_equal (ap (flat_map class_text) made.2) c.write_parts.ensures
+          ⟫ c.write_heading-3.ensures ⟫ sends_equal (ap (flat_map name_line) circular) c.write_circular.ensures
+          ⟫ c.write_heading-4.ensures ⟫ sends_equal (ap (flat_map row_line) (c.provided.ensures made.0 made.1)) c.write_provided.ensures
+          ⟫ c.write_heading-5.ensures ⟫ sends_equal (ap (flat_map row_line) (c.required.ensures made.0 made.1)) c.write_required.ensures,
     )

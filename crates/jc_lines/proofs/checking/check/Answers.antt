@@ -9,7 +9,7 @@ returns g c =
     let told = c.check_tree.ensures in (
       read.0,
       read.1,
-      subst (λ files. ChecksAs c.args.outside.now files (check_lent c.check_tree.result) (g.W.Output.written c.args.out.now) (g.W.Output.written c.check_tree.new.out)) (sym read.2.1)
+      subst (λ files. ChecksAs c.args.outside.now c.args.form.now files (check_lent c.check_tree.result) (g.W.Output.written c.args.out.now) (g.W.Output.written c.check_tree.new.out)) (sym read.2.1)
           (told.0 read.2.0 read.2.2),
       told.1,
     )

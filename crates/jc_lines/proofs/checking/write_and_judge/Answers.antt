@@ -1,8 +1,7 @@
-use Rattle.std.proofs.Common.{refl}
 use Rattle.jc_lines.proofs.checking.write_and_judge.Goals as goal
 
-pub returns-in-Ok : goal.returns-in-Ok
-returns-in-Ok g c = (λ f prefixes is. (f, c.args.report.now, refl, is, c.wrong.ensures, c.in-Ok.ensures.ok), c.in-Ok.ensures.failures)
+pub returns-in-Report : goal.returns-in-Report
+returns-in-Report g c = rw c.in-Report.is c.write_whole.ensures
 
-pub returns-in-Err : goal.returns-in-Err
-returns-in-Err g c = (λ f prefixes is. (f, c.args.report.now, refl, is, c.in-Err.ensures.front), c.in-Err.ensures.failures)
+pub returns-in-Errors : goal.returns-in-Errors
+returns-in-Errors g c = rw (c.in-Errors.is, ← c.as_ref.ensures.value) c.write_wrong.ensures

@@ -13,16 +13,16 @@ use Rattle.jc_report.proofs.report.has_error.Goals as goal
 error_there : (a : Answer) (e : LinkageError) → kind_of a ≡ kinds.Error e → is_error a ≡ true
 error_there (answer.ToClass c f) e is = absurd cc
 error_there (answer.ToMember c k) e is = absurd cc
-error_there (answer.Beyond n) e is = absurd cc
+error_there (answer.Outside n) e is = absurd cc
 error_there answer.NotLoaded e is = absurd cc
-error_there (answer.Wrong d n) e is = refl
+error_there (answer.Error d n) e is = refl
 
 no_error : (a : Answer) → ((e : LinkageError) → kind_of a ≡ kinds.Error e → ⊥) → is_error a ≡ false
 no_error (answer.ToClass c f) h = refl
 no_error (answer.ToMember c k) h = refl
-no_error (answer.Beyond n) h = refl
+no_error (answer.Outside n) h = refl
 no_error answer.NotLoaded h = refl
-no_error (answer.Wrong e n) h = absurd (h e refl)
+no_error (answer.Error e n) h = absurd (h e refl)
 
 pub returns-in-Error : goal.returns-in-Error
 returns-in-Error c =

@@ -1,27 +1,21 @@
-use Rattle.std.proofs.Common.{◌≡◌, false, ap, map, refl}
+use Rattle.std.proofs.Common.{◌∙◌, ap, map, sym}
 use Rattle.std.proofs.lemmas.List.{drop_all, drop_more}
-use Rattle.jc_view.specs.declared.parse_error.ParseError.{ParseError}
-use Rattle.jc_report.specs.FileRows.{is_unreadable, is_unreadable_state}
+use Rattle.jc_report.specs.ErrorsText.{is_wrong_file, prefixes_lent}
 use Rattle.jc_report.specs.FileRowView as lent
-use Rattle.jc_report.specs.declared.file_row.FileState.{FileState}
-use Rattle.jc_report.specs.declared.file_row.FileState.TheVariants as states
 use Rattle.jc_report.proofs.reports.AnyLeft.{any_found, any_none, any_passed}
 use Rattle.jc_report.proofs.report.has_unreadable.Goals as goal
 
-readable : (state : FileState) → ((e : ParseError) → state ≡ states.Unreadable e → ⊥) → is_unreadable_state (lent.state_lent state) ≡ false
-readable (states.Class name) h = refl
-readable (states.Shadowed name winner) h = refl
-readable (states.Unreadable e) h = absurd (h e refl)
-
-pub returns-in-Unreadable : goal.returns-in-Unreadable
-returns-in-Unreadable c =
-    any_found is_unreadable c.loop-row.invariant (ap (map lent.row_lent) (drop_more c.args.files.now c.loop-row.row-index _ c.loop-row-test.true))
-    (ap (λ state. is_unreadable_state (lent.state_lent state)) c.in-Unreadable.is)
+pub returns-then-is_wrong_file : goal.returns-then-is_wrong_file
+returns-then-is_wrong_file c =
+    any_found (is_wrong_file (prefixes_lent c.args.only)) c.loop-row.invariant
+    (ap (map lent.row_lent) (drop_more c.args.files.now c.loop-row.row-index _ c.loop-row-test.true)) (sym c.is_wrong_file.ensures ∙ c.if-is_wrong_file.true)
 
 pub loop-row-preserved : goal.loop-row-preserved
 loop-row-preserved c =
-    any_passed is_unreadable c.loop-row.invariant (ap (map lent.row_lent) (drop_more c.args.files.now c.loop-row.row-index _ c.loop-row-test.true))
-    (readable _ c.in_default.not-Unreadable)
+    any_passed (is_wrong_file (prefixes_lent c.args.only)) c.loop-row.invariant
+    (ap (map lent.row_lent) (drop_more c.args.files.now c.loop-row.row-index _ c.loop-row-test.true)) (sym c.is_wrong_file.ensures ∙ c.if-is_wrong_file.false)
 
 pub returns : goal.returns
-returns c = any_none is_unreadable c.loop-row.invariant (ap (map lent.row_lent) (drop_all c.loop-row.row-index c.args.files.now c.loop-row-test.false))
+returns c =
+    any_none (is_wrong_file (prefixes_lent c.args.only)) c.loop-row.invariant
+    (ap (map lent.row_lent) (drop_all c.loop-row.row-index c.args.files.now c.loop-row-test.false))

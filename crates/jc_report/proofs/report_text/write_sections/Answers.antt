@@ -8,8 +8,8 @@ use Rattle.jc_report.proofs.report_text.write_sections.Goals as goal
 pub returns : goal.returns
 unfolding report_text
 returns g c =
-    c.text.ensures ⟫ sends_equal (ap (flat_map row_text) c.files.ensures) c.write_files.ensures
-    ⟫ c.text-2.ensures ⟫ sends_equal (ap (flat_map class_text) c.classes.ensures.by_name) c.write_classes.ensures
-    ⟫ c.text-3.ensures ⟫ sends_equal (sym (ap (flat_map name_line) c.classes-2.ensures.circular)) c.write_circular.ensures
-    ⟫ c.text-4.ensures ⟫ sends_equal (ap (flat_map row_line) c.provided.ensures) c.write_rows.ensures
-    ⟫ c.text-5.ensures ⟫ sends_equal (ap (flat_map row_line) c.required.ensures) c.write_rows-2.ensures
+    c.write_heading.ensures ⟫ sends_equal (ap (flat_map row_text) c.files.ensures) c.write_files.ensures
+    ⟫ c.write_heading-2.ensures ⟫ sends_equal (ap (flat_map class_text) c.classes.ensures.by_name) c.write_classes.ensures
+    ⟫ c.write_heading-3.ensures ⟫ sends_equal (sym (ap (flat_map name_line) c.classes-2.ensures.circular)) c.write_circular.ensures
+    ⟫ c.write_heading-4.ensures ⟫ sends_equal (ap (flat_map row_line) c.provided.ensures) c.write_rows.ensures
+    ⟫ c.write_heading-5.ensures ⟫ sends_equal (ap (flat_map row_line) c.required.ensures) c.write_rows-2.ensures

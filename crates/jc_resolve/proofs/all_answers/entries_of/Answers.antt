@@ -1,4 +1,4 @@
-use Rattle.std.proofs.Common.{◌≡◌, get_or, length, map, sym, subst, ◌∙◌, arith}
+use Rattle.std.proofs.Common.{◌≡◌, get_or, length, map, sym, ap, subst, ◌∙◌, arith}
 use Rattle.std.proofs.lemmas.List.{get_or_default, length-map}
 use Rattle.std.specs.declared.vec.Vec.{Vec}
 use Rattle.std.specs.declared.alloc.Global.{Global}
@@ -6,15 +6,15 @@ use Rattle.jc_classes.specs.Facts.{Reference}
 use Rattle.jc_classes.specs.Parts.{AreAnswers}
 use Rattle.jc_classes.specs.Worlds.{World}
 use Rattle.jc_classes.specs.declared.linkage_error.LinkageError.TheVariants as fault
-use Rattle.jc_lookup.specs.declared.loads.Load.{Load}
-use Rattle.jc_lookup.specs.declared.loads.Load.TheVariants as code
-use Rattle.jc_lookup.specs.inside.Indexed.{name_at, IsIndexed}
-use Rattle.jc_lookup.specs.inside.Shown.{indexed_of}
-use Rattle.jc_lookup.specs.inside.Loading.{load_at}
+use Rattle.jc_numbered.specs.declared.loads.Load.{Load}
+use Rattle.jc_numbered.specs.declared.loads.Load.TheVariants as code
+use Rattle.jc_numbered.specs.inside.Indexed.{name_at, IsIndexed}
+use Rattle.jc_numbered.specs.inside.Shown.{indexed_of}
+use Rattle.jc_numbered.specs.inside.Loading.{load_at}
 use Rattle.jc_resolve.specs.declared.entry.Entry.{Entry}
 use Rattle.jc_resolve.specs.declared.entry.Entry.TheVariants.{NotLoaded}
 use Rattle.jc_resolve.specs.inside.Answered.{AreAnswered}
-use Rattle.jc_resolve.specs.inside.Resolved.{loading_of, TellsLoads}
+use Rattle.jc_resolve.specs.inside.Resolved.{has_loaded, loading_of, TellsLoads}
 use Rattle.jc_resolve.proofs.answering.Entries.{none_shown}
 use Rattle.jc_resolve.proofs.lookups.IfOks.{if_ok_map}
 use Rattle.jc_resolve.proofs.loading.Nets.{none_answers}
@@ -35,3 +35,15 @@ returns-in_default c =
           subst (AreAnswers m d (loading_of x l) refs) (sym (none_shown (name_at x) refs)) (none_answers m d x l not refs),
     ) in
     if_ok_map _ _ _ f c.none_loaded.ensures
+
+pub invariant_of-look : goal.invariant_of-look
+invariant_of-look c =
+    let loads = c.args.loads.now in
+    let class = c.args.class in
+    let is : get_or loads class code.Loaded ≡ load_at loads class = get_or_default loads class code.Loaded (code.Fails fault.NoClass 0) (omega (arith, c.requires.class, c.requires.loads)) in
+    record {
+      size = c.requires.loads;
+      good = c.requires.good;
+      within = c.requires.class;
+      loaded = ap has_loaded (sym is ∙ c.in-Loaded.is);
+    }

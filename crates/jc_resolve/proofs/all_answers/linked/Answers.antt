@@ -1,18 +1,25 @@
+use Rattle.jc_classes.specs.Worlds.{Stands as stands}
 use Rattle.std.proofs.Common.{◌≡◌, length, sym, ap, subst, ◌∙◌}
 use Rattle.jc_classes.specs.Lent.{stands_of}
 use Rattle.jc_classes.specs.LinkErrors.{links_in, links_of}
 use Rattle.jc_classes.specs.Parts.{AreAnswers}
 use Rattle.jc_classes.specs.Worlds.{World, references_of}
-use Rattle.jc_classes.specs.Worlds.Stands.{Record}
-use Rattle.jc_lookup.specs.inside.Indexed.{name_at, record_at, IsIndexed}
-use Rattle.jc_lookup.specs.inside.Shown.{indexed_of}
-use Rattle.jc_lookup.specs.inside.Loading.{load_at}
+use Rattle.jc_numbered.specs.inside.Indexed.{name_at, record_at, IsIndexed}
+use Rattle.jc_numbered.specs.inside.Shown.{indexed_of}
+use Rattle.jc_numbered.specs.inside.Loading.{load_at}
 use Rattle.jc_resolve.specs.Linked.{Linked}
+use Rattle.jc_resolve.specs.inside.Answered.{AreNodesOf}
 use Rattle.jc_resolve.specs.inside.Entries.{entries_shown}
 use Rattle.jc_resolve.specs.inside.Resolved.{loading_of, TellsLoads}
 use Rattle.jc_resolve.proofs.answering.Entries.{shown_size}
 use Rattle.jc_resolve.proofs.lookups.IfOks.{if_ok_map}
 use Rattle.jc_resolve.proofs.all_answers.linked.Goals as goal
+
+pub entries_of-requires-clause-nodes : goal.entries_of-requires-clause-nodes
+entries_of-requires-clause-nodes c =
+    let x = indexed_of c.args.classes.now in
+    let own : c.in-Class.facts.now.references ≡ references_of (record_at x c.args.class) = ap (λ s. references_of (stands_of s)) (sym c.in-Class.is) ∙ ap references_of c.at.ensures in
+    subst (λ rs. AreNodesOf (length c.args.classes.now.standing.now) x rs c.args.nodes.now) (sym own) c.requires.nodes
 
 pub of-requires-2 : goal.of-requires-2
 of-requires-2 c =
@@ -46,7 +53,7 @@ returns-clause-links c =
     let x = indexed_of c.args.classes.now in
     let list = c.in_ok-answers.answers in
     let facts = c.in-Class.facts.now in
-    let own : Record facts ≡ record_at x c.args.class = ap stands_of (sym c.in-Class.is) ∙ c.at.ensures in
+    let own : stands.Class facts ≡ record_at x c.args.class = ap stands_of (sym c.in-Class.is) ∙ c.at.ensures in
     let f = λ (linked : Linked) (e : linked ≡ record { answers = list; links = links_in c.name.result.now facts list }).
     ap (λ (l : Linked). l.links) e
     ∙ ap (λ n. links_in n facts list) c.name.ensures

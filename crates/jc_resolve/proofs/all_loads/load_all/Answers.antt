@@ -1,7 +1,7 @@
 use Rattle.std.proofs.Common.{◌≡◌, ◌<◌, ◌+◌, ℕ, length, set, sym, ap, subst, ◌∙◌, arith, length-set}
 use Rattle.std.proofs.lemmas.List.{get_or_default}
-use Rattle.jc_lookup.specs.inside.Shown.{indexed_of}
-use Rattle.jc_lookup.specs.inside.Loading.{load_at}
+use Rattle.jc_numbered.specs.inside.Shown.{indexed_of}
+use Rattle.jc_numbered.specs.inside.Loading.{load_at}
 use Rattle.jc_resolve.specs.inside.Loading.{IsTold, rank_in, load_of}
 use Rattle.jc_resolve.proofs.loading.Loadings.{next_told, more_told, all_told}
 use Rattle.jc_resolve.proofs.all_loads.load_all.Goals as goal

@@ -1,6 +1,6 @@
 use Rattle.std.proofs.Common.{◌≡◌, ◌<◌, ℕ, length}
-use Rattle.jc_lookup.specs.inside.Shown.{indexed_of}
-use Rattle.jc_lookup.specs.inside.Loading.{load_at}
+use Rattle.jc_numbered.specs.inside.Shown.{indexed_of}
+use Rattle.jc_numbered.specs.inside.Loading.{load_at}
 use Rattle.jc_resolve.specs.inside.Loading.{IsTold, rank_in}
 use Rattle.jc_resolve.proofs.all_loads.load_all.Given as goal
 

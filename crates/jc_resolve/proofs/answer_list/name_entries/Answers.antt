@@ -1,7 +1,7 @@
 use Rattle.std.proofs.Common.{◌≡◌, ◌+◌, ◌∷◌, [], ◌++◌, take, get_or, sym, subst}
 use Rattle.std.proofs.lemmas.List.{take_more}
-use Rattle.jc_lookup.specs.inside.Indexed.{name_at}
-use Rattle.jc_lookup.specs.inside.Shown.{indexed_of}
+use Rattle.jc_numbered.specs.inside.Indexed.{name_at}
+use Rattle.jc_numbered.specs.inside.Shown.{indexed_of}
 use Rattle.jc_resolve.specs.declared.entry.Entry.{Entry}
 use Rattle.jc_resolve.specs.declared.entry.Entry.TheVariants as entry
 use Rattle.jc_resolve.proofs.answering.Entries.{AreNamed, named_push, named_same}

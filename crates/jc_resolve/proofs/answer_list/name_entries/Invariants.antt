@@ -1,6 +1,6 @@
 use Rattle.std.proofs.Common.{take}
-use Rattle.jc_lookup.specs.inside.Indexed.{name_at}
-use Rattle.jc_lookup.specs.inside.Shown.{indexed_of}
+use Rattle.jc_numbered.specs.inside.Indexed.{name_at}
+use Rattle.jc_numbered.specs.inside.Shown.{indexed_of}
 use Rattle.jc_resolve.specs.inside.Naming.{AreNames}
 use Rattle.jc_resolve.proofs.answering.Entries.{AreNamed}
 use Rattle.jc_resolve.proofs.answer_list.name_entries.Given as goal

@@ -1,6 +1,6 @@
 use Rattle.std.proofs.Common.{sym, ◌∙◌}
 use Rattle.jc_classes.specs.Lent.{key_lent, member_lent}
-use Rattle.jc_lookup.specs.inside.Indexed.{name_at}
+use Rattle.jc_numbered.specs.inside.Indexed.{name_at}
 use Rattle.jc_resolve.proofs.answering.Keys.{hit_other, hit_same}
 use Rattle.jc_resolve.proofs.entry.hit_entry.Goals as goal
 

@@ -2,11 +2,11 @@ use Rattle.std.proofs.Common.{◌≡◌, ◌∷◌, [], ◌++◌, length, revers
 use Rattle.jc_graph.specs.Seen.{unseen}
 use Rattle.jc_classes.specs.Lent.{key_lent}
 use Rattle.jc_classes.specs.Worlds.{fields_of}
-use Rattle.jc_lookup.specs.inside.Indexed.{onward_row, record_at}
-use Rattle.jc_lookup.specs.inside.Shown.{indexed_of}
+use Rattle.jc_numbered.specs.inside.Indexed.{onward_nodes, record_at}
+use Rattle.jc_numbered.specs.inside.Shown.{indexed_of}
 use Rattle.jc_resolve.specs.inside.Looking.{Going}
 use Rattle.jc_graph.proofs.marked.SeenLemmas.{unseen_set}
-use Rattle.jc_resolve.proofs.lookups.Look.{going_start, going_skip, going_add, going_found, going_end, none_of, no_items, popped_going, popped_less}
+use Rattle.jc_resolve.proofs.lookups.FieldWalk.{going_start, going_skip, going_add, going_found, going_end, none_of, no_items, popped_going, popped_less}
 use Rattle.jc_classes.specs.Lent.{member_lent}
 use Rattle.jc_resolve.proofs.answering.Keys.{member_keyed}
 use Rattle.jc_resolve.proofs.fields.find_field.Goals as goal
@@ -61,7 +61,7 @@ loop-node-preserved-in-Continue-branch-3 c =
     let next = going_add count x c.args.classes.now.graph k c.args.start c.in-Some.node (reverse c.pop.new.self.items) c.loop-node.seen.flags
     (popped_going count x k c.args.start c.loop-node.stack.items c.pop.new.self.items c.in-Some.node c.loop-node.seen.flags c.in-Some.ensures.items c.loop-node.invariant) (none_of member_lent _ c.field.result c.field.ensures c.in_default-field.not-Some) in
     subst (λ s. Going count x k c.args.start s c.add.new.self.flags) (sym c.in_ok-push_onward.ensures)
-    (subst (λ f. Going count x k c.args.start (onward_row x c.in-Some.node ++ reverse c.pop.new.self.items) f) (sym c.in_ok-add.ensures.flags) next)
+    (subst (λ f. Going count x k c.args.start (onward_nodes x c.in-Some.node ++ reverse c.pop.new.self.items) f) (sym c.in_ok-add.ensures.flags) next)
 
 pub loop-node-preserved : goal.loop-node-preserved
 loop-node-preserved c =

@@ -1,7 +1,7 @@
 use Rattle.jc_classes.specs.Lent.{key_lent}
 use Rattle.std.proofs.Common.{◌+◌, ◌*◌, ◌^◌, length, reverse}
 use Rattle.jc_graph.specs.Seen.{unseen}
-use Rattle.jc_lookup.specs.inside.Shown.{indexed_of}
+use Rattle.jc_numbered.specs.inside.Shown.{indexed_of}
 use Rattle.jc_resolve.specs.inside.Looking.{Going}
 use Rattle.jc_resolve.proofs.fields.find_field.Given as goal
 

@@ -4,9 +4,9 @@ use Rattle.std.specs.declared.vec.Vec.{Vec}
 use Rattle.std.specs.declared.alloc.Global.{Global}
 use Rattle.jc_graph.specs.Graph.{ups_of, TellsCircular, IsOrder}
 use Rattle.jc_graph.specs.Seen.{flag_at}
-use Rattle.jc_lookup.specs.inside.Indexed.{Indexed, filled, IsGraph}
+use Rattle.jc_numbered.specs.inside.Indexed.{Indexed, filled, IsGraph}
 use Rattle.jc_resolve.specs.inside.Loading.{is_good, TellsRank}
-use Rattle.jc_resolve.specs.inside.Net.{IsNet}
+use Rattle.jc_resolve.specs.inside.Gathered.{IsGathered}
 use Rattle.jc_resolve.proofs.loading.Nets.{net_again, index_again, good_from, graph_first, graph_last}
 use Rattle.jc_resolve.proofs.loaded.load_classes.Goals as goal
 
@@ -17,14 +17,14 @@ pub invariant_of-unloaded : goal.invariant_of-unloaded
 invariant_of-unloaded c =
     let n = c.args.names.now in
     let s = c.args.standing.now in
-    let u = c.args.ups.now in
+    let u = c.args.supertypes.now in
     let rank = c.new.result.items in
     let good = c.in_ok-unset.field-0.items in
     let names = c.requires.net.names in
     let size : length n ≡ length s = sym (length-map n (λ (v : Vec ℕ Global). v.items)) ∙ names in
     record {
       names_size = size;
-      rows_size = c.requires.size;
+      supertypes_size = c.requires.size;
       object_within = c.requires.object;
       object_name = c.requires.object_name;
       packages = c.in_ok-package_ends.ensures;
@@ -35,7 +35,7 @@ pub invariant_of-classes : goal.invariant_of-classes
 invariant_of-classes c =
     let n = c.args.names.now in
     let s = c.args.standing.now in
-    let u = c.args.ups.now in
+    let u = c.args.supertypes.now in
     let count = length s in
     let rank0 = c.new.result.items in
     let good0 = c.in_ok-unset.field-0.items in
@@ -43,21 +43,21 @@ invariant_of-classes c =
     let good = c.in_ok-good.good.items in
     let x : Indexed = filled n s u rank0 good0 in
     let y : Indexed = filled n s u rank good in
-    let net : IsNet count x = net_again n s u [] rank0 [] good0 c.requires.net in
-    let net2 : IsNet count y = net_again n s u [] rank [] good c.requires.net in
+    let net : IsGathered count x = net_again n s u [] rank0 [] good0 c.requires.net in
+    let net2 : IsGathered count y = net_again n s u [] rank [] good c.requires.net in
     let graph : IsGraph count x = graph_first count x net c.in_ok-unset.ensures.size c.in_ok-unset.ensures.none in
     let names = c.requires.net.names in
     let size : length n ≡ count = sym (length-map n (λ (v : Vec ℕ Global). v.items)) ∙ names in
     let flags = c.in_ok-sorted.sorted.circular.items in
     let order = c.in_ok-sorted.sorted.order.items in
-    let rings : TellsCircular x.up count flags = subst (λ k. TellsCircular (ups_of u) k flags) c.requires.size c.in_ok-sorted.ensures.circular in
-    let ordered : IsOrder x.up count flags order = subst (λ k. IsOrder (ups_of u) k flags order) c.requires.size c.in_ok-sorted.ensures.order in
+    let rings : TellsCircular x.supertypes count flags = subst (λ k. TellsCircular (ups_of u) k flags) c.requires.size c.in_ok-sorted.ensures.circular in
+    let ordered : IsOrder x.supertypes count flags order = subst (λ k. IsOrder (ups_of u) k flags order) c.requires.size c.in_ok-sorted.ensures.order in
     let loads = c.in_ok-loads.loads.items in
     let ranked : TellsRank count order rank = subst (λ z. TellsRank count z rank) c.as_slice.ensures.value c.in_ok-rank.ensures in
     let goods : good ≡ map is_good loads = c.in_ok-good.ensures ∙ ap (map is_good) c.as_slice-2.ensures.value in
     record {
       names_size = size;
-      rows_size = c.requires.size;
+      supertypes_size = c.requires.size;
       object_within = c.requires.object;
       object_name = c.requires.object_name;
       packages = c.in_ok-package_ends.ensures;
@@ -68,7 +68,7 @@ pub returns-clause-loaded : goal.returns-clause-loaded
 returns-clause-loaded c =
     let n = c.args.names.now in
     let s = c.args.standing.now in
-    let u = c.args.ups.now in
+    let u = c.args.supertypes.now in
     let rank0 = c.new.result.items in
     let good0 = c.in_ok-unset.field-0.items in
     let rank = c.in_ok-rank.rank.items in

@@ -1,10 +1,10 @@
 use Rattle.std.proofs.Common.{length, sym}
 use Rattle.jc_classes.specs.Lent.{member_lent}
 use Rattle.jc_classes.specs.Lent.{key_lent}
-use Rattle.jc_lookup.specs.inside.Indexed.{name_at, record_at}
-use Rattle.jc_lookup.specs.inside.Shown.{indexed_of}
-use Rattle.jc_resolve.proofs.lookups.Look.{none_of}
-use Rattle.jc_lookup.proofs.lookups.Chain.{super_node, super_good, super_falls}
+use Rattle.jc_numbered.specs.inside.Indexed.{name_at, record_at}
+use Rattle.jc_numbered.specs.inside.Shown.{indexed_of}
+use Rattle.jc_resolve.proofs.lookups.FieldWalk.{none_of}
+use Rattle.jc_numbered.proofs.lookups.Chain.{super_node, super_good, super_falls}
 use Rattle.jc_resolve.proofs.lookups.Chain.{leads_on, leads_found, leads_end}
 use Rattle.jc_resolve.proofs.answering.Keys.{declared_keyed}
 use Rattle.jc_resolve.proofs.methods.find_in_classes.Goals as goal

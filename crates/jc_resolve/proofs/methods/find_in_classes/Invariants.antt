@@ -1,7 +1,7 @@
 use Rattle.std.proofs.Common.{◌≡◌, ◌<◌, true, length}
 use Rattle.jc_classes.specs.Lent.{key_lent}
-use Rattle.jc_lookup.specs.inside.Indexed.{good_at, rank_at}
-use Rattle.jc_lookup.specs.inside.Shown.{indexed_of}
+use Rattle.jc_numbered.specs.inside.Indexed.{good_at, rank_at}
+use Rattle.jc_numbered.specs.inside.Shown.{indexed_of}
 use Rattle.jc_resolve.specs.inside.Chain.{Leads}
 use Rattle.jc_resolve.proofs.methods.find_in_classes.Given as goal
 

@@ -4,11 +4,11 @@ use Rattle.jc_classes.specs.Worlds.{member, methods_of}
 use Rattle.jc_classes.specs.MethodLookup.{of_object, FindsInterfaceMethod}
 use Rattle.jc_classes.specs.MethodLookup.FindsInterfaceMethod.{own, in_object, in_interface}
 use Rattle.jc_classes.specs.Lent.{key_lent}
-use Rattle.jc_lookup.specs.inside.Indexed.{name_at, record_at}
-use Rattle.jc_lookup.specs.inside.Shown.{indexed_of}
+use Rattle.jc_numbered.specs.inside.Indexed.{name_at, record_at}
+use Rattle.jc_numbered.specs.inside.Shown.{indexed_of}
 use Rattle.jc_resolve.proofs.lookups.IfOks.{if_ok_map}
-use Rattle.jc_resolve.proofs.lookups.Look.{none_of}
-use Rattle.jc_lookup.proofs.lookups.Bridge.{record_is}
+use Rattle.jc_resolve.proofs.lookups.FieldWalk.{none_of}
+use Rattle.jc_numbered.proofs.lookups.Bridge.{record_is}
 use Rattle.jc_resolve.proofs.answering.Keys.{member_keyed, open_keyed}
 use Rattle.jc_resolve.proofs.methods.find_interface_method.Goals as goal
 

@@ -3,13 +3,13 @@ use Rattle.std.proofs.lemmas.Bool.{false≢true}
 use Rattle.std.specs.List.{All, filter}
 use Rattle.jc_classes.specs.Lent.{member_lent}
 use Rattle.jc_classes.specs.Lent.{key_lent}
-use Rattle.jc_lookup.specs.inside.Indexed.{record_at}
-use Rattle.jc_lookup.specs.inside.Shown.{indexed_of}
+use Rattle.jc_numbered.specs.inside.Indexed.{record_at}
+use Rattle.jc_numbered.specs.inside.Shown.{indexed_of}
 use Rattle.jc_graph.specs.Seen.{TellsAbove}
-use Rattle.jc_lookup.specs.inside.Picks.{offers}
+use Rattle.jc_numbered.specs.inside.Picks.{offers}
 use Rattle.jc_resolve.specs.inside.Picks.{TellsPick}
 use Rattle.jc_graph.proofs.marked.Climbs.{seen_in}
-use Rattle.jc_lookup.proofs.lookups.Bridge.{filter_out}
+use Rattle.jc_numbered.proofs.lookups.Bridge.{filter_out}
 use Rattle.jc_resolve.proofs.lookups.Choose.{picked, none_picked, picked_offers, picked_in}
 use Rattle.jc_resolve.proofs.answering.Keys.{given_keyed}
 use Rattle.jc_resolve.proofs.superinterfaces.find_above.Goals as goal
@@ -50,7 +50,7 @@ returns-in-Some-given-clause-found c =
     let list = c.see.new.self.seen.list in
     let nodes : c.in_ok-nodes.nodes.items ≡ filter (offers x k) list = c.in_ok-nodes.ensures ∙ ap (filter (offers x k)) c.nodes.ensures in
     let p = subst (λ ns. TellsPick x k c.see_above.new.seen.flags ns (Some c.in-Some.node)) (c.as_slice-2.ensures.value ∙ nodes) c.in-Some.ensures in
-    let t : TellsAbove count x.up (filter (offers x k) list) c.see_above.new.seen.flags c.see_above.new.seen.list = subst (λ ns. TellsAbove count x.up ns c.see_above.new.seen.flags c.see_above.new.seen.list) (c.as_slice.ensures.value ∙ nodes) c.in_ok-see_above.ensures in
+    let t : TellsAbove count x.supertypes (filter (offers x k) list) c.see_above.new.seen.flags c.see_above.new.seen.list = subst (λ ns. TellsAbove count x.supertypes ns c.see_above.new.seen.flags c.see_above.new.seen.list) (c.as_slice.ensures.value ∙ nodes) c.in_ok-see_above.ensures in
     λ m h. picked m count x c.args.classes.now.graph h k c.args.start c.requires.start c.see.new.self.seen.flags list c.in_ok-see.ensures.seen.seen c.see_above.new.seen.flags c.see_above.new.seen.list t c.in-Some.node (member_lent c.in-Some-given.member) (sym c.in-Some-given.ensures) p
 
 pub returns-in-Some-clause-found : goal.returns-in-Some-clause-found
@@ -70,7 +70,7 @@ returns-clause-found c =
     let list = c.see.new.self.seen.list in
     let nodes : c.in_ok-nodes.nodes.items ≡ filter (offers x k) list = c.in_ok-nodes.ensures ∙ ap (filter (offers x k)) c.nodes.ensures in
     let p = subst (λ ns. TellsPick x k c.see_above.new.seen.flags ns None) (c.as_slice-2.ensures.value ∙ nodes) c.in-None.ensures in
-    let t : TellsAbove count x.up (filter (offers x k) list) c.see_above.new.seen.flags c.see_above.new.seen.list = subst (λ ns. TellsAbove count x.up ns c.see_above.new.seen.flags c.see_above.new.seen.list) (c.as_slice.ensures.value ∙ nodes) c.in_ok-see_above.ensures in
+    let t : TellsAbove count x.supertypes (filter (offers x k) list) c.see_above.new.seen.flags c.see_above.new.seen.list = subst (λ ns. TellsAbove count x.supertypes ns c.see_above.new.seen.flags c.see_above.new.seen.list) (c.as_slice.ensures.value ∙ nodes) c.in_ok-see_above.ensures in
     λ m h. none_picked m count x c.args.classes.now.graph h k c.args.start c.requires.start c.see.new.self.seen.flags list c.in_ok-see.ensures.seen.seen c.see_above.new.seen.flags c.see_above.new.seen.list t p
 
 pub returns-in-Some-given-clause-within : goal.returns-in-Some-given-clause-within
@@ -85,3 +85,18 @@ returns-in-Some-given-clause-within c =
 
 pub returns-in-Some-given-clause-keyed : goal.returns-in-Some-given-clause-keyed
 returns-in-Some-given-clause-keyed c = given_keyed (record_at (indexed_of c.args.classes.now) c.in-Some.node) (key_lent c.args.key) (member_lent c.in-Some-given.member) (sym c.in-Some-given.ensures)
+
+pub see-requires-clause-above : goal.see-requires-clause-above
+see-requires-clause-above c = c.requires.room.above
+
+pub see_above-requires-clause-seen : goal.see_above-requires-clause-seen
+see_above-requires-clause-seen c = c.requires.room.covered
+
+pub returns-in-Some-given-clause-room : goal.returns-in-Some-given-clause-room
+returns-in-Some-given-clause-room c = record { above = c.in_ok-see.ensures.known; covered = c.in_ok-see_above.ensures.size }
+
+pub returns-in-Some-clause-room : goal.returns-in-Some-clause-room
+returns-in-Some-clause-room c = record { above = c.in_ok-see.ensures.known; covered = c.in_ok-see_above.ensures.size }
+
+pub returns-clause-room : goal.returns-clause-room
+returns-clause-room c = record { above = c.in_ok-see.ensures.known; covered = c.in_ok-see_above.ensures.size }

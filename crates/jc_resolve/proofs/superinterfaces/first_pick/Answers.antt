@@ -1,8 +1,8 @@
 use Rattle.std.proofs.Common.{◌≡◌, ℕ, false, subst, ◌∙◌, arith}
 use Rattle.std.proofs.lemmas.List.{get_or_default}
 use Rattle.jc_classes.specs.Lent.{key_lent}
-use Rattle.jc_lookup.specs.inside.Shown.{indexed_of}
-use Rattle.jc_lookup.specs.inside.Picks.{is_pick}
+use Rattle.jc_numbered.specs.inside.Shown.{indexed_of}
+use Rattle.jc_numbered.specs.inside.Picks.{is_pick}
 use Rattle.jc_resolve.proofs.superinterfaces.first_pick.Goals as goal
 
 pub returns : goal.returns

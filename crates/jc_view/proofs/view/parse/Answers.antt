@@ -44,7 +44,7 @@ is_unnamed c =
     let class = class_value b items c.in_ok-parts.parts.tail in
     let found = found_unnamed c in
     unnamed b (parts c.in_ok-parts.parts) c.skip_class.new.cursor (λ i. omega (arith, c.type_inv.bytes i)) (read_unnamed c)
-    (c.in_default.ensures.none class (holds_at b c.deref.result.now items class c.deref.ensures.value found.holds) (sym found.this_class))
+    (c.in_default.ensures.none class (holds_at b c.deref.result.now items class c.deref.ensures.value found.holds, sym found.this_class))
 
 pub returns-in_default-clause-refused : goal.returns-in_default-clause-refused
 returns-in_default-clause-refused c = inr (is_unnamed c)
@@ -84,7 +84,7 @@ invariant_of-result c =
       this_class = found_here.this_class;
       super_class = found_here.super_class;
       tables = found_tables c;
-      is_name = c.in-Some.ensures.some class (holds_at b c.deref.result.now items class c.deref.ensures.value found_here.holds) (sym found_here.this_class);
+      is_name = c.in-Some.ensures.some class (holds_at b c.deref.result.now items class c.deref.ensures.value found_here.holds, sym found_here.this_class);
     }
 
 pub returns-clause-named : goal.returns-clause-named
@@ -93,7 +93,7 @@ returns-clause-named c =
     let p = c.in_ok-parts.parts in
     let items = p.offsets.items in
     let here = found c in
-    (c.in-Some.name.now, c.in-Some.ensures.some (class_value b items p.tail) (holds_at b c.deref.result.now items (class_value b items p.tail) c.deref.ensures.value here.holds) (sym here.this_class))
+    (c.in-Some.name.now, c.in-Some.ensures.some (class_value b items p.tail) (holds_at b c.deref.result.now items (class_value b items p.tail) c.deref.ensures.value here.holds, sym here.this_class))
 
 pub returns-clause-ok : goal.returns-clause-ok
 returns-clause-ok c = (found c).is_layout

@@ -1,7 +1,7 @@
 use Rattle.std.proofs.Common.{◌≡◌, ◌-◌, ap, arith, subst, ◌∙◌}
 use Rattle.std.proofs.lemmas.Grind.{common_steps}
 use Rattle.jc_link.specs.Tables.{class_at}
-use Rattle.jc_held.specs.Affected.{IsBounded}
+use Rattle.jc_linkage.specs.Affected.{IsBounded}
 use Rattle.jc_report.specs.Reports.{world_of}
 use Rattle.jc_edits.specs.SessionState.{HeldFiles}
 use Rattle.jc_input.specs.Changes.{change_lent, path_of, bytes_of}

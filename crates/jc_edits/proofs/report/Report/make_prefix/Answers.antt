@@ -3,9 +3,9 @@ use Rattle.std.specs.Prelude.{OnOk}
 use Rattle.std.proofs.lemmas.Result.{on_ok_weaker}
 use Rattle.jc_classes.specs.Names.{Name}
 use Rattle.jc_link.specs.Tables.{class_at}
-use Rattle.jc_held.specs.Affected.{IsBounded}
-use Rattle.jc_held.specs.Linkages.{given, world_held}
-use Rattle.jc_held.specs.Turns.{turns}
+use Rattle.jc_linkage.specs.Affected.{IsBounded}
+use Rattle.jc_linkage.specs.Linkages.{given, world_held}
+use Rattle.jc_linkage.specs.Turns.{turns}
 use Rattle.jc_report.specs.Reports.{facts_at, world_of}
 use Rattle.jc_edits.specs.SessionState.{HeldFiles}
 use Rattle.jc_edits.specs.Touched.{gives, is_turned}

@@ -1,6 +1,6 @@
 use Rattle.std.proofs.Common.{ap, refl, sym, ◌∙◌}
 use Rattle.std.specs.FinMap as fin
-use Rattle.jc_held.specs.Linkages.{Linkage}
+use Rattle.jc_linkage.specs.Linkages.{Linkage}
 use Rattle.jc_link.specs.Tables.{class_at}
 use Rattle.jc_report.specs.Files.{Files}
 use Rattle.jc_report.specs.Reports.{facts_at}

@@ -1,5 +1,5 @@
 use Rattle.std.proofs.Common.{slice_get, subst}
-use Rattle.jc_held.specs.Holders.{CountsHolders}
+use Rattle.jc_linkage.specs.Holders.{CountsHolders}
 use Rattle.jc_report.specs.Reports.{IsReport, Report}
 use Rattle.jc_edits.specs.SessionState.{SessionState}
 use Rattle.jc_edits.proofs.session.Session.holders.Goals as goal

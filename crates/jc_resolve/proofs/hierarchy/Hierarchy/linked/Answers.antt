@@ -5,27 +5,33 @@ use Rattle.jc_classes.specs.Loading.{Load as Loads, Loading as How}
 use Rattle.jc_classes.specs.Numbers.{name_at}
 use Rattle.jc_classes.specs.Parts.{AreAnswers}
 use Rattle.jc_classes.specs.Worlds.{World, references_of}
-use Rattle.jc_lookup.specs.inside.Indexed.{IsIndexed}
-use Rattle.jc_lookup.specs.inside.Shown.{indexed_of}
+use Rattle.jc_numbered.specs.inside.Indexed.{IsIndexed}
+use Rattle.jc_numbered.specs.inside.Shown.{indexed_of}
 use Rattle.jc_resolve.specs.Linked.{Linked}
-use Rattle.jc_resolve.specs.Numbered.{Numbered, Agrees, numbered, record_of}
-use Rattle.jc_lookup.specs.inside.Loading.{load_at}
+use Rattle.jc_resolve.specs.Numbered.{Numbered, Agrees, AreClassesOf, numbered, record_of, references_at}
+use Rattle.jc_numbered.specs.inside.Loading.{load_at}
 use Rattle.jc_resolve.specs.inside.Resolved.{loading_of, TellsLoads}
 use Rattle.jc_resolve.proofs.loading.Held.{index_held}
 use Rattle.jc_resolve.proofs.lookups.IfOks.{if_ok_map}
 use Rattle.jc_resolve.proofs.hierarchy.Hierarchy.linked.Goals as goal
 
-pub linked-requires-clause-within : goal.linked-requires-clause-within
-linked-requires-clause-within c = λ v h.
+pub linked-requires-clause-nodes : goal.linked-requires-clause-nodes
+linked-requires-clause-nodes c =
     let i = c.self.inside.classes in
-    let l : v < length (numbered i.names.now i.standing.now i.ups.now).names = subst (λ (z : Numbered). v < length z.names) (sym c.self.view_is) (c.requires.within v h) in
-    omega (arith, l, c.self.invariant.net.names)
+    let class = c.args.class in
+    let v : Numbered = numbered i.names.now i.standing.now i.supertypes.now in
+    record {
+      named = subst (λ (z : Numbered). AreClassesOf z (references_at z class) c.args.nodes.now) (sym c.self.view_is) c.requires.nodes;
+      within = λ n h.
+          let l : n < length v.names = subst (λ (z : Numbered). n < length z.names) (sym c.self.view_is) (c.requires.within n h) in
+          omega (arith, l, c.self.invariant.net.names);
+    }
 
 pub returns-clause-answers : goal.returns-clause-answers
 returns-clause-answers c =
     let i = c.self.inside.classes in
     let x = indexed_of i in
-    let v : Numbered = numbered i.names.now i.standing.now i.ups.now in
+    let v : Numbered = numbered i.names.now i.standing.now i.supertypes.now in
     let count = length i.standing.now in
     let class = c.args.class in
     let loads = c.self.inside.loads.items in
@@ -34,7 +40,7 @@ returns-clause-answers c =
     let f = λ (linked : Linked) (e : (m : World) → TellsLoads m x count c.as_slice.result.now → IsIndexed m x
     → AreAnswers m (name_at v.names class) (loading_of x (load_at c.as_slice.result.now class)) (references_of (record_of v class)) linked.answers)
     (m : World) (how : How) (agrees : Agrees m v) (load : Loads m (name_at v.names class) how).
-    let index = index_held i.names.now i.standing.now i.ups.now m i.rank.items i.good.items held.net agrees in
+    let index = index_held i.names.now i.standing.now i.supertypes.now m i.rank.items i.good.items held.net agrees in
     let told : TellsLoads m x count c.as_slice.result.now = subst (TellsLoads m x count) (sym c.as_slice.ensures.value) (held.told m index) in
     let same : loading_of x (load_at c.as_slice.result.now class) ≡ how = load_one (told class (omega (arith, within, held.net.names))) load in
     subst (λ z. AreAnswers m (name_at v.names class) z (references_of (record_of v class)) linked.answers) same (e m told index) in

@@ -1,0 +1,213 @@
+//! The files with their claims, and how an edit changes them: what can be refused is grown first, and
+//! is then committed or undone by steps that can't fail.
+
+ghost use Rattle.std.specs.Prelude.{◌≡◌, [], IfOk, None, OnErr, OnOk, Some, false, true};
+ghost use Rattle.std.specs.FinMap as map;
+ghost use Rattle.jc_input.specs.Changes.{change_lent};
+ghost use Rattle.jc_edits.specs.Edits.{after, judge};
+ghost use Rattle.jc_edits.specs.inside.Claims.{AreClaims};
+ghost use Rattle.jc_edits.specs.inside.Growth.{AreClaimsBesides, HasPlace, IsGrown, committed, undone};
+
+use crate::claims::{Claims, claim, withdraw, withdraw_stale};
+use crate::file::File;
+use jc_base::{ByteMap, NoMemory};
+use jc_input::LentEdit;
+use std::alloc::Global;
+
+/// Files by their paths, and which of them name a class.
+#[derive(Drop)]
+pub(crate) struct ClaimedFiles {
+    pub(crate) files: ByteMap<File>,
+    pub(crate) claims: Claims,
+}
+
+/// What an edit has grown. Until it is committed nothing is taken away: the file at the path and its
+/// claim stand, so what wins without the edit can still be told.
+#[derive(Drop)]
+pub(crate) struct Grown<'a> {
+    path: &'a [u8],
+    /// The file that is to stand at the path, if one is. It has its claim already.
+    file: Option<File>,
+    /// Whether an empty file keeps a new place at the path.
+    is_new: bool,
+}
+
+impl ClaimedFiles {
+    /// No files.
+    pub(crate) fn new(alloc: Global) -> ClaimedFiles
+        ensures files { result.files ≡ map.empty }
+        ensures claims { AreClaims result.claims result.files }
+    {
+        ClaimedFiles {
+            files: ByteMap::new(alloc),
+            claims: Claims::new(alloc),
+        }
+    }
+}
+
+/// Grows what an edit needs that is not refused.
+pub(crate) fn grow<'a>(
+    held: &mut ClaimedFiles,
+    alloc: Global,
+    edit: LentEdit<'a>,
+) -> Result<Grown<'a>, NoMemory>
+    requires claims { AreClaims held.old.claims held.old.files }
+    requires judged { judge held.old.files (change_lent edit) ≡ None }
+    ensures grown { IfOk result (λ grown. IsGrown held.new.claims held.new.files grown) }
+    ensures place { IfOk result (λ grown. HasPlace held.new.files grown.path.now grown.file) }
+    ensures commits { IfOk result (λ grown. committed held.new.files grown ≡ after held.old.files (change_lent edit.entry)) }
+    ensures undoes { IfOk result (λ grown. undone held.new.files grown ≡ held.old.files) }
+    ensures err_files { OnErr result (held.new.files ≡ held.old.files) }
+    ensures err_claims { OnErr result (AreClaims held.new.claims held.new.files) }
+{
+    match edit {
+        LentEdit::Add(path, bytes) => grow_new(held, alloc, path, bytes),
+        LentEdit::Replace(path, bytes) => grow_file(held, alloc, path, bytes),
+        LentEdit::Remove(path) => Ok(Grown {
+            path,
+            file: None,
+            is_new: false,
+        }),
+    }
+}
+
+/// Takes back what was grown.
+pub(crate) fn undo(held: &mut ClaimedFiles, grown: Grown<'_>)
+    requires { IsGrown held.old.claims held.old.files grown }
+    ensures files { held.new.files ≡ undone held.old.files grown.entry }
+    ensures claims { AreClaims held.new.claims held.new.files }
+{
+    unclaim(held, &grown.file, grown.path);
+    if grown.is_new {
+        give_up(held, grown.path);
+    }
+}
+
+/// Changes the files by what was grown.
+pub(crate) fn commit(held: &mut ClaimedFiles, grown: Grown<'_>)
+    requires grown { IsGrown held.old.claims held.old.files grown }
+    requires place { HasPlace held.old.files grown.path.now grown.file }
+    ensures files { held.new.files ≡ committed held.old.files grown.entry }
+    ensures claims { AreClaims held.new.claims held.new.files }
+{
+    let Grown { path, file, .. } = grown;
+    match file {
+        Some(file) => put(held, path, file),
+        None => take_out(held, path),
+    }
+}
+
+/// Reads the bytes and claims the class that they name.
+fn grow_file<'a>(
+    held: &mut ClaimedFiles,
+    alloc: Global,
+    path: &'a [u8],
+    bytes: Vec<u8>,
+) -> Result<Grown<'a>, NoMemory>
+    requires { AreClaims held.old.claims held.old.files }
+    ensures files { held.new.files ≡ held.old.files }
+    ensures grown { IfOk result (λ grown. AreClaimsBesides held.new.claims held.new.files path.now (Some bytes.items)) }
+    ensures path { IfOk result (λ grown. grown.path.now ≡ path.now) }
+    ensures file { IfOk result (λ grown. grown.file ≡ Some bytes.items) }
+    ensures old { IfOk result (λ grown. grown.is_new ≡ false) }
+    ensures err { OnErr result (AreClaims held.new.claims held.new.files) }
+{
+    let file = File::read(alloc, bytes)?;
+    claim(&mut held.claims, &file, path)?;
+    Ok(Grown {
+        path,
+        file: Some(file),
+        is_new: false,
+    })
+}
+
+/// The same at a path that is new, whose place an empty file keeps.
+fn grow_new<'a>(
+    held: &mut ClaimedFiles,
+    alloc: Global,
+    path: &'a [u8],
+    bytes: Vec<u8>,
+) -> Result<Grown<'a>, NoMemory>
+    requires claims { AreClaims held.old.claims held.old.files }
+    requires absent { map.get held.old.files path.now ≡ None }
+    ensures grown { IfOk result (λ grown. IsGrown held.new.claims held.new.files grown) }
+    ensures place { IfOk result (λ grown. HasPlace held.new.files grown.path.now grown.file) }
+    ensures commits { IfOk result (λ grown. committed held.new.files grown ≡ map.insert held.old.files path.now bytes.items) }
+    ensures undoes { IfOk result (λ grown. undone held.new.files grown ≡ held.old.files) }
+    ensures err_files { OnErr result (held.new.files ≡ held.old.files) }
+    ensures err_claims { OnErr result (AreClaims held.new.claims held.new.files) }
+{
+    let mut grown = grow_file(held, alloc, path, bytes)?;
+    match keep_place(&mut held.files, alloc, path) {
+        Ok(()) => {
+            grown.is_new = true;
+            Ok(grown)
+        }
+        Err(refused) => {
+            undo(held, grown);
+            Err(refused)
+        }
+    }
+}
+
+/// Puts an empty file at a path that is new.
+fn keep_place(files: &mut ByteMap<File>, alloc: Global, path: &[u8]) -> Result<(), NoMemory>
+    ensures ok { OnOk result (files.new ≡ map.insert files.old path.now []) }
+    ensures err { OnErr result (files.new ≡ files.old) }
+{
+    let path = Vec::from_slice(alloc, path)?;
+    files.insert(path, File::empty(alloc))?;
+    Ok(())
+}
+
+/// Withdraws the claim of a file that was to stand at the path, unless the file there has it too.
+fn unclaim(held: &mut ClaimedFiles, file: &Option<File>, path: &[u8])
+    requires { AreClaimsBesides held.old.claims held.old.files path.now file.now }
+    ensures files { held.new.files ≡ held.old.files }
+    ensures claims { AreClaims held.new.claims held.new.files }
+{
+    let Some(file) = file else {
+        return;
+    };
+    match held.files.get(path) {
+        Some(there) => withdraw_stale(&mut held.claims, file, there, path),
+        None => withdraw(&mut held.claims, file, path),
+    }
+}
+
+/// Gives up the place that an empty file keeps.
+fn give_up(held: &mut ClaimedFiles, path: &[u8])
+    requires claims { AreClaims held.old.claims held.old.files }
+    requires empty { map.get held.old.files path.now ≡ Some [] }
+    ensures files { held.new.files ≡ map.remove held.old.files path.now }
+    ensures claims { AreClaims held.new.claims held.new.files }
+{
+    held.files.remove(path);
+}
+
+/// Puts a file that has its claim in the place of the one at the path.
+fn put(held: &mut ClaimedFiles, path: &[u8], file: File)
+    requires claims { AreClaimsBesides held.old.claims held.old.files path.now (Some file) }
+    requires place { map.contains_key held.old.files path.now ≡ true }
+    ensures files { held.new.files ≡ map.insert held.old.files path.now file }
+    ensures claims { AreClaims held.new.claims held.new.files }
+{
+    let Some(before) = held.files.get(path) else {
+        unreachable!();
+    };
+    withdraw_stale(&mut held.claims, before, &file, path);
+    let Ok(_) = held.files.replace(path, file) else {
+        unreachable!();
+    };
+}
+
+/// Takes out the file at the path, with its claim.
+fn take_out(held: &mut ClaimedFiles, path: &[u8])
+    requires { AreClaims held.old.claims held.old.files }
+    ensures files { held.new.files ≡ map.remove held.old.files path.now }
+    ensures claims { AreClaims held.new.claims held.new.files }
+{
+    if let Some(file) = held.files.remove(path) {
+        withdraw(&mut held.claims, &file, path);
+    }
+}

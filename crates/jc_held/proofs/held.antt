@@ -1,9 +1,0 @@
-pub mod Holding
-pub mod Places
-pub mod Dependants
-pub mod Classes
-pub mod Rows
-pub mod ProvidedRows
-pub mod Required
-pub mod Holders
-pub mod Changed

@@ -1,5 +1,0 @@
-use Rattle.jc_held.proofs.held.ProvidedRows.{rows_provided}
-use Rattle.jc_held.proofs.linkage.Linkage.provided.Goals as goal
-
-pub returns : goal.returns
-returns c = λ classes are. rows_provided c.args.self.now c.classes.result classes c.classes.ensures are

@@ -1,0 +1,5 @@
+pub mod AnyChange
+pub mod FewPartsMade
+pub mod NamesChanged
+pub mod PrefixesTurned
+pub mod SameClasses

@@ -1,0 +1,68 @@
+-- One that comes, among what is made ready.
+use Rattle.std.proofs.Common.{◌≡◌, ◌+◌, Bool, ◌&&◌, ◌||◌, List, [], length, Option, None, refl, sym, ap, ◌∙◌, Some}
+use Rattle.std.proofs.lemmas.List.{length-append, map-append}
+use Rattle.std.specs.FinMap as map
+use Rattle.jc_classes.specs.Names.{Name, same_name}
+use Rattle.jc_classes.specs.Worlds.{World}
+use Rattle.jc_link.specs.Meters.{counted}
+use Rattle.jc_link.specs.declared.meter.Meter.{Meter}
+use Rattle.jc_linkage.specs.declared.kept.Fresh.{Fresh}
+use Rattle.jc_linkage.specs.declared.kept.Kept.{Kept}
+use Rattle.jc_linkage.specs.inside.Kept.{AllFresh, KeptMap, Relation, fresh_names, held_in, names_by, reach_sum}
+use Rattle.jc_linkage.specs.inside.Prepared.{IsPrepared, one_of}
+use Rattle.jc_linkage.specs.inside.Users.{is_name}
+use Rattle.jc_classes.specs.NameLists.{has}
+use Rattle.jc_linkage.specs.Affected.{NoRepeat}
+use Rattle.jc_linkage.proofs.equations.Booleans.{or_none}
+use Rattle.jc_linkage.proofs.equations.LinkTests.{all_linked}
+use Rattle.jc_linkage.proofs.fresh.FreshLists.{all_fresh_append}
+use Rattle.jc_linkage.proofs.fresh.Counts.{counted_add, counted_none, reach_sum_append}
+use Rattle.jc_linkage.proofs.held.KeptMaps.{held_insert, held_at}
+
+-- where none comes, nothing is made
+pub ready_none : (m : World) (comes : Option Name) (kept : KeptMap) (meter : Meter) → comes ≡ None → IsPrepared m [] comes kept kept [] meter meter
+ready_none m comes kept meter none = record {
+  last = [];
+  others = refl;
+  newcomer = ap one_of (sym none);
+  parts = tt;
+  at = λ d. refl;
+  made = counted_none meter.made meter.made_fit;
+  asks = counted_none meter.asks meter.asks_fit;
+}
+
+-- what is made ready of the one that comes, behind the others
+pub ready_behind : (m : World) (names : List Name) (comes : Option Name) (kept now : KeptMap) (fresh : List Fresh) (old mid new : Meter)
+    → fresh_names fresh ≡ names → AllFresh m fresh → mid.made ≡ counted old.made (length names) → mid.asks ≡ counted old.asks (reach_sum fresh)
+    → IsPrepared m [] comes kept now [] mid new → IsPrepared m names comes kept now fresh old new
+ready_behind m names comes kept now fresh old mid new others parts made asks ready = record {
+  last = ready.last;
+  others = others;
+  newcomer = ready.newcomer;
+  parts = all_fresh_append m fresh ready.last parts ready.parts;
+  at = ready.at;
+  made =
+      ready.made ∙ ap (λ a. counted a (length (fresh_names ready.last))) made ∙ counted_add old.made (length names) (length (fresh_names ready.last))
+      ∙ ap (counted old.made)
+      (ap (λ z. length z + length (fresh_names ready.last)) (sym others) ∙ sym (ap length (map-append (λ (x : Fresh). x.name.items) fresh ready.last) ∙ length-append (fresh_names fresh) (fresh_names ready.last)));
+  asks =
+      ready.asks ∙ ap (λ a. counted a (reach_sum ready.last)) asks ∙ counted_add old.asks (reach_sum fresh) (reach_sum ready.last)
+      ∙ ap (counted old.asks) (sym (reach_sum_append fresh ready.last));
+}
+
+pub one_has : (o : Option Name) (d : Name) → has (one_of o) d ≡ is_name o d
+one_has None d = refl
+one_has (Some n) d = or_none (same_name d n)
+
+pub one_once : (o : Option Name) → NoRepeat (one_of o)
+one_once None = tt
+one_once (Some n) = (refl, tt)
+
+-- ---- one that is put in
+
+-- a class of which nothing was kept is put in, and linked
+pub newcomer_linked : (r : Relation) (kept : KeptMap) (name : Name) (newcomer : Kept) (f : Bool) (d n : Name) → map.get kept name ≡ None
+    → ((held_in r kept d n || f) || (same_name d name && has (names_by r newcomer) n)) ≡ (held_in r (map.insert kept name newcomer) d n || f)
+newcomer_linked r kept name newcomer f d n absent =
+    all_linked (held_in r kept d n) f (same_name d name) (has (names_by r newcomer) n) (held_at r kept name None d n absent)
+    ∙ ap (λ b. b || f) (sym (held_insert r kept name newcomer d n))

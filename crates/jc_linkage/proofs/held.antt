@@ -1,0 +1,14 @@
+pub mod Holding
+pub mod Places
+pub mod Dependants
+pub mod Classes
+pub mod Rows
+pub mod ProvidedRows
+pub mod Required
+pub mod Holders
+pub mod Changed
+pub mod KeptMaps
+pub mod KeysOfRows
+pub mod UserNames
+pub mod UsersFound
+pub mod LinksLeft

@@ -1,0 +1,85 @@
+-- The classes that require a row are the users of its key.
+use Rattle.std.proofs.Common.{◌≡◌, ◌∙◌, ℕ, true, List, [], Some, None, is_some, length, map, slice_get, refl, sym, ap, subst}
+use Rattle.std.proofs.lemmas.List.Elements.{All-contains}
+use Rattle.std.proofs.lemmas.Option.{slice_get-map}
+use Rattle.std.specs.FinMap as fin
+use Rattle.std.specs.List.{Contains}
+use Rattle.std.specs.List.Sorted.{IsStrictlySortedBy}
+use Rattle.std.specs.Option.{option_map, unwrap_or}
+use Rattle.jc_classes.specs.NameLists.{has, Lists}
+use Rattle.jc_classes.specs.Names.{Name, name_cmp}
+use Rattle.jc_index.specs.Indexes.{is_key, users_of}
+use Rattle.jc_index.proofs.indexes.Lists.{keys_list}
+use Rattle.jc_report.specs.ClassRows.{required_rows}
+use Rattle.jc_report.specs.Reports.{Class, GivesRow, name_of}
+use Rattle.jc_report.specs.RowKeys.{row_key, row_of}
+use Rattle.jc_report.specs.Rows.{AreRows, Row}
+use Rattle.jc_report.proofs.row_keys.KeyOrder.{row_back}
+use Rattle.jc_report.proofs.rows.RowsAreOne.{are_rows_one}
+use Rattle.jc_linkage.specs.Holders.{CountsHolders, IsHolder}
+use Rattle.jc_linkage.specs.Linkages.{AreHeldClasses, HasPlainRows, IsHeldClass, Linkage}
+use Rattle.jc_linkage.specs.declared.kept.Kept.{Kept}
+use Rattle.jc_linkage.specs.declared.links.Links.{Links}
+use Rattle.jc_linkage.specs.inside.Holding.{IsHeld}
+use Rattle.jc_linkage.specs.inside.Kept.{KeptMap, names_kept}
+use Rattle.jc_linkage.specs.inside.Kept.Relation.{Requires}
+use Rattle.jc_linkage.proofs.held.Places.{kept_by}
+use Rattle.jc_linkage.proofs.held.Required.{keys_required, rows_required}
+use Rattle.jc_linkage.proofs.held.Rows.{class_given, key_given}
+
+module _ (a : Linkage) (kept : KeptMap) (links : Links) (held : IsHeld a.classes a.prefixes kept links) (plain : HasPlainRows a) (classes : List Class) (h : AreHeldClasses a classes) where
+  -- a user of a key requires its row, whose key it is
+  record Uses (key user : Name) : Type 0 where
+    holder : IsHolder classes (row_of key) user
+    back : row_key (row_of key) ≡ key
+
+  user_holds : (key user : Name) → has (users_of links.required key) user ≡ true → Uses key user
+  user_holds key user there =
+      let k = kept_by Requires (fin.get kept user) key (sym (held.linked Requires key user) ∙ there) in
+      let found = class_given a kept held.parts required_rows (λ (k : Kept). k.required) (keys_required a) classes h user k.0 k.1 key k.2 in
+      let c = found.0 in
+      let row = found.1 in
+      let is = All-contains (IsHeldClass a) classes c h.sound found.2 in
+      let same : row ≡ row_of key = sym (row_back row (plain (name_of c) c.facts c.part row is.facts found.4)) ∙ ap row_of found.5 in
+      record {
+        holder = record { class = c; among = found.2; named = found.3; gives = subst (Contains (required_rows c.facts c.part)) same found.4 };
+        back = ap row_key (sym same) ∙ found.5;
+      }
+
+  holder_uses : (key : Name) → row_key (row_of key) ≡ key → (n : Name) → IsHolder classes (row_of key) n → has (users_of links.required key) n ≡ true
+  holder_uses key back n g =
+      let k = key_given a kept held.parts required_rows (λ (k : Kept). k.required) (keys_required a) classes h (row_of key) (record { class = g.class; among = g.among; gives = g.gives }) in
+      held.linked Requires key n
+      ∙ ap (λ o. has (names_kept Requires o) key) (ap (fin.get kept) (sym g.named) ∙ k.1)
+      ∙ ap (has k.0.required) (sym back)
+      ∙ k.2
+
+  holders_listed : (key user : Name) (list : List Name) → has (users_of links.required key) user ≡ true → fin.get links.required key ≡ Some list → IsStrictlySortedBy name_cmp list → Lists list (IsHolder classes (row_of key))
+  holders_listed key user list there at rises =
+      let is : users_of links.required key ≡ list = ap (λ o. unwrap_or o []) at in
+      let back = (user_holds key user there).back in
+      record {
+        rises = rises;
+        sound = λ n e. (user_holds key n (ap (λ xs. has xs n) is ∙ e)).holder;
+        complete = λ n g. ap (λ xs. has xs n) (sym is) ∙ holder_uses key back n g;
+      }
+
+  -- ---- the rows that are required, by their places
+
+  module _ (used : (key : Name) → is_key links.required key ≡ true → (user : Name) × (has (users_of links.required key) user ≡ true))
+      (rows : List Row) (are : AreRows rows (GivesRow required_rows classes)) (place : ℕ) where
+    row_at : slice_get rows place ≡ option_map row_of (slice_get (fin.keys links.required) place)
+    row_at =
+        let keys = fin.keys links.required in
+        let same : rows ≡ map row_of keys = are_rows_one (GivesRow required_rows classes) rows (map row_of keys) are (rows_required a kept links held plain classes h keys (keys_list links.required) used) in
+        ap (λ rs. slice_get rs place) same ∙ slice_get-map row_of keys place
+
+    pub no_row : None ≡ slice_get (fin.keys links.required) place → CountsHolders classes (slice_get rows place) 0
+    no_row e = subst (λ o. CountsHolders classes o 0) (sym (row_at ∙ ap (option_map row_of) (sym e))) refl
+
+    pub holders_counted : (key : Name) (list : List Name) → Some key ≡ slice_get (fin.keys links.required) place → fin.get links.required key ≡ Some list → IsStrictlySortedBy name_cmp list
+        → (n : ℕ) → n ≡ length list → CountsHolders classes (slice_get rows place) n
+    holders_counted key list e at rises n counted =
+        let user = used key (ap is_some at) in
+        subst (λ o. CountsHolders classes o n) (sym (row_at ∙ ap (option_map row_of) (sym e)))
+        (list, holders_listed key user.0 list user.1 at rises, counted)

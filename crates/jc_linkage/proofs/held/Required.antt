@@ -1,0 +1,45 @@
+-- The rows that the held classes require.
+use Rattle.std.proofs.Common.{◌≡◌, ◌∙◌, true, List, [], Some, None, Option, is_some, map, refl, sym, ap, subst}
+use Rattle.std.proofs.lemmas.Bool.{false≢true}
+use Rattle.std.specs.Prelude.{unwrap_or}
+use Rattle.std.specs.FinMap as fin
+use Rattle.jc_classes.specs.Facts.{Facts}
+use Rattle.jc_classes.specs.NameLists.{has, Lists}
+use Rattle.jc_classes.specs.Names.{Name}
+use Rattle.jc_index.specs.Indexes.{UserLists, is_key, users_of}
+use Rattle.jc_link.specs.Closures.{record_of}
+use Rattle.jc_report.specs.ClassRows.{required_rows}
+use Rattle.jc_report.specs.Reports.{Class, GivesRow}
+use Rattle.jc_report.specs.RowKeys.{row_of}
+use Rattle.jc_report.specs.Rows.{AreRows}
+use Rattle.jc_linkage.specs.Linkages.{AreHeldClasses, HasPlainRows, Linkage, world_held}
+use Rattle.jc_linkage.specs.declared.kept.Kept.{Kept}
+use Rattle.jc_linkage.specs.declared.links.Links.{Links}
+use Rattle.jc_linkage.specs.inside.Holding.{IsHeld}
+use Rattle.jc_linkage.specs.inside.Kept.{AreKeys, IsKeptOf, KeptMap, names_kept, required_by}
+use Rattle.jc_linkage.specs.inside.Kept.Relation.{Requires}
+use Rattle.jc_linkage.proofs.held.Places.{kept_by}
+use Rattle.jc_linkage.proofs.held.Rows.{rows_of_kept}
+
+pub keys_required : (a : Linkage) (d : Name) (f : Facts) (k : Kept) → IsKeptOf (world_held a) d k → record_of (world_held a d) ≡ Some f → AreKeys k.required (required_rows f k.part)
+keys_required a d f k of e = subst (λ o. AreKeys k.required (required_by o k.part)) e of.required
+
+module _ (a : Linkage) (kept : KeptMap) (links : Links) (held : IsHeld a.classes a.prefixes kept links) (plain : HasPlainRows a) (classes : List Class) (h : AreHeldClasses a classes) where
+  key_used : (lists : UserLists) (key user : Name) → has (users_of lists key) user ≡ true → is_key lists key ≡ true
+  key_used lists key user there = by (fin.get lists key) there
+    where
+      by : (o : Option (List Name)) → has (unwrap_or o []) user ≡ true → is_some o ≡ true
+      by (Some users) e = refl
+      by None e = absurd (false≢true e)
+
+  pub rows_required : (keys : List Name) → Lists keys (λ name. is_key links.required name ≡ true)
+      → ((name : Name) → is_key links.required name ≡ true → (user : Name) × (has (users_of links.required name) user ≡ true))
+      → AreRows (map row_of keys) (GivesRow required_rows classes)
+  rows_required keys lists used =
+      rows_of_kept a kept held.parts required_rows (λ (k : Kept). k.required) (keys_required a) classes h keys lists.rises
+      plain
+      (λ key there.
+      let user = used key (lists.sound key there) in
+      let found = kept_by Requires (fin.get kept user.0) key (sym (held.linked Requires key user.0) ∙ user.1) in
+      (user.0, found.0, found.1, found.2))
+      (λ d k e key there. lists.complete key (key_used links.required key d (held.linked Requires key d ∙ ap (λ o. has (names_kept Requires o) key) e ∙ there)))

@@ -1,0 +1,10 @@
+use Rattle.jc_linkage.proofs.held.Holding.{held_of}
+use Rattle.jc_linkage.proofs.held.Required.{rows_required}
+use Rattle.jc_linkage.proofs.linkage.Linkage.required.Goals as goal
+
+pub returns : goal.returns
+returns c =
+    let a = c.args.self.now in
+    let inside = c.self.inside in
+    let held = held_of a inside.table inside.outside c.self.view_is inside.kept inside.links c.self.invariant.0 in
+    λ plain classes are. rows_required a inside.kept inside.links held plain classes are c.keys.result c.keys.ensures.keys c.keys.ensures.used

@@ -1,0 +1,2 @@
+pub mod ClassesStepped
+pub mod TablesStepped

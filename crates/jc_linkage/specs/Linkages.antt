@@ -1,0 +1,56 @@
+-- The classes that are held, and the world that they make with the prefixes of outside names.
+use Rattle.std.specs.Prelude.{◌≡◌, ◌-◌, Bool, List, Some, is_some, map}
+use Rattle.std.specs.List.{All, Contains}
+use Rattle.std.specs.List.Sorted.{IsStrictlySortedBy}
+use Rattle.jc_classes.specs.Facts.{Facts}
+use Rattle.jc_classes.specs.Names.{Name, name_cmp}
+use Rattle.jc_classes.specs.Parts.{IsPart, Part}
+use Rattle.jc_classes.specs.Worlds.{World}
+use Rattle.jc_link.specs.Tables.{Places, class_at, world}
+use Rattle.jc_link.specs.declared.meter.Meter.{Meter}
+use Rattle.jc_report.specs.ClassRows.{required_rows}
+use Rattle.jc_report.specs.Reports.{Class, GivesRow, name_of}
+use Rattle.jc_report.specs.RowKeys.{IsPlain}
+use Rattle.jc_report.specs.Rows.{AreRows, Row}
+use Rattle.jc_linkage.specs.Affected.{IsBounded}
+use Rattle.jc_linkage.specs.Turns.{turns}
+
+pub record Linkage : Type 0 where
+  pub classes : Places
+  pub prefixes : List Name
+
+-- whether files give the class
+abbrev pub given : Linkage → Name → Bool
+given a n = is_some (class_at a.classes n)
+
+abbrev pub world_held : Linkage → World
+world_held a = world a.classes a.prefixes
+
+-- the names that other prefixes turn
+abbrev pub turned : (old new : Linkage) → Name → Bool
+turned old new = turns old.classes old.prefixes new.prefixes
+
+-- the meter has counted few parts and asks between the two
+abbrev pub IsBoundedIn : Linkage → (touched : Name → Bool) → (old new : Meter) → Type 0
+IsBoundedIn a touched old new = IsBounded (given a) (world_held a) touched (new.made - old.made) (new.asks - old.asks)
+
+-- the class is what is held of its name, with the part that it has over all classes
+pub record IsHeldClass (a : Linkage) (c : Class) : Type 0 where
+  pub facts : class_at a.classes (name_of c) ≡ Some c.facts
+  pub part : IsPart (world_held a) (name_of c) c.part
+
+-- the classes that files give, by name
+pub record AreHeldClasses (a : Linkage) (classes : List Class) : Type 0 where
+  pub rises : IsStrictlySortedBy name_cmp (map name_of classes)
+  pub sound : All (IsHeldClass a) classes
+  pub complete : (name : Name) (c : Facts) → class_at a.classes name ≡ Some c → Contains (map name_of classes) name
+
+-- no byte of a class and of a name is 0 in the rows that the classes may require
+abbrev pub HasPlainRows : Linkage → Type 0
+HasPlainRows a =
+    (name : Name) (c : Facts) (p : Part) (row : Row) → class_at a.classes name ≡ Some c
+    → Contains (required_rows c p) row → IsPlain row
+
+-- the rows that the classes give by these rules, sorted
+abbrev pub AreRowsHeld : (Facts → Part → List Row) → Linkage → List Row → Type 0
+AreRowsHeld rows_by a rows = (classes : List Class) → AreHeldClasses a classes → AreRows rows (GivesRow rows_by classes)

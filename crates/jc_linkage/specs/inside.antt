@@ -1,0 +1,8 @@
+pub mod Holding
+pub mod Kept
+pub mod Lending
+pub mod LinkSets
+pub mod Prepared
+pub mod Stepping
+pub mod Turning
+pub mod Users

@@ -1,0 +1,95 @@
+-- What is held of classes.
+use Rattle.std.specs.Prelude.{◌≡◌, ◌-◌, Bool, false, ◌&&◌, ◌||◌, not, if◌then◌else◌}
+use Rattle.std.specs.Prelude.{List, Option, Some, None, IsSome, is_some, refl}
+use Rattle.std.specs.FinMap as fin
+use Rattle.std.specs.Coded.{Coded, code_by, coded×}
+use Rattle.jc_classes.specs.Facts.{Facts}
+use Rattle.jc_classes.specs.Names.{Name, same_name}
+use Rattle.jc_link.specs.Tables.{Places, class_at, world}
+use Rattle.jc_link.specs.declared.meter.Meter.{Meter}
+use Rattle.jc_linkage.specs.Affected.{IsBounded}
+use Rattle.jc_linkage.specs.Linkages.{Linkage}
+use Rattle.jc_linkage.specs.Steps.{Classes, is_class, step_class, step_name}
+use Rattle.jc_linkage.specs.declared.links.Links.{Links}
+use Rattle.jc_linkage.specs.declared.step.Step.{Step}
+use Rattle.jc_linkage.specs.declared.step.Step.TheVariants.{Put}
+use Rattle.jc_linkage.specs.inside.Kept.{AreLinked, IsKept, KeptMap}
+use Rattle.jc_linkage.specs.inside.Stepping.{IsBack, IsThere, stepped}
+
+abbrev pub given_in : Places → Name → Bool
+given_in places n = is_some (class_at places n)
+
+-- of each class its part and its reach over all of them, and the links turn them round
+pub record IsHeld (places : Places) (prefixes : List Name) (kept : KeptMap) (links : Links) : Type 0 where
+  pub parts : IsKept (given_in places) (world places prefixes) kept
+  pub linked : AreLinked kept links
+
+-- the meter has counted few parts and asks between the two
+abbrev pub IsBoundedOver : Places → (prefixes : List Name) → (touched : Name → Bool) → (old new : Meter) → Type 0
+IsBoundedOver places prefixes touched old new =
+    IsBounded (given_in places) (world places prefixes) touched (new.made - old.made) (new.asks - old.asks)
+
+-- a class stands at its name
+abbrev pub AreNamed : Places → Type 0
+AreNamed places = (name : Name) (facts : Facts) → class_at places name ≡ Some facts → facts.name ≡ name
+
+abbrev pub linkage_code : Coded Places → Coded (List Name) → Coded Linkage
+linkage_code places prefixes =
+    code_by (Places × List Name) (coded× places prefixes)
+    (λ a. (a.classes, a.prefixes)) (λ p. record { classes = p.0; prefixes = p.1 }) (λ _. refl)
+
+-- ---- a step or none
+
+abbrev pub name_of : Option Step → Option Name
+name_of None = None
+name_of (Some s) = Some (step_name s)
+
+abbrev pub at_step : Option Step → Name → Bool
+at_step None n = false
+at_step (Some s) n = same_name n (step_name s)
+
+abbrev pub at_either : (first second : Option Step) → Name → Bool
+at_either first second n = at_step first n || at_step second n
+
+abbrev pub stepped_by : Option Step → Classes → Classes
+stepped_by None m n = m n
+stepped_by (Some s) m n = stepped s m n
+
+-- the name of the class that goes by the step
+abbrev pub leaver : Option Step → Option Name
+leaver None = None
+leaver (Some s) = if is_some (step_class s) then None else Some (step_name s)
+
+-- the name of the step, where nothing is kept of it
+abbrev pub comer : KeptMap → Option Step → Option Name
+comer kept None = None
+comer kept (Some s) = if is_some (fin.get kept (step_name s)) then None else Some (step_name s)
+
+-- the step, where it counts
+abbrev pub counting : KeptMap → Option Step → Option Facts → Option Step
+counting kept None put = None
+counting kept (Some s) put = if is_some (fin.get kept (step_name s)) && not (is_class put (step_name s)) then Some s else None
+
+-- the step that puts a class
+abbrev pub putting : Option Facts → Option Step
+putting None = None
+putting (Some f) = Some (Put f)
+
+-- it is at the name of a class, and the other step is at another
+abbrev pub CountsStep : Classes → Option Step → Option Step → Type 0
+CountsStep m None other = Unit {0}
+CountsStep m (Some s) other = IsSome (m (step_name s)) × (at_step other (step_name s) ≡ false)
+
+abbrev pub PutsClass : Option Step → Type 0
+PutsClass None = Unit {0}
+PutsClass (Some s) = IsSome (step_class s)
+
+abbrev pub AreBack : (back step : Option Step) → Classes → Type 0
+AreBack None None m = Unit {0}
+AreBack (Some b) (Some s) m = IsBack b s m
+AreBack None (Some s) m = ⊥
+AreBack (Some b) None m = ⊥
+
+abbrev pub AreThere : Option Step → Places → Type 0
+AreThere None places = Unit {0}
+AreThere (Some s) places = IsThere s places

@@ -1,0 +1,106 @@
+-- What is kept of each class.
+use Rattle.std.specs.Prelude.{◌≡◌, ℕ, ◌+◌, Bool, true, false, ◌&&◌, ◌||◌, if◌then◌else◌}
+use Rattle.std.specs.Prelude.{List, [], ◌∷◌, map, length, Option, Some, None, IsSome}
+use Rattle.std.specs.FinMap as fin
+use Rattle.std.specs.List.Sorted.{IsStrictlySortedBy}
+use Rattle.jc_classes.specs.Facts.{Facts}
+use Rattle.jc_classes.specs.NameLists.{has, Lists}
+use Rattle.jc_classes.specs.Names.{Name, name_cmp, same_name}
+use Rattle.jc_classes.specs.Parts.{IsPart, Part, Reach}
+use Rattle.jc_classes.specs.Worlds.{World}
+use Rattle.jc_index.specs.Indexes.{UserLists, users_of}
+use Rattle.jc_link.specs.Closures.{record_of}
+use Rattle.jc_report.specs.ClassRows.{required_rows}
+use Rattle.jc_report.specs.RowKeys.{row_key}
+use Rattle.jc_report.specs.Rows.{Row}
+use Rattle.jc_linkage.specs.declared.kept.Kept.{Kept}
+use Rattle.jc_linkage.specs.declared.kept.Fresh.{Fresh}
+use Rattle.jc_linkage.specs.declared.links.Links.{Links}
+
+-- ---- what is kept of a class
+
+abbrev pub required_by : Option Facts → Part → List Row
+required_by (Some f) p = required_rows f p
+required_by None p = []
+
+-- the keys of the rows, rising
+pub record AreKeys (keys : List Name) (rows : List Row) : Type 0 where
+  pub rises : IsStrictlySortedBy name_cmp keys
+  pub same : (key : Name) → has keys key ≡ has (map row_key rows) key
+
+-- of the rows that the class requires by its part
+abbrev pub HasKeysOf : World → Name → (keys : List Name) → Part → Type 0
+HasKeysOf m d keys part = AreKeys keys (required_by (record_of (m d)) part)
+
+pub record IsKeptOf (m : World) (d : Name) (k : Kept) : Type 0 where
+  pub part : IsPart m d k.part
+  pub reach : Lists k.reach (Reach m d)
+  pub required : HasKeysOf m d k.required k.part
+
+abbrev pub KeptMap : Type 0
+KeptMap = fin.FinMap name_cmp Kept
+
+-- what is kept of each given class, and of no other
+pub record IsKept (given : Name → Bool) (m : World) (kept : KeptMap) : Type 0 where
+  pub only : (d : Name) (k : Kept) → fin.get kept d ≡ Some k → given d ≡ true
+  pub sound : (d : Name) (k : Kept) → fin.get kept d ≡ Some k → IsKeptOf m d k
+  pub complete : (d : Name) → given d ≡ true → IsSome (fin.get kept d)
+
+-- ---- links
+
+-- a class reaches names and requires rows
+pub data Relation : Type 0 where
+  Reaches : Relation
+  Requires : Relation
+
+abbrev pub names_by : Relation → Kept → List Name
+names_by Reaches k = k.reach
+names_by Requires k = k.required
+
+abbrev pub names_kept : Relation → Option Kept → List Name
+names_kept r None = []
+names_kept r (Some k) = names_by r k
+
+-- whether a class is kept with a name
+abbrev pub held_in : Relation → KeptMap → (class name : Name) → Bool
+held_in r kept d n = has (names_kept r (fin.get kept d)) n
+
+-- the reach that is kept of the class holds a touched name
+abbrev pub KeptHits : (touched : Name → Bool) → KeptMap → Name → Type 0
+KeptHits touched kept d = (n : Name) × (touched n ≡ true) × (held_in Reaches kept d n ≡ true)
+
+abbrev pub lists_by : Relation → Links → UserLists
+lists_by Reaches links = links.reach
+lists_by Requires links = links.required
+
+-- whether a class is linked to a name
+abbrev pub linked : Relation → Links → (name class : Name) → Bool
+linked r links n d = has (users_of (lists_by r links) n) d
+
+-- the links turn round what is kept
+abbrev pub AreLinked : KeptMap → Links → Type 0
+AreLinked kept links = (r : Relation) (n d : Name) → linked r links n d ≡ held_in r kept d n
+
+-- ---- what is to be kept
+
+abbrev pub fresh_names : List Fresh → List Name
+fresh_names fresh = map (λ (x : Fresh). x.name.items) fresh
+
+-- whether a class is among these with a name
+abbrev pub fresh_has : Relation → List Fresh → (class name : Name) → Bool
+fresh_has r [] d n = false
+fresh_has r (x ∷ xs) d n = (same_name d x.name.items && has (names_by r x.kept) n) || fresh_has r xs d n
+
+abbrev pub AllFresh : World → List Fresh → Type 0
+AllFresh m [] = Unit {0}
+AllFresh m (x ∷ xs) = IsKeptOf m x.name.items x.kept × AllFresh m xs
+
+-- how many names their reaches have
+abbrev pub reach_sum : List Fresh → ℕ
+reach_sum [] = 0
+reach_sum (x ∷ xs) = length x.kept.reach + reach_sum xs
+
+-- what is fresh of a class, else o
+abbrev pub fresh_at : List Fresh → Name → Option Kept → Option Kept
+fresh_at [] d o = o
+fresh_at (x ∷ xs) d o = if same_name d x.name.items then Some x.kept else fresh_at xs d o

@@ -1,0 +1,51 @@
+//! The classes that are held, with their parts.
+
+ghost use Rattle.std.specs.Iterator.{YieldsFirstBy, item_count};
+ghost use Rattle.jc_linkage.specs.ClassLent.{class_lent};
+
+use crate::kept::Kept;
+use jc_base::byte_map;
+use jc_classes::Facts;
+use jc_link::{Part, TableClasses};
+use std::marker::Model;
+
+/// A class that files give.
+#[derive(Clone, Copy)]
+pub struct Class<'a> {
+    pub facts: &'a Facts,
+    pub part: &'a Part,
+}
+
+/// The classes of a [`crate::Linkage`] in the order of their names, seen as the list of those that are left.
+#[derive(Drop)]
+pub struct HeldClasses<'a> {
+    pub(crate) records: TableClasses<'a>,
+    pub(crate) kept: byte_map::Iter<'a, Kept>,
+}
+
+impl<'a> Model for HeldClasses<'a> {
+    ghost use Rattle.std.specs.Prelude.{List};
+    ghost use Rattle.jc_report.specs.Reports as reports;
+    ghost use Rattle.jc_linkage.specs.inside.Lending.{with_parts};
+
+    ghost Value = { List reports.Class };
+
+    ghost view = { λ a. with_parts a.records a.kept };
+}
+
+impl<'a> Iterator for HeldClasses<'a> {
+    type Item = Class<'a>;
+
+    ghost next_gives = { YieldsFirstBy class_lent (λ left. left) };
+
+    ghost remaining = { item_count (λ left. left) };
+
+    fn next(&mut self) -> Option<Class<'a>> {
+        let facts = self.records.next()?;
+        let (_, kept) = self.kept.next()?;
+        Some(Class {
+            facts,
+            part: &kept.part,
+        })
+    }
+}

@@ -1,0 +1,20 @@
+//! The classes of files with their parts: what an edit leaves standing, which parts it makes anew, and which
+//! classes depend on a name.
+#![tactic(auto)]
+
+mod affected;
+mod changing;
+mod classes;
+mod kept;
+mod linkage;
+mod linking;
+mod links;
+mod preparing;
+mod rows;
+mod step;
+mod turning;
+
+pub use classes::{Class, HeldClasses};
+pub use linkage::Linkage;
+pub use rows::{Provided, Required};
+pub use step::Step;

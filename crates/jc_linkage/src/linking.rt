@@ -1,0 +1,137 @@
+//! Parts are put in the place of those that are kept: links are added first, which may be refused and is then
+//! undone, and taken out last, which can't fail.
+
+ghost use Rattle.std.specs.Prelude.{◌≡◌, true, IsSome, None, OnErr, OnOk, Some};
+ghost use Rattle.std.specs.FinMap as map;
+ghost use Rattle.jc_classes.specs.Names.{Name};
+ghost use Rattle.jc_classes.specs.NameLists.{has};
+ghost use Rattle.jc_linkage.specs.Affected.{NoRepeat};
+ghost use Rattle.jc_linkage.specs.inside.Kept.{AreLinked, Relation, fresh_at, fresh_names, held_in, linked};
+ghost use Rattle.jc_linkage.specs.inside.LinkSets.{Adds, AddsSome, AreLinkedAndSome, AreLinks, TakesOut};
+ghost use Rattle.jc_linkage.specs.inside.LinkSets.{all_fresh, all_held, held_and_fresh, together, without};
+ghost use Rattle.jc_linkage.specs.inside.LinkSets.{links_but, links_held, links_lost, links_of};
+
+use crate::kept::{Fresh, Kept};
+use crate::links::Links;
+use jc_base::{ByteMap, NoMemory};
+
+/// Links each class to what is to be kept of it, where what is kept lacks the name. At want of memory some links may
+/// be there.
+pub(crate) fn link_fresh(
+    links: &mut Links,
+    kept: &ByteMap<Kept>,
+    fresh: &[Fresh],
+) -> Result<(), NoMemory>
+    requires { AreLinked kept.now links.old }
+    ensures ok { OnOk result (Adds (all_fresh fresh.now) links.old links.new) }
+    ensures err { OnErr result (AddsSome (all_fresh fresh.now) links.old links.new) }
+{
+    for one in fresh {
+        link_one(links, kept, one)?;
+    }
+    Ok(())
+}
+
+/// The same for one class.
+fn link_one(links: &mut Links, kept: &ByteMap<Kept>, one: &Fresh) -> Result<(), NoMemory>
+    requires { (r : Relation) (n d : Name) → held_in r kept.now d n ≡ true → linked r links.old n d ≡ true }
+    ensures ok { OnOk result (Adds (links_of one.now.name.items one.now.kept) links.old links.new) }
+    ensures err { OnErr result (AddsSome (links_of one.now.name.items one.now.kept) links.old links.new) }
+{
+    match kept.get(&one.name) {
+        Some(now) => links.link_but(&one.name, &one.kept, now),
+        None => links.link(&one.name, &one.kept),
+    }
+}
+
+/// Takes back links that were perhaps made for classes, where what is kept of them lacks the name. No memory.
+pub(crate) fn undo_fresh(links: &mut Links, kept: &ByteMap<Kept>, fresh: &[Fresh])
+    ensures { TakesOut (without (all_fresh fresh.now) (all_held kept.now)) links.old links.new }
+{
+    for one in fresh {
+        undo_one(links, kept, one);
+    }
+}
+
+/// The same for one class.
+fn undo_one(links: &mut Links, kept: &ByteMap<Kept>, one: &Fresh)
+    ensures { TakesOut (without (links_of one.now.name.items one.now.kept) (all_held kept.now)) links.old links.new }
+{
+    match kept.get(&one.name) {
+        Some(now) => links.unlink_but(&one.name, &one.kept, now),
+        None => links.unlink(&one.name, &one.kept),
+    }
+}
+
+/// Takes back links that were perhaps made for classes, and for one of which nothing was kept. No memory.
+pub(crate) fn undo_links(
+    links: &mut Links,
+    kept: &ByteMap<Kept>,
+    fresh: &[Fresh],
+    name: &[u8],
+    newcomer: &Kept,
+)
+    requires absent { map.get kept.now name.now ≡ None }
+    requires between { AreLinkedAndSome kept.now (together (all_fresh fresh.now) (links_of name.now newcomer.now)) links.old }
+    ensures { AreLinked kept.now links.new }
+{
+    links.unlink(name, newcomer);
+    undo_fresh(links, kept, fresh);
+}
+
+/// Puts parts in the places of those that are kept, and takes each class out at the names that it no longer
+/// depends on. No memory.
+pub(crate) fn commit(kept: &mut ByteMap<Kept>, links: &mut Links, fresh: Vec<Fresh>)
+    requires there { (d : Name) → has (fresh_names fresh.items) d ≡ true → IsSome (map.get kept.old d) }
+    requires apart { NoRepeat (fresh_names fresh.items) }
+    requires linked { AreLinks (held_and_fresh kept.old fresh.items) links.old }
+    ensures kept { (d : Name) → map.get kept.new d ≡ fresh_at fresh.items d (map.get kept.old d) }
+    ensures linked { AreLinked kept.new links.new }
+{
+    let mut fresh = fresh;
+    while let Some(one) = fresh.pop() {
+        put_one(kept, links, one);
+    }
+}
+
+/// The same for one class.
+fn put_one(kept: &mut ByteMap<Kept>, links: &mut Links, one: Fresh)
+    requires there { IsSome (map.get kept.old one.name.items) }
+    ensures kept { kept.new ≡ map.insert kept.old one.name.items one.kept }
+    ensures linked { TakesOut (links_lost one.name.items kept.old one.kept) links.old links.new }
+{
+    let Fresh { name, kept: now } = one;
+    let old = exchange(kept, &name, now);
+    take_out(kept, links, &name, &old);
+}
+
+/// Takes a class out at the names that are no longer kept of it. No memory.
+fn take_out(kept: &ByteMap<Kept>, links: &mut Links, name: &[u8], old: &Kept)
+    ensures { (now : Kept) → map.get kept.now name.now ≡ Some now → TakesOut (links_but name.now old.now now) links.old links.new }
+{
+    if let Some(now) = kept.get(name) {
+        links.unlink_but(name, old, now);
+    }
+}
+
+/// Puts what is to be kept of a class in the place of what is, which comes out. No memory.
+fn exchange(kept: &mut ByteMap<Kept>, name: &[u8], now: Kept) -> Kept
+    requires { IsSome (map.get kept.old name.now) }
+    ensures old { map.get kept.old name.now ≡ Some result }
+    ensures new { kept.new ≡ map.insert kept.old name.now now }
+{
+    match kept.replace(name, now) {
+        Ok(old) => old,
+        Err(_) => unreachable!(),
+    }
+}
+
+/// Lets a class go. No memory.
+pub(crate) fn let_go(kept: &mut ByteMap<Kept>, links: &mut Links, name: &[u8])
+    ensures kept { kept.new ≡ map.remove kept.old name.now }
+    ensures linked { TakesOut (links_held name.now kept.old) links.old links.new }
+{
+    if let Some(gone) = kept.remove(name) {
+        links.unlink(name, &gone);
+    }
+}

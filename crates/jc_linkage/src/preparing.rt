@@ -1,0 +1,191 @@
+//! The parts that an edit needs are made and linked before anything is taken away.
+
+ghost use Rattle.std.specs.Prelude.{◌≡◌, ◌≤◌, [], IfErr, IfOk, None, OnErr, OnOk, Some};
+ghost use Rattle.std.specs.FinMap as map;
+ghost use Rattle.std.specs.Option.{option_copied};
+ghost use Rattle.jc_classes.specs.Names.{Name, names_of};
+ghost use Rattle.jc_link.specs.Tables.{world};
+ghost use Rattle.jc_linkage.specs.inside.Kept.{AreLinked};
+ghost use Rattle.jc_linkage.specs.inside.LinkSets.{AreLinks, held_and_fresh, links_of, together};
+ghost use Rattle.jc_linkage.specs.inside.Prepared.{IsPrepared};
+
+use crate::kept::{Fresh, Kept, make_fresh, make_one};
+use crate::linking::{link_fresh, undo_fresh, undo_links};
+use crate::links::Links;
+use jc_base::{ByteMap, NoMemory};
+use jc_link::{Meter, Outside, Table};
+use std::alloc::{AllocFailed, Global};
+
+/// Makes the parts of the affected classes, and of one that comes, and links them; the newcomer is kept
+/// already. At want of memory the links and what is kept are as before.
+pub(crate) fn prepare(
+    alloc: Global,
+    table: &Table,
+    outside: &Outside,
+    kept: &mut ByteMap<Kept>,
+    links: &mut Links,
+    names: &[Vec<u8>],
+    comes: Option<&[u8]>,
+    meter: &mut Meter,
+) -> Result<Vec<Fresh>, NoMemory>
+    requires linked { AreLinked kept.old links.old }
+    requires absent { (n : Name) → option_copied comes ≡ Some n → map.get kept.old n ≡ None }
+    ensures kept_err { OnErr result (kept.new ≡ kept.old) }
+    ensures linked_err { OnErr result (AreLinked kept.old links.new) }
+    ensures ready { IfOk result (λ fresh. IsPrepared (world table.now outside.now) (names_of names.now)
+        (option_copied comes.entry) kept.old kept.new fresh.items meter.old meter.new) }
+    ensures linked { IfOk result (λ fresh. AreLinks (held_and_fresh kept.new fresh.items) links.new) }
+    ensures asks_rise { meter.old.asks ≤ meter.new.asks }
+    ensures made_rise { meter.old.made ≤ meter.new.made }
+{
+    let fresh = make_fresh(alloc, table, outside, names, meter)?;
+    link_all(alloc, table, outside, kept, links, &fresh, comes, meter)?;
+    Ok(fresh)
+}
+
+/// Links parts, and that of a class that comes, which is made and kept. At want of memory the links and what is
+/// kept are as before.
+fn link_all(
+    alloc: Global,
+    table: &Table,
+    outside: &Outside,
+    kept: &mut ByteMap<Kept>,
+    links: &mut Links,
+    fresh: &[Fresh],
+    comes: Option<&[u8]>,
+    meter: &mut Meter,
+) -> Result<(), NoMemory>
+    requires linked { AreLinked kept.old links.old }
+    requires absent { (n : Name) → option_copied comes ≡ Some n → map.get kept.old n ≡ None }
+    ensures kept_err { OnErr result (kept.new ≡ kept.old) }
+    ensures linked_err { OnErr result (AreLinked kept.old links.new) }
+    ensures ready { OnOk result (IsPrepared (world table.now outside.now) [] (option_copied comes.entry)
+        kept.old kept.new [] meter.old meter.new) }
+    ensures linked { OnOk result (AreLinks (held_and_fresh kept.new fresh.now) links.new) }
+    ensures asks_rise { meter.old.asks ≤ meter.new.asks }
+    ensures made_rise { meter.old.made ≤ meter.new.made }
+{
+    match comes {
+        Some(name) => link_newcomer(alloc, table, outside, kept, links, fresh, name, meter),
+        None => link_others(kept, links, fresh),
+    }
+}
+
+/// The same where a class comes.
+fn link_newcomer(
+    alloc: Global,
+    table: &Table,
+    outside: &Outside,
+    kept: &mut ByteMap<Kept>,
+    links: &mut Links,
+    fresh: &[Fresh],
+    name: &[u8],
+    meter: &mut Meter,
+) -> Result<(), NoMemory>
+    requires linked { AreLinked kept.old links.old }
+    requires absent { map.get kept.old name.now ≡ None }
+    ensures kept_err { OnErr result (kept.new ≡ kept.old) }
+    ensures linked_err { OnErr result (AreLinked kept.old links.new) }
+    ensures ready { OnOk result (IsPrepared (world table.now outside.now) [] (Some name.now) kept.old kept.new [] meter.old meter.new) }
+    ensures linked { OnOk result (AreLinks (held_and_fresh kept.new fresh.now) links.new) }
+    ensures asks_rise { meter.old.asks ≤ meter.new.asks }
+    ensures made_rise { meter.old.made ≤ meter.new.made }
+{
+    let newcomer = make_one(alloc, table, outside, name, meter)?;
+    match link_and_keep(kept, links, fresh, newcomer) {
+        Ok(()) => Ok(()),
+        Err(newcomer) => {
+            drop(newcomer);
+            Err(NoMemory)
+        }
+    }
+}
+
+/// Links parts and that of a newcomer, which is kept. At want of memory it comes back, and the links and what
+/// is kept are as before.
+fn link_and_keep(
+    kept: &mut ByteMap<Kept>,
+    links: &mut Links,
+    fresh: &[Fresh],
+    newcomer: Fresh,
+) -> Result<(), Fresh>
+    requires linked { AreLinked kept.old links.old }
+    requires absent { map.get kept.old newcomer.name.items ≡ None }
+    ensures kept_err { OnErr result (kept.new ≡ kept.old) }
+    ensures linked_err { OnErr result (AreLinked kept.old links.new) }
+    ensures back { IfErr result (λ back. back ≡ newcomer) }
+    ensures kept_ok { OnOk result (kept.new ≡ map.insert kept.old newcomer.name.items newcomer.kept) }
+    ensures linked { OnOk result (AreLinks (held_and_fresh kept.new fresh.now) links.new) }
+{
+    match link_with(links, kept, fresh, &newcomer.name, &newcomer.kept) {
+        Ok(()) => {}
+        Err(_) => return Err(newcomer),
+    }
+    match keep(kept, newcomer) {
+        Ok(()) => Ok(()),
+        Err(newcomer) => {
+            undo_links(links, kept, fresh, &newcomer.name, &newcomer.kept);
+            Err(newcomer)
+        }
+    }
+}
+
+/// Keeps a newcomer. At want of memory it comes back, and what is kept is as before.
+fn keep(kept: &mut ByteMap<Kept>, newcomer: Fresh) -> Result<(), Fresh>
+    ensures ok { OnOk result (kept.new ≡ map.insert kept.old newcomer.name.items newcomer.kept) }
+    ensures err { OnErr result (kept.new ≡ kept.old) }
+    ensures back { IfErr result (λ back. back ≡ newcomer) }
+{
+    match kept.insert(newcomer.name, newcomer.kept) {
+        Ok(_) => Ok(()),
+        Err(
+            AllocFailed {
+                value: (name, kept),
+            },
+        ) => Err(Fresh { name, kept }),
+    }
+}
+
+/// Links parts and that of a newcomer. At want of memory the links are as before.
+fn link_with(
+    links: &mut Links,
+    kept: &ByteMap<Kept>,
+    fresh: &[Fresh],
+    name: &[u8],
+    newcomer: &Kept,
+) -> Result<(), NoMemory>
+    requires linked { AreLinked kept.now links.old }
+    requires absent { map.get kept.now name.now ≡ None }
+    ensures ok { OnOk result (AreLinks (together (held_and_fresh kept.now fresh.now) (links_of name.now newcomer.now)) links.new) }
+    ensures err { OnErr result (AreLinked kept.now links.new) }
+{
+    match link_fresh(links, kept, fresh) {
+        Ok(()) => {}
+        Err(_) => {
+            undo_links(links, kept, fresh, name, newcomer);
+            return Err(NoMemory);
+        }
+    }
+    match links.link(name, newcomer) {
+        Ok(()) => Ok(()),
+        Err(_) => {
+            undo_links(links, kept, fresh, name, newcomer);
+            Err(NoMemory)
+        }
+    }
+}
+
+/// Links parts where no class comes. At want of memory the links are as before.
+fn link_others(kept: &ByteMap<Kept>, links: &mut Links, fresh: &[Fresh]) -> Result<(), NoMemory>
+    requires { AreLinked kept.now links.old }
+    ensures ok { OnOk result (AreLinks (held_and_fresh kept.now fresh.now) links.new) }
+    ensures err { OnErr result (AreLinked kept.now links.new) }
+{
+    match link_fresh(links, kept, fresh) {
+        Ok(()) => Ok(()),
+        Err(_) => {
+            undo_fresh(links, kept, fresh);
+            Err(NoMemory)
+        }
+    }
+}

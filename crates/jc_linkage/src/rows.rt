@@ -1,0 +1,86 @@
+//! The rows that the classes provide and require.
+
+ghost use Rattle.std.specs.Iterator.{YieldsFirstBy, item_count};
+ghost use Rattle.jc_report.specs.RowView.{row_lent};
+ghost use Rattle.jc_linkage.specs.inside.Lending.{rows_left};
+
+use crate::classes::HeldClasses;
+use jc_index::Keys;
+use jc_report::{ProvidedRows, Row, provided_in_order};
+use std::marker::Model;
+
+/// The rows that the classes of a [`crate::Linkage`] provide, in their order, lent from what is kept of their
+/// files, seen as the list of those that are left.
+#[derive(Drop)]
+pub struct Provided<'a> {
+    pub(crate) classes: HeldClasses<'a>,
+    /// Those of one class.
+    pub(crate) rows: Option<ProvidedRows<'a>>,
+}
+
+impl<'a> Model for Provided<'a> {
+    ghost use Rattle.std.specs.Prelude.{◌++◌, List};
+    ghost use Rattle.jc_report.specs.Rows.{Row};
+    ghost use Rattle.jc_linkage.specs.inside.Lending.{provided_in, rows_left};
+
+    ghost Value = { List Row };
+
+    ghost view = { λ a. rows_left a.rows ++ provided_in a.classes };
+}
+
+impl<'a> Iterator for Provided<'a> {
+    type Item = Row<'a>;
+
+    ghost next_gives = { YieldsFirstBy row_lent (λ left. left) };
+
+    ghost remaining = { item_count (λ left. left) };
+
+    fn next(&mut self) -> Option<Row<'a>> {
+        loop {
+            if let Some(row) = next_row(&mut self.rows) {
+                return Some(row);
+            }
+            let class = self.classes.next()?;
+            self.rows = Some(provided_in_order(class.facts, class.part));
+        }
+    }
+}
+
+/// The next of some rows, if there are any.
+fn next_row<'a>(rows: &mut Option<ProvidedRows<'a>>) -> Option<Row<'a>>
+    ensures { YieldsFirstBy row_lent rows_left rows.old result rows.new }
+{
+    match rows {
+        Some(rows) => rows.next(),
+        None => None,
+    }
+}
+
+/// The rows that the classes of a [`crate::Linkage`] require, in their order, seen as the list of those that are left.
+#[derive(Drop)]
+pub struct Required<'a> {
+    pub(crate) keys: Keys<'a>,
+}
+
+impl<'a> Model for Required<'a> {
+    ghost use Rattle.std.specs.Prelude.{List, map};
+    ghost use Rattle.jc_report.specs.RowKeys.{row_of};
+    ghost use Rattle.jc_report.specs.Rows as rows;
+
+    ghost Value = { List rows.Row };
+
+    ghost view = { λ a. map row_of a.keys };
+}
+
+impl<'a> Iterator for Required<'a> {
+    type Item = Row<'a>;
+
+    ghost next_gives = { YieldsFirstBy row_lent (λ left. left) };
+
+    ghost remaining = { item_count (λ left. left) };
+
+    fn next(&mut self) -> Option<Row<'a>> {
+        let key = self.keys.next()?;
+        Some(Row::of_key(key))
+    }
+}

@@ -1,7 +1,0 @@
-use Rattle.std.proofs.Common.{◌≡◌, drop}
-use Rattle.jc_lookup.specs.inside.Shown.{indexed_of}
-use Rattle.jc_lookup.specs.inside.Loading.{judged_each}
-use Rattle.jc_lookup.proofs.loads.judge_each.Given as goal
-
-abbrev pub invariant-loop-other : goal.invariant-loop-other
-invariant-loop-other l = judged_each (indexed_of l.classes) l.loads l.node l.is_class (drop l.other-index l.supers) ≡ judged_each (indexed_of l.classes) l.loads l.node l.has_super l.supers

@@ -1,6 +1,0 @@
-pub mod Bridge
-pub mod BeyondLemmas
-pub mod CanUses
-pub mod Chain
-pub mod PackageLemmas
-pub mod PickLemmas

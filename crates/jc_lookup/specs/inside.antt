@@ -1,9 +1,0 @@
-pub mod Above
-pub mod Access
-pub mod Chain
-pub mod Indexed
-pub mod Loading
-pub mod Packages
-pub mod Picks
-pub mod Settled
-pub mod Shown

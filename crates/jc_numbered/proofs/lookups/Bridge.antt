@@ -1,0 +1,88 @@
+-- From numbers to names.
+use Rattle.std.proofs.Common.{◌≡◌, ℕ, ◌<◌, zero, suc, Bool, true, false, cond, List, [], ◌∷◌, map, length, refl, sym, ap, subst, ◌∙◌, ◌⊎◌, inl, inr, ⊎_elim, arith}
+use Rattle.std.proofs.lemmas.Bool.{false≢true}
+use Rattle.std.specs.List.{Contains, filter}
+use Rattle.std.proofs.lemmas.List.Elements.{Contains-append_right}
+use Rattle.jc_classes.specs.Names.{Name}
+use Rattle.jc_classes.specs.Worlds.{Stands, World, Above, supers_of, Above as above}
+use Rattle.jc_numbered.specs.inside.Indexed.{Indexed, name_at, record_at, IsGraph, IsIndexed}
+use Rattle.jc_graph.specs.Graph.{Above as AboveNode}
+use Rattle.jc_graph.specs.Graph.Above.{direct, further}
+
+head_in : {X : Type 0} (x : X) (xs : List X) → Contains (x ∷ xs) x
+head_in x xs = (zero, omega arith, refl)
+
+tail_in : {X : Type 0} (x y : X) (xs : List X) → Contains xs y → Contains (x ∷ xs) y
+tail_in x y xs h = Contains-append_right (x ∷ []) xs y h
+
+cons_cases : {X : Type 0} (x y : X) (xs : List X) → Contains (x ∷ xs) y → (x ≡ y) ⊎ Contains xs y
+cons_cases x y xs (zero, l, e) = inl e
+cons_cases x y xs (suc k, l, e) = inr (k, omega arith, e)
+
+none_in : {X A : Type 0} (y : X) → Contains [] y → A
+none_in y h = absurd (let k = h.1 in omega arith)
+
+pub map_in : (f : ℕ → Name) (vs : List ℕ) (v : ℕ) → Contains vs v → Contains (map f vs) (f v)
+map_in f [] v h = none_in v h
+map_in f (w ∷ vs) v h = ⊎_elim
+    (λ e. subst (λ z. Contains (f w ∷ map f vs) (f z)) e (head_in (f w) (map f vs)))
+    (λ t. tail_in (f w) (f v) (map f vs) (map_in f vs v t))
+    (cons_cases w v vs h)
+
+pub map_out : (f : ℕ → Name) (vs : List ℕ) (n : Name) → Contains (map f vs) n → (v : ℕ) × Contains vs v × (f v ≡ n)
+map_out f [] n h = none_in n h
+map_out f (w ∷ vs) n h = ⊎_elim
+    (λ e. (w, head_in w vs, e))
+    (λ t. let p = map_out f vs n t in (p.0, tail_in w p.0 vs p.1, p.2))
+    (cons_cases (f w) n (map f vs) h)
+
+pub filter_in : (p : ℕ → Bool) (vs : List ℕ) (v : ℕ) → Contains vs v → p v ≡ true → Contains (filter p vs) v
+filter_in p [] v h e = none_in v h
+filter_in p (w ∷ vs) v h e = elim (p w) as (λ b. p w ≡ b → Contains (cond b (w ∷ filter p vs) (filter p vs)) v) [
+  | true ↦ λ t. ⊎_elim (λ q. subst (λ z. Contains (w ∷ filter p vs) z) q (head_in w (filter p vs))) (λ q. tail_in w v (filter p vs) (filter_in p vs v q e)) (cons_cases w v vs h)
+  | false ↦ λ t. ⊎_elim (λ q. absurd (false≢true (sym t ∙ ap p q ∙ e))) (λ q. filter_in p vs v q e) (cons_cases w v vs h)
+] refl
+
+pub filter_out : (p : ℕ → Bool) (vs : List ℕ) (v : ℕ) → Contains (filter p vs) v → Contains vs v × (p v ≡ true)
+filter_out p [] v = λ h. none_in v h
+filter_out p (w ∷ vs) v = elim (p w) as (λ b. p w ≡ b → Contains (cond b (w ∷ filter p vs) (filter p vs)) v → Contains (w ∷ vs) v × (p v ≡ true)) [
+  | true ↦ λ t h. ⊎_elim
+      (λ q. (subst (λ z. Contains (w ∷ vs) z) q (head_in w vs), ap p (sym q) ∙ t))
+      (λ q. let r = filter_out p vs v q in (tail_in w v vs r.0, r.1))
+      (cons_cases w v (filter p vs) h)
+  | false ↦ λ t h. let r = filter_out p vs v h in (tail_in w v vs r.0, r.1)
+] refl
+
+module _ (m : World) (count : ℕ) (x : Indexed) (graph : IsGraph count x) (index : IsIndexed m x) where
+  pub named : {v : ℕ} → v < count → v < length x.names
+  named l = let e = graph.names in omega arith
+
+  pub node_in : {s v : ℕ} → AboveNode x.supertypes s v → v < count
+  node_in {s} {v} (direct c) = graph.nodes s v c
+  node_in {v = v} (further {mid} a c) = graph.nodes mid v c
+
+  rows_at : {s : ℕ} → s < count → supers_of (m (name_at x s)) ≡ map (name_at x) (x.supertypes s)
+  rows_at {s} l = ap supers_of (index.records s (named l)) ∙ sym (index.supertypes s (named l))
+
+  step_in : {s v : ℕ} → s < count → Contains (x.supertypes s) v → Contains (supers_of (m (name_at x s))) (name_at x v)
+  step_in {s} {v} l c = subst (λ ns. Contains ns (name_at x v)) (sym (rows_at l)) (map_in (name_at x) (x.supertypes s) v c)
+
+  step_out : {s : ℕ} {n : Name} → s < count → Contains (supers_of (m (name_at x s))) n → (v : ℕ) × Contains (x.supertypes s) v × (name_at x v ≡ n)
+  step_out {s} {n} l c = map_out (name_at x) (x.supertypes s) n (subst (λ ns. Contains ns n) (rows_at l) c)
+
+  pub above_named : {s v : ℕ} → s < count → AboveNode x.supertypes s v → Above m (name_at x s) (name_at x v)
+  above_named l (direct c) = above.direct (step_in l c)
+  above_named l (further a c) = above.further (above_named l a) (step_in (node_in a) c)
+
+  pub above_numbered : {s : ℕ} {n : Name} → s < count → Above m (name_at x s) n → (v : ℕ) × AboveNode x.supertypes s v × (name_at x v ≡ n)
+  above_numbered l (above.direct c) = let p = step_out l c in (p.0, direct p.1, p.2)
+  above_numbered {s} {n} l (above.further a c) =
+      let q = above_numbered l a in
+      let p = step_out (node_in q.1) (subst (λ z. Contains (supers_of (m z)) n) (sym q.2) c) in
+      (p.0, further q.1 p.1, p.2)
+
+  pub same_node : {v w : ℕ} → v < count → w < count → name_at x v ≡ name_at x w → v ≡ w
+  same_node {v} {w} k l e = index.once v w (named k) (named l) e
+
+  pub record_is : {A : Type 0} (f : Stands → A) (v : ℕ) (a : A) → v < count → f (record_at x v) ≡ a → f (m (name_at x v)) ≡ a
+  record_is f v a l e = ap f (index.records v (named l)) ∙ e

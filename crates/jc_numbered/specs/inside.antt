@@ -1,0 +1,11 @@
+pub mod Above
+pub mod Access
+pub mod Chain
+pub mod Indexed
+pub mod Loading
+pub mod Members
+pub mod Packages
+pub mod Picks
+pub mod Settled
+pub mod Settles
+pub mod Shown

@@ -1,0 +1,21 @@
+-- What is known to be above a class.
+use Rattle.std.specs.Prelude.{◌≡◌, ℕ, List, [], ◌∷◌, length, Some}
+use Rattle.jc_graph.specs.Seen.{TellsAbove}
+use Rattle.jc_graph.specs.declared.seen.Seen.{Seen}
+use Rattle.jc_numbered.specs.declared.above.Above.{Above}
+use Rattle.jc_numbered.specs.inside.Indexed.{Indexed}
+use Rattle.jc_numbered.specs.inside.Settled.{TellsOutsideAbove}
+
+-- it is what is above some nodes
+abbrev pub SeesAbove : ℕ → Indexed → List ℕ → Seen → Type 0
+SeesAbove count x starts s = TellsAbove count x.supertypes starts s.flags s.list
+
+-- it is what is above this class
+pub record IsAbove (count : ℕ) (x : Indexed) (start : ℕ) (a : Above) : Type 0 where
+  pub seen : SeesAbove count x (start ∷ []) a.seen
+  pub outside : TellsOutsideAbove x start a.outside
+
+-- it is what is above the class that was asked for, if one was
+pub record Knows (count : ℕ) (x : Indexed) (a : Above) : Type 0 where
+  pub size : length a.seen.flags ≡ count
+  pub asked : (start : ℕ) → a.start ≡ Some start → IsAbove count x start a

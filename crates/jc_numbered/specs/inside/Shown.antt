@@ -1,0 +1,13 @@
+-- Classes as they are held, as data.
+use Rattle.jc_classes.specs.Worlds.{Found}
+use Rattle.jc_classes.specs.Lent.{member_lent}
+use Rattle.jc_numbered.specs.inside.Indexed.{Indexed, filled, name_at}
+use Rattle.jc_numbered.specs.declared.classes.Classes.{Classes}
+use Rattle.jc_numbered.specs.declared.classes.Hit.{Hit}
+
+abbrev pub indexed_of : Classes → Indexed
+indexed_of c = filled c.names.now c.standing.now c.supertypes.now c.rank.items c.good.items
+
+-- what was found, by name
+abbrev pub found_at : Indexed → Hit → Found
+found_at x h = record { home = name_at x h.node; member = member_lent h.member }

@@ -1,0 +1,98 @@
+//! What is above a class.
+
+ghost use Rattle.std.specs.Prelude.{◌≡◌, ◌<◌, ◌∷◌, [], length, IfOk, OnOk, None};
+ghost use Rattle.std.specs.List.{All, filter};
+ghost use Rattle.jc_numbered.specs.inside.Above.{IsAbove, Knows, SeesAbove};
+ghost use Rattle.jc_numbered.specs.inside.Shown.{indexed_of};
+ghost use Rattle.jc_numbered.specs.inside.Settled.{lies_outside, TellsOutsideAbove};
+
+use crate::classes::Classes;
+use crate::picks::lowest;
+use jc_base::NoMemory;
+use jc_graph::Seen;
+use std::alloc::Global;
+
+/// What is above the class that was asked for last. It is walked once for all that is asked of one class
+/// without another between.
+#[derive(Drop)]
+pub struct Above {
+    seen: Seen,
+    /// The class, where one was asked for.
+    start: Option<usize>,
+    /// The outside one with the least name.
+    outside: Option<usize>,
+}
+
+impl Above {
+    /// Of no class yet, among so many.
+    pub fn new(alloc: Global, count: usize) -> Result<Above, NoMemory>
+        ensures size { IfOk result (λ above. length above.seen.flags ≡ count) }
+        ensures none { IfOk result (λ above. above.start ≡ None) }
+    {
+        Ok(Above {
+            seen: Seen::new(alloc, count)?,
+            start: None,
+            outside: None,
+        })
+    }
+
+    /// Asks for what is above a class.
+    pub fn see(&mut self, alloc: Global, classes: &Classes, start: usize) -> Result<(), NoMemory>
+        requires start { start < length classes.now.standing.now }
+        requires above { Knows (length classes.now.standing.now) (indexed_of classes.now) self.old }
+        ensures known { OnOk result (Knows (length classes.now.standing.now) (indexed_of classes.now) self.new) }
+        ensures seen { OnOk result (IsAbove (length classes.now.standing.now) (indexed_of classes.now) start self.new) }
+    {
+        if self.start == Some(start) {
+            return Ok(());
+        }
+        self.start = None;
+        classes.see_above(&mut self.seen, &[start])?;
+        self.outside = find_outside(alloc, classes, &self.seen, start)?;
+        self.start = Some(start);
+        Ok(())
+    }
+
+    /// What is above the class that was asked for, each once.
+    pub fn nodes(&self) -> &[usize]
+        ensures { result.now ≡ self.now.seen.list }
+    {
+        self.seen.nodes()
+    }
+
+    /// The outside one of these with the least name.
+    pub(crate) fn outside(&self) -> Option<usize>
+        ensures { result ≡ self.now.outside }
+    {
+        self.outside
+    }
+}
+
+/// The nodes that are outside.
+fn outsiders(alloc: Global, classes: &Classes, nodes: &[usize]) -> Result<Vec<usize>, NoMemory>
+    requires { All (λ v. v < length classes.now.standing.now) nodes.now }
+    ensures { IfOk result (λ r. r.items ≡ filter (lies_outside (indexed_of classes.now)) nodes.now) }
+{
+    let mut found = Vec::new(alloc);
+    for node in nodes {
+        if classes.is_outside(*node) {
+            found.push(*node)?;
+        }
+    }
+    Ok(found)
+}
+
+/// The least outside name above a class, by what was seen above it.
+fn find_outside(
+    alloc: Global,
+    classes: &Classes,
+    seen: &Seen,
+    start: usize,
+) -> Result<Option<usize>, NoMemory>
+    requires start { start < length classes.now.standing.now }
+    requires seen { SeesAbove (length classes.now.standing.now) (indexed_of classes.now) (start ∷ []) seen.now }
+    ensures { IfOk result (TellsOutsideAbove (indexed_of classes.now) start) }
+{
+    let nodes = outsiders(alloc, classes, seen.nodes())?;
+    Ok(lowest(classes, nodes.as_slice()))
+}

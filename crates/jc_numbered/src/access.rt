@@ -1,0 +1,135 @@
+//! Access to members.
+
+ghost use Rattle.std.specs.Prelude.{◌≡◌, ◌<◌, length, true};
+ghost use Rattle.std.specs.Bool.{Decides};
+ghost use Rattle.jc_numbered.specs.inside.Indexed.{name_at, good_at};
+ghost use Rattle.jc_numbered.specs.inside.Shown.{indexed_of, found_at};
+ghost use Rattle.jc_numbered.specs.inside.Access.{IsTarget, IsInPackage};
+ghost use Rattle.jc_numbered.specs.inside.Access.{TellsWithin, TellsRelated, TellsOpen, TellsInherited, TellsOwn, TellsCanUse};
+
+use crate::chain::extends;
+use crate::classes::{Classes, Hit};
+use jc_classes::same;
+use jc_file::AccessFlag;
+
+/// What a reference names: a class, or an array.
+#[derive(Clone, Copy)]
+pub enum Target {
+    /// The class of this number.
+    Class(usize),
+    /// An array of any kind.
+    Array,
+}
+
+/// Whether a class is another or a subclass of it.
+fn is_within(classes: &Classes, node: usize, other: usize) -> bool
+    requires node { node < length classes.now.standing.now }
+    requires other { other < length classes.now.standing.now }
+    requires good { good_at (indexed_of classes.now) node ≡ true }
+    ensures { TellsWithin (indexed_of classes.now) node other result }
+{
+    if other == classes.object {
+        true
+    } else {
+        extends(classes, node, other)
+    }
+}
+
+/// Whether what is named is the class, a subclass of it or a superclass of it.
+fn is_related(classes: &Classes, target: Target, class: usize) -> bool
+    requires target { IsTarget (length classes.now.standing.now) (indexed_of classes.now) target }
+    requires class { class < length classes.now.standing.now }
+    requires good { good_at (indexed_of classes.now) class ≡ true }
+    ensures { TellsRelated (indexed_of classes.now) target class result }
+{
+    match target {
+        Target::Class(node) => {
+            if is_within(classes, node, class) {
+                true
+            } else {
+                is_within(classes, class, node)
+            }
+        }
+        Target::Array => class == classes.object,
+    }
+}
+
+/// Whether a member is PROTECTED and inherited by the class that uses it.
+fn is_inherited(classes: &Classes, target: Target, class: usize, hit: Hit) -> bool
+    requires target { IsTarget (length classes.now.standing.now) (indexed_of classes.now) target }
+    requires class { class < length classes.now.standing.now }
+    requires home { hit.node < length classes.now.standing.now }
+    requires good { good_at (indexed_of classes.now) class ≡ true }
+    ensures { TellsInherited (indexed_of classes.now) class target hit.entry result }
+{
+    if !hit.member.has(AccessFlag::Protected) {
+        return false;
+    }
+    if !is_within(classes, class, hit.node) {
+        return false;
+    }
+    if hit.member.has(AccessFlag::Static) {
+        return true;
+    }
+    is_related(classes, target, class)
+}
+
+/// Whether a member is open to its package, and the class is of that.
+fn is_in_package(classes: &Classes, class: usize, hit: Hit) -> bool
+    requires class { class < length classes.now.standing.now }
+    requires home { hit.node < length classes.now.standing.now }
+    ensures { Decides result (IsInPackage (name_at (indexed_of classes.now) class) (found_at (indexed_of classes.now) hit.entry)) }
+{
+    if !(hit.member.has(AccessFlag::Protected) || hit.member.is_package_private()) {
+        return false;
+    }
+    classes.are_together(class, hit.node)
+}
+
+/// Whether a member is PRIVATE and the class's own.
+fn is_own(classes: &Classes, class: usize, hit: Hit) -> bool
+    requires class { class < length classes.now.standing.now }
+    requires home { hit.node < length classes.now.standing.now }
+    ensures { TellsOwn (indexed_of classes.now) class hit.entry result }
+{
+    if !hit.member.has(AccessFlag::Private) {
+        return false;
+    }
+    hit.node == class
+}
+
+/// Whether a member is PUBLIC, or clone of java/lang/Object where an array is named.
+fn is_open(classes: &Classes, target: Target, hit: Hit) -> bool
+    requires { hit.node < length classes.now.standing.now }
+    ensures { TellsOpen (indexed_of classes.now) target hit.entry result }
+{
+    if hit.member.has(AccessFlag::Public) {
+        return true;
+    }
+    match target {
+        Target::Class(_) => false,
+        Target::Array => {
+            same(classes.names[hit.node].as_slice(), b"java/lang/Object") && hit.member.is_clone()
+        }
+    }
+}
+
+/// Whether a class may use a member that it named so.
+pub(crate) fn can_use(classes: &Classes, target: Target, class: usize, hit: Hit) -> bool
+    requires target { IsTarget (length classes.now.standing.now) (indexed_of classes.now) target }
+    requires class { class < length classes.now.standing.now }
+    requires home { hit.node < length classes.now.standing.now }
+    requires good { good_at (indexed_of classes.now) class ≡ true }
+    ensures { TellsCanUse (indexed_of classes.now) class target hit.entry result }
+{
+    if is_open(classes, target, hit) {
+        return true;
+    }
+    if is_inherited(classes, target, class, hit) {
+        return true;
+    }
+    if is_in_package(classes, class, hit) {
+        return true;
+    }
+    is_own(classes, class, hit)
+}

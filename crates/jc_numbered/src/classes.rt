@@ -1,0 +1,251 @@
+//! The classes of a reach, by numbers.
+
+ghost use Rattle.std.specs.Prelude.{◌≡◌, ◌<◌, ◌++◌, length, map, OnOk, option_map, reverse};
+ghost use Rattle.std.specs.List.{All};
+ghost use Rattle.jc_classes.specs.Lent.{key_lent, member_lent, stands_of};
+ghost use Rattle.jc_classes.specs.MethodLookup.{of_object};
+ghost use Rattle.jc_classes.specs.Names.{names_of, object as java_lang_object, package_of};
+ghost use Rattle.jc_classes.specs.Worlds.{member, fields_of, methods_of, flags_of};
+ghost use Rattle.jc_graph.specs.Graph.{ups_of};
+ghost use Rattle.jc_numbered.specs.inside.Indexed.{filled, name_at, record_at, super_at, supers_before, onward_nodes, IsGraph};
+ghost use Rattle.jc_numbered.specs.inside.Members.{declared_at};
+ghost use Rattle.jc_numbered.specs.inside.Packages.{package_end, same_package};
+ghost use Rattle.jc_numbered.specs.inside.Picks.{gives};
+ghost use Rattle.jc_numbered.specs.inside.Settled.{lies_outside};
+
+use crate::polymorphic::declared;
+use jc_base::NoMemory;
+use jc_classes::{Key, Member, Standing, same};
+use jc_file::AccessFlag;
+use jc_graph::{Seen, mark_above};
+
+/// Classes by their numbers, each with the numbers of its supertypes: the superclass, if it has one,
+/// then its interfaces.
+#[derive(Drop)]
+pub struct Classes<'c, 't> {
+    /// Their names.
+    pub names: &'c [Vec<u8>],
+    /// What stands at each.
+    pub standing: &'c [Standing<'t>],
+    /// The supertypes of each.
+    pub supertypes: &'c [Vec<usize>],
+    /// The number of `java/lang/Object`.
+    pub object: usize,
+    /// The place of each in an order of loading.
+    pub rank: Vec<usize>,
+    /// Whether each loads or is outside.
+    pub good: Vec<bool>,
+    /// Where the package of each name ends.
+    pub package_ends: Vec<usize>,
+    pub ghost names_size: { length names.now ≡ length standing.now },
+    pub ghost supertypes_size: { length supertypes.now ≡ length standing.now },
+    pub ghost object_within: { object < length standing.now },
+    pub ghost object_name: { name_at (filled names.now standing.now supertypes.now rank.items good.items) object ≡ java_lang_object },
+    pub ghost packages: { package_ends.items ≡ map package_end (names_of names.now) },
+    pub ghost graph: { IsGraph (length standing.now) (filled names.now standing.now supertypes.now rank.items good.items) },
+}
+
+/// A member that was found, and the class that declares it.
+#[derive(Clone, Copy)]
+pub struct Hit<'a> {
+    /// The number of the class.
+    pub node: usize,
+    /// The member.
+    pub member: Member<'a>,
+}
+
+/// Adds nodes, the last first.
+fn push_back(stack: &mut Vec<usize>, nodes: &[usize]) -> Result<(), NoMemory>
+    ensures { OnOk result (stack.new.items ≡ stack.old.items ++ reverse nodes.now) }
+{
+    for node in nodes.iter().rev() {
+        stack.push(*node)?;
+    }
+    Ok(())
+}
+
+impl<'c, 't> Classes<'c, 't> {
+    ghost use Rattle.jc_numbered.specs.inside.Above.{SeesAbove};
+    ghost use Rattle.jc_numbered.specs.inside.Shown.{indexed_of};
+
+    /// How many nodes there are.
+    pub fn len(&self) -> usize
+        ensures { result ≡ length self.now.standing.now }
+    {
+        self.standing.len()
+    }
+
+    /// The name of a node.
+    pub fn name(&self, node: usize) -> &[u8]
+        ensures { result.now ≡ name_at (indexed_of self.now) node }
+    {
+        match self.names.get(node) {
+            Some(name) => name.as_slice(),
+            None => &[],
+        }
+    }
+
+    /// Whether two nodes are of one package.
+    pub(crate) fn are_together(&self, node: usize, other: usize) -> bool
+        ensures { result ≡ same_package (indexed_of self.now) node other }
+    {
+        same(self.package(node), self.package(other))
+    }
+
+    /// The package of a node's name.
+    fn package(&self, node: usize) -> &[u8]
+        ensures { result.now ≡ package_of (name_at (indexed_of self.now) node) }
+    {
+        match self.package_ends.get(node) {
+            Some(end) => &self.name(node)[..*end],
+            None => &[],
+        }
+    }
+
+    /// What stands at a node.
+    pub fn at(&self, node: usize) -> Standing<'t>
+        requires { node < length self.now.standing.now }
+        ensures { stands_of result ≡ record_at (indexed_of self.now) node }
+    {
+        self.standing[node]
+    }
+
+    /// Whether a node is outside.
+    pub(crate) fn is_outside(&self, node: usize) -> bool
+        requires { node < length self.now.standing.now }
+        ensures { result ≡ lies_outside (indexed_of self.now) node }
+    {
+        match self.at(node) {
+            Standing::Outside => true,
+            _ => false,
+        }
+    }
+
+    /// A node's access flags.
+    pub fn flags(&self, node: usize) -> u16
+        requires { node < length self.now.standing.now }
+        ensures { result ≡ flags_of (record_at (indexed_of self.now) node) }
+    {
+        match self.at(node) {
+            Standing::Class(facts) => facts.flags(),
+            _ => 0,
+        }
+    }
+
+    /// A node's own field.
+    pub fn field(&self, node: usize, key: Key) -> Option<Member<'_>>
+        requires { node < length self.now.standing.now }
+        ensures { option_map member_lent result ≡ member (fields_of (record_at (indexed_of self.now) node)) (key_lent key.entry) }
+    {
+        match self.at(node) {
+            Standing::Class(facts) => facts.field(key),
+            _ => None,
+        }
+    }
+
+    /// The method that a node itself answers.
+    pub fn declared(&self, node: usize, key: Key) -> Option<Member<'_>>
+        requires { node < length self.now.standing.now }
+        ensures { option_map member_lent result ≡ declared_at (indexed_of self.now) node (key_lent key.entry) }
+    {
+        match self.at(node) {
+            Standing::Class(facts) => declared(facts, self.names[node].as_slice(), key),
+            _ => None,
+        }
+    }
+
+    /// A node's own method.
+    pub fn method(&self, node: usize, key: Key) -> Option<Member<'_>>
+        requires { node < length self.now.standing.now }
+        ensures { option_map member_lent result ≡ member (methods_of (record_at (indexed_of self.now) node)) (key_lent key.entry) }
+    {
+        match self.at(node) {
+            Standing::Class(facts) => facts.method(key),
+            _ => None,
+        }
+    }
+
+    /// A node's own public instance method.
+    pub fn open_method(&self, node: usize, key: Key) -> Option<Member<'_>>
+        requires { node < length self.now.standing.now }
+        ensures { option_map member_lent result ≡ of_object (record_at (indexed_of self.now) node) (key_lent key.entry) }
+    {
+        match self.method(node, key) {
+            Some(member) => {
+                if member.has(AccessFlag::Public) && !member.has(AccessFlag::Static) {
+                    Some(member)
+                } else {
+                    None
+                }
+            }
+            None => None,
+        }
+    }
+
+    /// A node's superclass.
+    pub fn superclass(&self, node: usize) -> Option<usize>
+        requires { node < length self.now.standing.now }
+        ensures { result ≡ super_at (indexed_of self.now) node }
+    {
+        if self.supers_before(node) == 1 {
+            Some(self.supertypes[node][0])
+        } else {
+            None
+        }
+    }
+
+    /// The method that a node gives to what is below it, if it is an interface.
+    pub fn given(&self, node: usize, key: Key) -> Option<Member<'_>>
+        requires { node < length self.now.standing.now }
+        ensures { option_map member_lent result ≡ gives (indexed_of self.now) (key_lent key.entry) node }
+    {
+        match self.at(node) {
+            Standing::Class(facts) => facts.given(key),
+            _ => None,
+        }
+    }
+
+    /// Sees what is above some nodes, each node once.
+    pub fn see_above(&self, seen: &mut Seen, starts: &[usize]) -> Result<(), NoMemory>
+        requires starts { All (λ v. v < length self.now.standing.now) starts.now }
+        requires seen { length seen.old.flags ≡ length self.now.standing.now }
+        ensures { OnOk result (SeesAbove (length self.now.standing.now) (indexed_of self.now) starts.now seen.new) }
+    {
+        mark_above(self.supertypes, seen, starts)
+    }
+
+    /// The supertypes of a node.
+    pub fn supertypes(&self, node: usize) -> &[usize]
+        requires { node < length self.now.supertypes.now }
+        ensures { result.now ≡ ups_of self.now.supertypes.now node }
+    {
+        self.supertypes[node].as_slice()
+    }
+
+    /// How many supertypes stand before the interfaces.
+    fn supers_before(&self, node: usize) -> usize
+        requires { node < length self.now.standing.now }
+        ensures { result ≡ supers_before (record_at (indexed_of self.now) node) }
+    {
+        match self.at(node) {
+            Standing::Class(facts) => match facts.superclass() {
+                Some(_) => 1,
+                None => 0,
+            },
+            _ => 0,
+        }
+    }
+
+    /// Adds the nodes where look-up of a field goes on, the first last.
+    pub fn push_onward(&self, node: usize, stack: &mut Vec<usize>) -> Result<(), NoMemory>
+        requires { node < length self.now.standing.now }
+        ensures { OnOk result (reverse stack.new.items ≡ onward_nodes (indexed_of self.now) node ++ reverse stack.old.items) }
+    {
+        let (supers, interfaces) = self.supertypes[node]
+            .as_slice()
+            .split_at(self.supers_before(node));
+        push_back(stack, supers)?;
+        push_back(stack, interfaces)?;
+        Ok(())
+    }
+}

@@ -1,0 +1,21 @@
+//! What look-up is made of, among the classes of a reach by their numbers: how a class loads by its supertypes,
+//! where look-up goes on, access, and the choice among superinterfaces (JVMS 5.3.5, 5.4.3.2 to 5.4.3.4, 5.4.4).
+#![tactic(auto)]
+
+mod above;
+mod access;
+mod chain;
+mod classes;
+mod loads;
+mod packages;
+mod picks;
+mod polymorphic;
+mod settled;
+
+pub use above::Above;
+pub use access::Target;
+pub use classes::{Classes, Hit};
+pub use loads::{Load, can_see, judge_each};
+pub use packages::package_ends;
+pub use picks::{candidates, is_pick, lowest};
+pub use settled::{Settled, settle};

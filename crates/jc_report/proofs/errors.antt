@@ -1,0 +1,5 @@
+pub mod EmptyTexts
+pub mod ErrorLines
+pub mod ErrorsTold
+pub mod FrontTold
+pub mod NoErrors

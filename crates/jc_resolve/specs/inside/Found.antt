@@ -1,0 +1,27 @@
+-- What look-up finds from a node, in every world that has what stands at the names of the nodes.
+use Rattle.std.specs.Prelude.{ℕ, Option, option_map}
+use Rattle.jc_classes.specs.Facts.{Key}
+use Rattle.jc_classes.specs.FieldLookup.{FindsField}
+use Rattle.jc_classes.specs.MethodLookup.{FindsAbove, FindsInClasses, FindsInterfaceMethod, FindsMethod}
+use Rattle.jc_classes.specs.Worlds.{World}
+use Rattle.jc_numbered.specs.declared.classes.Hit.{Hit}
+use Rattle.jc_numbered.specs.inside.Indexed.{Indexed, name_at, IsIndexed}
+use Rattle.jc_numbered.specs.inside.Shown.{found_at}
+
+abbrev pub TellsField : Indexed → Key → ℕ → Option Hit → Type 0
+TellsField x k start hit = (m : World) → IsIndexed m x → FindsField m k (name_at x start) (option_map (found_at x) hit)
+
+-- of a method, among the class and its superclasses
+abbrev pub TellsInClasses : Indexed → Key → ℕ → Option Hit → Type 0
+TellsInClasses x k start hit = (m : World) → IsIndexed m x → FindsInClasses m k (name_at x start) (option_map (found_at x) hit)
+
+-- among its superinterfaces
+abbrev pub TellsInInterfaces : Indexed → Key → ℕ → Option Hit → Type 0
+TellsInInterfaces x k start hit = (m : World) → IsIndexed m x → FindsAbove m k (name_at x start) (option_map (found_at x) hit)
+
+abbrev pub TellsMethod : Indexed → Key → ℕ → Option Hit → Type 0
+TellsMethod x k start hit = (m : World) → IsIndexed m x → FindsMethod m k (name_at x start) (option_map (found_at x) hit)
+
+abbrev pub TellsInterfaceMethod : Indexed → Key → ℕ → Option Hit → Type 0
+TellsInterfaceMethod x k start hit = (m : World) → IsIndexed m x
+    → FindsInterfaceMethod m k (name_at x start) (option_map (found_at x) hit)

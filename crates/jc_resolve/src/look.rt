@@ -1,0 +1,23 @@
+//! What a class looks its references up with.
+
+ghost use Rattle.std.specs.Prelude.{◌≡◌, ◌<◌, length, true};
+ghost use Rattle.jc_numbered.specs.inside.Loading.{load_at};
+ghost use Rattle.jc_numbered.specs.inside.Shown.{indexed_of};
+ghost use Rattle.jc_resolve.specs.inside.Resolved.{has_loaded, TellsGood};
+
+use jc_numbered::{Classes, Load};
+
+/// A class that asks, among the classes of its reach, of which it is known how each loads.
+#[derive(Clone, Copy)]
+pub(crate) struct Look<'l, 'c, 't> {
+    /// The classes of its reach.
+    pub(crate) classes: &'l Classes<'c, 't>,
+    /// How each of them loads.
+    pub(crate) loads: &'l [Load],
+    /// The number of the class that asks.
+    pub(crate) class: usize,
+    pub ghost size: { length loads.now ≡ length classes.now.standing.now },
+    pub ghost good: { TellsGood (indexed_of classes.now) loads.now },
+    pub ghost within: { class < length classes.now.standing.now },
+    pub ghost loaded: { has_loaded (load_at loads.now class) ≡ true },
+}

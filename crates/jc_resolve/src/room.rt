@@ -1,0 +1,30 @@
+//! Room to look in.
+
+ghost use Rattle.std.specs.Prelude.{IfOk};
+ghost use Rattle.jc_resolve.specs.inside.Rooms.{IsRoom};
+
+use jc_base::NoMemory;
+use jc_graph::Seen;
+use jc_numbered::{Above, Classes};
+use std::alloc::Global;
+
+/// Room to look in, which the references of a class share.
+#[derive(Drop)]
+pub(crate) struct Room {
+    /// What is above the class that was asked for last.
+    pub(crate) above: Above,
+    /// The classes where a field was looked for, or those above the interfaces that may be chosen among.
+    pub(crate) covered: Seen,
+}
+
+impl Room {
+    /// Room for so many classes.
+    pub(crate) fn new(alloc: Global, classes: &Classes) -> Result<Room, NoMemory>
+        ensures { IfOk result (IsRoom classes.now) }
+    {
+        Ok(Room {
+            above: Above::new(alloc, classes.len())?,
+            covered: Seen::new(alloc, classes.len())?,
+        })
+    }
+}
