@@ -3,14 +3,17 @@
 
 Usage: hold.py JCLINK FOLDER [PREFIX]...
 
-One `jclink session` runs as a coprocess with FOLDER as its working folder. Every second the files are compared with
-those of the second before, by size and time, each that came, changed or went is one line, and the lines of the report
-that came or went are printed. Names with a PREFIX that no file gives are outside (none: java/ and javax/); lines of
-standard input, `outside add PREFIX` and `outside drop PREFIX`, change which.
+One `jclink session` runs as a coprocess in the folder above FOLDER, so that FOLDER may go and come again. Every second
+the regular files are compared with those of the second before, by size and time, each that came, changed or went is one
+line, and the lines of the report that came or went are printed. A file whose path has a line end can't be named in a line
+and is passed over. Names with a PREFIX that no file gives are outside (none: java/ and javax/); lines of standard input,
+`outside add PREFIX` and `outside drop PREFIX`, change which. It ends with the status of the session, where that ends, as
+for a PREFIX that is empty.
 """
 import os
 import pathlib
 import select
+import stat
 import subprocess
 import sys
 
@@ -21,12 +24,20 @@ class Session:
         program = pathlib.Path(program).resolve()
         self.process = subprocess.Popen([program, "session", *words], cwd=folder, stdin=subprocess.PIPE, stdout=subprocess.PIPE)
 
+    def end(self):
+        """The session has ended, and has told why on standard error."""
+        sys.exit(self.process.wait())
+
     def send(self, line):
-        self.process.stdin.write(line + b"\n")
-        self.process.stdin.flush()
+        try:
+            self.process.stdin.write(line + b"\n")
+            self.process.stdin.flush()
+        except BrokenPipeError:
+            self.end()
 
     def answer(self):
-        return self.process.stdout.readline().rstrip(b"\n")
+        line = self.process.stdout.readline()
+        return line.rstrip(b"\n") if line else self.end()
 
     def edit(self, word, path):
         """An edit has one line of answer: ok, refused or unread."""
@@ -50,13 +61,16 @@ class Session:
 
 
 def files_of(folder):
+    """Size and time of each regular class file, by its path from the folder above."""
     found = {}
     for path in folder.rglob("*.class"):
+        name = bytes(path.relative_to(folder.parent))
         try:
-            stat = path.stat()
+            seen = path.lstat()
         except FileNotFoundError:
             continue
-        found[bytes(path.relative_to(folder))] = stat.st_size, stat.st_mtime_ns
+        if stat.S_ISREG(seen.st_mode) and not {b"\n"[0], b"\r"[0]} & set(name):
+            found[name] = seen.st_size, seen.st_mtime_ns
     return found
 
 
@@ -112,7 +126,8 @@ def turn(session, lines):
 
 def main():
     program, folder, *prefixes = sys.argv[1:]
-    folder, session = pathlib.Path(folder), Session(program, folder, prefixes)
+    folder = pathlib.Path(folder).resolve()
+    session = Session(program, folder.parent, prefixes)
     files, report, given, lines = {}, session.report(), Lines(), []
     while True:
         now = files_of(folder)
