@@ -1,16 +1,20 @@
 #!/usr/bin/env python3
-"""Runs the commands that README.md and docs/USAGE.md show, and compares what they print with what stands there.
+"""Runs the commands that README.md, docs/USAGE.md and docs/REPORT.md show, and compares what they print with what
+stands there.
 
-Usage: run.py, once ./jclink is built; the environment's JCLINK may name another program. It needs a JDK.
+Usage: run.py [--netty FOLDER], once ./jclink is built; the environment's JCLINK may name another program. It needs a JDK.
 
 A command is a line of an indented block that begins with `$`; what stands below it, up to the next command, is what it
 prints, and `..` stands for any lines. Of `cat FILE..` the lines are the files themselves, one line each where there are
-several, and the trial writes them. A block is run in a folder of its own, and not where it names a tree that a reader has
-to bring along.
+several, and the trial writes them. The blocks of a document are run in one folder, one after another, each from there.
+A block about Netty is run where FOLDER is given, the Debian package libnetty-java as `dpkg -x` unpacks it; nothing is
+downloaded.
 """
+import argparse
 import os
 import pathlib
 import re
+import shutil
 import subprocess
 import sys
 import tempfile
@@ -19,12 +23,12 @@ sys.dont_write_bytecode = True
 sys.path.insert(0, str(pathlib.Path(__file__).resolve().parent.parent))
 import common
 
-BROUGHT_ALONG = "netty-and-java8"
-# What a reader has before the first command of a block that holds the text.
+DOCUMENTS = ("README.md", "docs/USAGE.md", "docs/REPORT.md")
+DOWNLOAD = "apt-get download libnetty-java"
+# What a reader has before the first command of a block that shows the file.
 BEFORE = {
     "new/Store.java": """mkdir -p old new tree
 echo 'public class Store { public int size; }' > old/Store.java
-echo 'public class Shape { }' > old/Shape.java
 javac --release 8 -d tree old/*.java App.java""",
 }
 
@@ -59,41 +63,56 @@ def write_shown(folder, names, lines):
         path.write_text(text + "\n")
 
 
+def environment():
+    java = pathlib.Path(shutil.which("javac")).resolve().parent.parent
+    return {"JAVA_HOME": str(java), **os.environ, "JCLINK": str(common.JCLINK)}
+
+
 def run(command, folder):
-    how = {"cwd": folder, "stdout": subprocess.PIPE, "stderr": subprocess.STDOUT, "text": True}
-    return subprocess.run(["bash", "-c", command], **how).stdout.splitlines()
+    how = {"cwd": folder, "env": environment(), "stdout": subprocess.PIPE, "stderr": subprocess.STDOUT, "text": True}
+    return subprocess.run(["bash", "-c", command], **how, check=False).stdout.splitlines()
 
 
 def try_block(commands, folder):
     """Yields for each command whether it prints what stands below it."""
-    status = "0"
-    (folder / "jclink").symlink_to(common.JCLINK)
-    (folder / "trials").symlink_to(common.TOP / "trials")
+    status, place = "0", folder
     shown = [(command.split()[1:], lines) for command, lines in commands if command.startswith("cat ")]
     for names, lines in shown:
         write_shown(folder, names, lines)
-    for name, setting in BEFORE.items():
-        if any(name in names for names, _ in shown):
-            run(setting, folder)
+        for name in names:
+            run(BEFORE.get(name, ""), folder)
     for command, wanted in commands:
-        # (`echo $?` tells of the command before it; javac may warn of an old release)
-        found = [line for line in run(f"(exit {status}); {command}; echo \"status $?\"", folder)]
+        # (`echo $?` tells of the command before it)
+        found = run(f"(exit {status}); {command}\necho \"status $?\"; pwd -P", place)
+        place = found.pop()
         status = found.pop().removeprefix("status ")
-        found = [] if command.startswith("javac") else found
-        right = matches(wanted, found) if wanted else True
+        if command.startswith(("javac", "cd")):
+            # (javac may warn of an old release)
+            right = status == "0"
+        else:
+            right = matches(wanted, found)
         if not right:
-            print(f"$ {command}", *found[:12], sep="\n  ")
+            print(f"$ {command}", *found[:12], f"status {status}", sep="\n  ")
         yield right
 
 
+def try_document(name, folder, netty):
+    for link, to in (("jclink", common.JCLINK), ("trials", common.TRIALS), ("examples", common.TOP / "examples")):
+        (folder / link).symlink_to(to)
+    if netty:
+        (folder / "netty").symlink_to(netty.resolve())
+    for commands in blocks((common.TOP / name).read_text()):
+        if netty or not any("netty" in command for command, _ in commands):
+            yield from try_block([command for command in commands if not command[0].startswith(DOWNLOAD)], folder)
+
+
 def main():
-    right = []
-    for name in ("README.md", "docs/USAGE.md"):
-        for commands in blocks((common.TOP / name).read_text()):
-            if any(BROUGHT_ALONG in command for command, _ in commands):
-                continue
-            with tempfile.TemporaryDirectory() as folder:
-                right += try_block(commands, pathlib.Path(folder))
+    parser = argparse.ArgumentParser()
+    parser.add_argument("--netty", type=pathlib.Path)
+    netty, right = parser.parse_args().netty, []
+    for name in DOCUMENTS:
+        with tempfile.TemporaryDirectory() as folder:
+            right += try_document(name, pathlib.Path(folder).resolve(), netty)
     print(f"{len(right)} commands, {right.count(False)} print something else")
     sys.exit(0 if right and all(right) else 1)
 
