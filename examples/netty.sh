@@ -5,9 +5,8 @@
 #
 # NETTY is a jar, or a folder of jars or of class files. Debian's package: `apt-get download libnetty-java`, `dpkg -x` of it
 # into a folder, and below that usr/share/java. Of a folder of other jars too, those named netty* are taken.
-# API is the API of Java 8: the file jre/lib/rt.jar of a JDK 8; or the file lib/ct.sym of a JDK of version 12 or later
-# (Debian's openjdk-17-jdk-headless has it in /usr/lib/jvm/java-17-openjdk-amd64/lib), of which api.py makes class files; or
-# a folder of class files.
+# API is the API of Java 8: the file jre/lib/rt.jar of a JDK 8; or the file lib/ct.sym below the JAVA_HOME of a JDK of
+# version 12 or later, as Debian's openjdk-17-jdk-headless, of which api.py makes class files; or a folder of class files.
 #
 # Printed are how many class files there are, how often each error stands in classes of Netty, and the methods of java/nio
 # that are missing, each with how many classes name it. It needs unzip, and for ct.sym python3.
