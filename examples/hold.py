@@ -61,16 +61,17 @@ class Session:
 
 
 def files_of(folder):
-    """Size and time of each regular class file, by its path from the folder above."""
-    found = {}
-    for path in folder.rglob("*.class"):
-        name = bytes(path.relative_to(folder.parent))
-        try:
-            seen = path.lstat()
-        except FileNotFoundError:
-            continue
-        if stat.S_ISREG(seen.st_mode) and not {b"\n"[0], b"\r"[0]} & set(name):
-            found[name] = seen.st_size, seen.st_mtime_ns
+    """Size and time of each regular class file, by its path from the folder above. What goes meanwhile is passed over."""
+    found, above = {}, bytes(folder.parent)
+    for place, _, names in os.walk(bytes(folder)):
+        for path in (os.path.join(place, name) for name in names if name.endswith(b".class")):
+            try:
+                seen = os.lstat(path)
+            except OSError:
+                continue
+            name = os.path.relpath(path, above)
+            if stat.S_ISREG(seen.st_mode) and not {b"\n"[0], b"\r"[0]} & set(name):
+                found[name] = seen.st_size, seen.st_mtime_ns
     return found
 
 
