@@ -9,6 +9,9 @@ prints, and `..` stands for any lines. Of `cat FILE..` the lines are the files t
 several, and the trial writes them. The blocks of a document are run in one folder, one after another, each from there.
 A block about Netty is run where FOLDER is given, the Debian package libnetty-java as `dpkg -x` unpacks it; nothing is
 downloaded.
+
+A block that begins with `use` is code of a library: its lines stand in a source of a crate, in this order. Each file of
+the repository that a document names is there.
 """
 import argparse
 import os
@@ -24,6 +27,8 @@ sys.path.insert(0, str(pathlib.Path(__file__).resolve().parent.parent))
 import common
 
 DOCUMENTS = ("README.md", "docs/USAGE.md", "docs/REPORT.md")
+# What a build makes.
+MADE = {"crates/jclink/out/jclink"}
 DOWNLOAD = "apt-get download libnetty-java"
 # What a reader has before the first command of a block that shows the file.
 BEFORE = {
@@ -54,6 +59,38 @@ def matches(wanted, found):
     if wanted[0].strip() == "..":
         return any(matches(wanted[1:], found[at:]) for at in range(len(found) + 1))
     return bool(found) and wanted[0] == found[0] and matches(wanted[1:], found[1:])
+
+
+def quotes(text):
+    """The blocks of code, each as its lines."""
+    for block in re.findall(r"(?:^    .*\n|^\n(?=    ))+", text, re.M):
+        lines = [line[4:] for line in block.splitlines()]
+        if lines[0].startswith("use "):
+            yield lines
+
+
+def is_in_a_crate(lines):
+    wanted = ["..", *lines, ".."]
+    return any(matches(wanted, path.read_text().splitlines()) for path in common.TOP.glob("crates/*/src/**/*.rt"))
+
+
+def missing_files(text):
+    """The files that a text names by their paths from the top, and that are not there."""
+    named = re.findall(r"[`(]((?:crates|docs|examples|trials)/[\w./-]*\w)[`)]", text)
+    return sorted({name for name in named if "NAME" not in name and not list(common.TOP.glob(name))} - MADE)
+
+
+def try_text(path):
+    """Yields for each quote and each named file that is missing whether it is there."""
+    text, name = path.read_text(), path.relative_to(common.TOP)
+    for lines in quotes(text):
+        right = is_in_a_crate(lines)
+        if not right:
+            print(f"{name}: no crate has `{lines[0]}`, ..")
+        yield right
+    for missing in missing_files(text):
+        print(f"{name}: {missing} is not there")
+        yield False
 
 
 def write_shown(folder, names, lines):
@@ -110,10 +147,12 @@ def main():
     parser = argparse.ArgumentParser()
     parser.add_argument("--netty", type=pathlib.Path)
     netty, right = parser.parse_args().netty, []
+    for path in sorted([*common.TOP.glob("*.md"), *common.TOP.glob("docs/*.md"), *common.TOP.glob("trials/*.md")]):
+        right += try_text(path)
     for name in DOCUMENTS:
         with tempfile.TemporaryDirectory() as folder:
             right += try_document(name, pathlib.Path(folder).resolve(), netty)
-    print(f"{len(right)} commands, {right.count(False)} print something else")
+    print(f"{len(right)} commands and quotes, {right.count(False)} differ")
     sys.exit(0 if right and all(right) else 1)
 
 
