@@ -69,6 +69,11 @@ class Report:
         for _, tag, text, key in self.loaded[name].references if name in self.loaded else ():
             yield (text, tag, key or ()), self.world.resolve(name, tag, text, key)
 
+    def mark(self, name, line):
+        """What stands behind a line that begins with the index of a reference."""
+        used = self.loaded[name].used
+        return "" if int(line.removeprefix("  #").split(" ", 1)[0]) in used else " (unused)"
+
     def required(self):
         for name in self.loaded:
             for reference, answer in self.resolved(name):
@@ -94,7 +99,8 @@ class Report:
             for line in lines if is_asked(name) else ():
                 is_answer = line.startswith("  #")
                 if not is_answer or name in self.loaded and next(answers)[1][0] == "error":
-                    yield f"{links.shown(name)}: " + line.removeprefix("  ")
+                    mark = self.mark(name, line) if is_answer else ""
+                    yield f"{links.shown(name)}: {line.removeprefix('  ')}{mark}"
 
     def is_wrong(self, name):
         record = self.world.given[name]

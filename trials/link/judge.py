@@ -38,12 +38,13 @@ class Record:
         file = rules.ClassFile(data)
         self.name, self.flags = file.class_text(file.this), file.flags
         self.faults = [(f"F{rule}", place) for rule, place in rules.faults(data)]
-        self.code_faults, self.uses, self.parent, self.references = [], [], None, []
+        self.code_faults, self.uses, self.parent, self.references, self.used = [], [], None, [], set()
         self.interfaces, self.fields, self.methods = [], [], []
         if self.faults:
             return
         self.code_faults = code_rules.faults(data)
         self.uses = list(uses_of(file, {method for method, _, _ in self.code_faults}))
+        self.used = used_by(file)
         self.parent = file.class_text(file.parent)
         self.interfaces = [file.class_text(index) for index in file.interfaces]
         self.fields = [self.member(file, field) for field in file.fields]
@@ -68,7 +69,7 @@ class Record:
 class BuiltIn(Record):
     def __init__(self):
         self.name, self.flags, self.faults, self.code_faults, self.parent = OBJECT, PUBLIC, [], [], None
-        self.interfaces, self.fields, self.references, self.uses = [], [], [], []
+        self.interfaces, self.fields, self.references, self.uses, self.used = [], [], [], [], set()
         public = [(b"<init>", b"()V"), (b"getClass", b"()Ljava/lang/Class;"), (b"hashCode", b"()I"),
                   (b"equals", b"(Ljava/lang/Object;)Z"), (b"toString", b"()Ljava/lang/String;"), (b"notify", b"()V"),
                   (b"notifyAll", b"()V"), (b"wait", b"()V"), (b"wait", b"(J)V"), (b"wait", b"(JI)V")]
@@ -89,6 +90,46 @@ def uses_of(file, faulty):
             if code[at] in INSTRUCTIONS:
                 yield number, at, code[at], code_rules.unsigned(code, at + 1, 2)
             at += code_rules.length_at(code, at)
+
+
+# Instructions that name a constant by two bytes; `ldc` (18) names one by a single byte.
+NAMING = {19, 20, *range(178, 188), 189, 192, 193, 197}
+
+
+def named_by(file):
+    """The indexes that instructions, handlers, method handles and bootstrap methods name."""
+    for method in file.methods:
+        codes = code_rules.codes_of(file, method)
+        if len(codes) != 1:
+            continue
+        _, code, handlers = codes[0]
+        yield from (handler[3] for handler in handlers)
+        at = 0
+        while at < len(code) and (length := code_rules.length_at(code, at)):
+            if code[at] == 18:
+                yield code[at + 1]
+            elif code[at] in NAMING:
+                yield code_rules.unsigned(code, at + 1, 2)
+            at += length
+    for index in file.entries:
+        if file.tag(index) == 15:
+            yield code_rules.unsigned(file.entries[index][1], 1, 2)
+    for attribute in file.of(file.attributes, b"BootstrapMethods"):
+        yield from arguments_in(attribute.body)
+
+
+def arguments_in(body):
+    at = 2
+    for _ in range(code_rules.unsigned(body, 0, 2)):
+        count = code_rules.unsigned(body, at + 2, 2)
+        yield from (code_rules.unsigned(body, at + 4 + 2 * number, 2) for number in range(count))
+        at += 4 + 2 * count
+
+
+def used_by(file):
+    """The indexes that are named, and those of the classes of references to members that are."""
+    named = set(named_by(file))
+    return named | {file.pair(index)[0] for index in named if index in file.entries and file.tag(index) in (9, 10, 11)}
 
 
 class Use(typing.NamedTuple):

@@ -2,3 +2,4 @@ pub mod members
 pub mod worlds
 pub mod numbering
 pub mod texts
+pub mod using

@@ -37,6 +37,7 @@ object_facts = record {
   methods = object_methods;
   references = [];
   uses = [];
+  used = [];
   format_faults = [];
   code_faults = [];
 }

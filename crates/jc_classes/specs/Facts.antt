@@ -1,5 +1,5 @@
 -- What linking keeps of a class file.
-use Rattle.std.specs.Prelude.{◌≡◌, ℕ, ◌<◌, Bool, List, Option, Some, length, slice_get, ◌==◌, not}
+use Rattle.std.specs.Prelude.{◌≡◌, ℕ, ◌<◌, Bool, List, Option, Some, length, slice_get, slice_index_or, ◌==◌, false, not}
 use Rattle.std.specs.List.{All, Contains}
 use Rattle.jc_rules.specs.declared.fault.Fault.{Fault}
 use Rattle.jc_code.specs.declared.code_fault.CodeFault.{CodeFault}
@@ -54,9 +54,14 @@ pub record Facts : Type 0 where
   pub references : List Reference
   -- by method, then by offset
   pub uses : List MethodUse
+  -- of each constant whether it is used, by its index
+  pub used : List Bool
   pub format_faults : List Fault
   -- each with the number of its method
   pub code_faults : List (ℕ × CodeFault)
 
 abbrev pub is_faulty : Facts → Bool
 is_faulty f = not (length f.format_faults == 0)
+
+abbrev pub is_used : Facts → (index : ℕ) → Bool
+is_used f index = slice_index_or f.used index false

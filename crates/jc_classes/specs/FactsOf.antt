@@ -15,6 +15,7 @@ use Rattle.jc_classes.specs.declared.reference_kind.ReferenceKind.TheVariants as
 use Rattle.jc_classes.specs.Facts.{Facts, Member, Reference}
 use Rattle.jc_classes.specs.NamedTexts.{named_by}
 use Rattle.jc_classes.specs.Names.{Name, same_name}
+use Rattle.jc_classes.specs.UsedConstants.{used}
 
 infixl 10 ◌>>=◌
 abbrev ◌>>=◌ : {A B : Type 0} → Option A → (A → Option B) → Option B
@@ -84,6 +85,7 @@ sound_facts path c = record {
   methods = members_in c c.methods;
   references = references_in c;
   uses = uses c;
+  used = used c;
   format_faults = [];
   code_faults = code_faults c;
 }
@@ -100,6 +102,7 @@ faulty_facts path c = record {
   methods = [];
   references = [];
   uses = [];
+  used = [];
   format_faults = faults c;
   code_faults = [];
 }

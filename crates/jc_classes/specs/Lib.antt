@@ -16,5 +16,6 @@ pub mod Names
 pub mod Numbers
 pub mod Parts
 pub mod Resolution
+pub mod UsedConstants
 pub mod Worlds
 pub mod inside

@@ -8,3 +8,4 @@ pub mod Ordered
 pub mod OrderedMembers
 pub mod Ranks
 pub mod TextList
+pub mod Using

@@ -121,6 +121,7 @@ impl Facts {
             method_order,
             references: Rc::new(alloc, Vec::new(alloc))?,
             uses: Vec::new(alloc),
+            used: Vec::new(alloc),
             faults: Faults::shared(alloc, Vec::new(alloc), Vec::new(alloc))?,
         })
     }

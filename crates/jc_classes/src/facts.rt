@@ -2,7 +2,7 @@
 
 ghost use Rattle.std.specs.Prelude.{◌≡◌, length, option_map, slice_get, IfOk};
 ghost use Rattle.std.specs.Option.{option_copied};
-ghost use Rattle.jc_classes.specs.Facts.{is_faulty};
+ghost use Rattle.jc_classes.specs.Facts.{is_faulty, is_used};
 ghost use Rattle.jc_classes.specs.Lent.{member_lent, reference_lent};
 ghost use Rattle.jc_classes.specs.MemberOrder.{IsOrder};
 ghost use Rattle.jc_classes.specs.inside.FactsShown.{reference_shown};
@@ -37,6 +37,8 @@ pub struct Facts {
     pub(crate) method_order: Vec<u16>,
     pub(crate) references: Rc<Vec<ReferenceEntry>>,
     pub(crate) uses: Vec<MethodUse>,
+    /// Whether each constant is used, by its index.
+    pub(crate) used: Vec<bool>,
     pub(crate) faults: Rc<Faults>,
 }
 
@@ -238,6 +240,18 @@ impl Facts {
         ensures { result.now ≡ self.now.uses }
     {
         self.uses.as_slice()
+    }
+
+    /// Whether a constant is used, and so resolved where what names it is run: an instruction, an exception handler,
+    /// a method handle or an argument of a bootstrap method names it, or a reference to a member that is named so is
+    /// of this class. Not of an index that no constant has.
+    pub fn is_used(&self, index: u16) -> bool
+        ensures { result ≡ is_used self.now index }
+    {
+        match self.used.get(index as usize) {
+            Some(used) => *used,
+            None => false,
+        }
     }
 
     /// Its references, which share their texts with it, so that they may outlive it.

@@ -20,6 +20,7 @@ mod reference_kind;
 mod references;
 mod standing;
 mod text_list;
+mod used;
 
 pub use facts::{Facts, Faults};
 pub use laws::{affected_by_either, locality, part_is_one};

@@ -20,6 +20,7 @@ use crate::class_texts::ClassTexts;
 use crate::facts::{Facts, Faults, MemberEntry, ReferenceEntry};
 use crate::reference_kind::ReferenceKind;
 use crate::text_list::TextList;
+use crate::used::used;
 use jc_base::NoMemory;
 use jc_code::{CodeFault, MethodUse, TextSizes, faults_and_uses, method_code};
 use jc_file::{Fault, format_faults};
@@ -65,6 +66,7 @@ fn sound_facts(alloc: Global, class: &ClassView, path: &[u8]) -> Result<Facts, N
     let mut texts = ClassTexts::new(alloc, class)?;
     let entries = read_entries(&mut texts, class)?;
     let codes = read_codes(alloc, class)?;
+    let used = used(alloc, class)?;
     let texts_shared = Rc::new(alloc, texts.into_list())?;
     let references = Rc::new(alloc, entries.references)?;
     let faults = Faults::shared(alloc, Vec::new(alloc), codes.faults)?;
@@ -81,6 +83,7 @@ fn sound_facts(alloc: Global, class: &ClassView, path: &[u8]) -> Result<Facts, N
         method_order: entries.method_order,
         references,
         uses: codes.uses,
+        used,
         faults,
     })
 }
@@ -138,6 +141,7 @@ fn faulty_facts(
         method_order: Vec::new(alloc),
         references: Rc::new(alloc, Vec::new(alloc))?,
         uses: Vec::new(alloc),
+        used: Vec::new(alloc),
         faults: Faults::shared(alloc, format_faults, Vec::new(alloc))?,
     })
 }

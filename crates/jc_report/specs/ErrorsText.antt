@@ -4,7 +4,7 @@ use Rattle.std.specs.Borrow.{Bor}
 use Rattle.std.specs.List.{flat_map, list_any}
 use Rattle.jc_text.specs.Escapes.{shown}
 use Rattle.jc_list.specs.FaultLines.{code_fault_line, format_line}
-use Rattle.jc_classes.specs.Facts.{Facts, Reference}
+use Rattle.jc_classes.specs.Facts.{Facts, Reference, is_used}
 use Rattle.jc_classes.specs.Loading.{Loading}
 use Rattle.jc_classes.specs.Loading.{Loading as loading}
 use Rattle.jc_classes.specs.Names.{Name}
@@ -46,14 +46,18 @@ load_error name loading.Loaded = []
 load_error name loading.Outside = []
 load_error name (loading.Fails error fault) = of_class name (error_text error fault ++ codes "\n")
 
-abbrev pub answer_error : Name → Reference → Answer → List ℕ
-answer_error name r a = cond (is_error a) (of_class name (answered_text r a)) []
+-- behind a reference that nothing names, so that it is never resolved
+abbrev pub use_mark : (is_used : Bool) → List ℕ
+use_mark is_used = cond is_used [] (codes " (unused)")
+
+abbrev pub answer_error : Facts → Reference → Answer → List ℕ
+answer_error f r a = cond (is_error a) (of_class f.name (answered_text r a ++ use_mark (is_used f r.index) ++ codes "\n")) []
 
 -- the references that errors answer
-abbrev pub answer_errors : Name → List Reference → List Answer → List ℕ
-answer_errors name [] answers = []
-answer_errors name (r ∷ rs) [] = []
-answer_errors name (r ∷ rs) (a ∷ answers) = answer_error name r a ++ answer_errors name rs answers
+abbrev pub answer_errors : Facts → List Reference → List Answer → List ℕ
+answer_errors f [] answers = []
+answer_errors f (r ∷ rs) [] = []
+answer_errors f (r ∷ rs) (a ∷ answers) = answer_error f r a ++ answer_errors f rs answers
 
 -- of a class, in the order of the lines of its part
 unfoldable pub part_errors : Facts → Part → List ℕ
@@ -62,7 +66,7 @@ part_errors f p =
     ++ flat_map (λ fault. of_class f.name (format_line fault)) p.format_faults
     ++ flat_map (λ fault. of_class f.name (code_fault_line fault)) p.code_faults
     ++ flat_map (λ link. of_class f.name (link_text link)) p.links
-    ++ answer_errors f.name f.references p.answers
+    ++ answer_errors f f.references p.answers
 
 abbrev pub class_errors : Option (List Name) → Class → List ℕ
 class_errors only c = cond (is_asked only (name_of c)) (part_errors c.facts c.part) []

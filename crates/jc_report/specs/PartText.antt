@@ -79,10 +79,10 @@ link_line link = codes "  " ++ link_text link
 
 -- a reference and the answer to it
 abbrev pub answered_text : Reference → Answer → List ℕ
-answered_text r a = codes "#" ++ decimal r.index ++ codes " " ++ reference_text r ++ codes " -> " ++ answer_text a ++ codes "\n"
+answered_text r a = codes "#" ++ decimal r.index ++ codes " " ++ reference_text r ++ codes " -> " ++ answer_text a
 
 abbrev pub answer_line : Reference → Answer → List ℕ
-answer_line r a = codes "  " ++ answered_text r a
+answer_line r a = codes "  " ++ answered_text r a ++ codes "\n"
 
 -- the answer to each reference
 abbrev pub answer_lines : List Reference → List Answer → List ℕ

@@ -10,7 +10,7 @@ ghost use Rattle.jc_classes.specs.Lent.{reference_lent};
 ghost use Rattle.jc_list.specs.FaultLines.{code_fault_line, format_line};
 ghost use Rattle.jc_resolve.specs.Answers.{answer_of, loading_of};
 ghost use Rattle.jc_report.specs.ErrorsText.{answer_error, answer_errors, class_errors, errors_text, file_error, is_asked};
-ghost use Rattle.jc_report.specs.ErrorsText.{load_error, of_class, part_errors, prefixes_lent};
+ghost use Rattle.jc_report.specs.ErrorsText.{load_error, of_class, part_errors, prefixes_lent, use_mark};
 ghost use Rattle.jc_report.specs.FileRows.{is_unreadable};
 ghost use Rattle.jc_report.specs.FileRowView as lent;
 ghost use Rattle.jc_report.specs.PartText.{link_text};
@@ -159,13 +159,11 @@ fn write_link_errors<W: Output>(text: &mut TextWriter<'_, W>, name: &[u8], links
 
 /// The references that errors answer.
 fn write_answer_errors<W: Output>(text: &mut TextWriter<'_, W>, facts: &Facts, answers: &Answers)
-    ensures { Sends W.written W.failures text.old text.new (answer_errors facts.now.name facts.now.references answers.now) }
+    ensures { Sends W.written W.failures text.old text.new (answer_errors facts.now facts.now.references answers.now) }
 {
     for number in 0..answers.len() {
         match facts.reference(number) {
-            Some(reference) => {
-                write_answer_error(text, facts.name(), reference, answers.at(number))
-            }
+            Some(reference) => write_answer_error(text, facts, reference, answers.at(number)),
             None => return,
         }
     }
@@ -173,15 +171,26 @@ fn write_answer_errors<W: Output>(text: &mut TextWriter<'_, W>, facts: &Facts, a
 
 fn write_answer_error<W: Output>(
     text: &mut TextWriter<'_, W>,
-    name: &[u8],
+    facts: &Facts,
     reference: Reference<'_>,
     answer: Answer<'_>,
 )
-    ensures { Sends W.written W.failures text.old text.new (answer_error name.now (reference_lent reference.entry) (answer_of answer.entry)) }
+    ensures { Sends W.written W.failures text.old text.new (answer_error facts.now (reference_lent reference.entry) (answer_of answer.entry)) }
 {
     if let Answer::Error(_, _) = answer {
-        write_front(text, name);
+        write_front(text, facts.name());
         write_answered(text, reference, answer);
+        write_use_mark(text, facts.is_used(reference.index));
+        text.text(b"\n");
+    }
+}
+
+/// What stands behind a reference that nothing names.
+fn write_use_mark<W: Output>(text: &mut TextWriter<'_, W>, is_used: bool)
+    ensures { Sends W.written W.failures text.old text.new (use_mark is_used) }
+{
+    if !is_used {
+        text.text(b" (unused)");
     }
 }
 

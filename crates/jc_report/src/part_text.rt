@@ -150,9 +150,10 @@ fn write_answer_line<W: Output>(
 {
     out.text(b"  ");
     write_answered(out, reference, answer);
+    out.text(b"\n");
 }
 
-/// A reference and the answer to it, and LF.
+/// A reference and the answer to it.
 pub(crate) fn write_answered<W: Output>(
     out: &mut TextWriter<'_, W>,
     reference: Reference<'_>,
@@ -166,7 +167,6 @@ pub(crate) fn write_answered<W: Output>(
     write_reference(out, reference);
     out.text(b" -> ");
     write_answer(out, answer);
-    out.text(b"\n");
 }
 
 fn write_reference<W: Output>(out: &mut TextWriter<'_, W>, reference: Reference<'_>)

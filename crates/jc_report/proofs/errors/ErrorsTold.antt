@@ -3,7 +3,7 @@ use Rattle.std.proofs.Common.{◌≡◌, ◌++◌, ◌||◌, ℕ, ◌==◌, Bool
 use Rattle.std.specs.List.{list_any}
 use Rattle.jc_text.specs.Escapes.{path_text, shown}
 use Rattle.jc_list.specs.FaultLines.{code_fault_line, format_line}
-use Rattle.jc_classes.specs.Facts.{Facts, Reference}
+use Rattle.jc_classes.specs.Facts.{Facts, Reference, is_used}
 use Rattle.jc_classes.specs.Loading.{Loading}
 use Rattle.jc_classes.specs.Loading.{Loading as loading}
 use Rattle.jc_classes.specs.Names.{Name}
@@ -12,7 +12,7 @@ use Rattle.jc_classes.specs.Resolution.{Answer}
 use Rattle.jc_classes.specs.Worlds.{World, references_of}
 use Rattle.jc_link.specs.Prefixes.{is_covered}
 use Rattle.jc_link.specs.Tables.{or_built_in, stands_by}
-use Rattle.jc_report.specs.ErrorsText.{answer_errors, class_errors, errors_text, file_error, is_asked, is_wrong_among, is_wrong_class, is_wrong_file, load_error, of_class, part_errors}
+use Rattle.jc_report.specs.ErrorsText.{answer_errors, class_errors, errors_text, file_error, is_asked, is_wrong_among, is_wrong_class, is_wrong_file, load_error, of_class, part_errors, use_mark}
 use Rattle.jc_report.specs.Files.{Files}
 use Rattle.jc_report.specs.FileRows.{FileRow}
 use Rattle.jc_report.specs.FileRowText.{row_text, state_text}
@@ -31,13 +31,13 @@ load_told name loading.Loaded = (λ e. refl, λ e. refl)
 load_told name loading.Outside = (λ e. refl, λ e. refl)
 load_told name (loading.Fails error fault) = (λ e. absurd (of_class_there name _ e), λ e. absurd cc)
 
-answers_told : (m : World) (d name : Name) (l : Loading) (rs : List Reference) (answers : List Answer) → AreAnswers m d l rs answers
-    → Tells (list_any is_error answers) (answer_errors name rs answers)
-answers_told m d name l [] [] are = (λ e. refl, λ e. refl)
-answers_told m d name l (r ∷ rs) (a ∷ answers) are =
-    tells_or (is_error a) (list_any is_error answers) (tells_text (is_error a) _ (of_class_there name (answered_text r a))) (answers_told m d name l rs answers are.1)
-answers_told m d name l [] (a ∷ answers) are = absurd are
-answers_told m d name l (r ∷ rs) [] are = absurd are
+answers_told : (m : World) (d : Name) (f : Facts) (l : Loading) (rs : List Reference) (answers : List Answer) → AreAnswers m d l rs answers
+    → Tells (list_any is_error answers) (answer_errors f rs answers)
+answers_told m d f l [] [] are = (λ e. refl, λ e. refl)
+answers_told m d f l (r ∷ rs) (a ∷ answers) are =
+    tells_or (is_error a) (list_any is_error answers) (tells_text (is_error a) _ (of_class_there f.name (answered_text r a ++ use_mark (is_used f r.index) ++ codes "\n"))) (answers_told m d f l rs answers are.1)
+answers_told m d f l [] (a ∷ answers) are = absurd are
+answers_told m d f l (r ∷ rs) [] are = absurd are
 
 load_last : (a b c : Bool) → (a || b || c) ≡ (b || c || a)
 load_last true true c = refl
@@ -53,7 +53,7 @@ part_told m d f p are =
     let format = tells_some (λ fault. of_class f.name (format_line fault)) p.format_faults (λ fault. of_class_there f.name (format_line fault)) in
     let code = tells_some (λ fault. of_class f.name (code_fault_line fault)) p.code_faults (λ fault. of_class_there f.name (code_fault_line fault)) in
     let links = tells_some (λ link. of_class f.name (link_text link)) p.links (λ link. of_class_there f.name (link_text link)) in
-    let answers = answers_told m d f.name p.load f.references p.answers are in
+    let answers = answers_told m d f p.load f.references p.answers are in
     subst (λ test. Tells (test || not (length p.links == 0) || list_any is_error p.answers) (part_errors f p))
     (load_last (is_load_error p.load) (not (length p.format_faults == 0)) (not (length p.code_faults == 0)))
     (tells_or _ _ (tells_or _ _ (tells_or _ _ (tells_or _ _ (load_told f.name p.load) format) code) links) answers)

@@ -25,6 +25,7 @@ returns c =
     (ap (λ ts. map (member_shown ts) e.methods.items) t ∙ h.methods)
     (ap (λ rs. map (reference_shown c.in_ok-texts_shared.texts_shared.value) rs.items) r ∙ ap (λ ts. map (reference_shown ts) e.references.items) t ∙ h.references)
     c.in_ok-codes.ensures.uses
+    c.in_ok-used.ensures
     (ap (λ v. v.items) f.format ∙ c.new-4.ensures.items)
     (ap (λ v. v.items) f.code ∙ c.in_ok-codes.ensures.faults)
 

@@ -6,5 +6,5 @@ use Rattle.jc_report.proofs.errors_text.write_answer_errors.Given as goal
 -- all lines but those of the references that are left
 abbrev pub invariant-loop-number : goal.invariant-loop-number
 invariant-loop-number g l =
-    HasSent g.W.Output.written g.W.Output.failures l.fn.text l.text (answer_errors l.facts.name l.facts.references l.answers)
-    (answer_errors l.facts.name (drop l.number l.facts.references) (drop l.number l.answers))
+    HasSent g.W.Output.written g.W.Output.failures l.fn.text l.text (answer_errors l.facts l.facts.references l.answers)
+    (answer_errors l.facts (drop l.number l.facts.references) (drop l.number l.answers))

@@ -15,4 +15,4 @@ returns g c =
     ⟫ sends_equal (ap (λ n. flat_map (λ f. of_class n (format_line f)) c.format_faults.result.now) c.name-2.ensures ∙ ap (flat_map (λ f. of_class name (format_line f))) c.format_faults.ensures) c.write_format_errors.ensures
     ⟫ sends_equal (ap (λ n. flat_map (λ f. of_class n (code_fault_line f)) c.code_faults.result.now) c.name-3.ensures ∙ ap (flat_map (λ f. of_class name (code_fault_line f))) c.code_faults.ensures) c.write_code_errors.ensures
     ⟫ sends_equal (ap (λ n. flat_map (λ l. of_class n (link_text l)) c.links.result) c.name-4.ensures ∙ ap (flat_map (λ l. of_class name (link_text l))) c.links.ensures) c.write_link_errors.ensures
-    ⟫ sends_equal (ap (answer_errors name c.args.facts.now.references) c.answers.ensures) c.write_answer_errors.ensures
+    ⟫ sends_equal (ap (answer_errors c.args.facts.now c.args.facts.now.references) c.answers.ensures) c.write_answer_errors.ensures

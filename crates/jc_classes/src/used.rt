@@ -1,0 +1,264 @@
+//! Which constants of a class file are used: what nothing names is never resolved.
+
+ghost use Rattle.std.specs.Prelude.{◌≡◌, ◌++◌, ◌<◌, ◌==◌, ◌^◌, None, length, IfOk, OnOk, if◌then◌else◌, option_and_then};
+ghost use Rattle.std.specs.List.{flat_map};
+ghost use Rattle.jc_view.specs.declared.attribute_kind.Holder.TheVariants as holders;
+ghost use Rattle.jc_code.specs.InsnReading.{insns_of};
+ghost use Rattle.jc_view.specs.AttributeReading.{after_bootstrap, bootstrap_value};
+ghost use Rattle.jc_view.specs.Attributes.{bootstrap_attributes};
+ghost use Rattle.jc_view.specs.ClassFile.{constant_at};
+ghost use Rattle.jc_view.specs.Moves.{Lends};
+ghost use Rattle.jc_view.specs.Reading.{after_table};
+ghost use Rattle.jc_classes.specs.UsedConstants.{by_constants, named, named_by_code, named_by_handle, named_by_insn};
+ghost use Rattle.jc_classes.specs.UsedConstants.{named_by_method, named_by_table, owner, used};
+ghost use Rattle.jc_classes.specs.inside.Using.{Marks, are_marks, arguments_at, mark_at, named_by_attribute, named_by_insns, owners};
+
+use crate::read_facts::push_some;
+use jc_base::{Cursor, NoMemory};
+use jc_code::{Insn, Insns, method_code};
+use jc_view::{
+    Attribute, AttributeKind, ClassView, Code, Constant, ConstantIndex, Indexes, Member,
+    read_index, read_indexes,
+};
+use std::alloc::Global;
+
+/// Whether each constant of a class file is used, by its index: an instruction, an exception handler, a method
+/// handle or an argument of a bootstrap method names it, or a reference to a member that is named so is of this
+/// class.
+///
+/// Answers `NoMemory` only where memory was refused.
+pub(crate) fn used(alloc: Global, class: &ClassView) -> Result<Vec<bool>, NoMemory>
+    ensures { IfOk result (λ marks. marks.items ≡ used class.now) }
+{
+    let mut names = named(alloc, class)?;
+    let marks = marked(alloc, class, &names)?;
+    add_owners(&mut names, class, &marks)?;
+    marked(alloc, class, &names)
+}
+
+/// The constants that are named, some perhaps several times.
+fn named(alloc: Global, class: &ClassView) -> Result<Vec<ConstantIndex>, NoMemory>
+    ensures { IfOk result (λ names. names.items ≡ named class.now) }
+{
+    let mut names = Vec::new(alloc);
+    add_by_methods(&mut names, class)?;
+    add_by_handles(&mut names, class)?;
+    add_by_bootstraps(alloc, &mut names, class)?;
+    Ok(names)
+}
+
+/// Adds what the code of methods names.
+fn add_by_methods(names: &mut Vec<ConstantIndex>, class: &ClassView) -> Result<(), NoMemory>
+    ensures { OnOk result (names.new.items ≡ names.old.items ++ flat_map (named_by_method class.now) class.now.methods) }
+{
+    for method in class.methods() {
+        add_by_method(names, &method)?;
+    }
+    Ok(())
+}
+
+/// Adds what the code of a method names.
+fn add_by_method(names: &mut Vec<ConstantIndex>, method: &Member) -> Result<(), NoMemory>
+    requires { method.now.member.holder ≡ holders.Method }
+    ensures { OnOk result (names.new.items ≡ names.old.items ++ named_by_method method.now.class method.now.member.member) }
+{
+    match method_code(method) {
+        Some(code) => add_by_code(names, &code),
+        None => Ok(()),
+    }
+}
+
+/// Adds what the instructions and the handlers of a code name.
+fn add_by_code(names: &mut Vec<ConstantIndex>, code: &Code) -> Result<(), NoMemory>
+    ensures { OnOk result (names.new.items ≡ names.old.items ++ named_by_code code.now.code) }
+{
+    add_by_insns(names, code.bytes())?;
+    for handler in code.handlers() {
+        names.push(handler.catch_type)?;
+    }
+    Ok(())
+}
+
+fn add_by_insns(names: &mut Vec<ConstantIndex>, bytes: &[u8]) -> Result<(), NoMemory>
+    requires { length bytes.now < 2 ^ 16 }
+    ensures { OnOk result (names.new.items ≡ names.old.items ++ named_by_insns (insns_of bytes.now)) }
+{
+    for (_, insn) in Insns::new(bytes) {
+        push_some(names, named_by_insn(&insn))?;
+    }
+    Ok(())
+}
+
+/// The constant that an instruction names.
+fn named_by_insn(insn: &Insn) -> Option<ConstantIndex>
+    ensures { result ≡ named_by_insn insn.now }
+{
+    match insn {
+        Insn::Load { index, .. }
+        | Insn::Field { index, .. }
+        | Insn::Invoke { index, .. }
+        | Insn::InvokeInterface { index, .. }
+        | Insn::InvokeDynamic { index, .. }
+        | Insn::Type { index, .. }
+        | Insn::MultiNewArray { index, .. } => Some(*index),
+        _ => None,
+    }
+}
+
+/// Adds what method handles name.
+fn add_by_handles(names: &mut Vec<ConstantIndex>, class: &ClassView) -> Result<(), NoMemory>
+    ensures { OnOk result (names.new.items ≡ names.old.items ++ by_constants named_by_handle class.now) }
+{
+    for index in 1..class.constant_count() {
+        push_some(names, named_by_handle(class, index))?;
+    }
+    Ok(())
+}
+
+fn named_by_handle(class: &ClassView, index: u16) -> Option<ConstantIndex>
+    ensures { result ≡ option_and_then named_by_handle (constant_at class.now (record { 0 = index })) }
+{
+    match class.constant(index)? {
+        Constant::MethodHandle(_, reference) => Some(reference),
+        _ => None,
+    }
+}
+
+/// Adds the arguments of bootstrap methods.
+fn add_by_bootstraps(
+    alloc: Global,
+    names: &mut Vec<ConstantIndex>,
+    class: &ClassView,
+) -> Result<(), NoMemory>
+    ensures { OnOk result (names.new.items ≡ names.old.items
+        ++ flat_map (λ a. named_by_table a.bytes) (bootstrap_attributes class.now)) }
+{
+    for attribute in class.attributes() {
+        add_by_attribute(alloc, names, &attribute)?;
+    }
+    Ok(())
+}
+
+/// The same of one attribute.
+fn add_by_attribute(
+    alloc: Global,
+    names: &mut Vec<ConstantIndex>,
+    attribute: &Attribute,
+) -> Result<(), NoMemory>
+    ensures { OnOk result (names.new.items ≡ names.old.items ++ named_by_attribute attribute.now.class attribute.now.attribute) }
+{
+    if attribute.is(AttributeKind::BootstrapMethods) {
+        add_by_table(alloc, names, attribute.bytes())
+    } else {
+        Ok(())
+    }
+}
+
+/// Adds the arguments in the bytes of an attribute, where they are a table of bootstrap methods and nothing else.
+fn add_by_table(alloc: Global, names: &mut Vec<ConstantIndex>, bytes: &[u8]) -> Result<(), NoMemory>
+    ensures { OnOk result (names.new.items ≡ names.old.items ++ named_by_table bytes.now) }
+{
+    let mut cursor = Cursor::new(bytes);
+    match read_arguments(alloc, &mut cursor)? {
+        Some(arguments) if !cursor.has_left() => Ok(names.extend_from_slice(&arguments)?),
+        _ => Ok(()),
+    }
+}
+
+/// The arguments of the bootstrap methods in the table that stands here, behind its count; nothing where it is
+/// cut.
+fn read_arguments(
+    alloc: Global,
+    cursor: &mut Cursor,
+) -> Result<Option<Vec<ConstantIndex>>, NoMemory>
+    ensures { IfOk result (λ read. Lends (λ v. v.items) (after_table after_bootstrap) arguments_at cursor.old read cursor.new) }
+{
+    let Some(count) = cursor.u2() else {
+        return Ok(None);
+    };
+    let mut arguments = Vec::new(alloc);
+    for _ in 0..count {
+        match read_method(cursor) {
+            Some(indexes) => add_indexes(&mut arguments, indexes)?,
+            None => return Ok(None),
+        }
+    }
+    Ok(Some(arguments))
+}
+
+/// The arguments of the bootstrap method that stands here.
+#[tactic(auto, unfolding(jc_view::specs::AttributeReading::after_bootstrap))]
+fn read_method<'a>(cursor: &mut Cursor<'a>) -> Option<Indexes<'a>>
+    ensures { Lends (λ indexes. indexes) after_bootstrap (λ xs. (bootstrap_value xs).arguments) cursor.old result cursor.new }
+{
+    read_index(cursor)?;
+    read_indexes(cursor)
+}
+
+fn add_indexes(names: &mut Vec<ConstantIndex>, indexes: Indexes) -> Result<(), NoMemory>
+    ensures { OnOk result (names.new.items ≡ names.old.items ++ indexes.entry) }
+{
+    for index in indexes {
+        names.push(index)?;
+    }
+    Ok(())
+}
+
+/// Adds the classes of the references to members that are marked.
+fn add_owners(
+    names: &mut Vec<ConstantIndex>,
+    class: &ClassView,
+    marks: &[bool],
+) -> Result<(), NoMemory>
+    requires { marks.now ≡ are_marks class.now names.old.items }
+    ensures { OnOk result (names.new.items ≡ names.old.items ++ owners class.now names.old.items) }
+{
+    for index in 1..class.constant_count() {
+        push_some(names, owner_if_marked(class, marks, index))?;
+    }
+    Ok(())
+}
+
+/// The class of a reference to a member that is marked.
+fn owner_if_marked(class: &ClassView, marks: &[bool], index: u16) -> Option<ConstantIndex>
+    ensures { result ≡ (if mark_at marks.now index then option_and_then owner (constant_at class.now (record { 0 = index })) else None) }
+{
+    if *marks.get(index as usize)? {
+        owner(class, index)
+    } else {
+        None
+    }
+}
+
+/// The class of a reference to a member.
+fn owner(class: &ClassView, index: u16) -> Option<ConstantIndex>
+    ensures { result ≡ option_and_then owner (constant_at class.now (record { 0 = index })) }
+{
+    match class.constant(index)? {
+        Constant::Fieldref(owner, _)
+        | Constant::Methodref(owner, _)
+        | Constant::InterfaceMethodref(owner, _) => Some(owner),
+        _ => None,
+    }
+}
+
+/// A mark for each constant by its index, set where it is among these.
+fn marked(alloc: Global, class: &ClassView, names: &[ConstantIndex]) -> Result<Vec<bool>, NoMemory>
+    ensures { IfOk result (λ marks. marks.items ≡ are_marks class.now names.now) }
+{
+    let mut marks = vec![in alloc; false; class.constant_count() as usize]?;
+    for index in names {
+        mark(&mut marks, *index);
+    }
+    Ok(marks)
+}
+
+/// Sets the mark of an index, where there is one.
+fn mark(marks: &mut Vec<bool>, index: ConstantIndex)
+    ensures { Marks (λ i. index.0 == i) marks.old.items marks.new.items }
+{
+    let at = index.0 as usize;
+    if at < marks.len() {
+        marks[at] = true;
+    }
+}
