@@ -48,7 +48,7 @@ EXPECTED = [
     *(f"parts link {ERRORS[at]}" for at in (3, 4, 6, 7)),
     "circular", *(f"provided {kind}" for kind in ("class", "field", "method")),
     *(f"required {kind}" for kind in ("class", "field", "method", "imethod")), *ENDS.values(),
-    *(f"errors of {what} {end}" for what in ("all", "some") for end in ENDS.values()),
+    *(f"errors of {what} {end}" for what in ("all", "some") for end in ENDS.values()), "errors used", "errors unused",
 ]
 
 
@@ -112,6 +112,24 @@ def compare(what, words, folder, wanted, told):
     return ours == wanted
 
 
+def compare_errors(what, words, folder, only, files, prefixes, told):
+    """The same of what makes the report wrong."""
+    ours, wanted = printed([b"--errors", *words], folder), judge.owed(files, prefixes, folder, only)
+    told[f"errors {'of all' if only is None else 'of some'} {ENDS[wanted[1]]}"] += 1
+    for line in wanted[0].splitlines():
+        if re.match(r"\S+: #", line):
+            told["errors unused" if line.endswith(" (unused)") else "errors used"] += 1
+    if ours != wanted:
+        tell(f"{what} with --errors", ours, wanted)
+    return ours == wanted
+
+
+def try_tree(tree, told):
+    files = judge.files_below(tree)
+    right = compare(tree, [], tree, judge.owed(files, None, tree), told)
+    return compare_errors(tree, [], tree, None, files, None, told) and right
+
+
 def try_world(seed, number, work, keep, told):
     rng, folder = random.Random(f"{seed}.{number}"), work / "world"
     files, prefixes = worlds.make_world(rng)
@@ -119,12 +137,8 @@ def try_world(seed, number, work, keep, told):
     words = words_of(rng, b"--outside", prefixes)
     right = compare(f"world {number}", words, folder, judge.owed(files, prefixes, folder), told)
     for only in (None, some_prefixes(rng, files)):
-        asked = [b"--errors", *words, *words_of(rng, b"--only", only)]
-        ours, wanted = printed(asked, folder), judge.owed(files, prefixes, folder, only)
-        told[f"errors {'of all' if only is None else 'of some'} {ENDS[wanted[1]]}"] += 1
-        if ours != wanted:
-            tell(f"world {number} with --errors", ours, wanted)
-            right = False
+        asked = [*words, *words_of(rng, b"--only", only)]
+        right &= compare_errors(f"world {number}", asked, folder, only, files, prefixes, told)
     if keep and not right:
         shutil.copytree(folder, pathlib.Path(keep) / str(number), symlinks=True)
         print("  kept; its words:", " ".join(map(shlex.quote, map(os.fsdecode, words))))
@@ -158,7 +172,7 @@ def main():
     if not common.JCLINK.exists():
         sys.exit(f"no program at {common.JCLINK}")
     told = collections.Counter()
-    right = [compare(tree, [], tree, judge.owed(judge.files_below(tree), None, tree), told) for tree in options.tree]
+    right = [try_tree(tree, told) for tree in options.tree]
     with common.Workplace() as work:
         work.chmod(0o755)
         right += try_shut(work)
