@@ -15,6 +15,10 @@ users_of lists name = unwrap_or (map.get lists name) []
 abbrev pub is_key : UserLists → Name → Bool
 is_key lists name = is_some (map.get lists name)
 
+-- each name of the index has a user
+abbrev pub HaveUsers : UserLists → Type 0
+HaveUsers lists = (name : Name) → is_key lists name ≡ true → (user : Name) × (has (users_of lists name) user ≡ true)
+
 -- the user is added at the name, and nothing else changes
 abbrev pub Linked : (old new : UserLists) (name user : Name) → Type 0
 Linked old new name user = (n d : Name) → has (users_of new n) d ≡ (has (users_of old n) d || (same_name n name && same_name d user))

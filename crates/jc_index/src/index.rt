@@ -7,7 +7,7 @@ ghost use Rattle.std.specs.Option.{option_copied, option_map};
 ghost use Rattle.std.specs.List.Sorted.{IsStrictlySortedBy};
 ghost use Rattle.jc_classes.specs.NameLists.{has, Lists};
 ghost use Rattle.jc_classes.specs.Names.{Name, name_cmp, names_of, same_name};
-ghost use Rattle.jc_index.specs.Indexes.{Linked, LinkedAt, LinkedAtSome, Unlinked, UnlinkedAt, has_but, is_key, users_of};
+ghost use Rattle.jc_index.specs.Indexes.{HaveUsers, Linked, LinkedAt, LinkedAtSome, Unlinked, UnlinkedAt, has_but, is_key, users_of};
 
 use crate::name_list::NameList;
 use jc_base::{ByteMap, NoMemory, byte_map};
@@ -47,6 +47,13 @@ impl Index {
         }
     }
 
+    /// A name has a place here only with a user.
+    pub fn names_have_users(&self)
+        ensures { HaveUsers self.now }
+    {
+        let _lists = &self.lists;
+    }
+
     /// The users of a name, rising, each once. No memory.
     pub fn users(&self, name: &[u8]) -> &[Vec<u8>]
         ensures users { names_of result.now ≡ users_of self.now name.now }
@@ -69,15 +76,13 @@ impl Index {
     pub fn nth(&self, place: usize) -> Option<(&[u8], &NameList)>
         ensures name { option_map (λ entry. entry.0.now) result ≡ slice_get (map.keys self.now) place }
         ensures list { IfSome result (λ entry. map.get self.now entry.0.now ≡ Some entry.1.now) }
-        ensures used { (name : Name) → is_key self.now name ≡ true → (user : Name) × (has (users_of self.now name) user ≡ true) }
     {
         self.lists.iter().nth(place)
     }
 
     /// The names that have users, rising.
     pub fn keys(&self) -> Keys<'_>
-        ensures keys { Lists result (λ name. is_key self.now name ≡ true) }
-        ensures used { (name : Name) → is_key self.now name ≡ true → (user : Name) × (has (users_of self.now name) user ≡ true) }
+        ensures { Lists result (λ name. is_key self.now name ≡ true) }
     {
         Keys {
             keys: self.lists.keys(),

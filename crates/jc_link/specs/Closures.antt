@@ -24,8 +24,8 @@ pub record IsClosure (m : World) (d : Name) (c : Closure) : Type 0 where
   pub first : name_at c.found 0 ≡ d
   pub stands : c.stands ≡ map m c.found
 
--- the record of a class that stands
-abbrev pub record_of : Stands → Option Facts
-record_of (stands.Class r) = Some r
-record_of stands.Outside = None
-record_of stands.Nothing = None
+-- the facts of the class that stands
+abbrev pub facts_standing : Stands → Option Facts
+facts_standing (stands.Class r) = Some r
+facts_standing stands.Outside = None
+facts_standing stands.Nothing = None

@@ -7,7 +7,7 @@ ghost use Rattle.jc_classes.specs.NameLists.{has, Lists};
 ghost use Rattle.jc_classes.specs.Names.{Name, names_of};
 ghost use Rattle.jc_classes.specs.Parts.{Reach};
 ghost use Rattle.jc_classes.specs.Worlds.{World};
-ghost use Rattle.jc_link.specs.Closures.{IsClosure, record_of};
+ghost use Rattle.jc_link.specs.Closures.{IsClosure, facts_standing};
 ghost use Rattle.jc_link.specs.inside.Gathering.{stand_at};
 
 use jc_classes::{Facts, Standing};
@@ -63,7 +63,7 @@ impl<'t> Closure<'t> {
 
     /// The record of the class itself. No memory.
     pub fn record(&self) -> Option<&'t Facts>
-        ensures { (m : World) (d : Name) → IsClosure m d self.now → option_copied result ≡ record_of (m d) }
+        ensures { (m : World) (d : Name) → IsClosure m d self.now → option_copied result ≡ facts_standing (m d) }
     {
         match self.own() {
             Standing::Class(facts) => Some(facts),

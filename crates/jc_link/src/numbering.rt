@@ -1,10 +1,9 @@
 //! Numbers for the classes that a class names.
 
 ghost use Rattle.jc_classes.specs.Worlds.{Stands as stands};
-ghost use Rattle.std.specs.Prelude.{◌≡◌, ◌<◌, ◌∷◌, [], IfOk, OnOk, Some, length, slice_get};
+ghost use Rattle.std.specs.Prelude.{◌≡◌, ◌<◌, [], IfOk, OnOk, length};
 ghost use Rattle.std.specs.List.{All};
 ghost use Rattle.std.specs.Option.{option_copied, option_to_list};
-ghost use Rattle.jc_classes.specs.Facts.{Reference};
 ghost use Rattle.jc_classes.specs.Lent.{stands_of};
 ghost use Rattle.jc_classes.specs.Numbers.{IsOnce, Rows, name_at};
 ghost use Rattle.jc_classes.specs.Worlds.{references_of, supers_of};

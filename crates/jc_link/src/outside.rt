@@ -1,6 +1,6 @@
 //! Names that are outside: classes of which nothing is known but that they are there.
 
-ghost use Rattle.std.specs.Prelude.{◌≡◌, ◌↔◌, ◌++◌, ◌∷◌, [], IfOk, IsErrOf, OnOk, Some, length, map};
+ghost use Rattle.std.specs.Prelude.{◌≡◌, ◌↔◌, ◌++◌, ◌∷◌, [], IfOk, IsErrOf, OnOk, length, map};
 ghost use Rattle.std.specs.List.{Contains, list_any};
 ghost use Rattle.jc_classes.specs.Names.{Name, names_of, same_name};
 ghost use Rattle.jc_link.specs.inside.HeldPrefixes.{with_prefix, IsHeldOf};

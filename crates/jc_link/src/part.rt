@@ -1,18 +1,17 @@
 //! What is found of a class: how it loads, whether it is circular, its faults, the answers to its references,
 //! and the errors of its instructions.
 
-ghost use Rattle.std.specs.Prelude.{◌≡◌, ◌<◌, ◌≤◌, ℕ, [], length, map, Some, option_map, IfOk, OnErr, OnOk};
+ghost use Rattle.std.specs.Prelude.{◌≡◌, ◌<◌, ◌≤◌, ℕ, [], length, Some, IfOk, OnErr, OnOk};
 ghost use Rattle.std.specs.List.{Contains};
-ghost use Rattle.jc_classes.specs.Facts.{Reference};
 ghost use Rattle.jc_classes.specs.Lent.{stands_of};
 ghost use Rattle.jc_classes.specs.LinkErrors.{links_of};
-ghost use Rattle.jc_classes.specs.Loading.{Load as Loads, Loading as How};
+ghost use Rattle.jc_classes.specs.Loading.{Load as Loads};
 ghost use Rattle.jc_classes.specs.Names.{Name};
 ghost use Rattle.jc_classes.specs.Numbers.{name_at};
-ghost use Rattle.jc_classes.specs.Parts.{AreAnswers, IsPart, class_of};
+ghost use Rattle.jc_classes.specs.Parts.{IsPart};
 ghost use Rattle.jc_classes.specs.Worlds.{World, code_faults_of, format_faults_of, references_of};
 ghost use Rattle.jc_resolve.specs.Answers.{loading_of};
-ghost use Rattle.jc_resolve.specs.Numbered.{Agrees, record_of};
+ghost use Rattle.jc_resolve.specs.Numbered.{Agrees, TellsAnswers, standing_at};
 ghost use Rattle.jc_link.specs.Closures.{IsClosure};
 ghost use Rattle.jc_link.specs.Meters.{counted};
 ghost use Rattle.jc_link.specs.inside.FirstPart.{TellsCircular};
@@ -135,13 +134,12 @@ fn first_part(
     references: &[Option<usize>],
 ) -> Result<Part, NoMemory>
     requires some { 0 < length hierarchy.now.names }
-    requires nodes { NumberReferences hierarchy.now.names references.now (references_of (record_of hierarchy.now 0)) }
+    requires nodes { NumberReferences hierarchy.now.names references.now (references_of (standing_at hierarchy.now 0)) }
     requires within { (v : ℕ) → Contains references.now (Some v) → v < length hierarchy.now.names }
     ensures circular { IfOk result (λ p. TellsCircular hierarchy.now p.circular) }
     ensures load { IfOk result (λ p. (m : World) → Agrees m hierarchy.now → Loads m (name_at hierarchy.now.names 0) p.load) }
-    ensures answers { IfOk result (λ p. (m : World) (how : How) → Agrees m hierarchy.now → Loads m (name_at hierarchy.now.names 0) how
-        → AreAnswers m (name_at hierarchy.now.names 0) how (references_of (record_of hierarchy.now 0)) p.answers) }
-    ensures links { IfOk result (λ p. p.links ≡ links_of (name_at hierarchy.now.names 0) (record_of hierarchy.now 0) p.answers) }
+    ensures answers { IfOk result (λ p. TellsAnswers hierarchy.now 0 p.answers) }
+    ensures links { IfOk result (λ p. p.links ≡ links_of (name_at hierarchy.now.names 0) (standing_at hierarchy.now 0) p.answers) }
     ensures format_faults { IfOk result (λ p. p.format_faults ≡ format_faults_of (stands_of own.entry)) }
     ensures code_faults { IfOk result (λ p. p.code_faults ≡ code_faults_of (stands_of own.entry)) }
 {

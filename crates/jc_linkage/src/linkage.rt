@@ -171,6 +171,7 @@ impl Linkage {
     pub fn required(&self) -> Required<'_>
         ensures { HasPlainRows self.now → AreRowsHeld required_rows self.now result }
     {
+        self.links.required.names_have_users();
         Required {
             keys: self.links.required.keys(),
         }
@@ -180,6 +181,7 @@ impl Linkage {
     pub fn holders(&self, place: usize) -> usize
         ensures { HasPlainRows self.now → CountsHoldersAt self.now place result }
     {
+        self.links.required.names_have_users();
         match self.links.required.nth(place) {
             Some((_, holders)) => holders.names().len(),
             None => 0,

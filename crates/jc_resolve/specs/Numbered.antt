@@ -24,8 +24,8 @@ pub record Numbered : Type 0 where
 abbrev pub node_name : Numbered → ℕ → Name
 node_name h i = name_at h.names i
 
-abbrev pub record_of : Numbered → ℕ → Stands
-record_of h i = slice_index_or h.records i Nothing
+abbrev pub standing_at : Numbered → ℕ → Stands
+standing_at h i = slice_index_or h.records i Nothing
 
 abbrev pub supertypes_of : Numbered → ℕ → List ℕ
 supertypes_of h i = slice_index_or h.supertypes i []
@@ -44,16 +44,16 @@ pub record IsClosed (h : Numbered) : Type 0 where
   pub size : length h.supertypes ≡ length h.names
   pub once : IsOnce h.names
   pub within : (a b : ℕ) → Contains (supertypes_of h a) b → b < length h.names
-  pub supertypes : (i : ℕ) → i < length h.names → map (name_at h.names) (supertypes_of h i) ≡ supers_of (record_of h i)
+  pub supertypes : (i : ℕ) → i < length h.names → map (name_at h.names) (supertypes_of h i) ≡ supers_of (standing_at h i)
 
 -- a world has at each name what stands there
 abbrev pub Agrees : World → Numbered → Type 0
-Agrees m h = (i : ℕ) → i < length h.names → m (name_at h.names i) ≡ record_of h i
+Agrees m h = (i : ℕ) → i < length h.names → m (name_at h.names i) ≡ standing_at h i
 
 -- ---- the references of a class
 
 abbrev pub references_at : Numbered → ℕ → List Reference
-references_at h i = references_of (record_of h i)
+references_at h i = references_of (standing_at h i)
 
 -- the numbers of the classes that references name
 abbrev pub AreClassesOf : Numbered → List Reference → List (Option ℕ) → Type 0
@@ -61,7 +61,7 @@ AreClassesOf h rs nodes = map (option_map (name_at h.names)) nodes ≡ map (λ (
 
 -- the errors of its instructions, where its references have these answers
 abbrev pub links_at : Numbered → ℕ → List Answer → List LinkFault
-links_at h i answers = links_of (node_name h i) (record_of h i) answers
+links_at h i answers = links_of (node_name h i) (standing_at h i) answers
 
 -- the answers to them, in every world that agrees
 abbrev pub TellsAnswers : Numbered → ℕ → List Answer → Type 0

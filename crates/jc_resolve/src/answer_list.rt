@@ -7,7 +7,9 @@ ghost use Rattle.jc_classes.specs.Names.{Name};
 ghost use Rattle.jc_numbered.specs.inside.Indexed.{name_at};
 ghost use Rattle.jc_numbered.specs.inside.Shown.{indexed_of};
 ghost use Rattle.jc_resolve.specs.Answers.{answer_of, kind_of};
-ghost use Rattle.jc_resolve.specs.inside.Entries.{IsFront, IsSame, IsWithin, entries_shown, entry_shown, text_at};
+ghost use Rattle.jc_classes.specs.inside.ClassTexts.{IsFront};
+ghost use Rattle.jc_classes.specs.inside.FactsShown.{text_at};
+ghost use Rattle.jc_resolve.specs.inside.Entries.{IsSame, IsWithin, entries_shown, entry_shown};
 ghost use Rattle.jc_resolve.specs.inside.Naming.{AreNames, AreSame, IsNumberOf, references_in};
 
 use crate::answers::{Answer, AnswerKind};
@@ -31,7 +33,8 @@ pub struct Answers {
 impl Model for Answers {
     ghost use Rattle.std.specs.Prelude.{◌≡◌, List, length};
     ghost use Rattle.jc_classes.specs.Resolution as specs;
-    ghost use Rattle.jc_resolve.specs.inside.Entries.{entries_shown, text_at};
+    ghost use Rattle.jc_classes.specs.inside.FactsShown.{text_at};
+    ghost use Rattle.jc_resolve.specs.inside.Entries.{entries_shown};
     ghost use Rattle.jc_resolve.specs.inside.Naming.{references_in};
 
     ghost Value = { List specs.Answer };

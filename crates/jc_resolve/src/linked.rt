@@ -1,13 +1,12 @@
 //! The answers to the references of a class, and which of its instructions do not link (JVMS 6.5).
 
-ghost use Rattle.std.specs.Prelude.{◌≡◌, [], ◌++◌, length, map, option_map, IfOk, OnOk};
+ghost use Rattle.std.specs.Prelude.{◌≡◌, [], ◌++◌, length, map, IfOk, OnOk};
 ghost use Rattle.std.specs.Iterator.{YieldsFirstBy, item_count};
-ghost use Rattle.std.specs.Option.{option_map_or, option_to_list};
-ghost use Rattle.jc_classes.specs.LinkErrors.{link_of, links_in};
+ghost use Rattle.std.specs.Option.{option_to_list};
+ghost use Rattle.jc_classes.specs.LinkErrors.{links_in};
 ghost use Rattle.jc_resolve.specs.Linked.{link_lent};
-ghost use Rattle.jc_resolve.specs.inside.LinkTargets.{AreResolved};
 ghost use Rattle.jc_resolve.specs.inside.Links as specs;
-ghost use Rattle.jc_resolve.specs.inside.Links.{class_at, class_told, link_shown, links_shown};
+ghost use Rattle.jc_resolve.specs.inside.Links.{class_at, link_shown, links_shown};
 ghost use Rattle.jc_resolve.specs.inside.Naming.{references_in};
 
 use crate::answer_list::Answers;

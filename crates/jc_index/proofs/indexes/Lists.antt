@@ -7,7 +7,7 @@ use Rattle.jc_base.proofs.maps.FiniteMaps.{bytes_cmp_total, insert_found, keys_r
 use Rattle.jc_classes.specs.NameLists.{has, Lists}
 use Rattle.jc_classes.specs.Names.{Name, name_cmp, same_name}
 use Rattle.jc_classes.proofs.worlds.NameTests.{same_is, same_self}
-use Rattle.jc_index.specs.Indexes.{UserLists, users_of, is_key, Linked, Unlinked}
+use Rattle.jc_index.specs.Indexes.{HaveUsers, UserLists, users_of, is_key, Linked, Unlinked}
 use Rattle.jc_index.specs.inside.IsIndex.{IsIndex}
 
 -- what holds in any case holds at an error
@@ -133,5 +133,5 @@ some_user None full e = absurd (false≢true e)
 some_user (Some []) full e = absurd (full refl)
 some_user (Some (user ∷ list)) full e = (user, ap (λ b. b || has list user) (same_self user))
 
-pub key_used : (lists : UserLists) → IsIndex lists → (name : Name) → is_key lists name ≡ true → (user : Name) × (has (users_of lists name) user ≡ true)
+pub key_used : (lists : UserLists) → IsIndex lists → HaveUsers lists
 key_used lists h name e = some_user (fin.get lists name) (h name) e

@@ -13,7 +13,7 @@ use Rattle.jc_classes.specs.Parts.{AreAnswers, IsPart}
 use Rattle.jc_classes.specs.Resolution.{Answer}
 use Rattle.jc_classes.specs.Worlds.{Above, Stands, World, references_of, format_faults_of, code_faults_of}
 use Rattle.jc_classes.specs.Worlds.Stands.{Nothing}
-use Rattle.jc_resolve.specs.Numbered.{Numbered, IsClosed, Agrees, record_of}
+use Rattle.jc_resolve.specs.Numbered.{Numbered, IsClosed, Agrees, standing_at}
 use Rattle.jc_link.specs.Closures.{Closure, IsClosure}
 use Rattle.jc_link.specs.inside.Gathering.{IsNet, stand_at}
 
@@ -36,14 +36,14 @@ pub part_made : (m : World) (d : Name) (c : Closure) (rows : List (List ℕ)) (h
     → IsClosure m d c → 0 < length c.found → h ≡ record { names = c.found; records = c.stands; supertypes = rows }
     → ((k : World) → Agrees k h → Decides ring (Above k (name_at h.names 0) (name_at h.names 0)))
     → ((k : World) → Agrees k h → Load k (name_at h.names 0) how)
-    → ((k : World) (l : Loading) → Agrees k h → Load k (name_at h.names 0) l → AreAnswers k (name_at h.names 0) l (references_of (record_of h 0)) found)
-    → errors ≡ links_of (name_at h.names 0) (record_of h 0) found
+    → ((k : World) (l : Loading) → Agrees k h → Load k (name_at h.names 0) l → AreAnswers k (name_at h.names 0) l (references_of (standing_at h 0)) found)
+    → errors ≡ links_of (name_at h.names 0) (standing_at h 0) found
     → own_stands ≡ stand_at c.stands 0 → faults ≡ format_faults_of own_stands → wrong ≡ code_faults_of own_stands
     → IsPart m d (record { circular = ring; load = how; format_faults = faults; code_faults = wrong; answers = found; links = errors })
 part_made m d c rows h ring how found errors faults wrong own_stands k some is rings loads answers links stands same_faults same_wrong =
     let agree : Agrees m h = subst (Agrees m) (sym is) (agrees m d c k rows) in
     let name : name_at h.names 0 ≡ d = ap (λ (z : Numbered). name_at z.names 0) is ∙ k.first in
-    let here : record_of h 0 ≡ m d = ap (λ z. record_of z 0) is ∙ own m d c k some in
+    let here : standing_at h 0 ≡ m d = ap (λ z. standing_at z 0) is ∙ own m d c k some in
     let at : own_stands ≡ m d = stands ∙ own m d c k some in
     let ring_is = subst (λ n. Decides ring (Above m n n)) name (rings m agree) in
     let load_is = loads m agree in
@@ -53,6 +53,6 @@ part_made m d c rows h ring how found errors faults wrong own_stands k some is r
       load = subst (λ n. Load m n how) name load_is;
       format_faults = same_faults ∙ ap format_faults_of at;
       code_faults = same_wrong ∙ ap code_faults_of at;
-      answers = subst (λ s. AreAnswers m d how (references_of s) found) here (subst (λ n. AreAnswers m n how (references_of (record_of h 0)) found) name (answers m how agree load_is));
-      links = links ∙ ap (λ n. links_of n (record_of h 0) found) name ∙ ap (λ s. links_of d s found) here;
+      answers = subst (λ s. AreAnswers m d how (references_of s) found) here (subst (λ n. AreAnswers m n how (references_of (standing_at h 0)) found) name (answers m how agree load_is));
+      links = links ∙ ap (λ n. links_of n (standing_at h 0) found) name ∙ ap (λ s. links_of d s found) here;
     }

@@ -9,7 +9,7 @@ use Rattle.jc_classes.specs.Parts.{Reach}
 use Rattle.jc_classes.specs.Parts.Reach.{itself}
 use Rattle.jc_classes.specs.Worlds.{World}
 use Rattle.jc_classes.proofs.worlds.Parts.{hits_either, part_there, reach_back, reach_there}
-use Rattle.jc_link.specs.Closures.{record_of}
+use Rattle.jc_link.specs.Closures.{facts_standing}
 use Rattle.jc_linkage.specs.Affected.{IsAffected}
 use Rattle.jc_linkage.specs.declared.kept.Fresh.{Fresh}
 use Rattle.jc_linkage.specs.declared.kept.Kept.{Kept}
@@ -76,7 +76,7 @@ module _ (touched g h : Name → Bool) (w v : World) (kept : KeptMap) (differ : 
           sound = λ n e. reach_there touched w v d differ avoids (of.reach.sound n e);
           complete = λ n r. of.reach.complete n (reach_back touched w v d differ avoids r);
         };
-        required = subst (λ o. AreKeys k.required (required_by (record_of o) k.part)) there of.required;
+        required = subst (λ o. AreKeys k.required (required_by (facts_standing o) k.part)) there of.required;
       }
 
   -- with the affected classes made afresh, and those that are no longer given left out, what is kept is right

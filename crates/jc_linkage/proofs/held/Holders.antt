@@ -8,7 +8,7 @@ use Rattle.std.specs.List.Sorted.{IsStrictlySortedBy}
 use Rattle.std.specs.Option.{option_map, unwrap_or}
 use Rattle.jc_classes.specs.NameLists.{has, Lists}
 use Rattle.jc_classes.specs.Names.{Name, name_cmp}
-use Rattle.jc_index.specs.Indexes.{is_key, users_of}
+use Rattle.jc_index.specs.Indexes.{HaveUsers, users_of}
 use Rattle.jc_index.proofs.indexes.Lists.{keys_list}
 use Rattle.jc_report.specs.ClassRows.{required_rows}
 use Rattle.jc_report.specs.Reports.{Class, GivesRow, name_of}
@@ -66,7 +66,7 @@ module _ (a : Linkage) (kept : KeptMap) (links : Links) (held : IsHeld a.classes
 
   -- ---- the rows that are required, by their places
 
-  module _ (used : (key : Name) → is_key links.required key ≡ true → (user : Name) × (has (users_of links.required key) user ≡ true))
+  module _ (used : HaveUsers links.required)
       (rows : List Row) (are : AreRows rows (GivesRow required_rows classes)) (place : ℕ) where
     row_at : slice_get rows place ≡ option_map row_of (slice_get (fin.keys links.required) place)
     row_at =

@@ -5,7 +5,7 @@ use Rattle.std.specs.FinMap as fin
 use Rattle.jc_classes.specs.Facts.{Facts}
 use Rattle.jc_classes.specs.NameLists.{has}
 use Rattle.jc_classes.specs.Names.{Name}
-use Rattle.jc_link.specs.Closures.{record_of}
+use Rattle.jc_link.specs.Closures.{facts_standing}
 use Rattle.jc_link.specs.Prefixes.{is_covered}
 use Rattle.jc_link.specs.Tables.{class_at, or_built_in, stands_by}
 use Rattle.jc_linkage.specs.Linkages.{Linkage, given, world_held}
@@ -25,8 +25,8 @@ kept_by r None n h = absurd (false≢true h)
 kept_by r (Some k) n h = (k, refl, h)
 
 -- the record of a class that files give is theirs
-pub record_given : (a : Linkage) (d : Name) (f : Facts) → class_at a.classes d ≡ Some f → record_of (world_held a d) ≡ Some f
-record_given a d f e = ap (λ o. record_of (stands_by (or_built_in o d) (is_covered a.prefixes d))) e
+pub record_given : (a : Linkage) (d : Name) (f : Facts) → class_at a.classes d ≡ Some f → facts_standing (world_held a d) ≡ Some f
+record_given a d f e = ap (λ o. facts_standing (stands_by (or_built_in o d) (is_covered a.prefixes d))) e
 
 module _ (a : Linkage) (kept : KeptMap) (held : IsKept (given a) (world_held a) kept) where
   pub kept_of : (d : Name) (f : Facts) → class_at a.classes d ≡ Some f → (k : Kept) × (fin.get kept d ≡ Some k)

@@ -6,8 +6,8 @@ use Rattle.std.specs.FinMap as fin
 use Rattle.jc_classes.specs.Facts.{Facts}
 use Rattle.jc_classes.specs.NameLists.{has, Lists}
 use Rattle.jc_classes.specs.Names.{Name}
-use Rattle.jc_index.specs.Indexes.{UserLists, is_key, users_of}
-use Rattle.jc_link.specs.Closures.{record_of}
+use Rattle.jc_index.specs.Indexes.{HaveUsers, UserLists, is_key, users_of}
+use Rattle.jc_link.specs.Closures.{facts_standing}
 use Rattle.jc_report.specs.ClassRows.{required_rows}
 use Rattle.jc_report.specs.Reports.{Class, GivesRow}
 use Rattle.jc_report.specs.RowKeys.{row_of}
@@ -21,7 +21,7 @@ use Rattle.jc_linkage.specs.inside.Kept.Relation.{Requires}
 use Rattle.jc_linkage.proofs.held.Places.{kept_by}
 use Rattle.jc_linkage.proofs.held.Rows.{rows_of_kept}
 
-pub keys_required : (a : Linkage) (d : Name) (f : Facts) (k : Kept) → IsKeptOf (world_held a) d k → record_of (world_held a d) ≡ Some f → AreKeys k.required (required_rows f k.part)
+pub keys_required : (a : Linkage) (d : Name) (f : Facts) (k : Kept) → IsKeptOf (world_held a) d k → facts_standing (world_held a d) ≡ Some f → AreKeys k.required (required_rows f k.part)
 keys_required a d f k of e = subst (λ o. AreKeys k.required (required_by o k.part)) e of.required
 
 module _ (a : Linkage) (kept : KeptMap) (links : Links) (held : IsHeld a.classes a.prefixes kept links) (plain : HasPlainRows a) (classes : List Class) (h : AreHeldClasses a classes) where
@@ -33,8 +33,7 @@ module _ (a : Linkage) (kept : KeptMap) (links : Links) (held : IsHeld a.classes
       by None e = absurd (false≢true e)
 
   pub rows_required : (keys : List Name) → Lists keys (λ name. is_key links.required name ≡ true)
-      → ((name : Name) → is_key links.required name ≡ true → (user : Name) × (has (users_of links.required name) user ≡ true))
-      → AreRows (map row_of keys) (GivesRow required_rows classes)
+      → HaveUsers links.required → AreRows (map row_of keys) (GivesRow required_rows classes)
   rows_required keys lists used =
       rows_of_kept a kept held.parts required_rows (λ (k : Kept). k.required) (keys_required a) classes h keys lists.rises
       plain

@@ -11,7 +11,7 @@ use Rattle.jc_classes.specs.Names.{Name, name_cmp}
 use Rattle.jc_classes.specs.Parts.{IsPart, Part}
 use Rattle.jc_classes.proofs.numbering.Rising.{contains_of, has_of}
 use Rattle.jc_classes.proofs.worlds.Parts.{part_one}
-use Rattle.jc_link.specs.Closures.{record_of}
+use Rattle.jc_link.specs.Closures.{facts_standing}
 use Rattle.jc_link.specs.Tables.{class_at}
 use Rattle.jc_report.specs.Reports.{Class, GivesRow, name_of}
 use Rattle.jc_report.specs.RowKeys.{IsPlain, row_key, row_of}
@@ -39,7 +39,7 @@ class_of a classes h d f p e part =
 
 module _ (a : Linkage) (kept : KeptMap) (held : IsKept (given a) (world_held a) kept)
     (rows : Facts → Part → List Row) (keys : Kept → List Name)
-    (are : (d : Name) (f : Facts) (k : Kept) → IsKeptOf (world_held a) d k → record_of (world_held a d) ≡ Some f → AreKeys (keys k) (rows f k.part)) where
+    (are : (d : Name) (f : Facts) (k : Kept) → IsKeptOf (world_held a) d k → facts_standing (world_held a d) ≡ Some f → AreKeys (keys k) (rows f k.part)) where
   -- a key that is kept of a class is that of a row that the class gives
   row_kept : (d : Name) (k : Kept) → fin.get kept d ≡ Some k → (key : Name) → has (keys k) key ≡ true
       → (f : Facts) × (class_at a.classes d ≡ Some f) × ((row : Row) × Has (rows f k.part) row × (row_key row ≡ key))

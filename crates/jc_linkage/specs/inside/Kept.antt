@@ -9,7 +9,7 @@ use Rattle.jc_classes.specs.Names.{Name, name_cmp, same_name}
 use Rattle.jc_classes.specs.Parts.{IsPart, Part, Reach}
 use Rattle.jc_classes.specs.Worlds.{World}
 use Rattle.jc_index.specs.Indexes.{UserLists, users_of}
-use Rattle.jc_link.specs.Closures.{record_of}
+use Rattle.jc_link.specs.Closures.{facts_standing}
 use Rattle.jc_report.specs.ClassRows.{required_rows}
 use Rattle.jc_report.specs.RowKeys.{row_key}
 use Rattle.jc_report.specs.Rows.{Row}
@@ -30,7 +30,7 @@ pub record AreKeys (keys : List Name) (rows : List Row) : Type 0 where
 
 -- of the rows that the class requires by its part
 abbrev pub HasKeysOf : World → Name → (keys : List Name) → Part → Type 0
-HasKeysOf m d keys part = AreKeys keys (required_by (record_of (m d)) part)
+HasKeysOf m d keys part = AreKeys keys (required_by (facts_standing (m d)) part)
 
 pub record IsKeptOf (m : World) (d : Name) (k : Kept) : Type 0 where
   pub part : IsPart m d k.part

@@ -18,7 +18,9 @@ use Rattle.jc_resolve.specs.declared.answers.AnswerKind.{AnswerKind}
 use Rattle.jc_resolve.specs.declared.entry.Entry.{Entry}
 use Rattle.jc_resolve.specs.declared.entry.Entry.TheVariants as entry
 use Rattle.jc_resolve.specs.inside.Answered.{IsAnsweredAt, IsAnsweredBy}
-use Rattle.jc_resolve.specs.inside.Entries.{IsFront, IsWithin, entries_shown, entry_shown, text_at}
+use Rattle.jc_classes.specs.inside.ClassTexts.{IsFront}
+use Rattle.jc_classes.specs.inside.FactsShown.{text_at}
+use Rattle.jc_resolve.specs.inside.Entries.{IsWithin, entries_shown, entry_shown}
 use Rattle.jc_resolve.specs.inside.Naming.{AreSame}
 use Rattle.jc_resolve.specs.inside.Resolved.{loading_of, TellsLoads}
 

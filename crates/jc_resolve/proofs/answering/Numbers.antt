@@ -4,7 +4,8 @@ use Rattle.std.proofs.lemmas.List.{length-append}
 use Rattle.std.proofs.Math.ListN.{get_or-append}
 use Rattle.std.specs.List.{slice_get}
 use Rattle.jc_classes.specs.Names.{Name}
-use Rattle.jc_resolve.specs.inside.Entries.{IsFront, text_at}
+use Rattle.jc_classes.specs.inside.ClassTexts.{IsFront}
+use Rattle.jc_classes.specs.inside.FactsShown.{text_at}
 use Rattle.jc_resolve.specs.inside.Naming.{IsNumberOf}
 use Rattle.jc_resolve.proofs.answering.Entries.{get_set_other, get_set_same, same_or}
 

@@ -1,5 +1,5 @@
 -- Answers by numbers.
-use Rattle.std.specs.Prelude.{◌≡◌, ◌⊎◌, ℕ, ◌<◌, List, [], ◌∷◌, ◌++◌, slice_index_or}
+use Rattle.std.specs.Prelude.{◌≡◌, ◌⊎◌, ℕ, ◌<◌, List, [], ◌∷◌}
 use Rattle.jc_classes.specs.Facts.{Key, Member, Reference}
 use Rattle.jc_classes.specs.Lent.{member_lent}
 use Rattle.jc_classes.specs.Names.{Name, polymorphic_descriptor}
@@ -53,9 +53,6 @@ IsSame f g a b = (r : Reference) → entry_shown f r a ≡ entry_shown g r b
 
 -- ---- by the numbers of texts
 
-abbrev pub text_at : List Name → ℕ → Name
-text_at texts number = slice_index_or texts number []
-
 -- so many texts hold those of an answer
 abbrev pub IsWithin : ℕ → Entry → Type 0
 IsWithin count (entry.ToClass flags) = Unit {0}
@@ -65,6 +62,3 @@ IsWithin count (entry.Outside n) = n < count
 IsWithin count entry.NotLoaded = Unit {0}
 IsWithin count (entry.Error e n) = n < count
 IsWithin count (entry.OwnError e) = Unit {0}
-
-abbrev pub IsFront : List Name → List Name → Type 0
-IsFront front texts = (more : List Name) × (texts ≡ front ++ more)

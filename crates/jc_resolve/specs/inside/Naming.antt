@@ -4,7 +4,8 @@ use Rattle.jc_classes.specs.Facts.{Reference}
 use Rattle.jc_classes.specs.Names.{Name}
 use Rattle.jc_resolve.specs.declared.answer_list.Naming.{Naming}
 use Rattle.jc_resolve.specs.declared.entry.Entry.{Entry}
-use Rattle.jc_resolve.specs.inside.Entries.{IsSame, text_at}
+use Rattle.jc_classes.specs.inside.FactsShown.{text_at}
+use Rattle.jc_resolve.specs.inside.Entries.{IsSame}
 
 abbrev pub references_in : Option (List Reference) → List Reference
 references_in None = []

@@ -16,7 +16,7 @@ loop-name-init c =
     let lists = c.args.links.now.reach in
     let keys = c.keys-name-items.result in
     subst (λ z. AreUsers test lists z c.new-found.result) (sym c.into_iter-name-iterator.ensures.into_iter_gives)
-    (subst (AreUsers test lists keys) (sym c.new-found.ensures) (users_none test lists keys c.keys-name-items.ensures.keys.complete))
+    (subst (AreUsers test lists keys) (sym c.new-found.ensures) (users_none test lists keys c.keys-name-items.ensures.complete))
 
 pub loop-name-preserved-in-Continue-1 : goal.loop-name-preserved-in-Continue-1
 loop-name-preserved-in-Continue-1 c =

@@ -3,9 +3,7 @@ use Rattle.std.proofs.lemmas.Iterator.Consumers.{nth_from_yields_List, YieldsLis
 use Rattle.std.specs.FinMap as fin
 use Rattle.std.specs.Map.Iter.{deref_pair}
 use Rattle.jc_index.specs.Indexes.{UserLists}
-use Rattle.jc_index.specs.inside.IsIndex.{IsIndex}
 use Rattle.jc_index.proofs.indexes.Entries.{entry_list, entry_name}
-use Rattle.jc_index.proofs.indexes.Lists.{key_used}
 use Rattle.jc_index.proofs.index.Index.nth.Goals as goal
 
 pub returns-clause-name : goal.returns-clause-name
@@ -22,6 +20,3 @@ returns-clause-list c =
     let there = nth_from_yields_List entry c.nth.new.self place c.nth.ensures.ran (YieldsList-from_first deref_pair (λ left. left) _ c.iter.ensures.entries) in
     subst (λ (lists : UserLists). IfSome entry (λ e. fin.get lists e.0.now ≡ Some e.1.now)) c.self.view_is
     (entry_list c.self.inside.lists place entry there)
-
-pub returns-clause-used : goal.returns-clause-used
-returns-clause-used c = key_used c.args.self.now (subst IsIndex c.self.view_is c.self.invariant)

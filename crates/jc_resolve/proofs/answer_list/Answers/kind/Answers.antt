@@ -3,7 +3,8 @@ use Rattle.std.proofs.lemmas.Option.{slice_get-get_or}
 use Rattle.std.specs.List.{slice_get}
 use Rattle.jc_classes.specs.Resolution.{Answer}
 use Rattle.jc_resolve.specs.Answers.{kind_of}
-use Rattle.jc_resolve.specs.inside.Entries.{entries_shown, text_at}
+use Rattle.jc_classes.specs.inside.FactsShown.{text_at}
+use Rattle.jc_resolve.specs.inside.Entries.{entries_shown}
 use Rattle.jc_resolve.specs.inside.Naming.{references_in}
 use Rattle.jc_resolve.proofs.answering.Entries.{kind_shown, shown_size}
 use Rattle.jc_resolve.proofs.answer_list.Answers.kind.Goals as goal

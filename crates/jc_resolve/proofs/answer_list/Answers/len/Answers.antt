@@ -1,6 +1,7 @@
 use Rattle.std.proofs.Common.{◌≡◌, List, length, ap, arith}
 use Rattle.jc_classes.specs.Resolution.{Answer}
-use Rattle.jc_resolve.specs.inside.Entries.{entries_shown, text_at}
+use Rattle.jc_classes.specs.inside.FactsShown.{text_at}
+use Rattle.jc_resolve.specs.inside.Entries.{entries_shown}
 use Rattle.jc_resolve.specs.inside.Naming.{references_in}
 use Rattle.jc_resolve.proofs.answering.Entries.{shown_size}
 use Rattle.jc_resolve.proofs.answer_list.Answers.len.Goals as goal

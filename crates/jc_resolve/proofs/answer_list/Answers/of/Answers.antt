@@ -1,7 +1,8 @@
 use Rattle.std.proofs.Common.{ap, ◌∙◌}
 use Rattle.jc_numbered.specs.inside.Indexed.{name_at}
 use Rattle.jc_numbered.specs.inside.Shown.{indexed_of}
-use Rattle.jc_resolve.specs.inside.Entries.{entries_shown, text_at}
+use Rattle.jc_classes.specs.inside.FactsShown.{text_at}
+use Rattle.jc_resolve.specs.inside.Entries.{entries_shown}
 use Rattle.jc_resolve.proofs.answering.Entries.{same_shown, same_size}
 use Rattle.jc_resolve.proofs.answer_list.Answers.of.Goals as goal
 

@@ -1,7 +1,7 @@
 use Rattle.std.proofs.Common.{◌∷◌, [], subst}
 use Rattle.jc_numbered.specs.inside.Indexed.{name_at}
 use Rattle.jc_numbered.specs.inside.Shown.{indexed_of}
-use Rattle.jc_resolve.specs.inside.Entries.{IsFront}
+use Rattle.jc_classes.specs.inside.ClassTexts.{IsFront}
 use Rattle.jc_resolve.specs.inside.Naming.{IsNumberOf}
 use Rattle.jc_resolve.proofs.answering.Numbers.{last_number, numbers_set, numbers_stay}
 use Rattle.jc_resolve.proofs.answer_list.Naming.add.Goals as goal
