@@ -4,11 +4,11 @@ ghost use Rattle.std.specs.Prelude.{◌≡◌, ◌≤◌, ◌&&◌, not, false, 
 ghost use Rattle.std.specs.FinMap as map;
 ghost use Rattle.std.specs.Option.{option_copied};
 ghost use Rattle.jc_classes.specs.Names.{Name};
-ghost use Rattle.jc_link.specs.Tables.{Places, class_at};
+ghost use Rattle.jc_link.specs.Tables.{class_at};
 ghost use Rattle.jc_linkage.specs.Affected.{NoRepeat};
 ghost use Rattle.jc_linkage.specs.Steps as steps;
 ghost use Rattle.jc_linkage.specs.inside.Holding as holding;
-ghost use Rattle.jc_linkage.specs.inside.Holding.{AreBack, AreNamed, AreThere, CountsStep, IsBoundedOver, IsHeld, PutsClass};
+ghost use Rattle.jc_linkage.specs.inside.Holding.{AreBack, AreNamed, AreThere, CountsStep, Holds, IsBoundedOver, IsHeld, PutsClass};
 ghost use Rattle.jc_linkage.specs.inside.Holding.{at_either, at_step, given_in, stepped_by};
 ghost use Rattle.jc_linkage.specs.inside.Kept.{AreLinked, fresh_at, fresh_names};
 ghost use Rattle.jc_linkage.specs.inside.LinkSets.{AreLinks, TakesOut, held_and_fresh, links_gone};
@@ -110,11 +110,8 @@ fn remake(
     ensures kept_err { OnErr result (kept.new ≡ kept.old) }
     ensures linked_err { OnErr result (AreLinked kept.old links.new) }
     ensures ok { OnOk result ((n : Name) → class_at table.new n ≡ class_at table.old n) }
-    ensures remade { OnOk result ((old : Places) → IsHeld old outside.now kept.old links.old
-        → ((n : Name) → at_step first.now n ≡ true → given_in old n ≡ true)
-        → ((n : Name) → at_either first.now second.now n ≡ false → class_at table.old n ≡ class_at old n)
-        → IsHeld table.new outside.now kept.new links.new
-        × IsBoundedOver table.new outside.now (at_either first.now second.now) meter.old meter.new) }
+    ensures held { Holds result first.now second.now outside.now table.old table.new
+        kept.old kept.new links.old links.new meter.old meter.new }
     ensures asks_rise { meter.old.asks ≤ meter.new.asks }
     ensures made_rise { meter.old.made ≤ meter.new.made }
     ensures taken { OnOk result (AreTaken (at_either first.now second.now) table.old → NoneVacant table.new) }

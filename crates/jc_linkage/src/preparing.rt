@@ -3,11 +3,11 @@
 ghost use Rattle.std.specs.Prelude.{◌≡◌, ◌≤◌, [], IfErr, IfOk, None, OnErr, OnOk, Some};
 ghost use Rattle.std.specs.FinMap as map;
 ghost use Rattle.std.specs.Option.{option_copied};
-ghost use Rattle.jc_classes.specs.Names.{Name, names_of};
+ghost use Rattle.jc_classes.specs.Names.{Name};
 ghost use Rattle.jc_link.specs.Tables.{world};
 ghost use Rattle.jc_linkage.specs.inside.Kept.{AreLinked};
 ghost use Rattle.jc_linkage.specs.inside.LinkSets.{AreLinks, held_and_fresh, links_of, together};
-ghost use Rattle.jc_linkage.specs.inside.Prepared.{IsPrepared};
+ghost use Rattle.jc_linkage.specs.inside.Prepared.{IsPrepared, IsPreparedOver, Prepares};
 
 use crate::kept::{Fresh, Kept, make_fresh, make_one};
 use crate::linking::{link_fresh, undo_fresh, undo_links};
@@ -32,8 +32,7 @@ pub(crate) fn prepare(
     requires absent { (n : Name) → option_copied comes ≡ Some n → map.get kept.old n ≡ None }
     ensures kept_err { OnErr result (kept.new ≡ kept.old) }
     ensures linked_err { OnErr result (AreLinked kept.old links.new) }
-    ensures ready { IfOk result (λ fresh. IsPrepared (world table.now outside.now) (names_of names.now)
-        (option_copied comes.entry) kept.old kept.new fresh.items meter.old meter.new) }
+    ensures ready { Prepares result table.now outside.now names.now comes.entry kept.old kept.new meter.old meter.new }
     ensures linked { IfOk result (λ fresh. AreLinks (held_and_fresh kept.new fresh.items) links.new) }
     ensures asks_rise { meter.old.asks ≤ meter.new.asks }
     ensures made_rise { meter.old.made ≤ meter.new.made }
@@ -59,8 +58,7 @@ fn link_all(
     requires absent { (n : Name) → option_copied comes ≡ Some n → map.get kept.old n ≡ None }
     ensures kept_err { OnErr result (kept.new ≡ kept.old) }
     ensures linked_err { OnErr result (AreLinked kept.old links.new) }
-    ensures ready { OnOk result (IsPrepared (world table.now outside.now) [] (option_copied comes.entry)
-        kept.old kept.new [] meter.old meter.new) }
+    ensures ready { OnOk result (IsPreparedOver table.now outside.now [] comes.entry kept.old kept.new [] meter.old meter.new) }
     ensures linked { OnOk result (AreLinks (held_and_fresh kept.new fresh.now) links.new) }
     ensures asks_rise { meter.old.asks ≤ meter.new.asks }
     ensures made_rise { meter.old.made ≤ meter.new.made }

@@ -1,6 +1,6 @@
 -- What is held of classes.
-use Rattle.std.specs.Prelude.{◌≡◌, ◌-◌, Bool, false, ◌&&◌, ◌||◌, not, if◌then◌else◌}
-use Rattle.std.specs.Prelude.{List, Option, Some, None, IsSome, is_some, refl}
+use Rattle.std.specs.Prelude.{◌≡◌, ◌-◌, Bool, true, false, ◌&&◌, ◌||◌, not, if◌then◌else◌}
+use Rattle.std.specs.Prelude.{List, Option, Some, None, IsSome, is_some, refl, OnOk, Result}
 use Rattle.std.specs.FinMap as fin
 use Rattle.std.specs.Coded.{Coded, code_by, coded×}
 use Rattle.jc_classes.specs.Facts.{Facts}
@@ -93,3 +93,13 @@ AreBack (Some b) None m = ⊥
 abbrev pub AreThere : Option Step → Places → Type 0
 AreThere None places = Unit {0}
 AreThere (Some s) places = IsThere s places
+
+-- whatever classes stood before two steps, of which the first is at the name of one: what was held of them is, where a
+-- call answers `Ok`, held of what stands now, for few parts and asks
+abbrev pub Holds : {T E : Type 0} → Result T E → (first second : Option Step) → (prefixes : List Name) → (stepped now : Places)
+    → (kept kept_now : KeptMap) → (links links_now : Links) → (before behind : Meter) → Type 0
+Holds result first second prefixes stepped now kept kept_now links links_now before behind = OnOk result (
+    (old : Places) → IsHeld old prefixes kept links
+    → ((n : Name) → at_step first n ≡ true → given_in old n ≡ true)
+    → ((n : Name) → at_either first second n ≡ false → class_at stepped n ≡ class_at old n)
+    → IsHeld now prefixes kept_now links_now × IsBoundedOver now prefixes (at_either first second) before behind)

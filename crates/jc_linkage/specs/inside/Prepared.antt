@@ -1,9 +1,14 @@
 -- Parts that are made before an edit is committed.
-use Rattle.std.specs.Prelude.{◌≡◌, List, [], ◌∷◌, ◌++◌, length, Option, Some, None}
+use Rattle.std.specs.Prelude.{◌≡◌, ℕ, List, [], ◌∷◌, ◌++◌, length, IfOk, Option, Result, Some, None}
+use Rattle.std.specs.Borrow.{Bor}
 use Rattle.std.specs.FinMap as map
-use Rattle.jc_classes.specs.Names.{Name}
+use Rattle.std.specs.Option.{option_copied}
+use Rattle.std.specs.declared.alloc.Global.{Global}
+use Rattle.std.specs.declared.vec.Vec.{Vec}
+use Rattle.jc_classes.specs.Names.{Name, names_of}
 use Rattle.jc_classes.specs.Worlds.{World}
 use Rattle.jc_link.specs.Meters.{counted}
+use Rattle.jc_link.specs.Tables.{Places, world}
 use Rattle.jc_link.specs.declared.meter.Meter.{Meter}
 use Rattle.jc_linkage.specs.declared.kept.Fresh.{Fresh}
 use Rattle.jc_linkage.specs.inside.Kept.{AllFresh, KeptMap, fresh_at, fresh_names, reach_sum}
@@ -22,3 +27,13 @@ pub record IsPrepared (m : World) (names : List Name) (comes : Option Name) (kep
   pub at : (d : Name) → map.get now d ≡ fresh_at last d (map.get kept d)
   pub made : new.made ≡ counted old.made (length (fresh_names (fresh ++ last)))
   pub asks : new.asks ≡ counted old.asks (reach_sum (fresh ++ last))
+
+-- the same over a table, for names and one that comes as they are lent
+abbrev pub IsPreparedOver : (table : Places) → (outside : List Name) → List (Vec ℕ Global) → (comes : Option (Bor (List ℕ)))
+    → (kept now : KeptMap) → (fresh : List Fresh) → (old new : Meter) → Type 0
+IsPreparedOver table outside names comes = IsPrepared (world table outside) (names_of names) (option_copied comes)
+
+-- what a call answers is so
+abbrev pub Prepares : {E : Type 0} → Result (Vec Fresh Global) E → (table : Places) → (outside : List Name) → List (Vec ℕ Global) → (comes : Option (Bor (List ℕ)))
+    → (kept now : KeptMap) → (old new : Meter) → Type 0
+Prepares result table outside names comes kept now old new = IfOk result (λ fresh. IsPreparedOver table outside names comes kept now fresh.items old new)

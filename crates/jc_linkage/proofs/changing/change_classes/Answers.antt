@@ -58,7 +58,7 @@ pub returns-in-Ok-clause-held : goal.returns-in-Ok-clause-held
 returns-in-Ok-clause-held c =
     let both = both_of c.args.first c.args.second c.in_ok-first.first c.in_ok-first.second c.args.table.now c.make_both.new.table
     c.requires.first c.requires.second c.in_ok-first.ensures.ok c.in_ok-first.ensures.first c.in_ok-first.ensures.second in
-    (c.in-Ok.ensures.remade c.args.table.now c.requires.held (first_stood both) (backs_stay both)).0
+    (c.in-Ok.ensures.held c.args.table.now c.requires.held (first_stood both) (backs_stay both)).0
 
 pub returns-in-Ok-clause-bounded : goal.returns-in-Ok-clause-bounded
 returns-in-Ok-clause-bounded c =
@@ -67,7 +67,7 @@ returns-in-Ok-clause-bounded c =
     bounded_touch (given_in c.remake.new.table) (world c.remake.new.table c.args.outside.now)
     (λ n. at_step c.in_ok-first.first n || at_step c.in_ok-first.second n) (λ n. at_step c.args.first n || at_step c.args.second n)
     (c.remake.new.meter.made - c.args.meter.now.made) (c.remake.new.meter.asks - c.args.meter.now.asks) (backs_touch both)
-    (c.in-Ok.ensures.remade c.args.table.now c.requires.held (first_stood both) (backs_stay both)).1
+    (c.in-Ok.ensures.held c.args.table.now c.requires.held (first_stood both) (backs_stay both)).1
 
 -- no place is vacant
 

@@ -36,8 +36,8 @@ finish-requires-clause-once c = subst NoRepeat (sym (c.in_ok-fresh.ensures.ready
 pub finish-requires-clause-vacant : goal.finish-requires-clause-vacant
 finish-requires-clause-vacant c = λ n h. not_given (at_step c.args.first.now n) (class_at c.args.table.now n) (sym (c.requires.gone n) ∙ h)
 
-pub returns-clause-remade : goal.returns-clause-remade
-returns-clause-remade c = λ old held stood stays.
+pub returns-clause-held : goal.returns-clause-held
+returns-clause-held c = λ old held stood stays.
     let first = c.args.first.now in
     let second = c.args.second.now in
     let gone = is_name (option_copied c.args.gone) in
