@@ -4,6 +4,7 @@ pub mod Reported
 pub mod SaidPart
 pub mod SessionState
 pub mod Touched
+pub mod Written
 pub mod inside
 pub use Rattle.jc_input.specs.Changes
 pub use Rattle.jc_input.specs.EditErrors

@@ -1,10 +1,9 @@
 //! The report that a session holds.
 
 ghost use Rattle.std.specs.Prelude.{◌≡◌, ◌≤◌, IfOk, None, OnErr, OnOk, option_and_then};
-ghost use Rattle.std.specs.List.{list_any};
 ghost use Rattle.std.specs.Option.{option_map};
 ghost use Rattle.std.specs.FinMap as map;
-ghost use Rattle.jc_report.specs.FileRows.{is_unreadable, rows, winner};
+ghost use Rattle.jc_report.specs.FileRows.{rows, winner};
 ghost use Rattle.jc_report.specs.Reports as reports;
 ghost use Rattle.jc_report.specs.Reports.{is_wrong};
 ghost use Rattle.jc_input.specs.Changes.{OfFiles, OfPrefixes, change_lent, prefix_change};
@@ -19,7 +18,7 @@ use jc_base::NoMemory;
 use jc_input::{LentEdit, PrefixEdit};
 use jc_link::{Meter, Outside};
 use jc_linkage::{HeldClasses, Linkage, Provided, Required};
-use jc_report::{FileState, is_wrong_part, rows_are_plain};
+use jc_report::{is_any_wrong, rows_are_plain};
 use std::alloc::Global;
 use std::marker::Model;
 
@@ -112,8 +111,7 @@ impl Report {
     pub fn wrong(&self) -> bool
         ensures { (r : reports.Report) × IsReportOf self.now r × (result ≡ is_wrong r) }
     {
-        let has_wrong_part = any_wrong(self.classes());
-        any_unreadable(self.files()) || has_wrong_part
+        is_any_wrong(self.files(), self.classes(), None)
     }
 
     /// What each file is, in the order of the paths.
@@ -171,26 +169,4 @@ impl Report {
         let file = self.held.files.get(path)?;
         Some(file.bytes())
     }
-}
-
-fn any_unreadable(files: Rows<'_>) -> bool
-    ensures { result ≡ list_any is_unreadable files.entry }
-{
-    for row in files {
-        if let FileState::Unreadable(_) = row.state {
-            return true;
-        }
-    }
-    false
-}
-
-fn any_wrong(classes: HeldClasses<'_>) -> bool
-    ensures { result ≡ list_any (λ c. reports.is_wrong_part c.part) classes.entry }
-{
-    for class in classes {
-        if is_wrong_part(class.part) {
-            return true;
-        }
-    }
-    false
 }

@@ -1,5 +1,4 @@
 pub mod Affected
-pub mod ClassLent
 pub mod Holders
 pub mod Linkages
 pub mod Steps

@@ -1,20 +1,13 @@
 //! The classes that are held, with their parts.
 
 ghost use Rattle.std.specs.Iterator.{YieldsFirstBy, item_count};
-ghost use Rattle.jc_linkage.specs.ClassLent.{class_lent};
+ghost use Rattle.jc_report.specs.ClassLent.{class_lent};
 
 use crate::kept::Kept;
 use jc_base::byte_map;
-use jc_classes::Facts;
-use jc_link::{Part, TableClasses};
+use jc_link::TableClasses;
+use jc_report::LentClass;
 use std::marker::Model;
-
-/// A class that files give.
-#[derive(Clone, Copy)]
-pub struct Class<'a> {
-    pub facts: &'a Facts,
-    pub part: &'a Part,
-}
 
 /// The classes of a [`crate::Linkage`] in the order of their names, seen as the list of those that are left.
 #[derive(Drop)]
@@ -34,16 +27,16 @@ impl<'a> Model for HeldClasses<'a> {
 }
 
 impl<'a> Iterator for HeldClasses<'a> {
-    type Item = Class<'a>;
+    type Item = LentClass<'a>;
 
     ghost next_gives = { YieldsFirstBy class_lent (λ left. left) };
 
     ghost remaining = { item_count (λ left. left) };
 
-    fn next(&mut self) -> Option<Class<'a>> {
+    fn next(&mut self) -> Option<LentClass<'a>> {
         let facts = self.records.next()?;
         let (_, kept) = self.kept.next()?;
-        Some(Class {
+        Some(LentClass {
             facts,
             part: &kept.part,
         })

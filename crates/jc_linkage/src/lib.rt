@@ -14,7 +14,7 @@ mod rows;
 mod step;
 mod turning;
 
-pub use classes::{Class, HeldClasses};
+pub use classes::HeldClasses;
 pub use linkage::Linkage;
 pub use rows::{Provided, Required};
 pub use step::Step;

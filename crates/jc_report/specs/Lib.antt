@@ -1,3 +1,4 @@
+pub mod ClassLent
 pub mod ClassRows
 pub mod ErrorsText
 pub mod FileRowText
@@ -6,6 +7,7 @@ pub mod FileRows
 pub mod Files
 pub mod PartText
 pub mod ReportLaws
+pub mod ReportLists
 pub mod ReportText
 pub mod Reports
 pub mod RowKeyLaws

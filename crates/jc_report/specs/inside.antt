@@ -1,5 +1,8 @@
+pub mod FileStates
+pub mod Given
 pub mod Kept
 pub mod MemberRows
+pub mod Members
 pub mod Naming
 pub mod Outcomes
 pub mod ReportShown

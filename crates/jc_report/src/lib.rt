@@ -7,11 +7,13 @@ mod errors_text;
 mod file_row;
 mod file_row_text;
 mod laws;
+mod lent_class;
 mod member_rows;
 mod outcome;
 mod part_text;
 mod provided_rows;
 mod report;
+mod report_lists;
 mod report_text;
 mod row;
 mod row_key;
@@ -20,14 +22,16 @@ mod tree;
 
 pub use errors_text::write_errors;
 pub use file_row::{FileRow, FileState};
-pub use file_row_text::{write_file_row, write_refusal};
+pub use file_row_text::write_refusal;
 pub use laws::{
     errors_are_told, keys_keep_order, report_is_one, rows_are_plain, winners_are_least,
 };
+pub use lent_class::{LentClass, LentClasses};
 pub use part_text::write_part;
 pub use provided_rows::{ProvidedRows, provided_in_order};
-pub use report::{Class, TreeReport, is_wrong_part};
-pub use report_text::{Section, write_heading, write_name, write_report, write_row};
+pub use report::{TreeReport, is_any_wrong};
+pub use report_lists::ReportLists;
+pub use report_text::{write_lists, write_report};
 pub use row::Row;
 pub use row_key::required_keys;
 pub use tree::{AddError, Tree};

@@ -1,6 +1,6 @@
 //! The rows of the open members of a class, in their order.
 
-ghost use Rattle.std.specs.Prelude.{◌≡◌, None, map, slice_get};
+ghost use Rattle.std.specs.Prelude.{◌≡◌, slice_get};
 ghost use Rattle.std.specs.Iterator.{YieldsFirstBy, item_count};
 ghost use Rattle.std.specs.Option.{option_map};
 ghost use Rattle.jc_classes.specs.Lent.{key_lent, member_lent};

@@ -1,7 +1,6 @@
 //! Which class a file names.
 
 ghost use Rattle.std.specs.Prelude.{◌≡◌, IfOk};
-ghost use Rattle.jc_view.specs.Outcome.{class_named};
 ghost use Rattle.jc_report.specs.inside.Outcomes.{outcome_lent};
 
 use jc_base::NoMemory;

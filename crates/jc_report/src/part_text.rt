@@ -1,16 +1,16 @@
 //! The lines of a class's part.
 
-ghost use Rattle.std.specs.Prelude.{◌≡◌, ◌++◌, map};
+ghost use Rattle.std.specs.Prelude.{◌≡◌, ◌++◌};
 ghost use Rattle.std.specs.List.{flat_map};
 ghost use Rattle.jc_text.specs.Escapes.{shown};
 ghost use Rattle.jc_text.specs.Sends.{Sends};
-ghost use Rattle.jc_classes.specs.Facts.{Key as KeyValue};
 ghost use Rattle.jc_classes.specs.Lent.{key_lent, reference_lent};
 ghost use Rattle.jc_resolve.specs.Answers.{answer_of, loading_of};
 ghost use Rattle.jc_resolve.specs.Linked.{link_lent};
 ghost use Rattle.jc_report.specs.PartText.{answer_line, answer_lines, answer_text, answered_text, error_text, format_fault_line, kind_text};
-ghost use Rattle.jc_report.specs.PartText.{link_line, link_text, load_line, load_text, member_text, method_fault_line, named_text};
+ghost use Rattle.jc_report.specs.PartText.{link_line, link_text, load_line, load_text, method_fault_line, named_text};
 ghost use Rattle.jc_report.specs.PartText.{part_text, reference_text};
+ghost use Rattle.jc_report.specs.inside.Members.{SendsMember};
 
 use jc_base::Output;
 use jc_classes::{Facts, Key, LinkageError, Reference, ReferenceKind};
@@ -211,8 +211,7 @@ fn write_member<W: Output>(
     name: &[u8],
     descriptor: &[u8],
 )
-    ensures { (key : KeyValue) → key.name ≡ name.now → key.descriptor ≡ descriptor.now
-        → Sends W.written W.failures out.old out.new (member_text class.now key) }
+    ensures { SendsMember W.written W.failures out.old out.new class.now name.now descriptor.now }
 {
     out.shown(class);
     write_shown(out, b".", name);

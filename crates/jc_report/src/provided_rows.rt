@@ -4,11 +4,10 @@ ghost use Rattle.std.specs.Prelude.{◌≡◌, ◌++◌, map};
 ghost use Rattle.std.specs.Iterator.{YieldsFirstBy, item_count};
 ghost use Rattle.std.specs.List.{Contains};
 ghost use Rattle.std.specs.Option.{option_to_list};
-ghost use Rattle.jc_classes.specs.declared.reference_kind.ReferenceKind.TheVariants as kinds;
 ghost use Rattle.jc_report.specs.ClassRows.{provided_rows};
 ghost use Rattle.jc_report.specs.Rows.{AreRows};
 ghost use Rattle.jc_report.specs.RowView.{row_lent};
-ghost use Rattle.jc_report.specs.inside.MemberRows.{rows_by};
+ghost use Rattle.jc_report.specs.inside.MemberRows.{open_rows};
 
 use crate::class_rows::{class_row, provides};
 use crate::member_rows::MemberRows;
@@ -59,8 +58,7 @@ fn rows_by<'a>(
     fields: &'a [u16],
     methods: &'a [u16],
 ) -> ProvidedRows<'a>
-    ensures { result ≡ map row_lent (option_to_list class.entry)
-        ++ rows_by kinds.Field facts.now fields.now ++ rows_by kinds.Method facts.now methods.now }
+    ensures { result ≡ map row_lent (option_to_list class.entry) ++ open_rows facts.now fields.now methods.now }
 {
     ProvidedRows {
         class,

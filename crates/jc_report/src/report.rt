@@ -1,28 +1,31 @@
 //! The report of a tree of class files.
 
 ghost use Rattle.std.specs.Prelude.{◌≡◌, ◌≤◌, ◌++◌, ◌==◌, [], not, IfOk, OnOk, length, map};
+ghost use Rattle.std.specs.Iterator.{IsFinite};
 ghost use Rattle.std.specs.List.{list_any};
-ghost use Rattle.std.specs.List.Sorted.{IsStrictlySortedBy};
-ghost use Rattle.jc_classes.specs.Names.{name_cmp};
 ghost use Rattle.jc_classes.specs.Parts.{IsPart};
 ghost use Rattle.jc_link.specs.Meters.{counted};
 ghost use Rattle.jc_link.specs.Tables.{world};
-ghost use Rattle.jc_resolve.specs.Answers.{kind_of, loading_of};
+ghost use Rattle.jc_resolve.specs.Answers.{loading_of};
+ghost use Rattle.jc_report.specs.ClassLent.{class_lent};
 ghost use Rattle.jc_report.specs.ClassRows.{provided_rows, required_rows};
 ghost use Rattle.jc_report.specs.Files.{Files};
 ghost use Rattle.jc_report.specs.FileRows.{rows};
 ghost use Rattle.jc_report.specs.FileRowView as lent;
-ghost use Rattle.jc_report.specs.Reports.{GivesRow, IsReport, circular_names, is_error, is_load_error, is_wrong};
-ghost use Rattle.jc_report.specs.Reports.{is_wrong_part, name_of};
+ghost use Rattle.jc_report.specs.ReportLists.{AreListedIn};
+ghost use Rattle.jc_report.specs.Reports.{GivesRow, IsReport, Report, circular_names, is_error, is_load_error, is_wrong};
+ghost use Rattle.jc_report.specs.Reports.{is_wrong_part};
 ghost use Rattle.jc_report.specs.ErrorsText.{is_wrong_among, is_wrong_class, is_wrong_file, prefixes_lent};
 ghost use Rattle.jc_report.specs.Rows.{AreRows};
 ghost use Rattle.jc_report.specs.RowView.{row_lent};
 ghost use Rattle.jc_report.specs.Trees.{IsTree};
-ghost use Rattle.jc_report.specs.inside.ReportShown.{AreClasses};
+ghost use Rattle.jc_report.specs.inside.Given.{ForGiven};
+ghost use Rattle.jc_report.specs.inside.ReportShown.{AreByName, AreClasses};
 
 use crate::class_rows::push_required;
 use crate::errors_text::{is_asked, is_unreadable};
 use crate::file_row::FileRow;
+use crate::lent_class::{LentClass, LentClasses};
 use crate::provided_rows::{ProvidedRows, provided_in_order};
 use crate::row::Row;
 use crate::row_set::put_in_order;
@@ -34,9 +37,9 @@ use jc_resolve::{AnswerKind, Answers, Links, Loading};
 use std::alloc::Global;
 use std::marker::Model;
 
-/// A class that a file of a tree gives.
+/// A class that a file of a tree gives, with its part.
 #[derive(Drop)]
-pub struct Class<'t> {
+pub(crate) struct Class<'t> {
     facts: &'t Facts,
     part: Part,
 }
@@ -71,17 +74,27 @@ impl<'t> Model for TreeReport<'t> {
 
 impl<'t> Class<'t> {
     /// What is kept of its file.
-    pub fn facts(&self) -> &'t Facts
+    pub(crate) fn facts(&self) -> &'t Facts
         ensures { result.now ≡ self.now.facts }
     {
         self.facts
     }
 
     /// What is found of it.
-    pub fn part(&self) -> &Part
+    pub(crate) fn part(&self) -> &Part
         ensures { result.now ≡ self.now.part }
     {
         &self.part
+    }
+
+    /// Both.
+    pub(crate) fn lent(&self) -> LentClass<'_>
+        ensures { class_lent result ≡ self.now }
+    {
+        LentClass {
+            facts: self.facts,
+            part: &self.part,
+        }
     }
 }
 
@@ -154,7 +167,7 @@ impl<'t> TreeReport<'t> {
     pub fn wrong_among(&self, only: Option<&Outside>) -> bool
         ensures { result ≡ is_wrong_among (prefixes_lent only.entry) self.now }
     {
-        has_unreadable(self.files(), only) || has_wrong_part(self.classes(), only)
+        is_any_wrong(self.files().iter().copied(), self.lent_classes(), only)
     }
 
     /// What each file is, by path.
@@ -165,11 +178,20 @@ impl<'t> TreeReport<'t> {
     }
 
     /// The classes that the files give, by name.
-    pub fn classes(&self) -> &[Class<'t>]
+    pub(crate) fn classes(&self) -> &[Class<'t>]
         ensures by_name { result.now ≡ self.now.classes }
-        ensures circular { self.now.circular ≡ circular_names result.now }
     {
         self.classes.as_slice()
+    }
+
+    /// The classes that the files give, by name, lent.
+    pub fn lent_classes(&self) -> LentClasses<'_, 't>
+        ensures by_name { result ≡ self.now.classes }
+        ensures circular { self.now.circular ≡ circular_names result }
+    {
+        LentClasses {
+            classes: self.classes.iter(),
+        }
     }
 
     /// The public classes that load, with their public and protected members.
@@ -246,8 +268,7 @@ fn part_of(
 /// What the classes provide, which rise by name.
 fn fill_provided<'t>(rows: &mut Vec<Row<'t>>, classes: &[Class<'t>]) -> Result<(), NoMemory>
     requires { map row_lent rows.old.items ≡ [] }
-    ensures { IsStrictlySortedBy name_cmp (map name_of classes.now)
-        → OnOk result (AreRows (map row_lent rows.new.items) (GivesRow provided_rows classes.now)) }
+    ensures { AreByName classes.now → OnOk result (AreRows (map row_lent rows.new.items) (GivesRow provided_rows classes.now)) }
 {
     for class in classes {
         push_all(rows, provided_in_order(class.facts, &class.part))?;
@@ -277,19 +298,45 @@ fn fill_required<'t>(rows: &mut Vec<Row<'t>>, classes: &[Class<'t>]) -> Result<(
     Ok(())
 }
 
-fn has_unreadable(files: &[FileRow<'_>], only: Option<&Outside>) -> bool
-    ensures { result ≡ list_any (is_wrong_file (prefixes_lent only.entry)) (map lent.row_lent files.now) }
+/// Whether one of these files and classes is unreadable or wrong, among those whose paths and names begin with one
+/// of these prefixes, or among all.
+pub fn is_any_wrong<'a, F, C>(files: F, classes: C, only: Option<&Outside>) -> bool
+where
+    F: Iterator<Item = FileRow<'a>> + Drop,
+    C: Iterator<Item = LentClass<'a>> + Drop,
+    requires files { F.can_next files × IsFinite (F.remaining files) }
+    requires classes { C.can_next classes × IsFinite (C.remaining classes) }
+    ensures { (r : Report) → AreListedIn F.next_gives C.next_gives files classes r
+        → result ≡ is_wrong_among (prefixes_lent only.entry) r }
+{
+    let has_unreadable = has_unreadable(files, only);
+    let has_wrong_part = has_wrong_part(classes, only);
+    has_unreadable || has_wrong_part
+}
+
+fn has_unreadable<'a, I: Iterator<Item = FileRow<'a>> + Drop>(
+    files: I,
+    only: Option<&Outside>,
+) -> bool
+    requires can { I.can_next files }
+    requires ends { IsFinite (I.remaining files) }
+    ensures { ForGiven I.next_gives lent.row_lent files (λ all. result ≡ list_any (is_wrong_file (prefixes_lent only.entry)) all) }
 {
     for row in files {
-        if is_wrong_file(row, only) {
+        if is_wrong_file(&row, only) {
             return true;
         }
     }
     false
 }
 
-fn has_wrong_part(classes: &[Class<'_>], only: Option<&Outside>) -> bool
-    ensures { result ≡ list_any (is_wrong_class (prefixes_lent only.entry)) classes.now }
+fn has_wrong_part<'a, I: Iterator<Item = LentClass<'a>> + Drop>(
+    classes: I,
+    only: Option<&Outside>,
+) -> bool
+    requires can { I.can_next classes }
+    requires ends { IsFinite (I.remaining classes) }
+    ensures { ForGiven I.next_gives class_lent classes (λ all. result ≡ list_any (is_wrong_class (prefixes_lent only.entry)) all) }
 {
     for class in classes {
         if is_wrong_class(class, only) {
@@ -307,15 +354,15 @@ pub(crate) fn is_wrong_file(row: &FileRow<'_>, only: Option<&Outside>) -> bool
 }
 
 /// Whether a class is asked for and wrong.
-fn is_wrong_class(class: &Class<'_>, only: Option<&Outside>) -> bool
-    ensures { result ≡ is_wrong_class (prefixes_lent only.entry) class.now }
+fn is_wrong_class(class: LentClass<'_>, only: Option<&Outside>) -> bool
+    ensures { result ≡ is_wrong_class (prefixes_lent only.entry) (class_lent class.entry) }
 {
-    is_asked(only, class.facts.name()) && is_wrong_part(&class.part)
+    is_asked(only, class.facts.name()) && is_wrong_part(class.part)
 }
 
 /// Whether a class has a fault or does not load, an instruction does not link, or a reference is answered by an
 /// error.
-pub fn is_wrong_part(part: &Part) -> bool
+fn is_wrong_part(part: &Part) -> bool
     ensures { result ≡ is_wrong_part part.now }
 {
     !part.format_faults().is_empty()

@@ -1,6 +1,6 @@
 //! A row as one string of bytes, whose order is that of rows.
 
-ghost use Rattle.std.specs.Prelude.{◌≡◌, ◌++◌, ◌∷◌, [], IfOk, OnOk, List, map};
+ghost use Rattle.std.specs.Prelude.{◌≡◌, IfOk, map};
 ghost use Rattle.std.specs.List.{Contains};
 ghost use Rattle.jc_classes.specs.Names.{names_of};
 ghost use Rattle.jc_report.specs.ClassRows.{required_rows};

@@ -8,9 +8,10 @@ ghost use Rattle.jc_classes.specs.FactsOf.{facts_of};
 ghost use Rattle.jc_link.specs.Tables.{class_at};
 ghost use Rattle.jc_report.specs.declared.tree.AddError.TheVariants as errors;
 ghost use Rattle.jc_report.specs.Files.{Files};
-ghost use Rattle.jc_report.specs.FileRows.{state_by, state_of};
+ghost use Rattle.jc_report.specs.FileRows.{state_by};
 ghost use Rattle.jc_report.specs.FileRowView.{state_lent};
 ghost use Rattle.jc_report.specs.Trees.{HasOneMore, IsTree, is_there};
+ghost use Rattle.jc_report.specs.inside.FileStates.{IsStateIn};
 ghost use Rattle.jc_report.specs.inside.Kept.{kept, kept_read, path_kept, put_back};
 
 use crate::file_row::FileState;
@@ -164,8 +165,7 @@ impl Tree {
         outcome: &'t FileOutcome,
         meter: &mut Meter,
     ) -> FileState<'t>
-        ensures state { (f : Files) (bytes : List ℕ) → IsTree f self.now → map.get f path.now ≡ Some bytes
-            → outcome.now ≡ class_named bytes → state_lent result ≡ state_of f path.now outcome.now }
+        ensures state { IsStateIn self.now path.now outcome.now (state_lent result) }
         ensures made { meter.new.made ≡ meter.old.made }
         ensures asks_rise { meter.old.asks ≤ meter.new.asks }
     {

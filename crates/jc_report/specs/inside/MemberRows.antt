@@ -1,5 +1,5 @@
 -- The rows of the open members of a class, by the numbers of the members.
-use Rattle.std.specs.Prelude.{ℕ, Bool, false, ◌&&◌, List, [], ◌∷◌, map, Option, Some, None, slice_get, if◌then◌else◌}
+use Rattle.std.specs.Prelude.{ℕ, Bool, false, ◌&&◌, List, [], ◌∷◌, ◌++◌, map, Option, Some, None, slice_get, if◌then◌else◌}
 use Rattle.std.specs.List.{flat_map}
 use Rattle.std.specs.Option.{option_to_list}
 use Rattle.jc_classes.specs.Facts.{Facts, Key, Member}
@@ -53,3 +53,7 @@ rows_after kind f last numbers = map (key_row f.name kind) (keys_after last (ope
 -- the rows of all of them
 abbrev pub rows_by : ReferenceKind → Facts → List ℕ → List Row
 rows_by kind f numbers = rows_after kind f None numbers
+
+-- those of the fields and of the methods of these numbers
+abbrev pub open_rows : Facts → (fields methods : List ℕ) → List Row
+open_rows f fields methods = rows_by kinds.Field f fields ++ rows_by kinds.Method f methods

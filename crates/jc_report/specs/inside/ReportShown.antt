@@ -19,8 +19,12 @@ report_shown a = record {
   required = map row_lent a.required.items;
 }
 
+-- the names rise
+abbrev pub AreByName : List Class → Type 0
+AreByName classes = IsStrictlySortedBy name_cmp (map name_of classes)
+
 -- the classes that files give, by name
 pub record AreClasses (f : Files) (prefixes : List Name) (classes : List Class) : Type 0 where
-  pub rises : IsStrictlySortedBy name_cmp (map name_of classes)
+  pub rises : AreByName classes
   pub sound : All (IsClassOf f prefixes) classes
   pub complete : (name : Name) (c : Facts) → facts_at f name ≡ Some c → Contains (map name_of classes) name

@@ -1,22 +1,15 @@
-use Rattle.std.proofs.Common.{◌≡◌, ◌∷◌, ◌+◌, ◌∙◌, ap, drop, sym}
-use Rattle.std.proofs.lemmas.List.{drop_all, drop_more}
-use Rattle.jc_text.proofs.Sending.{none_sent, sends_equal}
-use Rattle.jc_report.specs.PartText.{part_text}
-use Rattle.jc_report.specs.ReportText.{class_text}
-use Rattle.jc_list.proofs.fronts.OneBehindAnother.{all_listed, item_listed}
+use Rattle.std.proofs.Common.{refl}
+use Rattle.jc_text.proofs.Sending.{all_sent, none_sent, part_sent}
+use Rattle.jc_report.proofs.reports.GoneOver.{along_end, along_next, along_start}
 use Rattle.jc_report.proofs.report_text.write_classes.Goals as goal
 
 pub loop-class-init : goal.loop-class-init
-loop-class-init g c = none_sent _ _ _ _
+loop-class-init g c = rw c.into_iter-class-iterator.ensures.into_iter_gives (c.requires.can, c.requires.ends, along_start (λ all. none_sent _ _ _ _))
 
 pub loop-class-preserved : goal.loop-class-preserved
 loop-class-preserved g c =
-    let xs = c.args.classes.now in
-    let n = c.loop-class.class-index in
-    let x = c.class-item.result in
-    let first : drop n xs ≡ x ∷ drop (n + 1) xs = drop_more xs n x c.loop-class-test.true ∙ ap (λ y. y ∷ drop (n + 1) xs) (sym c.class-item.is) in
-    item_listed class_text c.loop-class.invariant first
-    (sends_equal (ap (λ f. part_text f c.part.result.now) c.facts.ensures ∙ ap (part_text x.facts) c.part.ensures) c.write_part.ensures)
+    let goes = c.in-Some.ensures.goes.on c.loop-class.invariant.1 in
+    (goes.0, goes.1, along_next c.in-Some.class c.loop-class.invariant.2 c.in-Some.ensures.steps (λ all rest so_far. part_sent so_far refl c.write_part.ensures))
 
 pub returns : goal.returns
-returns g c = all_listed class_text c.loop-class.invariant (drop_all c.loop-class.class-index c.args.classes.now c.loop-class-test.false)
+returns g c all gives = all_sent (along_end _ c.loop-class.invariant.2 c.in-None.ensures.steps all gives) refl

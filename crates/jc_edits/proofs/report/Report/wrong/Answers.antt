@@ -1,0 +1,16 @@
+use Rattle.std.proofs.Common.{◌∙◌, sym}
+use Rattle.std.proofs.lemmas.Iterator.Consumers.{YieldsList-from_first}
+use Rattle.jc_report.specs.ClassLent.{class_lent}
+use Rattle.jc_report.specs.FileRowView as lent
+use Rattle.jc_edits.proofs.report.Report.wrong.Goals as goal
+
+pub returns : goal.returns
+returns c =
+    let made = c.classes.ensures in (
+      made.0,
+      made.1,
+      c.is_any_wrong.ensures made.0 (record {
+        by_path = (YieldsList-from_first lent.row_lent (λ left. left) _ (c.files.ensures ∙ sym made.1.files)).runs;
+        by_name = (YieldsList-from_first class_lent (λ left. left) _ made.2).runs;
+      }),
+    )
