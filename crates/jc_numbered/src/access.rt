@@ -2,7 +2,7 @@
 
 ghost use Rattle.std.specs.Prelude.{◌≡◌, ◌<◌, length, true};
 ghost use Rattle.std.specs.Bool.{Decides};
-ghost use Rattle.jc_numbered.specs.inside.Indexed.{name_at, good_at};
+ghost use Rattle.jc_numbered.specs.inside.Indexed.{indexed_name, good_at};
 ghost use Rattle.jc_numbered.specs.inside.Shown.{indexed_of, found_at};
 ghost use Rattle.jc_numbered.specs.inside.Access.{IsTarget, IsInPackage};
 ghost use Rattle.jc_numbered.specs.inside.Access.{TellsWithin, TellsRelated, TellsOpen, TellsInherited, TellsOwn, TellsCanUse};
@@ -78,7 +78,7 @@ fn is_inherited(classes: &Classes, target: Target, class: usize, hit: Hit) -> bo
 fn is_in_package(classes: &Classes, class: usize, hit: Hit) -> bool
     requires class { class < length classes.now.standing.now }
     requires home { hit.node < length classes.now.standing.now }
-    ensures { Decides result (IsInPackage (name_at (indexed_of classes.now) class) (found_at (indexed_of classes.now) hit.entry)) }
+    ensures { Decides result (IsInPackage (indexed_name (indexed_of classes.now) class) (found_at (indexed_of classes.now) hit.entry)) }
 {
     if !(hit.member.has(AccessFlag::Protected) || hit.member.is_package_private()) {
         return false;

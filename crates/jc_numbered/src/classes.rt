@@ -7,7 +7,7 @@ ghost use Rattle.jc_classes.specs.MethodLookup.{of_object};
 ghost use Rattle.jc_classes.specs.Names.{names_of, object as java_lang_object, package_of};
 ghost use Rattle.jc_classes.specs.Worlds.{member, fields_of, methods_of, flags_of};
 ghost use Rattle.jc_graph.specs.Graph.{ups_of};
-ghost use Rattle.jc_numbered.specs.inside.Indexed.{filled, name_at, record_at, super_at, supers_before, onward_nodes, IsGraph};
+ghost use Rattle.jc_numbered.specs.inside.Indexed.{filled, indexed_name, record_at, super_at, supers_before, onward_nodes, IsGraph};
 ghost use Rattle.jc_numbered.specs.inside.Members.{declared_at};
 ghost use Rattle.jc_numbered.specs.inside.Packages.{package_end, same_package};
 ghost use Rattle.jc_numbered.specs.inside.Picks.{gives};
@@ -40,7 +40,7 @@ pub struct Classes<'c, 't> {
     pub ghost names_size: { length names.now ≡ length standing.now },
     pub ghost supertypes_size: { length supertypes.now ≡ length standing.now },
     pub ghost object_within: { object < length standing.now },
-    pub ghost object_name: { name_at (filled names.now standing.now supertypes.now rank.items good.items) object ≡ java_lang_object },
+    pub ghost object_name: { indexed_name (filled names.now standing.now supertypes.now rank.items good.items) object ≡ java_lang_object },
     pub ghost packages: { package_ends.items ≡ map package_end (names_of names.now) },
     pub ghost graph: { IsGraph (length standing.now) (filled names.now standing.now supertypes.now rank.items good.items) },
 }
@@ -77,7 +77,7 @@ impl<'c, 't> Classes<'c, 't> {
 
     /// The name of a node.
     pub fn name(&self, node: usize) -> &[u8]
-        ensures { result.now ≡ name_at (indexed_of self.now) node }
+        ensures { result.now ≡ indexed_name (indexed_of self.now) node }
     {
         match self.names.get(node) {
             Some(name) => name.as_slice(),
@@ -94,7 +94,7 @@ impl<'c, 't> Classes<'c, 't> {
 
     /// The package of a node's name.
     fn package(&self, node: usize) -> &[u8]
-        ensures { result.now ≡ package_of (name_at (indexed_of self.now) node) }
+        ensures { result.now ≡ package_of (indexed_name (indexed_of self.now) node) }
     {
         match self.package_ends.get(node) {
             Some(end) => &self.name(node)[..*end],

@@ -4,7 +4,7 @@ ghost use Rattle.std.specs.Prelude.{◌≡◌, ◌<◌, ℕ, [], Some, length, o
 ghost use Rattle.jc_classes.specs.Facts.{Reference as Refers};
 ghost use Rattle.jc_classes.specs.Lent.{reference_lent};
 ghost use Rattle.jc_classes.specs.Names.{Name};
-ghost use Rattle.jc_numbered.specs.inside.Indexed.{name_at};
+ghost use Rattle.jc_numbered.specs.inside.Indexed.{indexed_name};
 ghost use Rattle.jc_numbered.specs.inside.Shown.{indexed_of};
 ghost use Rattle.jc_resolve.specs.Answers.{answer_of, kind_of};
 ghost use Rattle.jc_classes.specs.inside.ClassTexts.{IsFront};
@@ -70,10 +70,10 @@ impl Naming {
 
     /// The number of the name of a class.
     fn number(&mut self, classes: &Classes, node: usize) -> Result<usize, NoMemory>
-        requires { AreNames (name_at (indexed_of classes.now)) self.old }
-        ensures names { OnOk result (AreNames (name_at (indexed_of classes.now)) self.new) }
+        requires { AreNames (indexed_name (indexed_of classes.now)) self.old }
+        ensures names { OnOk result (AreNames (indexed_name (indexed_of classes.now)) self.new) }
         ensures front { OnOk result (IsFront self.old.texts self.new.texts) }
-        ensures number { IfOk result (IsNumberOf self.new.texts (name_at (indexed_of classes.now) node)) }
+        ensures number { IfOk result (IsNumberOf self.new.texts (indexed_name (indexed_of classes.now) node)) }
     {
         match known(&self.numbers, node) {
             Some(number) => Ok(number),
@@ -83,10 +83,10 @@ impl Naming {
 
     /// The same of a class whose name has none.
     fn add(&mut self, classes: &Classes, node: usize) -> Result<usize, NoMemory>
-        requires { AreNames (name_at (indexed_of classes.now)) self.old }
-        ensures names { OnOk result (AreNames (name_at (indexed_of classes.now)) self.new) }
+        requires { AreNames (indexed_name (indexed_of classes.now)) self.old }
+        ensures names { OnOk result (AreNames (indexed_name (indexed_of classes.now)) self.new) }
         ensures front { OnOk result (IsFront self.old.texts self.new.texts) }
-        ensures number { IfOk result (IsNumberOf self.new.texts (name_at (indexed_of classes.now) node)) }
+        ensures number { IfOk result (IsNumberOf self.new.texts (indexed_name (indexed_of classes.now) node)) }
     {
         let number = self.texts.len();
         self.texts.push(classes.name(node))?;
@@ -98,11 +98,11 @@ impl Naming {
 
     /// An answer by the numbers of names.
     fn entry(&mut self, classes: &Classes, entry: Entry) -> Result<Entry, NoMemory>
-        requires { AreNames (name_at (indexed_of classes.now)) self.old }
-        ensures names { OnOk result (AreNames (name_at (indexed_of classes.now)) self.new) }
+        requires { AreNames (indexed_name (indexed_of classes.now)) self.old }
+        ensures names { OnOk result (AreNames (indexed_name (indexed_of classes.now)) self.new) }
         ensures front { OnOk result (IsFront self.old.texts self.new.texts) }
         ensures within { IfOk result (IsWithin (length self.new.texts)) }
-        ensures same { IfOk result (λ named. IsSame (text_at self.new.texts) (name_at (indexed_of classes.now)) named entry) }
+        ensures same { IfOk result (λ named. IsSame (text_at self.new.texts) (indexed_name (indexed_of classes.now)) named entry) }
     {
         match entry {
             Entry::ToMember(flags, node) => {
@@ -138,7 +138,7 @@ impl Answers {
         entries: &[Entry],
     ) -> Result<Answers, NoMemory>
         requires { length entries.now ≡ length references }
-        ensures { IfOk result (λ answers. answers ≡ entries_shown (name_at (indexed_of classes.now)) references entries.now) }
+        ensures { IfOk result (λ answers. answers ≡ entries_shown (indexed_name (indexed_of classes.now)) references entries.now) }
     {
         let named = name_entries(alloc, classes, entries)?;
         Ok(Answers {
@@ -203,7 +203,7 @@ struct Named {
 
 /// Numbers the names that answers tell.
 fn name_entries(alloc: Global, classes: &Classes, entries: &[Entry]) -> Result<Named, NoMemory>
-    ensures { IfOk result (λ named. AreSame (text_at named.texts) (name_at (indexed_of classes.now)) named.entries.items entries.now) }
+    ensures { IfOk result (λ named. AreSame (text_at named.texts) (indexed_name (indexed_of classes.now)) named.entries.items entries.now) }
 {
     let mut names = Naming::new(alloc, classes.len())?;
     let mut named = Vec::with_capacity(alloc, entries.len())?;

@@ -3,7 +3,7 @@
 ghost use Rattle.std.specs.Prelude.{◌≡◌};
 ghost use Rattle.jc_classes.specs.Facts.{Reference};
 ghost use Rattle.jc_classes.specs.Lent.{key_lent};
-ghost use Rattle.jc_numbered.specs.inside.Indexed.{Indexed, name_at};
+ghost use Rattle.jc_numbered.specs.inside.Indexed.{Indexed, indexed_name};
 ghost use Rattle.jc_resolve.specs.inside.Entries.{entry_shown};
 ghost use Rattle.jc_resolve.specs.inside.Resolved.{begun_of, ended_of};
 ghost use Rattle.jc_resolve.specs.inside.Shows.{ShowsHit, ShowsOutcome, ShowsSettled};
@@ -33,7 +33,7 @@ pub(crate) enum Entry {
 
 /// The answer of a reference for which look-up did not begin.
 fn begun_entry(begun: Begun) -> Entry
-    ensures { (x : Indexed) (r : Reference) → entry_shown (name_at x) r result ≡ ended_of x (begun_of x begun) }
+    ensures { (x : Indexed) (r : Reference) → entry_shown (indexed_name x) r result ≡ ended_of x (begun_of x begun) }
 {
     match begun {
         Begun::At(_) => Entry::NotLoaded,

@@ -4,7 +4,7 @@ ghost use Rattle.std.specs.Prelude.{◌≡◌, ◌<◌, ℕ, length, false, IfOk
 ghost use Rattle.jc_graph.specs.Seen.{flag_at};
 ghost use Rattle.jc_numbered.specs.inside.Shown.{indexed_of};
 ghost use Rattle.jc_classes.specs.Names.{object as java_lang_object};
-ghost use Rattle.jc_numbered.specs.inside.Indexed.{name_at};
+ghost use Rattle.jc_numbered.specs.inside.Indexed.{indexed_name};
 ghost use Rattle.jc_resolve.specs.inside.Gathered.{IsGathered, bare};
 ghost use Rattle.jc_resolve.specs.inside.Loaded.{IsLoaded};
 
@@ -42,7 +42,7 @@ pub(crate) fn load_classes<'c, 't>(
     requires net { IsGathered (length standing.now) (bare names.now standing.now supertypes.now) }
     requires size { length supertypes.now ≡ length standing.now }
     requires object { object < length standing.now }
-    requires object_name { name_at (bare names.now standing.now supertypes.now) object ≡ java_lang_object }
+    requires object_name { indexed_name (bare names.now standing.now supertypes.now) object ≡ java_lang_object }
     ensures names { IfOk result (λ c. c.classes.names.now ≡ names.now) }
     ensures standing { IfOk result (λ c. c.classes.standing.now ≡ standing.now) }
     ensures supertypes { IfOk result (λ c. c.classes.supertypes.now ≡ supertypes.now) }

@@ -5,7 +5,7 @@ use Rattle.std.specs.List.{Contains, filter}
 use Rattle.std.proofs.lemmas.List.Elements.{Contains-append_right}
 use Rattle.jc_classes.specs.Names.{Name}
 use Rattle.jc_classes.specs.Worlds.{Stands, World, Above, supers_of, Above as above}
-use Rattle.jc_numbered.specs.inside.Indexed.{Indexed, name_at, record_at, IsGraph, IsIndexed}
+use Rattle.jc_numbered.specs.inside.Indexed.{Indexed, indexed_name, record_at, IsGraph, IsIndexed}
 use Rattle.jc_graph.specs.Graph.{Above as AboveNode}
 use Rattle.jc_graph.specs.Graph.Above.{direct, further}
 
@@ -61,28 +61,28 @@ module _ (m : World) (count : ℕ) (x : Indexed) (graph : IsGraph count x) (inde
   node_in {s} {v} (direct c) = graph.nodes s v c
   node_in {v = v} (further {mid} a c) = graph.nodes mid v c
 
-  rows_at : {s : ℕ} → s < count → supers_of (m (name_at x s)) ≡ map (name_at x) (x.supertypes s)
+  rows_at : {s : ℕ} → s < count → supers_of (m (indexed_name x s)) ≡ map (indexed_name x) (x.supertypes s)
   rows_at {s} l = ap supers_of (index.records s (named l)) ∙ sym (index.supertypes s (named l))
 
-  step_in : {s v : ℕ} → s < count → Contains (x.supertypes s) v → Contains (supers_of (m (name_at x s))) (name_at x v)
-  step_in {s} {v} l c = subst (λ ns. Contains ns (name_at x v)) (sym (rows_at l)) (map_in (name_at x) (x.supertypes s) v c)
+  step_in : {s v : ℕ} → s < count → Contains (x.supertypes s) v → Contains (supers_of (m (indexed_name x s))) (indexed_name x v)
+  step_in {s} {v} l c = subst (λ ns. Contains ns (indexed_name x v)) (sym (rows_at l)) (map_in (indexed_name x) (x.supertypes s) v c)
 
-  step_out : {s : ℕ} {n : Name} → s < count → Contains (supers_of (m (name_at x s))) n → (v : ℕ) × Contains (x.supertypes s) v × (name_at x v ≡ n)
-  step_out {s} {n} l c = map_out (name_at x) (x.supertypes s) n (subst (λ ns. Contains ns n) (rows_at l) c)
+  step_out : {s : ℕ} {n : Name} → s < count → Contains (supers_of (m (indexed_name x s))) n → (v : ℕ) × Contains (x.supertypes s) v × (indexed_name x v ≡ n)
+  step_out {s} {n} l c = map_out (indexed_name x) (x.supertypes s) n (subst (λ ns. Contains ns n) (rows_at l) c)
 
-  pub above_named : {s v : ℕ} → s < count → AboveNode x.supertypes s v → Above m (name_at x s) (name_at x v)
+  pub above_named : {s v : ℕ} → s < count → AboveNode x.supertypes s v → Above m (indexed_name x s) (indexed_name x v)
   above_named l (direct c) = above.direct (step_in l c)
   above_named l (further a c) = above.further (above_named l a) (step_in (node_in a) c)
 
-  pub above_numbered : {s : ℕ} {n : Name} → s < count → Above m (name_at x s) n → (v : ℕ) × AboveNode x.supertypes s v × (name_at x v ≡ n)
+  pub above_numbered : {s : ℕ} {n : Name} → s < count → Above m (indexed_name x s) n → (v : ℕ) × AboveNode x.supertypes s v × (indexed_name x v ≡ n)
   above_numbered l (above.direct c) = let p = step_out l c in (p.0, direct p.1, p.2)
   above_numbered {s} {n} l (above.further a c) =
       let q = above_numbered l a in
       let p = step_out (node_in q.1) (subst (λ z. Contains (supers_of (m z)) n) (sym q.2) c) in
       (p.0, further q.1 p.1, p.2)
 
-  pub same_node : {v w : ℕ} → v < count → w < count → name_at x v ≡ name_at x w → v ≡ w
+  pub same_node : {v w : ℕ} → v < count → w < count → indexed_name x v ≡ indexed_name x w → v ≡ w
   same_node {v} {w} k l e = index.once v w (named k) (named l) e
 
-  pub record_is : {A : Type 0} (f : Stands → A) (v : ℕ) (a : A) → v < count → f (record_at x v) ≡ a → f (m (name_at x v)) ≡ a
+  pub record_is : {A : Type 0} (f : Stands → A) (v : ℕ) (a : A) → v < count → f (record_at x v) ≡ a → f (m (indexed_name x v)) ≡ a
   record_is f v a l e = ap f (index.records v (named l)) ∙ e

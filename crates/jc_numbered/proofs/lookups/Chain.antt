@@ -10,7 +10,7 @@ use Rattle.std.specs.Prelude.{◌==◌}
 use Rattle.std.proofs.lemmas.Bool.Decides.{Decides-eqb}
 use Rattle.jc_classes.specs.Worlds.{World, Extends, super_of, interfaces_of, Extends as extends}
 use Rattle.jc_graph.specs.Seen.{node_at}
-use Rattle.jc_numbered.specs.inside.Indexed.{Indexed, name_at, record_at, rank_at, good_at, super_at, IsGraph, IsIndexed}
+use Rattle.jc_numbered.specs.inside.Indexed.{Indexed, indexed_name, record_at, rank_at, good_at, super_at, IsGraph, IsIndexed}
 use Rattle.jc_numbered.specs.inside.Chain.{ExtendsNode, ExtendsNode as node}
 
 no_some : {X A : Type 0} {x : X} → None ≡ Some x → A
@@ -53,15 +53,15 @@ module _ (count : ℕ) (x : Indexed) (graph : IsGraph count x) where
   super_falls v s g e = graph.falls v s g (super_in v s e)
 
   module _ (m : World) (index : IsIndexed m x) where
-    pub super_is : (v s : ℕ) → v < count → super_at x v ≡ Some s → super_of (m (name_at x v)) ≡ Some (name_at x s)
+    pub super_is : (v s : ℕ) → v < count → super_at x v ≡ Some s → super_of (m (indexed_name x v)) ≡ Some (indexed_name x s)
     super_is v s l e = let n : v < length x.names = let q = graph.names in omega arith in
-        ap super_of (index.records v n) ∙ super_named (name_at x) (super_of (record_at x v)) (interfaces_of (record_at x v)) (x.supertypes v) (index.supertypes v n) s e
+        ap super_of (index.records v n) ∙ super_named (indexed_name x) (super_of (record_at x v)) (interfaces_of (record_at x v)) (x.supertypes v) (index.supertypes v n) s e
 
-    pub super_none : (v : ℕ) → v < count → super_at x v ≡ None → super_of (m (name_at x v)) ≡ None
+    pub super_none : (v : ℕ) → v < count → super_at x v ≡ None → super_of (m (indexed_name x v)) ≡ None
     super_none v l e = let n : v < length x.names = let q = graph.names in omega arith in
         ap super_of (index.records v n) ∙ none_named (super_of (record_at x v)) _ e
 
-    pub extends_named : {v w : ℕ} → v < count → ExtendsNode x v w → Extends m (name_at x v) (name_at x w)
+    pub extends_named : {v w : ℕ} → v < count → ExtendsNode x v w → Extends m (indexed_name x v) (indexed_name x w)
     extends_named l node.itself = extends.itself
     extends_named {v} l (node.through {s = s} e h) = extends.through (super_is v s l e) (extends_named (super_node v s e) h)
 
@@ -89,7 +89,7 @@ super_numbered f (Some p) is (v ∷ row) n e h = (v, refl, head_of e ∙ name_is
     name_is e = cc
 
 module _ (count : ℕ) (x : Indexed) (graph : IsGraph count x) (m : World) (index : IsIndexed m x) where
-  pub extends_numbered : (n c : Name) → Extends m n c → (v w : ℕ) → v < count → w < count → name_at x v ≡ n → name_at x w ≡ c → ExtendsNode x v w
+  pub extends_numbered : (n c : Name) → Extends m n c → (v w : ℕ) → v < count → w < count → indexed_name x v ≡ n → indexed_name x w ≡ c → ExtendsNode x v w
   extends_numbered n c extends.itself v w l k e f =
       let a : v < length x.names = let q = graph.names in omega arith in
       let b : w < length x.names = let q = graph.names in omega arith in
@@ -97,28 +97,28 @@ module _ (count : ℕ) (x : Indexed) (graph : IsGraph count x) (m : World) (inde
   extends_numbered n c (extends.through {s = s} h r) v w l k e f =
       let a : v < length x.names = let q = graph.names in omega arith in
       let o : super_of (record_at x v) ≡ Some s = ap super_of (sym (index.records v a)) ∙ ap (λ z. super_of (m z)) e ∙ h in
-      let p = super_numbered (name_at x) (super_of (record_at x v)) (interfaces_of (record_at x v)) (x.supertypes v) s (index.supertypes v a) o in
+      let p = super_numbered (indexed_name x) (super_of (record_at x v)) (interfaces_of (record_at x v)) (x.supertypes v) s (index.supertypes v a) o in
       node.through p.1 (extends_numbered s c r p.0 w (super_node count x graph v p.0 p.1) k p.2 f)
 
-  pub decides_within : (object : ℕ) (v w : ℕ) (b : Bool) → v < count → w < count → object < count → name_at x object ≡ java_lang_object → (w ≡ object → ⊥) → Decides b (ExtendsNode x v w) → Decides b (IsWithin m (name_at x v) (name_at x w))
+  pub decides_within : (object : ℕ) (v w : ℕ) (b : Bool) → v < count → w < count → object < count → indexed_name x object ≡ java_lang_object → (w ≡ object → ⊥) → Decides b (ExtendsNode x v w) → Decides b (IsWithin m (indexed_name x v) (indexed_name x w))
   decides_within object v w b l k j o n d =
       let q = graph.names in
       let a : w < length x.names = omega arith in
       let c : object < length x.names = omega arith in (
         λ e. inl (extends_named count x graph m index l (d.0 e)),
-        λ h. ⊎_elim (λ r. d.1 (extends_numbered (name_at x v) (name_at x w) r v w l k refl refl)) (λ r. absurd (n (index.once w object a c (r ∙ sym o)))) h,
+        λ h. ⊎_elim (λ r. d.1 (extends_numbered (indexed_name x v) (indexed_name x w) r v w l k refl refl)) (λ r. absurd (n (index.once w object a c (r ∙ sym o)))) h,
       )
 
-  pub decides_object : (object v : ℕ) → v < count → object < count → name_at x object ≡ java_lang_object → Decides (v == object) (name_at x v ≡ java_lang_object)
+  pub decides_object : (object v : ℕ) → v < count → object < count → indexed_name x object ≡ java_lang_object → Decides (v == object) (indexed_name x v ≡ java_lang_object)
   decides_object object v l k o =
       let q = graph.names in
       let a : v < length x.names = omega arith in
       let c : object < length x.names = omega arith in
-      (λ e. ap (name_at x) ((Decides-eqb v object).0 e) ∙ o, λ e. (Decides-eqb v object).1 (index.once v object a c (e ∙ sym o)))
+      (λ e. ap (indexed_name x) ((Decides-eqb v object).0 e) ∙ o, λ e. (Decides-eqb v object).1 (index.once v object a c (e ∙ sym o)))
 
-  pub decides_home : (v w : ℕ) → v < count → w < count → Decides (v == w) (name_at x v ≡ name_at x w)
+  pub decides_home : (v w : ℕ) → v < count → w < count → Decides (v == w) (indexed_name x v ≡ indexed_name x w)
   decides_home v w l k =
       let q = graph.names in
       let a : v < length x.names = omega arith in
       let c : w < length x.names = omega arith in
-      (λ e. ap (name_at x) ((Decides-eqb v w).0 e), λ e. (Decides-eqb v w).1 (index.once v w a c e))
+      (λ e. ap (indexed_name x) ((Decides-eqb v w).0 e), λ e. (Decides-eqb v w).1 (index.once v w a c e))

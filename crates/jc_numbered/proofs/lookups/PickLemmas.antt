@@ -8,7 +8,7 @@ use Rattle.std.specs.Cmp.Lexicographic.{nat_list_cmp_total}
 use Rattle.std.proofs.lemmas.Cmp.{tied_itself}
 use Rattle.jc_classes.specs.Names.{Name, name_less}
 use Rattle.jc_graph.specs.Seen.{node_at}
-use Rattle.jc_numbered.specs.inside.Indexed.{Indexed, name_at}
+use Rattle.jc_numbered.specs.inside.Indexed.{Indexed, indexed_name}
 use Rattle.jc_numbered.specs.inside.Picks.{IsLowest, LowestSoFar, lesser}
 use Rattle.jc_graph.proofs.marked.Climbs.{last_or_less, place_of, contains_at}
 
@@ -34,18 +34,18 @@ below_less a b c e f = ⊎_elim (λ t. absurd (false≢true (sym e ∙ less_tran
 pub lowest_more : (x : Indexed) (nodes : List ℕ) (v i : ℕ) → i < length nodes → LowestSoFar x nodes v i → LowestSoFar x nodes (lesser x v (node_at nodes i)) (i + 1)
 lowest_more x nodes v i l g =
     let w = node_at nodes i in
-    elim (name_less (name_at x w) (name_at x v)) as (λ b. name_less (name_at x w) (name_at x v) ≡ b → LowestSoFar x nodes (cond b w v) (i + 1)) [
+    elim (name_less (indexed_name x w) (indexed_name x v)) as (λ b. name_less (indexed_name x w) (indexed_name x v) ≡ b → LowestSoFar x nodes (cond b w v) (i + 1)) [
       | true ↦ λ e. record {
         listed = contains_at nodes i l;
         least = λ j k. ⊎_elim
-            (λ (q : j ≡ i). ap (λ z. name_less (name_at x (node_at nodes z)) (name_at x w)) q ∙ less_itself (name_at x w))
-            (λ (q : j < i). below_less (name_at x (node_at nodes j)) (name_at x v) (name_at x w) (g.least j q) e)
+            (λ (q : j ≡ i). ap (λ z. name_less (indexed_name x (node_at nodes z)) (indexed_name x w)) q ∙ less_itself (indexed_name x w))
+            (λ (q : j < i). below_less (indexed_name x (node_at nodes j)) (indexed_name x v) (indexed_name x w) (g.least j q) e)
             (last_or_less j i k);
       }
       | false ↦ λ e. record {
         listed = g.listed;
         least = λ j k. ⊎_elim
-            (λ (q : j ≡ i). ap (λ z. name_less (name_at x (node_at nodes z)) (name_at x v)) q ∙ e)
+            (λ (q : j ≡ i). ap (λ z. name_less (indexed_name x (node_at nodes z)) (indexed_name x v)) q ∙ e)
             (λ (q : j < i). g.least j q)
             (last_or_less j i k);
       }
@@ -54,5 +54,5 @@ lowest_more x nodes v i l g =
 pub lowest_end : (x : Indexed) (nodes : List ℕ) (v i : ℕ) → length nodes ≤ i → LowestSoFar x nodes v i → IsLowest x nodes v
 lowest_end x nodes v i l g = record {
   listed = g.listed;
-  least = λ w c. let p = place_of nodes w c in let k = p.1 in ap (λ z. name_less (name_at x z) (name_at x v)) (sym p.2) ∙ g.least p.0 (omega arith);
+  least = λ w c. let p = place_of nodes w c in let k = p.1 in ap (λ z. name_less (indexed_name x z) (indexed_name x v)) (sym p.2) ∙ g.least p.0 (omega arith);
 }

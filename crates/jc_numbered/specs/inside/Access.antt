@@ -7,7 +7,7 @@ use Rattle.jc_classes.specs.Worlds.{World, Found, is_array}
 use Rattle.jc_classes.specs.Facts.{Named}
 use Rattle.jc_classes.specs.Facts.Named.{Class, Array}
 use Rattle.jc_classes.specs.Access.{CanUse, IsWithin, IsRelated, is_package_private, is_array_clone}
-use Rattle.jc_numbered.specs.inside.Indexed.{Indexed, name_at, good_at, IsIndexed}
+use Rattle.jc_numbered.specs.inside.Indexed.{Indexed, indexed_name, good_at, IsIndexed}
 use Rattle.jc_numbered.specs.inside.Shown.{found_at}
 use Rattle.jc_numbered.specs.declared.access.Target.{Target}
 use Rattle.jc_numbered.specs.declared.access.Target.TheVariants as target
@@ -15,7 +15,7 @@ use Rattle.jc_numbered.specs.declared.classes.Hit.{Hit}
 
 -- what a reference names, with the array's text and its innermost class
 abbrev pub named_at : Indexed → Target → Name → Option Name → Named
-named_at x (target.Class t) text e = Class (name_at x t)
+named_at x (target.Class t) text e = Class (indexed_name x t)
 named_at x target.Array text e = Array text e
 
 abbrev pub IsTarget : ℕ → Indexed → Target → Type 0
@@ -44,12 +44,12 @@ IsOwn d f = (has f.member.flags private ≡ true) × (f.home ≡ d)
 
 -- whether a class is another or a subclass of it
 abbrev pub TellsWithin : Indexed → ℕ → ℕ → Bool → Type 0
-TellsWithin x v w b = (m : World) → IsIndexed m x → Decides b (IsWithin m (name_at x v) (name_at x w))
+TellsWithin x v w b = (m : World) → IsIndexed m x → Decides b (IsWithin m (indexed_name x v) (indexed_name x w))
 
 -- whether what is named is the class, a subclass of it or a superclass of it
 abbrev pub TellsRelated : Indexed → Target → ℕ → Bool → Type 0
 TellsRelated x t d b = (m : World) (text : Name) (e : Option Name) → IsIndexed m x
-    → Decides b (IsRelated m (named_at x t text e) (name_at x d))
+    → Decides b (IsRelated m (named_at x t text e) (indexed_name x d))
 
 -- the cases of access, of what a class named and what was found
 abbrev pub TellsOpen : Indexed → Target → Hit → Bool → Type 0
@@ -57,12 +57,12 @@ TellsOpen x t hit b = (text : Name) (e : Option Name) → b ≡ is_open_to_all (
 
 abbrev pub TellsInherited : Indexed → ℕ → Target → Hit → Bool → Type 0
 TellsInherited x d t hit b = (m : World) (text : Name) (e : Option Name) → IsIndexed m x
-    → Decides b (IsInherited m (name_at x d) (named_at x t text e) (found_at x hit))
+    → Decides b (IsInherited m (indexed_name x d) (named_at x t text e) (found_at x hit))
 
 abbrev pub TellsOwn : Indexed → ℕ → Hit → Bool → Type 0
-TellsOwn x d hit b = (m : World) → IsIndexed m x → Decides b (IsOwn (name_at x d) (found_at x hit))
+TellsOwn x d hit b = (m : World) → IsIndexed m x → Decides b (IsOwn (indexed_name x d) (found_at x hit))
 
 -- whether the class may use it
 abbrev pub TellsCanUse : Indexed → ℕ → Target → Hit → Bool → Type 0
 TellsCanUse x d t hit b = (m : World) (text : Name) (e : Option Name) → IsIndexed m x
-    → Decides b (CanUse m (name_at x d) (named_at x t text e) (found_at x hit))
+    → Decides b (CanUse m (indexed_name x d) (named_at x t text e) (found_at x hit))

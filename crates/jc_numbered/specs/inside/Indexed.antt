@@ -5,7 +5,7 @@ use Rattle.std.specs.List.{Contains}
 use Rattle.std.specs.declared.vec.Vec.{Vec}
 use Rattle.std.specs.declared.alloc.Global.{Global}
 use Rattle.jc_classes.specs.Names.{Name, names_of}
-use Rattle.jc_classes.specs.Numbers as numbers
+use Rattle.jc_classes.specs.Numbers.{name_at}
 use Rattle.jc_classes.specs.Worlds.{Stands, World, super_of, supers_of}
 use Rattle.jc_classes.specs.Worlds.Stands.{Nothing}
 use Rattle.jc_classes.specs.Lent.{stands_of}
@@ -30,8 +30,8 @@ filled names standing supertypes rank good = record {
   good = good;
 }
 
-abbrev pub name_at : Indexed → ℕ → Name
-name_at x i = numbers.name_at x.names i
+abbrev pub indexed_name : Indexed → ℕ → Name
+indexed_name x i = name_at x.names i
 
 abbrev pub record_at : Indexed → ℕ → Stands
 record_at x i = slice_index_or x.records i Nothing
@@ -62,9 +62,9 @@ pub record IsGraph (count : ℕ) (x : Indexed) : Type 0 where
 
 -- the records and the supertypes are those of the classes, by name
 pub record IsIndexed (m : World) (x : Indexed) : Type 0 where
-  pub once : (i j : ℕ) → i < length x.names → j < length x.names → name_at x i ≡ name_at x j → i ≡ j
-  pub records : (i : ℕ) → i < length x.names → m (name_at x i) ≡ record_at x i
-  pub supertypes : (i : ℕ) → i < length x.names → map (name_at x) (x.supertypes i) ≡ supers_of (record_at x i)
+  pub once : (i j : ℕ) → i < length x.names → j < length x.names → indexed_name x i ≡ indexed_name x j → i ≡ j
+  pub records : (i : ℕ) → i < length x.names → m (indexed_name x i) ≡ record_at x i
+  pub supertypes : (i : ℕ) → i < length x.names → map (indexed_name x) (x.supertypes i) ≡ supers_of (record_at x i)
 
 -- where look-up of a field goes on: the interfaces, then the superclass
 abbrev pub onward_nodes : Indexed → ℕ → List ℕ

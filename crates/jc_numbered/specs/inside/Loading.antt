@@ -5,7 +5,7 @@ use Rattle.jc_classes.specs.Loading.{can_see, same_bool}
 use Rattle.jc_classes.specs.declared.linkage_error.LinkageError.TheVariants as fault
 use Rattle.jc_numbered.specs.declared.loads.Load.{Load}
 use Rattle.jc_numbered.specs.declared.loads.Load.TheVariants.{Loaded, Outside, Fails}
-use Rattle.jc_numbered.specs.inside.Indexed.{Indexed, name_at, record_at}
+use Rattle.jc_numbered.specs.inside.Indexed.{Indexed, indexed_name, record_at}
 
 -- the answer that is held for a node
 abbrev pub load_at : List Load → ℕ → Load
@@ -13,7 +13,7 @@ load_at loads v = slice_index_or loads v (Fails fault.NoClass 0)
 
 -- a node may use another
 abbrev pub sees : Indexed → ℕ → ℕ → Bool
-sees x v s = can_see (name_at x v) (name_at x s) (record_at x s)
+sees x v s = can_see (indexed_name x v) (indexed_name x s) (record_at x s)
 
 -- a node is an interface just where a class is wanted, or a class where an interface is
 abbrev pub is_wrong_kind : Indexed → Bool → ℕ → Bool

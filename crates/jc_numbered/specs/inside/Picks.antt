@@ -6,7 +6,7 @@ use Rattle.jc_rules.specs.AccessFlags.{has, abstract}
 use Rattle.jc_classes.specs.Facts.{Member, Key}
 use Rattle.jc_classes.specs.MethodLookup.{given_by}
 use Rattle.jc_graph.specs.Seen.{flag_at, node_at}
-use Rattle.jc_numbered.specs.inside.Indexed.{Indexed, name_at, record_at}
+use Rattle.jc_numbered.specs.inside.Indexed.{Indexed, indexed_name, record_at}
 
 abbrev pub gives : Indexed → Key → ℕ → Option Member
 gives x k v = given_by (record_at x v) k
@@ -25,7 +25,7 @@ is_pick x k covered v = not (flag_at covered v) && is_concrete (gives x k v)
 -- the node of a list whose name is least
 pub record IsLowest (x : Indexed) (nodes : List ℕ) (v : ℕ) : Type 0 where
   pub listed : Contains nodes v
-  pub least : (w : ℕ) → Contains nodes w → name_less (name_at x w) (name_at x v) ≡ false
+  pub least : (w : ℕ) → Contains nodes w → name_less (indexed_name x w) (indexed_name x v) ≡ false
 
 abbrev pub TellsLowest : Indexed → List ℕ → Option ℕ → Type 0
 TellsLowest x nodes None = (v : ℕ) → Contains nodes v → ⊥
@@ -34,7 +34,7 @@ TellsLowest x nodes (Some v) = IsLowest x nodes v
 -- as far as the first i nodes
 pub record LowestSoFar (x : Indexed) (nodes : List ℕ) (v i : ℕ) : Type 0 where
   pub listed : Contains nodes v
-  pub least : (j : ℕ) → j < i → name_less (name_at x (node_at nodes j)) (name_at x v) ≡ false
+  pub least : (j : ℕ) → j < i → name_less (indexed_name x (node_at nodes j)) (indexed_name x v) ≡ false
 
 abbrev pub lesser : Indexed → ℕ → ℕ → ℕ
-lesser x v w = cond (name_less (name_at x w) (name_at x v)) w v
+lesser x v w = cond (name_less (indexed_name x w) (indexed_name x v)) w v

@@ -9,7 +9,7 @@ use Rattle.jc_classes.specs.declared.linkage_error.LinkageError.{LinkageError}
 use Rattle.jc_classes.specs.declared.linkage_error.LinkageError.TheVariants.{IllegalAccess}
 use Rattle.jc_classes.specs.Resolution.{Answer, IsBeyond}
 use Rattle.jc_classes.specs.Lent.{member_lent}
-use Rattle.jc_numbered.specs.inside.Indexed.{Indexed, name_at, record_at, IsIndexed}
+use Rattle.jc_numbered.specs.inside.Indexed.{Indexed, indexed_name, record_at, IsIndexed}
 use Rattle.jc_numbered.specs.declared.settled.Settled.{Settled}
 use Rattle.jc_numbered.specs.declared.settled.Settled.TheVariants as settled
 
@@ -25,15 +25,15 @@ lies_outside x v = is_outside (record_at x v)
 -- the least outside name above a class
 abbrev pub TellsOutside : World → Indexed → Name → Option ℕ → Type 0
 TellsOutside m x c None = (j : Name) → IsBeyond m c j → ⊥
-TellsOutside m x c (Some v) = IsBeyond m c (name_at x v) × ((j : Name) → IsBeyond m c j → name_less j (name_at x v) ≡ false)
+TellsOutside m x c (Some v) = IsBeyond m c (indexed_name x v) × ((j : Name) → IsBeyond m c j → name_less j (indexed_name x v) ≡ false)
 
 -- so of a node, in every world that has what stands at the names of x
 abbrev pub TellsOutsideAbove : Indexed → ℕ → Option ℕ → Type 0
-TellsOutsideAbove x start r = (m : World) → IsIndexed m x → TellsOutside m x (name_at x start) r
+TellsOutsideAbove x start r = (m : World) → IsIndexed m x → TellsOutside m x (indexed_name x start) r
 
 -- the answer, where `missing` is the error if nothing is there
 abbrev pub answer_of : Indexed → Named → LinkageError → Settled → Answer
-answer_of x t missing (settled.To h) = answer.ToMember (name_at x h.node) (member_lent h.member)
-answer_of x t missing (settled.Outside v) = answer.Outside (name_at x v)
-answer_of x t missing (settled.Hidden v) = answer.Error IllegalAccess (name_at x v)
+answer_of x t missing (settled.To h) = answer.ToMember (indexed_name x h.node) (member_lent h.member)
+answer_of x t missing (settled.Outside v) = answer.Outside (indexed_name x v)
+answer_of x t missing (settled.Hidden v) = answer.Error IllegalAccess (indexed_name x v)
 answer_of x t missing settled.Missing = answer.Error missing (text_of t)

@@ -1,7 +1,7 @@
 -- Classes as they are held, as data.
 use Rattle.jc_classes.specs.Worlds.{Found}
 use Rattle.jc_classes.specs.Lent.{member_lent}
-use Rattle.jc_numbered.specs.inside.Indexed.{Indexed, filled, name_at}
+use Rattle.jc_numbered.specs.inside.Indexed.{Indexed, filled, indexed_name}
 use Rattle.jc_numbered.specs.declared.classes.Classes.{Classes}
 use Rattle.jc_numbered.specs.declared.classes.Hit.{Hit}
 
@@ -10,4 +10,4 @@ indexed_of c = filled c.names.now c.standing.now c.supertypes.now c.rank.items c
 
 -- what was found, by name
 abbrev pub found_at : Indexed → Hit → Found
-found_at x h = record { home = name_at x h.node; member = member_lent h.member }
+found_at x h = record { home = indexed_name x h.node; member = member_lent h.member }

@@ -12,7 +12,7 @@ use Rattle.jc_classes.specs.Worlds.{World, text_of}
 use Rattle.jc_classes.specs.declared.reference_kind.ReferenceKind.{ReferenceKind}
 use Rattle.jc_classes.specs.declared.reference_kind.ReferenceKind.TheVariants as kind
 use Rattle.jc_numbered.specs.declared.loads.Load.{Load}
-use Rattle.jc_numbered.specs.inside.Indexed.{Indexed, name_at}
+use Rattle.jc_numbered.specs.inside.Indexed.{Indexed, indexed_name}
 use Rattle.jc_numbered.specs.inside.Loading.{load_at}
 use Rattle.jc_resolve.specs.declared.entry.Entry.{Entry}
 use Rattle.jc_resolve.specs.declared.entry.Entry.TheVariants as entry
@@ -45,8 +45,8 @@ module _ (r s : Reference) (of_kind : r.kind ≡ s.kind) (of_named : r.named ≡
   pub same_answered : (x : Indexed) (loads : List Load) (class : ℕ) (e : Entry) → IsAnsweredBy x loads class r e → IsAnsweredBy x loads class s e
   same_answered x loads class e h = λ m told index.
       let l = loading_of x (load_at loads class) in
-      let d = name_at x class in
-      subst (IsAnswer m d l s) (same_shown (name_at x) e) (same_answer m d l (entry_shown (name_at x) r e) (h m told index))
+      let d = indexed_name x class in
+      subst (IsAnswer m d l s) (same_shown (indexed_name x) e) (same_answer m d l (entry_shown (indexed_name x) r e) (h m told index))
 
 some_at : (rs : List Reference) (i : ℕ) → i < length rs → (r : Reference) × (slice_get rs i ≡ Some r)
 some_at [] i l = absurd (omega arith)

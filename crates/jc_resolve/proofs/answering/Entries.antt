@@ -11,7 +11,7 @@ use Rattle.jc_classes.specs.Parts.{AreAnswers}
 use Rattle.jc_classes.specs.Resolution.{Answer as answer}
 use Rattle.jc_classes.specs.Worlds.{World}
 use Rattle.jc_numbered.specs.declared.loads.Load.{Load}
-use Rattle.jc_numbered.specs.inside.Indexed.{Indexed, name_at, IsIndexed}
+use Rattle.jc_numbered.specs.inside.Indexed.{Indexed, indexed_name, IsIndexed}
 use Rattle.jc_numbered.specs.inside.Loading.{load_at}
 use Rattle.jc_resolve.specs.Answers.{kind_of}
 use Rattle.jc_resolve.specs.declared.answers.AnswerKind.{AnswerKind}
@@ -31,7 +31,7 @@ some_is e = cc
 
 pub answered_all : (x : Indexed) (loads : List Load) (class : ℕ) (rs : List Reference) (es : List Entry) → length es ≡ length rs
     → ((at : ℕ) → at < length rs → IsAnsweredAt x loads class rs es at) → (m : World) → TellsLoads m x (length x.names) loads → IsIndexed m x
-    → AreAnswers m (name_at x class) (loading_of x (load_at loads class)) rs (entries_shown (name_at x) rs es)
+    → AreAnswers m (indexed_name x class) (loading_of x (load_at loads class)) rs (entries_shown (indexed_name x) rs es)
 answered_all x loads class [] es size h m told index = tt
 answered_all x loads class (r ∷ rs) [] size h m told index = absurd (omega arith)
 answered_all x loads class (r ∷ rs) (e ∷ es) size h m told index =

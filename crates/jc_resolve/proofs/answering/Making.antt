@@ -10,7 +10,7 @@ use Rattle.jc_classes.specs.Resolution.Answer.{ToClass}
 use Rattle.jc_numbered.specs.declared.loads.Load.{Load}
 use Rattle.jc_resolve.specs.declared.resolve.NamedNode.{NamedNode}
 use Rattle.jc_resolve.specs.declared.resolve.NamedNode.TheVariants as by
-use Rattle.jc_numbered.specs.inside.Indexed.{Indexed, name_at, record_at, IsGraph, IsIndexed}
+use Rattle.jc_numbered.specs.inside.Indexed.{Indexed, indexed_name, record_at, IsGraph, IsIndexed}
 use Rattle.jc_numbered.specs.inside.Loading.{load_at, sees}
 use Rattle.jc_resolve.specs.inside.Resolved.{loading_of, named_of, TellsLoads}
 use Rattle.jc_numbered.proofs.lookups.Bridge.{named}
@@ -18,21 +18,21 @@ use Rattle.jc_resolve.proofs.loading.Loadings.{sees_same}
 
 module _ (m : World) (count : ℕ) (x : Indexed) (graph : IsGraph count x) (index : IsIndexed m x) (loads : List Load) (told : TellsLoads m x count loads) where
   pub class_made : (d node : ℕ) (text : Name) (r : NamedNode) (a : Answer) → d < count → node < count → r ≡ by.Class node → text_of (named_of x r text) ≡ text
-      → a ≡ class_answer text (name_at x node) (loading_of x (load_at loads node)) (sees x d node) (flags_of (record_at x node)) → ResolvesClass m (name_at x d) (named_of x r text) a
+      → a ≡ class_answer text (indexed_name x node) (loading_of x (load_at loads node)) (sees x d node) (flags_of (record_at x node)) → ResolvesClass m (indexed_name x d) (named_of x r text) a
   class_made d node text r a k l is same e =
-      let n = name_at x node in
+      let n = indexed_name x node in
       let load = loading_of x (load_at loads node) in
       let t : n ≡ text = subst (λ z. text_of (named_of x z text) ≡ text) is same in
-      subst (λ z. ResolvesClass m (name_at x d) (named_of x z text) a) (sym is)
-      (rclass.class (told node l) (e ∙ ap (λ z. class_answer z n load (sees x d node) (flags_of (record_at x node))) (sym t) ∙ ap (λ b. class_answer n n load b (flags_of (record_at x node))) (sees_same m count x graph index d node l) ∙ ap (λ r. class_answer n n load (can_see (name_at x d) n (m n)) (flags_of r)) (sym (index.records node (named m count x graph index l)))))
+      subst (λ z. ResolvesClass m (indexed_name x d) (named_of x z text) a) (sym is)
+      (rclass.class (told node l) (e ∙ ap (λ z. class_answer z n load (sees x d node) (flags_of (record_at x node))) (sym t) ∙ ap (λ b. class_answer n n load b (flags_of (record_at x node))) (sees_same m count x graph index d node l) ∙ ap (λ r. class_answer n n load (can_see (indexed_name x d) n (m n)) (flags_of r)) (sym (index.records node (named m count x graph index l)))))
 
   pub array_made : (d node : ℕ) (text : Name) (r : NamedNode) (o : Option ℕ) (a : Answer) → d < count → node < count → r ≡ by.Array o → o ≡ Some node
-      → a ≡ class_answer text (name_at x node) (loading_of x (load_at loads node)) (sees x d node) 0 → ResolvesClass m (name_at x d) (named_of x r text) a
+      → a ≡ class_answer text (indexed_name x node) (loading_of x (load_at loads node)) (sees x d node) 0 → ResolvesClass m (indexed_name x d) (named_of x r text) a
   array_made d node text r o a k l is some e =
-      let n = name_at x node in
-      subst (λ z. ResolvesClass m (name_at x d) (named_of x z text) a) (sym (is ∙ ap by.Array some))
+      let n = indexed_name x node in
+      subst (λ z. ResolvesClass m (indexed_name x d) (named_of x z text) a) (sym (is ∙ ap by.Array some))
       (rclass.array (told node l) (e ∙ ap (λ b. class_answer text n (loading_of x (load_at loads node)) b 0) (sees_same m count x graph index d node l)))
 
-pub primitive_made : (m : World) (x : Indexed) (d : ℕ) (text : Name) (r : NamedNode) (o : Option ℕ) (a : Answer) → r ≡ by.Array o → o ≡ None → a ≡ ToClass text 0 → ResolvesClass m (name_at x d) (named_of x r text) a
+pub primitive_made : (m : World) (x : Indexed) (d : ℕ) (text : Name) (r : NamedNode) (o : Option ℕ) (a : Answer) → r ≡ by.Array o → o ≡ None → a ≡ ToClass text 0 → ResolvesClass m (indexed_name x d) (named_of x r text) a
 primitive_made m x d text r o a is none e =
-    subst (λ z. ResolvesClass m (name_at x d) (named_of x z text) a) (sym (is ∙ ap by.Array none)) (subst (ResolvesClass m (name_at x d) (Array text None)) (sym e) rclass.primitives)
+    subst (λ z. ResolvesClass m (indexed_name x d) (named_of x z text) a) (sym (is ∙ ap by.Array none)) (subst (ResolvesClass m (indexed_name x d) (Array text None)) (sym e) rclass.primitives)

@@ -17,7 +17,7 @@ use Rattle.jc_graph.specs.Graph as graphs
 use Rattle.jc_graph.specs.Graph.{TellsCircular, IsOrder}
 use Rattle.jc_numbered.specs.declared.loads.Load.{Load}
 use Rattle.jc_numbered.specs.declared.loads.Load.TheVariants.{Loaded, Outside, Fails}
-use Rattle.jc_numbered.specs.inside.Indexed.{Indexed, name_at, IsGraph, IsIndexed}
+use Rattle.jc_numbered.specs.inside.Indexed.{Indexed, indexed_name, IsGraph, IsIndexed}
 use Rattle.jc_numbered.specs.inside.Loading.{load_at}
 use Rattle.jc_resolve.specs.inside.Resolved.{loading_of, TellsLoads}
 use Rattle.jc_numbered.proofs.lookups.Bridge.{map_in, above_named}
@@ -101,24 +101,24 @@ module _ (m : World) (count : ℕ) (x : Indexed) (graph : IsGraph count x) (inde
   named l = omega (arith, graph.names, l)
 
   -- a node that has a step has a record, so it is not outside
-  no_step : (a b : ℕ) → a < count → Contains (x.supertypes a) b → m (name_at x a) ≡ stands.Outside → ⊥
+  no_step : (a b : ℕ) → a < count → Contains (x.supertypes a) b → m (indexed_name x a) ≡ stands.Outside → ⊥
   no_step a b l c e =
-      let q = map_in (name_at x) (x.supertypes a) b c in
-      let r : map (name_at x) (x.supertypes a) ≡ [] = index.supertypes a (named l) ∙ ap supers_of (sym (index.records a (named l)) ∙ e) in
-      let s = subst (λ z. Contains z (name_at x b)) r q in
+      let q = map_in (indexed_name x) (x.supertypes a) b c in
+      let r : map (indexed_name x) (x.supertypes a) ≡ [] = index.supertypes a (named l) ∙ ap supers_of (sym (index.records a (named l)) ∙ e) in
+      let s = subst (λ z. Contains z (indexed_name x b)) r q in
       omega (arith, s.1)
 
-  loadable : (a b : ℕ) → a < count → is_good (load_at loads a) ≡ true → Contains (x.supertypes a) b → Loadable m (name_at x a)
+  loadable : (a b : ℕ) → a < count → is_good (load_at loads a) ≡ true → Contains (x.supertypes a) b → Loadable m (indexed_name x a)
   loadable a b l g c = ⊎_elim
       (λ e. loaded_inv (told a l) e)
       (λ e. ⊎_elim (λ o. absurd (no_step a b l c o)) (λ y. y) (outside_inv (told a l) e))
       (good_load x (load_at loads a) g)
 
-  flag_of : (a : ℕ) → a < count → (Above m (name_at x a) (name_at x a) → ⊥) → (b : Bool) → slice_index_or flags a false ≡ b → slice_index_or flags a false ≡ false
+  flag_of : (a : ℕ) → a < count → (Above m (indexed_name x a) (indexed_name x a) → ⊥) → (b : Bool) → slice_index_or flags a false ≡ b → slice_index_or flags a false ≡ false
   flag_of a l not false e = e
   flag_of a l not true e = absurd (not (circular_there a l ((tells.tells a l).0 e)))
     where
-      circular_there : (v : ℕ) → v < count → graphs.Above x.supertypes v v → Above m (name_at x v) (name_at x v)
+      circular_there : (v : ℕ) → v < count → graphs.Above x.supertypes v v → Above m (indexed_name x v) (indexed_name x v)
       circular_there v k r = above_named m count x graph index k r
 
   pub falls : (a b : ℕ) → a < count → is_good (load_at loads a) ≡ true → Contains (x.supertypes a) b → rank_in ranks b < rank_in ranks a
@@ -140,9 +140,9 @@ module _ (m : World) (count : ℕ) (x : Indexed) (graph : IsGraph count x) (inde
   stays a b l g c =
       let y = loadable a b l g c in
       let lb = graph.nodes a b c in
-      let q = map_in (name_at x) (x.supertypes a) b c in
-      let r : map (name_at x) (x.supertypes a) ≡ names_of (parents y.class) = index.supertypes a (named l) ∙ ap supers_of (sym (index.records a (named l)) ∙ y.record_is) ∙ sym (parents_are y.class) in
-      let s = subst (λ z. Contains z (name_at x b)) r q in
-      let e = each_good y.each refl (name_at x b) s.0 s.1 (get_or_default (names_of (parents y.class)) s.0 [] (name_at x b) s.1 ∙ s.2) in
+      let q = map_in (indexed_name x) (x.supertypes a) b c in
+      let r : map (indexed_name x) (x.supertypes a) ≡ names_of (parents y.class) = index.supertypes a (named l) ∙ ap supers_of (sym (index.records a (named l)) ∙ y.record_is) ∙ sym (parents_are y.class) in
+      let s = subst (λ z. Contains z (indexed_name x b)) r q in
+      let e = each_good y.each refl (indexed_name x b) s.0 s.1 (get_or_default (names_of (parents y.class)) s.0 [] (indexed_name x b) s.1 ∙ s.2) in
       let same : e.0 ≡ loading_of x (load_at loads b) = load_one e.1 (told b lb) in
       load_good x (load_at loads b) (⊎_elim (λ i. inl (sym same ∙ i)) (λ i. inr (sym same ∙ i)) e.2)

@@ -16,7 +16,7 @@ use Rattle.jc_classes.specs.declared.linkage_error.LinkageError.TheVariants as f
 use Rattle.jc_numbered.specs.declared.loads.Load.{Load}
 use Rattle.jc_numbered.specs.declared.loads.Load.TheVariants.{Loaded, Outside, Fails}
 use Rattle.jc_graph.specs.Graph.{Above as AboveNode, TellsCircular, IsOrder}
-use Rattle.jc_numbered.specs.inside.Indexed.{Indexed, name_at, record_at, IsGraph, IsIndexed}
+use Rattle.jc_numbered.specs.inside.Indexed.{Indexed, indexed_name, record_at, IsGraph, IsIndexed}
 use Rattle.jc_numbered.specs.inside.Loading.{load_at, sees, error_of, judged_each, first_error}
 use Rattle.jc_resolve.specs.inside.Resolved.{loading_of}
 use Rattle.jc_numbered.proofs.lookups.Bridge.{above_named, above_numbered, same_node, node_in}
@@ -24,7 +24,7 @@ use Rattle.jc_resolve.specs.inside.Loading.{load_by, load_of, has_super, IsTold,
 
 -- ---- one supertype
 
-named_judged : (x : Indexed) (a : Load) (see wrong : Bool) (s : ℕ) → option_map (loading_of x) (error_of a see wrong s) ≡ defs.judged (loading_of x a) see wrong (name_at x s)
+named_judged : (x : Indexed) (a : Load) (see wrong : Bool) (s : ℕ) → option_map (loading_of x) (error_of a see wrong s) ≡ defs.judged (loading_of x a) see wrong (indexed_name x s)
 named_judged x Loaded true true s = refl
 named_judged x Loaded true false s = refl
 named_judged x Loaded false wrong s = refl
@@ -34,27 +34,27 @@ named_judged x (Fails f v) see wrong s = refl
 -- supertypes, of which the first is named as the superclass or not
 parents_of : Indexed → Bool → List ℕ → List Parent
 parents_of x is_class [] = []
-parents_of x is_class (s ∷ more) = (record { is_class = is_class; name = name_at x s }) ∷ parents_of x false more
+parents_of x is_class (s ∷ more) = (record { is_class = is_class; name = indexed_name x s }) ∷ parents_of x false more
 
-interfaces_are : (x : Indexed) (row : List ℕ) (ns : List Name) → map (name_at x) row ≡ ns → parents_of x false row ≡ map (λ n. let p : Parent = record { is_class = false; name = n } in p) ns
+interfaces_are : (x : Indexed) (row : List ℕ) (ns : List Name) → map (indexed_name x) row ≡ ns → parents_of x false row ≡ map (λ n. let p : Parent = record { is_class = false; name = n } in p) ns
 unfolding parents_of
 interfaces_are x [] [] e = refl
 interfaces_are x [] (n ∷ ns) e = absurd cc
 interfaces_are x (s ∷ row) [] e = absurd cc
 interfaces_are x (s ∷ row) (n ∷ ns) e =
-    let head : name_at x s ≡ n = cc in
-    let rest : map (name_at x) row ≡ ns = cc in
+    let head : indexed_name x s ≡ n = cc in
+    let rest : map (indexed_name x) row ≡ ns = cc in
     ap (λ z. (let p : Parent = record { is_class = false; name = z } in p) ∷ parents_of x false row) head
     ∙ ap (λ z. (let p : Parent = record { is_class = false; name = n } in p) ∷ z) (interfaces_are x row ns rest)
 
-parents_by : (x : Indexed) (o : Option Name) (is : List Name) (row : List ℕ) → map (name_at x) row ≡ option_to_list o ++ is
+parents_by : (x : Indexed) (o : Option Name) (is : List Name) (row : List ℕ) → map (indexed_name x) row ≡ option_to_list o ++ is
     → parents_of x (is_some o) row ≡ option_map_or (λ n. (let p : Parent = record { is_class = true; name = n } in p) ∷ []) o [] ++ map (λ n. let p : Parent = record { is_class = false; name = n } in p) is
 unfolding parents_of
 parents_by x None is row e = interfaces_are x row is e
 parents_by x (Some n) is [] e = absurd cc
 parents_by x (Some n) is (s ∷ row) e =
-    let head : name_at x s ≡ n = cc in
-    let rest : map (name_at x) row ≡ is = cc in
+    let head : indexed_name x s ≡ n = cc in
+    let rest : map (indexed_name x) row ≡ is = cc in
     ap (λ z. (let p : Parent = record { is_class = true; name = z } in p) ∷ parents_of x false row) head
     ∙ ap (λ z. (let p : Parent = record { is_class = true; name = n } in p) ∷ z) (interfaces_are x row is rest)
 
@@ -68,66 +68,66 @@ module _ (m : World) (count : ℕ) (x : Indexed) (graph : IsGraph count x) (inde
   named : {v : ℕ} → v < count → v < length x.names
   named l = omega (arith, graph.names, l)
 
-  record_same : (v : ℕ) → v < count → m (name_at x v) ≡ record_at x v
+  record_same : (v : ℕ) → v < count → m (indexed_name x v) ≡ record_at x v
   record_same v l = index.records v (named l)
 
-  pub sees_same : (v s : ℕ) → s < count → sees x v s ≡ can_see (name_at x v) (name_at x s) (m (name_at x s))
-  sees_same v s l = ap (can_see (name_at x v) (name_at x s)) (sym (record_same s l))
+  pub sees_same : (v s : ℕ) → s < count → sees x v s ≡ can_see (indexed_name x v) (indexed_name x s) (m (indexed_name x s))
+  sees_same v s l = ap (can_see (indexed_name x v) (indexed_name x s)) (sym (record_same s l))
 
-  each_named : (loads : List Load) (v : ℕ) (is_class : Bool) (row : List ℕ) → v < count → ((s : ℕ) → Contains row s → (s < count) × defs.Load m (name_at x s) (loading_of x (load_at loads s)))
-      → LoadEach m (name_at x v) (parents_of x is_class row) (loading_of x (judged_each x loads v is_class row))
+  each_named : (loads : List Load) (v : ℕ) (is_class : Bool) (row : List ℕ) → v < count → ((s : ℕ) → Contains row s → (s < count) × defs.Load m (indexed_name x s) (loading_of x (load_at loads s)))
+      → LoadEach m (indexed_name x v) (parents_of x is_class row) (loading_of x (judged_each x loads v is_class row))
   unfolding parents_of
   each_named loads v is_class [] k h = each.none
   each_named loads v is_class (s ∷ more) k h =
       let q = h s (contains_head s more) in
       let see = sees x v s in
       let wrong = same_bool (is_interface (record_at x s)) is_class in
-      let e : option_map (loading_of x) (error_of (load_at loads s) see wrong s) ≡ judged_parent m (name_at x v) (record { is_class = is_class; name = name_at x s }) (loading_of x (load_at loads s)) =
+      let e : option_map (loading_of x) (error_of (load_at loads s) see wrong s) ≡ judged_parent m (indexed_name x v) (record { is_class = is_class; name = indexed_name x s }) (loading_of x (load_at loads s)) =
       named_judged x (load_at loads s) see wrong s
-      ∙ ap (λ b. defs.judged (loading_of x (load_at loads s)) b wrong (name_at x s)) (sees_same v s q.0)
-      ∙ ap (λ r. defs.judged (loading_of x (load_at loads s)) (can_see (name_at x v) (name_at x s) (m (name_at x s))) (same_bool (is_interface r) is_class) (name_at x s)) (sym (record_same s q.0)) in
+      ∙ ap (λ b. defs.judged (loading_of x (load_at loads s)) b wrong (indexed_name x s)) (sees_same v s q.0)
+      ∙ ap (λ r. defs.judged (loading_of x (load_at loads s)) (can_see (indexed_name x v) (indexed_name x s) (m (indexed_name x s))) (same_bool (is_interface r) is_class) (indexed_name x s)) (sym (record_same s q.0)) in
       by (error_of (load_at loads s) see wrong s) refl e q.1 (each_named loads v false more k (λ z c. h z (contains_later s more z c)))
     where
       by : (o : Option Load) → error_of (load_at loads s) (sees x v s) (same_bool (is_interface (record_at x s)) is_class) s ≡ o
-          → option_map (loading_of x) (error_of (load_at loads s) (sees x v s) (same_bool (is_interface (record_at x s)) is_class) s) ≡ judged_parent m (name_at x v) (record { is_class = is_class; name = name_at x s }) (loading_of x (load_at loads s))
-          → defs.Load m (name_at x s) (loading_of x (load_at loads s))
-          → LoadEach m (name_at x v) (parents_of x false more) (loading_of x (judged_each x loads v false more))
-          → LoadEach m (name_at x v) ((record { is_class = is_class; name = name_at x s }) ∷ parents_of x false more) (loading_of x (first_error (error_of (load_at loads s) (sees x v s) (same_bool (is_interface (record_at x s)) is_class) s) (judged_each x loads v false more)))
-      by None i e l rest = subst (λ o. LoadEach m (name_at x v) ((record { is_class = is_class; name = name_at x s }) ∷ parents_of x false more) (loading_of x (first_error o (judged_each x loads v false more)))) (sym i)
+          → option_map (loading_of x) (error_of (load_at loads s) (sees x v s) (same_bool (is_interface (record_at x s)) is_class) s) ≡ judged_parent m (indexed_name x v) (record { is_class = is_class; name = indexed_name x s }) (loading_of x (load_at loads s))
+          → defs.Load m (indexed_name x s) (loading_of x (load_at loads s))
+          → LoadEach m (indexed_name x v) (parents_of x false more) (loading_of x (judged_each x loads v false more))
+          → LoadEach m (indexed_name x v) ((record { is_class = is_class; name = indexed_name x s }) ∷ parents_of x false more) (loading_of x (first_error (error_of (load_at loads s) (sees x v s) (same_bool (is_interface (record_at x s)) is_class) s) (judged_each x loads v false more)))
+      by None i e l rest = subst (λ o. LoadEach m (indexed_name x v) ((record { is_class = is_class; name = indexed_name x s }) ∷ parents_of x false more) (loading_of x (first_error o (judged_each x loads v false more)))) (sym i)
           (each.passes l (sym e ∙ ap (option_map (loading_of x)) i) rest)
-      by (Some a) i e l rest = subst (λ o. LoadEach m (name_at x v) ((record { is_class = is_class; name = name_at x s }) ∷ parents_of x false more) (loading_of x (first_error o (judged_each x loads v false more)))) (sym i)
+      by (Some a) i e l rest = subst (λ o. LoadEach m (indexed_name x v) ((record { is_class = is_class; name = indexed_name x s }) ∷ parents_of x false more) (loading_of x (first_error o (judged_each x loads v false more)))) (sym i)
           (each.stops l (sym e ∙ ap (option_map (loading_of x)) i))
 
-  pub circular_same : (v : ℕ) → v < count → AboveNode x.supertypes v v → Above m (name_at x v) (name_at x v)
+  pub circular_same : (v : ℕ) → v < count → AboveNode x.supertypes v v → Above m (indexed_name x v) (indexed_name x v)
   circular_same v l a = above_named m count x graph index l a
 
-  pub circular_back : (v : ℕ) → v < count → Above m (name_at x v) (name_at x v) → AboveNode x.supertypes v v
+  pub circular_back : (v : ℕ) → v < count → Above m (indexed_name x v) (indexed_name x v) → AboveNode x.supertypes v v
   circular_back v l a =
       let q = above_numbered m count x graph index l a in
       let e = same_node m count x graph index (node_in m count x graph index q.1) l q.2 in
       subst (AboveNode x.supertypes v) e q.1
 
   load_named : (loads : List Load) (v : ℕ) (flag : Bool) → v < count → Decides flag (AboveNode x.supertypes v v)
-      → (flag ≡ false → (s : ℕ) → Contains (x.supertypes v) s → (s < count) × defs.Load m (name_at x s) (loading_of x (load_at loads s)))
-      → defs.Load m (name_at x v) (loading_of x (load_by (record_at x v) flag v (judged_each x loads v (has_super (record_at x v)) (x.supertypes v))))
+      → (flag ≡ false → (s : ℕ) → Contains (x.supertypes v) s → (s < count) × defs.Load m (indexed_name x s) (loading_of x (load_at loads s)))
+      → defs.Load m (indexed_name x v) (loading_of x (load_by (record_at x v) flag v (judged_each x loads v (has_super (record_at x v)) (x.supertypes v))))
   load_named loads v flag l d h = by (record_at x v) refl
     where
-      each_of : (r : Facts) → record_at x v ≡ stands.Class r → flag ≡ false → LoadEach m (name_at x v) (parents r) (loading_of x (judged_each x loads v (has_super (record_at x v)) (x.supertypes v)))
+      each_of : (r : Facts) → record_at x v ≡ stands.Class r → flag ≡ false → LoadEach m (indexed_name x v) (parents r) (loading_of x (judged_each x loads v (has_super (record_at x v)) (x.supertypes v)))
       each_of r e f =
-          subst (λ ps. LoadEach m (name_at x v) ps (loading_of x (judged_each x loads v (has_super (record_at x v)) (x.supertypes v))))
+          subst (λ ps. LoadEach m (indexed_name x v) ps (loading_of x (judged_each x loads v (has_super (record_at x v)) (x.supertypes v))))
           (ap (λ z. parents_of x (is_some (super_of z)) (x.supertypes v)) e ∙ parents_by x r.superclass r.interfaces (x.supertypes v) (index.supertypes v (named l) ∙ ap supers_of e))
           (each_named loads v (has_super (record_at x v)) (x.supertypes v) l (h f))
 
       class_of : (r : Facts) → record_at x v ≡ stands.Class r → (b : Bool) → is_faulty r ≡ b → (f : Bool) → flag ≡ f
-          → defs.Load m (name_at x v) (loading_of x (cond b (Fails fault.Format v) (cond f (Fails fault.Circular v) (judged_each x loads v (has_super (record_at x v)) (x.supertypes v)))))
+          → defs.Load m (indexed_name x v) (loading_of x (cond b (Fails fault.Format v) (cond f (Fails fault.Circular v) (judged_each x loads v (has_super (record_at x v)) (x.supertypes v)))))
       class_of r e true o f q = load.faulty (record_same v l ∙ e) o
       class_of r e false o true q = load.round (record_same v l ∙ e) o (circular_same v l (d.0 q))
       class_of r e false o false q = load.through (record_same v l ∙ e) o (λ a. let t : true ≡ false = sym (d.1 (circular_back v l a)) ∙ q in absurd cc) (each_of r e q)
 
-      by : (o : Stands) → record_at x v ≡ o → defs.Load m (name_at x v) (loading_of x (load_by (record_at x v) flag v (judged_each x loads v (has_super (record_at x v)) (x.supertypes v))))
-      by stands.Nothing e = subst (λ z. defs.Load m (name_at x v) (loading_of x (load_by z flag v (judged_each x loads v (has_super (record_at x v)) (x.supertypes v))))) (sym e) (load.missing (record_same v l ∙ e))
-      by stands.Outside e = subst (λ z. defs.Load m (name_at x v) (loading_of x (load_by z flag v (judged_each x loads v (has_super (record_at x v)) (x.supertypes v))))) (sym e) (load.outside (record_same v l ∙ e))
-      by (stands.Class r) e = subst (λ z. defs.Load m (name_at x v) (loading_of x (load_by z flag v (judged_each x loads v (has_super (record_at x v)) (x.supertypes v))))) (sym e) (class_of r e (is_faulty r) refl flag refl)
+      by : (o : Stands) → record_at x v ≡ o → defs.Load m (indexed_name x v) (loading_of x (load_by (record_at x v) flag v (judged_each x loads v (has_super (record_at x v)) (x.supertypes v))))
+      by stands.Nothing e = subst (λ z. defs.Load m (indexed_name x v) (loading_of x (load_by z flag v (judged_each x loads v (has_super (record_at x v)) (x.supertypes v))))) (sym e) (load.missing (record_same v l ∙ e))
+      by stands.Outside e = subst (λ z. defs.Load m (indexed_name x v) (loading_of x (load_by z flag v (judged_each x loads v (has_super (record_at x v)) (x.supertypes v))))) (sym e) (load.outside (record_same v l ∙ e))
+      by (stands.Class r) e = subst (λ z. defs.Load m (indexed_name x v) (loading_of x (load_by z flag v (judged_each x loads v (has_super (record_at x v)) (x.supertypes v))))) (sym e) (class_of r e (is_faulty r) refl flag refl)
 
 same_or_not : (a b : ℕ) → (a ≡ b) ⊎ (a ≡ b → ⊥)
 same_or_not a b = grind arith
@@ -140,7 +140,7 @@ module _ (count : ℕ) (x : Indexed) (graph : IsGraph count x) (flags : List Boo
       let v = rank_in order at in
       let k = ordered.nodes at 0 l in
       load_named m count x graph i loads v _ k (tells.tells v k)
-      (λ f s c. let b = ordered.before at s l f c in (graph.nodes v s c, subst (λ z. defs.Load m (name_at x z) (loading_of x (load_at loads z))) b.2 (h b.0 b.1 m i)))
+      (λ f s c. let b = ordered.before at s l f c in (graph.nodes v s c, subst (λ z. defs.Load m (indexed_name x z) (loading_of x (load_at loads z))) b.2 (h b.0 b.1 m i)))
 
   pub more_told : (loads : List Load) (at : ℕ) (a : Load) → at < length order → length loads ≡ count → IsTold x (rank_in order at) a
       → ((k : ℕ) → k < at → IsTold x (rank_in order k) (load_at loads (rank_in order k))) → (k : ℕ) → k < at + 1 → IsTold x (rank_in order k) (load_at (set loads (rank_in order at) a) (rank_in order k))

@@ -19,7 +19,7 @@ use Rattle.jc_classes.proofs.worlds.NameTests.{same_is, same_self}
 use Rattle.jc_numbered.specs.declared.loads.Load.{Load}
 use Rattle.jc_graph.specs.Graph.{TellsCircular, IsOrder}
 use Rattle.jc_graph.specs.Seen.{flag_at}
-use Rattle.jc_numbered.specs.inside.Indexed.{Indexed, name_at, record_at, rank_at, good_at, supers_before, IsGraph, IsIndexed, filled}
+use Rattle.jc_numbered.specs.inside.Indexed.{Indexed, indexed_name, record_at, rank_at, good_at, supers_before, IsGraph, IsIndexed, filled}
 use Rattle.jc_numbered.specs.inside.Loading.{load_at}
 use Rattle.jc_resolve.specs.inside.Loading.{is_good, TellsRank}
 use Rattle.jc_resolve.specs.inside.Gathered.{IsGathered}
@@ -77,7 +77,7 @@ begins_at count x net a o e = by (under a (length x.names))
     by : (a < length x.names) ⊎ (length x.names ≤ a) → supers_before (record_at x a) ≤ length (x.supertypes a)
     by (inl l) =
         let e = ap length (net.supertypes a l) in
-        let s = length-map (x.supertypes a) (name_at x) in
+        let s = length-map (x.supertypes a) (indexed_name x) in
         let f = first_few (super_of (record_at x a)) (interfaces_of (record_at x a)) in
         omega arith
     by (inr l) =

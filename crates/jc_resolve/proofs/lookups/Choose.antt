@@ -9,7 +9,7 @@ use Rattle.jc_classes.specs.Facts.{Member, Key}
 use Rattle.jc_classes.specs.MethodLookup.{given_by, IsCandidate, IsMaximal, IsOnly, IsLeast, FindsAbove, FindsAbove as up}
 use Rattle.std.proofs.lemmas.List.Elements.{All-contains}
 use Rattle.jc_graph.specs.Seen.{flag_at, IsSeen}
-use Rattle.jc_numbered.specs.inside.Indexed.{Indexed, name_at, IsGraph, IsIndexed}
+use Rattle.jc_numbered.specs.inside.Indexed.{Indexed, indexed_name, IsGraph, IsIndexed}
 use Rattle.jc_graph.specs.Graph.{Above as AboveNode}
 use Rattle.jc_graph.specs.Seen.{TellsAbove}
 use Rattle.jc_numbered.specs.inside.Picks.{gives, offers, is_concrete, is_pick, IsLowest}
@@ -43,7 +43,7 @@ module _ (m : World) (count : ℕ) (x : Indexed) (graph : IsGraph count x) (inde
   nodes = filter (offers x k) list
 
   abbrev at_node : ℕ → Member → Found
-  at_node v y = record { home = name_at x v; member = y }
+  at_node v y = record { home = indexed_name x v; member = y }
 
   listed_above : (v : ℕ) → Contains list v → AboveNode x.supertypes start v
   listed_above v c = let a = (tells.tells v).0 (tells.seen.flagged v c) in subst (λ z. AboveNode x.supertypes z v) (sym (contains_one start a.0 a.1)) a.2
@@ -51,39 +51,39 @@ module _ (m : World) (count : ℕ) (x : Indexed) (graph : IsGraph count x) (inde
   above_listed : (v : ℕ) → AboveNode x.supertypes start v → Contains list v
   above_listed v a = tells.seen.all.listed v ((tells.tells v).1 (start, (zero, omega arith, refl), a))
 
-  given_named : (v : ℕ) → v < count → given_by (m (name_at x v)) k ≡ gives x k v
+  given_named : (v : ℕ) → v < count → given_by (m (indexed_name x v)) k ≡ gives x k v
   given_named v l = ap (λ r. given_by r k) (index.records v (named m count x graph index l))
 
   listed_in : (v : ℕ) → Contains nodes v → v < count
   listed_in v c = node_in m count x graph index (listed_above v (filter_out (offers x k) list v c).0)
 
-  candidate_out : (v : ℕ) (y : Member) → Contains nodes v → gives x k v ≡ Some y → IsCandidate m k (name_at x start) (at_node v y)
+  candidate_out : (v : ℕ) (y : Member) → Contains nodes v → gives x k v ≡ Some y → IsCandidate m k (indexed_name x start) (at_node v y)
   candidate_out v y c e = record {
     above = above_named m count x graph index within (listed_above v (filter_out (offers x k) list v c).0);
     given = given_named v (listed_in v c) ∙ e;
   }
 
-  candidate_in : (g : Found) → IsCandidate m k (name_at x start) g → (v : ℕ) × (v < count) × (name_at x v ≡ g.home) × Contains nodes v × (gives x k v ≡ Some g.member)
+  candidate_in : (g : Found) → IsCandidate m k (indexed_name x start) g → (v : ℕ) × (v < count) × (indexed_name x v ≡ g.home) × Contains nodes v × (gives x k v ≡ Some g.member)
   candidate_in g c =
       let p = above_numbered m count x graph index within c.above in
       let l = node_in m count x graph index p.1 in
       let e = sym (given_named p.0 l) ∙ ap (λ n. given_by (m n) k) p.2 ∙ c.given in
       (p.0, l, p.2, filter_in (offers x k) list p.0 (above_listed p.0 p.1) (some_is _ g.member e), e)
 
-  maximal_out : (v : ℕ) (y : Member) → Contains nodes v → gives x k v ≡ Some y → flag_at covered v ≡ false → IsMaximal m k (name_at x start) (at_node v y)
+  maximal_out : (v : ℕ) (y : Member) → Contains nodes v → gives x k v ≡ Some y → flag_at covered v ≡ false → IsMaximal m k (indexed_name x start) (at_node v y)
   maximal_out v y c e f = record {
     candidate = candidate_out v y c e;
     lowest = λ g i a.
         let p = candidate_in g i in
-        let q = above_numbered m count x graph index p.1 (subst (λ z. Above m z (name_at x v)) (sym p.2) a) in
+        let q = above_numbered m count x graph index p.1 (subst (λ z. Above m z (indexed_name x v)) (sym p.2) a) in
         let s = same_node m count x graph index (node_in m count x graph index q.1) (listed_in v c) q.2 in
         false≢true (sym f ∙ ap (flag_at covered) (sym s) ∙ (covers.tells q.0).1 (p.0, p.3, q.1));
   }
 
-  maximal_in : (g : Found) → IsMaximal m k (name_at x start) g → (v : ℕ) → v < count → name_at x v ≡ g.home → flag_at covered v ≡ false
+  maximal_in : (g : Found) → IsMaximal m k (indexed_name x start) g → (v : ℕ) → v < count → indexed_name x v ≡ g.home → flag_at covered v ≡ false
   maximal_in g i v l e = ⊎_elim
       (λ t. let a = (covers.tells v).0 t in let y = given_some (gives x k a.0) (filter_out (offers x k) list a.0 a.1).1 in
-      absurd (i.lowest (at_node a.0 y.0) (candidate_out a.0 y.0 a.1 y.1) (subst (λ z. Above m (name_at x a.0) z) e (above_named m count x graph index (listed_in a.0 a.1) a.2))))
+      absurd (i.lowest (at_node a.0 y.0) (candidate_out a.0 y.0 a.1 y.1) (subst (λ z. Above m (indexed_name x a.0) z) e (above_named m count x graph index (listed_in a.0 a.1) a.2))))
       (λ t. t)
       (bool_cases (flag_at covered v))
 
@@ -95,17 +95,17 @@ module _ (m : World) (count : ℕ) (x : Indexed) (graph : IsGraph count x) (inde
   pick_in v y e f a = ap (λ b. not b && is_concrete (gives x k v)) f ∙ ap is_concrete e ∙ ap not a
 
   -- a maximal method that is not abstract stands at a node that passes
-  concrete_in : (g : Found) → IsMaximal m k (name_at x start) g → has g.member.flags abstract ≡ false → (v : ℕ) × (v < count) × (name_at x v ≡ g.home) × Contains nodes v × (gives x k v ≡ Some g.member) × (is_pick x k covered v ≡ true)
+  concrete_in : (g : Found) → IsMaximal m k (indexed_name x start) g → has g.member.flags abstract ≡ false → (v : ℕ) × (v < count) × (indexed_name x v ≡ g.home) × Contains nodes v × (gives x k v ≡ Some g.member) × (is_pick x k covered v ≡ true)
   concrete_in g i a = let p = candidate_in g i.candidate in (p.0, p.1, p.2, p.3, p.4, pick_in p.0 g.member p.4 (maximal_in g i p.0 p.1 p.2) a)
 
-  sole_only : (v : ℕ) (y : Member) → gives x k v ≡ Some y → IsSole (is_pick x k covered) nodes v → IsOnly m k (name_at x start) (at_node v y)
+  sole_only : (v : ℕ) (y : Member) → gives x k v ≡ Some y → IsSole (is_pick x k covered) nodes v → IsOnly m k (indexed_name x start) (at_node v y)
   sole_only v y e s = let q = pick_out v y e s.passes in record {
     maximal = maximal_out v y s.listed e q.0;
     concrete = q.1;
-    only = λ g i a. let p = concrete_in g i a in sym p.2 ∙ ap (name_at x) (s.only p.0 p.3 p.5);
+    only = λ g i a. let p = concrete_in g i a in sym p.2 ∙ ap (indexed_name x) (s.only p.0 p.3 p.5);
   }
 
-  only_sole : (g : Found) → IsOnly m k (name_at x start) g → (v : ℕ) × IsSole (is_pick x k covered) nodes v
+  only_sole : (g : Found) → IsOnly m k (indexed_name x start) g → (v : ℕ) × IsSole (is_pick x k covered) nodes v
   only_sole g i =
       let p = concrete_in g i.maximal i.concrete in (
         p.0,
@@ -119,19 +119,19 @@ module _ (m : World) (count : ℕ) (x : Indexed) (graph : IsGraph count x) (inde
         },
       )
 
-  lowest_least : (v : ℕ) (y : Member) → gives x k v ≡ Some y → IsLowest x nodes v → IsLeast m k (name_at x start) (at_node v y)
+  lowest_least : (v : ℕ) (y : Member) → gives x k v ≡ Some y → IsLowest x nodes v → IsLeast m k (indexed_name x start) (at_node v y)
   lowest_least v y e s = record {
     candidate = candidate_out v y s.listed e;
-    least = λ g i. let p = candidate_in g i in ap (λ n. name_less n (name_at x v)) (sym p.2) ∙ s.least p.0 p.3;
+    least = λ g i. let p = candidate_in g i in ap (λ n. name_less n (indexed_name x v)) (sym p.2) ∙ s.least p.0 p.3;
   }
 
-  pub picked : (v : ℕ) (y : Member) → gives x k v ≡ Some y → TellsPick x k covered nodes (Some v) → FindsAbove m k (name_at x start) (Some (at_node v y))
+  pub picked : (v : ℕ) (y : Member) → gives x k v ≡ Some y → TellsPick x k covered nodes (Some v) → FindsAbove m k (indexed_name x start) (Some (at_node v y))
   picked v y e t = ⊎_elim
       (λ s. up.only (sole_only v y e s))
       (λ s. up.least (λ g i. let p = only_sole g i in s.0 p.0 p.1) (lowest_least v y e s.1))
       t
 
-  pub none_picked : TellsPick x k covered nodes None → FindsAbove m k (name_at x start) None
+  pub none_picked : TellsPick x k covered nodes None → FindsAbove m k (indexed_name x start) None
   none_picked t = up.nowhere (λ g i. let p = candidate_in g i in t p.0 p.3)
 
 -- what was picked gives a method

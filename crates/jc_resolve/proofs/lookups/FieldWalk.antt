@@ -10,7 +10,7 @@ use Rattle.jc_classes.specs.Facts.{Member, Key}
 use Rattle.jc_classes.specs.Worlds.{World, Found, fields_of, member, super_of, interfaces_of}
 use Rattle.jc_classes.specs.FieldLookup.{FindsField, FindsFirst, onward, FindsField as field, FindsFirst as first}
 use Rattle.jc_graph.specs.Seen.{flag_at}
-use Rattle.jc_numbered.specs.inside.Indexed.{Indexed, name_at, record_at, rank_at, good_at, supers_before, onward_nodes, IsGraph, IsIndexed}
+use Rattle.jc_numbered.specs.inside.Indexed.{Indexed, indexed_name, record_at, rank_at, good_at, supers_before, onward_nodes, IsGraph, IsIndexed}
 use Rattle.jc_resolve.specs.inside.Looking.{names_at, Told, Looking, Going}
 use Rattle.jc_graph.proofs.marked.SeenLemmas.{flag_cases}
 
@@ -43,30 +43,30 @@ module _ (m : World) (k : Key) (x : Indexed) where
   Finds vs a = FindsFirst m k (names_at x vs) a
 
   names_append : (vs ws : List ℕ) → names_at x (vs ++ ws) ≡ names_at x vs ++ names_at x ws
-  names_append vs ws = map-append (name_at x) vs ws
+  names_append vs ws = map-append (indexed_name x) vs ws
 
   -- the head of a stack that was seen finds nothing
-  none_at : (v : ℕ) (rest front more : List ℕ) → v ∷ rest ≡ front ++ more → All (λ w. rank_at x w < rank_at x v) front → (Finds front None → FindsField m k (name_at x v) None) → FindsField m k (name_at x v) None
+  none_at : (v : ℕ) (rest front more : List ℕ) → v ∷ rest ≡ front ++ more → All (λ w. rank_at x w < rank_at x v) front → (Finds front None → FindsField m k (indexed_name x v) None) → FindsField m k (indexed_name x v) None
   none_at v rest [] more e b n = n first.nowhere
   none_at v rest (w ∷ front) more e b n =
       let l = All-head (λ w. rank_at x w < rank_at x v) w front b in
       let s = subst (λ z. rank_at x z < rank_at x v) (cons_head e) l in
       absurd (omega arith)
 
-  pub head_none : (v : ℕ) (rest : List ℕ) → Told m k x (v ∷ rest) v → FindsField m k (name_at x v) None
+  pub head_none : (v : ℕ) (rest : List ℕ) → Told m k x (v ∷ rest) v → FindsField m k (indexed_name x v) None
   head_none v rest t = none_at v rest t.front t.rest t.is t.below t.nothing
 
-  skip_told : (v u : ℕ) (rest front more : List ℕ) → FindsField m k (name_at x v) None → v ∷ rest ≡ front ++ more → All (λ w. rank_at x w < rank_at x u) front → (Finds front None → FindsField m k (name_at x u) None) → Told m k x rest u
+  skip_told : (v u : ℕ) (rest front more : List ℕ) → FindsField m k (indexed_name x v) None → v ∷ rest ≡ front ++ more → All (λ w. rank_at x w < rank_at x u) front → (Finds front None → FindsField m k (indexed_name x u) None) → Told m k x rest u
   skip_told v u rest [] more h e b n = record { front = []; rest = rest; is = refl; below = b; nothing = n }
   skip_told v u rest (w ∷ front) more h e b n = record {
     front = front;
     rest = more;
     is = cons_tail e;
     below = All-tail (λ w. rank_at x w < rank_at x u) w front b;
-    nothing = λ f. n (first.later (subst (λ z. FindsField m k (name_at x z) None) (sym (cons_head e)) h) f);
+    nothing = λ f. n (first.later (subst (λ z. FindsField m k (indexed_name x z) None) (sym (cons_head e)) h) f);
   }
 
-  add_told : (v u : ℕ) (ps rest front more : List ℕ) → member (fields_of (m (name_at x v))) k ≡ None → names_at x ps ≡ onward (m (name_at x v)) → All (λ w. rank_at x w < rank_at x v) ps → v ∷ rest ≡ front ++ more → All (λ w. rank_at x w < rank_at x u) front → (Finds front None → FindsField m k (name_at x u) None) → Told m k x (ps ++ rest) u
+  add_told : (v u : ℕ) (ps rest front more : List ℕ) → member (fields_of (m (indexed_name x v))) k ≡ None → names_at x ps ≡ onward (m (indexed_name x v)) → All (λ w. rank_at x w < rank_at x v) ps → v ∷ rest ≡ front ++ more → All (λ w. rank_at x w < rank_at x u) front → (Finds front None → FindsField m k (indexed_name x u) None) → Told m k x (ps ++ rest) u
   add_told v u ps rest [] more o p l e b n = record { front = []; rest = ps ++ rest; is = refl; below = b; nothing = n }
   add_told v u ps rest (w ∷ front) more o p l e b n =
       let q : w ≡ v = cons_head e in
@@ -76,8 +76,8 @@ module _ (m : World) (k : Key) (x : Indexed) where
         rest = more;
         is = ap (λ z. ps ++ z) (cons_tail e) ∙ sym (append_assoc ps front more);
         below = All-append (λ w. rank_at x w < rank_at x u) ps front (All-weaker (λ w. rank_at x w < rank_at x v) (λ w. rank_at x w < rank_at x u) (λ w s. omega arith) ps l) (All-tail (λ w. rank_at x w < rank_at x u) w front b);
-        nothing = λ f. n (subst (λ z. FindsFirst m k (name_at x z ∷ names_at x front) None) (sym q)
-            (grouped m k (name_at x v) (names_at x ps) (names_at x front) None o p (subst (λ l. FindsFirst m k l None) (names_append ps front) f)));
+        nothing = λ f. n (subst (λ z. FindsFirst m k (indexed_name x z ∷ names_at x front) None) (sym q)
+            (grouped m k (indexed_name x v) (names_at x ps) (names_at x front) None o p (subst (λ l. FindsFirst m k l None) (names_append ps front) f)));
       }
 
   pub looking_start : (start : ℕ) (flags : List Bool) → ((v : ℕ) → flag_at flags v ≡ false) → Looking m k x start (start ∷ []) flags
@@ -91,16 +91,16 @@ module _ (m : World) (k : Key) (x : Indexed) where
         told = λ u e. let t = g.told u e in skip_told v u rest t.front t.rest h t.is t.below t.nothing;
       }
 
-  pub looking_add : (start v : ℕ) (ps rest : List ℕ) (flags : List Bool) → Looking m k x start (v ∷ rest) flags → member (fields_of (m (name_at x v))) k ≡ None → names_at x ps ≡ onward (m (name_at x v)) → All (λ w. rank_at x w < rank_at x v) ps → Looking m k x start (ps ++ rest) (set flags v true)
+  pub looking_add : (start v : ℕ) (ps rest : List ℕ) (flags : List Bool) → Looking m k x start (v ∷ rest) flags → member (fields_of (m (indexed_name x v))) k ≡ None → names_at x ps ≡ onward (m (indexed_name x v)) → All (λ w. rank_at x w < rank_at x v) ps → Looking m k x start (ps ++ rest) (set flags v true)
   looking_add start v ps rest flags g o p l = record {
-    whole = λ a f. g.whole a (grouped m k (name_at x v) (names_at x ps) (names_at x rest) a o p (subst (λ l. FindsFirst m k l a) (names_append ps rest) f));
+    whole = λ a f. g.whole a (grouped m k (indexed_name x v) (names_at x ps) (names_at x rest) a o p (subst (λ l. FindsFirst m k l a) (names_append ps rest) f));
     told = λ u e. ⊎_elim
         (λ s. subst (λ z. Told m k x (ps ++ rest) z) (sym s) (record { front = ps; rest = rest; is = refl; below = l; nothing = λ f. field.inherited o (subst (λ l. FindsFirst m k l None) p f) }))
         (λ s. let t = g.told u s in add_told v u ps rest t.front t.rest o p l t.is t.below t.nothing)
         (flag_cases flags v u e);
   }
 
-  pub looking_found : (start v : ℕ) (y : Member) (rest : List ℕ) (flags : List Bool) → Looking m k x start (v ∷ rest) flags → member (fields_of (m (name_at x v))) k ≡ Some y → FindsField m k (name_at x start) (Some (record { home = name_at x v; member = y }))
+  pub looking_found : (start v : ℕ) (y : Member) (rest : List ℕ) (flags : List Bool) → Looking m k x start (v ∷ rest) flags → member (fields_of (m (indexed_name x v))) k ≡ Some y → FindsField m k (indexed_name x start) (Some (record { home = indexed_name x v; member = y }))
   looking_found start v y rest flags g e = g.whole _ (first.here (field.own e))
 
 -- ---- supertypes and names
@@ -117,8 +117,8 @@ drop_taken (v ∷ row) f (Some s) is e =
     head_of : {a b : Name} {as1 bs : List Name} → a ∷ as1 ≡ b ∷ bs → a ≡ b
     head_of e = cc
 
-pub onward_names : (m : World) (x : Indexed) → IsIndexed m x → (v : ℕ) → v < length x.names → names_at x (onward_nodes x v) ≡ onward (m (name_at x v))
-onward_names m x h v l = drop_taken (x.supertypes v) (name_at x) (super_of (record_at x v)) (interfaces_of (record_at x v)) (h.supertypes v l) ∙ ap onward (sym (h.records v l))
+pub onward_names : (m : World) (x : Indexed) → IsIndexed m x → (v : ℕ) → v < length x.names → names_at x (onward_nodes x v) ≡ onward (m (indexed_name x v))
+onward_names m x h v l = drop_taken (x.supertypes v) (indexed_name x) (super_of (record_at x v)) (interfaces_of (record_at x v)) (h.supertypes v l) ∙ ap onward (sym (h.records v l))
 
 -- what holds of each supertype holds of each node where look-up goes on
 pub onward_all : (x : Indexed) (P : ℕ → Type 0) (v : ℕ) → ((w : ℕ) → Contains (x.supertypes v) w → P w) → All P (onward_nodes x v)
@@ -159,12 +159,12 @@ module _ (count : ℕ) (x : Indexed) (graph : IsGraph count x) (k : Key) (start 
             (onward_all x (λ w. rank_at x w < rank_at x v) v (λ w. graph.falls v w good));
       }
 
-  pub going_found : (v : ℕ) (y : Member) (rest : List ℕ) (flags : List Bool) → Going count x k start (v ∷ rest) flags → member (fields_of (record_at x v)) k ≡ Some y → (m : World) → IsIndexed m x → FindsField m k (name_at x start) (Some (record { home = name_at x v; member = y }))
+  pub going_found : (v : ℕ) (y : Member) (rest : List ℕ) (flags : List Bool) → Going count x k start (v ∷ rest) flags → member (fields_of (record_at x v)) k ≡ Some y → (m : World) → IsIndexed m x → FindsField m k (indexed_name x start) (Some (record { home = indexed_name x v; member = y }))
   going_found v y rest flags g e m h =
       let l : v < length x.names = let q = head_in v rest flags g in let e = graph.names in omega arith in
       looking_found m k x start v y rest flags (g.looking m h) (ap (λ r. member (fields_of r) k) (h.records v l) ∙ e)
 
-  pub going_end : (flags : List Bool) → Going count x k start [] flags → (m : World) → IsIndexed m x → FindsField m k (name_at x start) None
+  pub going_end : (flags : List Bool) → Going count x k start [] flags → (m : World) → IsIndexed m x → FindsField m k (indexed_name x start) None
   going_end flags g m h = (g.looking m h).whole None first.nowhere
 
 pub popped : (old new : List ℕ) (v : ℕ) → old ≡ new ++ v ∷ [] → reverse old ≡ v ∷ reverse new

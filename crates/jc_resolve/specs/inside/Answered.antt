@@ -8,7 +8,7 @@ use Rattle.jc_classes.specs.Resolution.{Answer}
 use Rattle.jc_classes.specs.Worlds.{World, references_of}
 use Rattle.jc_numbered.specs.declared.classes.Classes.{Classes}
 use Rattle.jc_numbered.specs.declared.loads.Load.{Load}
-use Rattle.jc_numbered.specs.inside.Indexed.{Indexed, name_at, record_at, IsIndexed}
+use Rattle.jc_numbered.specs.inside.Indexed.{Indexed, indexed_name, record_at, IsIndexed}
 use Rattle.jc_numbered.specs.inside.Loading.{load_at}
 use Rattle.jc_numbered.specs.inside.Shown.{indexed_of}
 use Rattle.jc_resolve.specs.declared.all_answers.Asked.{Asked}
@@ -24,13 +24,13 @@ AreNumbered count order = AreNumbers count (map (λ (a : Asked). a.number) order
 
 -- the nodes of the classes that references name
 pub record AreNodesOf (count : ℕ) (x : Indexed) (rs : List Reference) (nodes : List (Option ℕ)) : Type 0 where
-  pub named : map (option_map (name_at x)) nodes ≡ map (λ (r : Reference). class_of r.named) rs
+  pub named : map (option_map (indexed_name x)) nodes ≡ map (λ (r : Reference). class_of r.named) rs
   pub within : (v : ℕ) → Contains nodes (Some v) → v < count
 
 -- whatever the worlds are that have what stands at the names of x
 abbrev pub IsAnsweredBy : Indexed → List Load → ℕ → Reference → Entry → Type 0
 IsAnsweredBy x loads class r e = (m : World) → TellsLoads m x (length x.names) loads → IsIndexed m x
-    → IsAnswer m (name_at x class) (loading_of x (load_at loads class)) r (entry_shown (name_at x) r e)
+    → IsAnswer m (indexed_name x class) (loading_of x (load_at loads class)) r (entry_shown (indexed_name x) r e)
 
 -- the reference of a number has its answer
 abbrev pub IsAnsweredAt : Indexed → List Load → ℕ → List Reference → List Entry → ℕ → Type 0
@@ -55,7 +55,7 @@ IsOneMore l rs number old new = (at : ℕ) → (at ≢ number → IsAnswered l r
 abbrev pub AreAnswered : Indexed → List Load → ℕ → List Reference → List Entry → Type 0
 AreAnswered x loads class rs entries = (length entries ≡ length rs)
     × ((m : World) → TellsLoads m x (length x.names) loads → IsIndexed m x
-    → AreAnswers m (name_at x class) (loading_of x (load_at loads class)) rs (entries_shown (name_at x) rs entries))
+    → AreAnswers m (indexed_name x class) (loading_of x (load_at loads class)) rs (entries_shown (indexed_name x) rs entries))
 
 -- ---- of the class of a number
 
@@ -64,10 +64,10 @@ node_references c class = references_of (record_at (indexed_of c) class)
 
 -- the errors of its instructions
 abbrev pub node_links : Classes → ℕ → List Answer → List LinkFault
-node_links c class answers = links_of (name_at (indexed_of c) class) (record_at (indexed_of c) class) answers
+node_links c class answers = links_of (indexed_name (indexed_of c) class) (record_at (indexed_of c) class) answers
 
 -- the answers to its references
 abbrev pub TellsNodeAnswers : Classes → List Load → ℕ → List Answer → Type 0
 TellsNodeAnswers c loads class answers = (m : World)
     → TellsLoads m (indexed_of c) (length c.standing.now) loads → IsIndexed m (indexed_of c)
-    → AreAnswers m (name_at (indexed_of c) class) (loading_of (indexed_of c) (load_at loads class)) (node_references c class) answers
+    → AreAnswers m (indexed_name (indexed_of c) class) (loading_of (indexed_of c) (load_at loads class)) (node_references c class) answers

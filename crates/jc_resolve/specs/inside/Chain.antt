@@ -3,9 +3,9 @@ use Rattle.std.specs.Prelude.{ℕ, Option}
 use Rattle.jc_classes.specs.Worlds.{World, Found}
 use Rattle.jc_classes.specs.Facts.{Key}
 use Rattle.jc_classes.specs.MethodLookup.{FindsInClasses}
-use Rattle.jc_numbered.specs.inside.Indexed.{Indexed, name_at, IsIndexed}
+use Rattle.jc_numbered.specs.inside.Indexed.{Indexed, indexed_name, IsIndexed}
 
 -- what look-up from this node of the chain finds is what the start finds
 abbrev pub Leads : Indexed → Key → ℕ → ℕ → Type 0
 Leads x k start at = (m : World) → IsIndexed m x → (a : Option Found)
-    → FindsInClasses m k (name_at x at) a → FindsInClasses m k (name_at x start) a
+    → FindsInClasses m k (indexed_name x at) a → FindsInClasses m k (indexed_name x start) a

@@ -5,23 +5,23 @@ use Rattle.jc_classes.specs.FieldLookup.{FindsField}
 use Rattle.jc_classes.specs.MethodLookup.{FindsAbove, FindsInClasses, FindsInterfaceMethod, FindsMethod}
 use Rattle.jc_classes.specs.Worlds.{World}
 use Rattle.jc_numbered.specs.declared.classes.Hit.{Hit}
-use Rattle.jc_numbered.specs.inside.Indexed.{Indexed, name_at, IsIndexed}
+use Rattle.jc_numbered.specs.inside.Indexed.{Indexed, indexed_name, IsIndexed}
 use Rattle.jc_numbered.specs.inside.Shown.{found_at}
 
 abbrev pub TellsField : Indexed → Key → ℕ → Option Hit → Type 0
-TellsField x k start hit = (m : World) → IsIndexed m x → FindsField m k (name_at x start) (option_map (found_at x) hit)
+TellsField x k start hit = (m : World) → IsIndexed m x → FindsField m k (indexed_name x start) (option_map (found_at x) hit)
 
 -- of a method, among the class and its superclasses
 abbrev pub TellsInClasses : Indexed → Key → ℕ → Option Hit → Type 0
-TellsInClasses x k start hit = (m : World) → IsIndexed m x → FindsInClasses m k (name_at x start) (option_map (found_at x) hit)
+TellsInClasses x k start hit = (m : World) → IsIndexed m x → FindsInClasses m k (indexed_name x start) (option_map (found_at x) hit)
 
 -- among its superinterfaces
 abbrev pub TellsInInterfaces : Indexed → Key → ℕ → Option Hit → Type 0
-TellsInInterfaces x k start hit = (m : World) → IsIndexed m x → FindsAbove m k (name_at x start) (option_map (found_at x) hit)
+TellsInInterfaces x k start hit = (m : World) → IsIndexed m x → FindsAbove m k (indexed_name x start) (option_map (found_at x) hit)
 
 abbrev pub TellsMethod : Indexed → Key → ℕ → Option Hit → Type 0
-TellsMethod x k start hit = (m : World) → IsIndexed m x → FindsMethod m k (name_at x start) (option_map (found_at x) hit)
+TellsMethod x k start hit = (m : World) → IsIndexed m x → FindsMethod m k (indexed_name x start) (option_map (found_at x) hit)
 
 abbrev pub TellsInterfaceMethod : Indexed → Key → ℕ → Option Hit → Type 0
 TellsInterfaceMethod x k start hit = (m : World) → IsIndexed m x
-    → FindsInterfaceMethod m k (name_at x start) (option_map (found_at x) hit)
+    → FindsInterfaceMethod m k (indexed_name x start) (option_map (found_at x) hit)

@@ -3,7 +3,7 @@ use Rattle.std.specs.Prelude.{◌≡◌, ℕ, ◌<◌, [], List, map, length}
 use Rattle.std.specs.List.{Contains}
 use Rattle.jc_classes.specs.Worlds.{supers_of}
 use Rattle.jc_classes.specs.declared.standing.Standing.{Standing}
-use Rattle.jc_numbered.specs.inside.Indexed.{Indexed, filled, name_at, record_at}
+use Rattle.jc_numbered.specs.inside.Indexed.{Indexed, filled, indexed_name, record_at}
 use Rattle.std.specs.declared.vec.Vec.{Vec}
 use Rattle.std.specs.declared.alloc.Global.{Global}
 
@@ -11,9 +11,9 @@ use Rattle.std.specs.declared.alloc.Global.{Global}
 pub record IsGathered (count : ℕ) (x : Indexed) : Type 0 where
   pub names : length x.names ≡ count
   pub records : length x.records ≡ count
-  pub once : (i j : ℕ) → i < length x.names → j < length x.names → name_at x i ≡ name_at x j → i ≡ j
+  pub once : (i j : ℕ) → i < length x.names → j < length x.names → indexed_name x i ≡ indexed_name x j → i ≡ j
   pub nodes : (a b : ℕ) → Contains (x.supertypes a) b → (a < count) × (b < count)
-  pub supertypes : (i : ℕ) → i < length x.names → map (name_at x) (x.supertypes i) ≡ supers_of (record_at x i)
+  pub supertypes : (i : ℕ) → i < length x.names → map (indexed_name x) (x.supertypes i) ≡ supers_of (record_at x i)
 
 -- what is gathered, before its loads are known
 abbrev pub bare : List (Vec ℕ Global) → List Standing → List (Vec ℕ Global) → Indexed

@@ -7,7 +7,7 @@ use Rattle.jc_classes.specs.Loading as defs
 use Rattle.jc_classes.specs.declared.linkage_error.LinkageError.TheVariants as fault
 use Rattle.jc_numbered.specs.declared.loads.Load.{Load}
 use Rattle.jc_numbered.specs.declared.loads.Load.TheVariants.{Loaded, Outside, Fails}
-use Rattle.jc_numbered.specs.inside.Indexed.{Indexed, name_at, record_at, IsIndexed}
+use Rattle.jc_numbered.specs.inside.Indexed.{Indexed, indexed_name, record_at, IsIndexed}
 use Rattle.jc_graph.specs.Graph.{IsOrder}
 use Rattle.jc_graph.specs.declared.sorting.Sorted.{Sorted}
 use Rattle.jc_numbered.specs.inside.Loading.{judged_each}
@@ -27,7 +27,7 @@ load_of x flags loads v =
 
 -- the answer that is held for a node is how its name loads
 abbrev pub IsTold : Indexed → ℕ → Load → Type 0
-IsTold x v a = (m : World) → IsIndexed m x → defs.Load m (name_at x v) (loading_of x a)
+IsTold x v a = (m : World) → IsIndexed m x → defs.Load m (indexed_name x v) (loading_of x a)
 
 abbrev pub is_good : Load → Bool
 is_good Loaded = true

@@ -6,10 +6,10 @@ use Rattle.jc_classes.specs.Worlds.{World, Found}
 use Rattle.jc_classes.specs.Facts.{Key}
 use Rattle.jc_classes.specs.FieldLookup.{FindsField, FindsFirst}
 use Rattle.jc_graph.specs.Seen.{flag_at}
-use Rattle.jc_numbered.specs.inside.Indexed.{Indexed, name_at, rank_at, good_at, IsIndexed}
+use Rattle.jc_numbered.specs.inside.Indexed.{Indexed, indexed_name, rank_at, good_at, IsIndexed}
 
 abbrev pub names_at : Indexed → List ℕ → List Name
-names_at x vs = map (name_at x) vs
+names_at x vs = map (indexed_name x) vs
 
 -- a node that was seen finds nothing, once what stands before `rest` finds nothing; all of that is above it
 pub record Told (m : World) (k : Key) (x : Indexed) (stack : List ℕ) (v : ℕ) : Type 0 where
@@ -17,11 +17,11 @@ pub record Told (m : World) (k : Key) (x : Indexed) (stack : List ℕ) (v : ℕ)
   pub rest : List ℕ
   pub is : stack ≡ front ++ rest
   pub below : All (λ w. rank_at x w < rank_at x v) front
-  pub nothing : FindsFirst m k (names_at x front) None → FindsField m k (name_at x v) None
+  pub nothing : FindsFirst m k (names_at x front) None → FindsField m k (indexed_name x v) None
 
 -- what the stack finds, the first first, is what the start finds
 pub record Looking (m : World) (k : Key) (x : Indexed) (start : ℕ) (stack : List ℕ) (flags : List Bool) : Type 0 where
-  pub whole : (a : Option Found) → FindsFirst m k (names_at x stack) a → FindsField m k (name_at x start) a
+  pub whole : (a : Option Found) → FindsFirst m k (names_at x stack) a → FindsField m k (indexed_name x start) a
   pub told : (v : ℕ) → flag_at flags v ≡ true → Told m k x stack v
 
 -- a walk that looks for a field, with what is still to do, the first first

@@ -7,7 +7,7 @@ use Rattle.jc_classes.specs.Parts.{ResolvesOf}
 use Rattle.jc_classes.specs.Resolution.{Answer, ResolvesClass, Starts, class_answer}
 use Rattle.jc_classes.specs.Worlds.{World, text_of}
 use Rattle.jc_classes.specs.declared.linkage_error.LinkageError.{LinkageError}
-use Rattle.jc_numbered.specs.inside.Indexed.{Indexed, name_at, IsIndexed}
+use Rattle.jc_numbered.specs.inside.Indexed.{Indexed, indexed_name, IsIndexed}
 use Rattle.jc_numbered.specs.inside.Loading.{load_at, sees}
 use Rattle.jc_numbered.specs.inside.Shown.{indexed_of}
 use Rattle.jc_resolve.specs.declared.entry.Entry.{Entry}
@@ -26,7 +26,7 @@ reach_of l = indexed_of l.classes.now
 
 -- the name of the class that asks
 abbrev pub asker_of : Look → Name
-asker_of l = name_at (reach_of l) l.class
+asker_of l = indexed_name (reach_of l) l.class
 
 -- where look-up of a member begins, of what is named so
 abbrev pub TellsStart : Look → NamedNode → Begun → Type 0
@@ -43,17 +43,17 @@ TellsMember Resolves missing l named k o = (m : World) (text : Name)
 
 -- the answer of a reference to the class of a node with these flags, or to an array of it
 abbrev pub TellsNode : Look → ℕ → ℕ → Entry → Type 0
-TellsNode l node flags e = (r : Reference) → entry_shown (name_at (reach_of l)) r e
-    ≡ class_answer (text_of r.named) (name_at (reach_of l) node) (loading_of (reach_of l) (load_at l.loads.now node))
+TellsNode l node flags e = (r : Reference) → entry_shown (indexed_name (reach_of l)) r e
+    ≡ class_answer (text_of r.named) (indexed_name (reach_of l) node) (loading_of (reach_of l) (load_at l.loads.now node))
     (sees (reach_of l) l.class node) flags
 
 -- the answer of a reference to a class
 abbrev pub TellsClass : Look → NamedNode → Entry → Type 0
 TellsClass l named e = (m : World) (r : Reference) → TellsLoads m (reach_of l) (size_of l) l.loads.now → IsIndexed m (reach_of l)
     → named_of (reach_of l) named (text_of r.named) ≡ r.named
-    → ResolvesClass m (asker_of l) r.named (entry_shown (name_at (reach_of l)) r e)
+    → ResolvesClass m (asker_of l) r.named (entry_shown (indexed_name (reach_of l)) r e)
 
 -- the answer of a reference of any kind
 abbrev pub TellsReference : Look → Reference → Entry → Type 0
 TellsReference l r e = (m : World) → TellsLoads m (reach_of l) (size_of l) l.loads.now → IsIndexed m (reach_of l)
-    → ResolvesOf m (asker_of l) r.kind r (entry_shown (name_at (reach_of l)) r e)
+    → ResolvesOf m (asker_of l) r.kind r (entry_shown (indexed_name (reach_of l)) r e)

@@ -3,13 +3,13 @@ use Rattle.std.specs.Prelude.{◌≡◌, ℕ, Option, option_map}
 use Rattle.jc_classes.specs.NamedTexts.{named_by}
 use Rattle.jc_classes.specs.Names.{Name}
 use Rattle.jc_classes.specs.Parts.{class_of}
-use Rattle.jc_numbered.specs.inside.Indexed.{Indexed, name_at}
+use Rattle.jc_numbered.specs.inside.Indexed.{Indexed, indexed_name}
 use Rattle.jc_resolve.specs.declared.resolve.NamedNode.{NamedNode}
 use Rattle.jc_resolve.specs.inside.Resolved.{named_of, IsWithinAll, IsWithinSome}
 
 -- the class that a text names, or the innermost one of an array, is that of the node
 abbrev pub IsNodeOf : Indexed → Name → Option ℕ → Type 0
-IsNodeOf x text node = class_of (named_by text) ≡ option_map (name_at x) node
+IsNodeOf x text node = class_of (named_by text) ≡ option_map (indexed_name x) node
 
 abbrev pub TellsNamed : Name → Option ℕ → NamedNode → Type 0
 TellsNamed text node named = (x : Indexed) → IsNodeOf x text node → named_of x named text ≡ named_by text

@@ -9,7 +9,7 @@ use Rattle.jc_classes.specs.declared.linkage_error.LinkageError.TheVariants as e
 use Rattle.jc_classes.specs.Loading.{Loading as loading}
 use Rattle.jc_classes.specs.Resolution.{Answer, Start, class_answer, object_start, start_of}
 use Rattle.jc_classes.specs.Resolution.{Answer as answer, Start as start}
-use Rattle.jc_numbered.specs.inside.Indexed.{Indexed, name_at, good_at, IsIndexed}
+use Rattle.jc_numbered.specs.inside.Indexed.{Indexed, indexed_name, good_at, IsIndexed}
 use Rattle.jc_numbered.specs.inside.Loading.{load_at}
 use Rattle.jc_numbered.specs.declared.access.Target.{Target}
 use Rattle.jc_numbered.specs.declared.access.Target.TheVariants as target
@@ -28,22 +28,22 @@ use Rattle.jc_resolve.specs.declared.resolve.Outcome.TheVariants as outcome
 abbrev pub loading_of : Indexed → LoadState → Loading
 loading_of x state.Loaded = loading.Loaded
 loading_of x state.Outside = loading.Outside
-loading_of x (state.Fails f v) = loading.Fails f (name_at x v)
+loading_of x (state.Fails f v) = loading.Fails f (indexed_name x v)
 
 -- where look-up begins, by name
 abbrev pub begun_of : Indexed → Begun → Start
-begun_of x (begun.At v) = start.At (name_at x v)
-begun_of x (begun.Outside v) = start.Ends (answer.Outside (name_at x v))
-begun_of x (begun.Fails f v) = start.Ends (answer.Error f (name_at x v))
+begun_of x (begun.At v) = start.At (indexed_name x v)
+begun_of x (begun.Outside v) = start.Ends (answer.Outside (indexed_name x v))
+begun_of x (begun.Fails f v) = start.Ends (answer.Error f (indexed_name x v))
 
 abbrev pub element_of : Indexed → NamedNode → Option Name
 element_of x (reference.Class v) = None
-element_of x (reference.Array e) = option_map (name_at x) e
+element_of x (reference.Array e) = option_map (indexed_name x) e
 
 -- what a reference names, whose text stands beside it
 abbrev pub named_of : Indexed → NamedNode → Name → Named
-named_of x (reference.Class v) text = Class (name_at x v)
-named_of x (reference.Array e) text = Array text (option_map (name_at x) e)
+named_of x (reference.Class v) text = Class (indexed_name x v)
+named_of x (reference.Array e) text = Array text (option_map (indexed_name x) e)
 
 abbrev pub IsWithinSome : ℕ → Option ℕ → Type 0
 IsWithinSome count None = Unit {0}
@@ -55,7 +55,7 @@ IsWithinAll count (reference.Array e) = IsWithinSome count e
 
 -- how each name loads
 abbrev pub TellsLoads : World → Indexed → ℕ → List LoadState → Type 0
-TellsLoads m x count loads = (i : ℕ) → i < count → Load m (name_at x i) (loading_of x (load_at loads i))
+TellsLoads m x count loads = (i : ℕ) → i < count → Load m (indexed_name x i) (loading_of x (load_at loads i))
 
 -- so in every world that has what stands at the names
 abbrev pub AreLoads : ℕ → Indexed → List LoadState → Type 0
@@ -89,14 +89,14 @@ target_at (reference.Array e) = target.Array
 -- for the class of a node
 abbrev pub StartsInClass : Bool → LoadState → ℕ → Begun → Type 0
 StartsInClass sees load v b = (x : Indexed) (l : Loading) (flags : ℕ)
-    → begun_of x b ≡ start_of (Class (name_at x v)) (class_answer (name_at x v) (name_at x v) (loading_of x load) sees flags) l
+    → begun_of x b ≡ start_of (Class (indexed_name x v)) (class_answer (indexed_name x v) (indexed_name x v) (loading_of x load) sees flags) l
 
 -- for an array of a primitive type
 abbrev pub StartsInObject : ℕ → LoadState → Begun → Type 0
-StartsInObject object load b = (x : Indexed) → name_at x object ≡ java_lang_object → begun_of x b ≡ object_start (loading_of x load)
+StartsInObject object load b = (x : Indexed) → indexed_name x object ≡ java_lang_object → begun_of x b ≡ object_start (loading_of x load)
 
 -- for an array of the class of a node
 abbrev pub StartsInArray : Bool → LoadState → ℕ → ℕ → LoadState → Begun → Type 0
-StartsInArray sees load v object object_load b = (x : Indexed) (text : Name) (flags : ℕ) → name_at x object ≡ java_lang_object
-    → begun_of x b ≡ start_of (Array text (Some (name_at x v))) (class_answer text (name_at x v) (loading_of x load) sees flags)
+StartsInArray sees load v object object_load b = (x : Indexed) (text : Name) (flags : ℕ) → indexed_name x object ≡ java_lang_object
+    → begun_of x b ≡ start_of (Array text (Some (indexed_name x v))) (class_answer text (indexed_name x v) (loading_of x load) sees flags)
     (loading_of x object_load)

@@ -6,7 +6,7 @@ use Rattle.jc_classes.specs.Resolution.Answer.{ToMember}
 use Rattle.jc_classes.specs.declared.linkage_error.LinkageError.{LinkageError}
 use Rattle.jc_numbered.specs.declared.classes.Hit.{Hit}
 use Rattle.jc_numbered.specs.declared.settled.Settled.{Settled}
-use Rattle.jc_numbered.specs.inside.Indexed.{Indexed, name_at}
+use Rattle.jc_numbered.specs.inside.Indexed.{Indexed, indexed_name}
 use Rattle.jc_numbered.specs.inside.Settled.{answer_of}
 use Rattle.jc_resolve.specs.declared.entry.Entry.{Entry}
 use Rattle.jc_resolve.specs.declared.resolve.Outcome.{Outcome}
@@ -16,13 +16,13 @@ use Rattle.jc_resolve.specs.inside.Resolved.{outcome_of}
 -- that it finds this member
 abbrev pub ShowsHit : Key → Hit → Entry → Type 0
 ShowsHit k hit e = (x : Indexed) (r : Reference) → r.key ≡ k → IsKeyed r.key (member_lent hit.member)
-    → entry_shown (name_at x) r e ≡ ToMember (name_at x hit.node) (member_lent hit.member)
+    → entry_shown (indexed_name x) r e ≡ ToMember (indexed_name x hit.node) (member_lent hit.member)
 
 -- what look-up came to, where `missing` is the error if nothing is there
 abbrev pub ShowsSettled : Key → LinkageError → Settled → Entry → Type 0
 ShowsSettled k missing s e = (x : Indexed) (r : Reference) → r.key ≡ k → HasKey r.key s
-    → entry_shown (name_at x) r e ≡ answer_of x r.named missing s
+    → entry_shown (indexed_name x) r e ≡ answer_of x r.named missing s
 
 abbrev pub ShowsOutcome : Key → LinkageError → Outcome → Entry → Type 0
 ShowsOutcome k missing o e = (x : Indexed) (r : Reference) → r.key ≡ k → IsKeyedOutcome r.key o
-    → entry_shown (name_at x) r e ≡ outcome_of x r.named missing o
+    → entry_shown (indexed_name x) r e ≡ outcome_of x r.named missing o

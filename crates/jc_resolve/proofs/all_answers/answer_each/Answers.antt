@@ -3,7 +3,7 @@ use Rattle.std.proofs.lemmas.List.{length-map}
 use Rattle.std.proofs.lemmas.Option.{slice_get-get_or}
 use Rattle.jc_classes.specs.Facts.{Reference}
 use Rattle.jc_classes.specs.Parts.{class_of}
-use Rattle.jc_numbered.specs.inside.Indexed.{name_at}
+use Rattle.jc_numbered.specs.inside.Indexed.{indexed_name}
 use Rattle.jc_resolve.specs.inside.Looks.{reach_of}
 use Rattle.jc_resolve.specs.declared.all_answers.Asked.{Asked}
 use Rattle.jc_resolve.specs.declared.entry.Entry.{Entry}
@@ -44,6 +44,6 @@ answer_next-requires-clause-number c =
 
 pub by_class-requires : goal.by_class-requires
 by_class-requires c =
-    let name = name_at (reach_of c.args.look.now) in
+    let name = indexed_name (reach_of c.args.look.now) in
     let refs = c.args.facts.now.references in
     sym (length-map c.args.nodes.now (option_map name)) ∙ ap length c.requires.nodes.named ∙ length-map refs (λ (r : Reference). class_of r.named)

@@ -8,7 +8,7 @@ use Rattle.jc_classes.specs.Worlds.{World}
 use Rattle.jc_classes.specs.declared.linkage_error.LinkageError.TheVariants as fault
 use Rattle.jc_numbered.specs.declared.loads.Load.{Load}
 use Rattle.jc_numbered.specs.declared.loads.Load.TheVariants as code
-use Rattle.jc_numbered.specs.inside.Indexed.{name_at, IsIndexed}
+use Rattle.jc_numbered.specs.inside.Indexed.{indexed_name, IsIndexed}
 use Rattle.jc_numbered.specs.inside.Shown.{indexed_of}
 use Rattle.jc_numbered.specs.inside.Loading.{load_at}
 use Rattle.jc_resolve.specs.declared.entry.Entry.{Entry}
@@ -24,7 +24,7 @@ pub returns-in_default : goal.returns-in_default
 returns-in_default c =
     let x = indexed_of c.args.classes.now in
     let l : Load = load_at c.args.loads.now c.args.class in
-    let d = name_at x c.args.class in
+    let d = indexed_name x c.args.class in
     let refs = c.args.facts.now.references in
     let is : get_or c.args.loads.now c.args.class code.Loaded ≡ l = get_or_default c.args.loads.now c.args.class code.Loaded (code.Fails fault.NoClass 0) (omega (arith, c.requires.class, c.requires.loads)) in
     let not : l ≡ code.Loaded → ⊥ = λ e. c.in_default.not-Loaded (is ∙ e) in
@@ -32,7 +32,7 @@ returns-in_default c =
     subst (AreAnswered x c.args.loads.now c.args.class refs) (sym e) (
       length-map refs (λ (r : Reference). NotLoaded),
       λ (m : World) (told : TellsLoads m x (length x.names) c.args.loads.now) (index : IsIndexed m x).
-          subst (AreAnswers m d (loading_of x l) refs) (sym (none_shown (name_at x) refs)) (none_answers m d x l not refs),
+          subst (AreAnswers m d (loading_of x l) refs) (sym (none_shown (indexed_name x) refs)) (none_answers m d x l not refs),
     ) in
     if_ok_map _ _ _ f c.none_loaded.ensures
 

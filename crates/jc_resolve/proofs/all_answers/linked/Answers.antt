@@ -4,7 +4,7 @@ use Rattle.jc_classes.specs.Lent.{stands_of}
 use Rattle.jc_classes.specs.LinkErrors.{links_in, links_of}
 use Rattle.jc_classes.specs.Parts.{AreAnswers}
 use Rattle.jc_classes.specs.Worlds.{World, references_of}
-use Rattle.jc_numbered.specs.inside.Indexed.{name_at, record_at, IsIndexed}
+use Rattle.jc_numbered.specs.inside.Indexed.{indexed_name, record_at, IsIndexed}
 use Rattle.jc_numbered.specs.inside.Shown.{indexed_of}
 use Rattle.jc_numbered.specs.inside.Loading.{load_at}
 use Rattle.jc_resolve.specs.Linked.{Linked}
@@ -27,14 +27,14 @@ of-requires-2 c =
     let refs = c.in-Class.facts.now.references in
     let entries = c.in_ok-entries.entries.items in
     let size = c.in_ok-entries.ensures.0 in
-    let is = c.in_ok-answers.ensures ∙ ap (λ rs. entries_shown (name_at x) rs c.deref.result.now) c.in_ok-references.ensures ∙ ap (entries_shown (name_at x) refs) c.deref.ensures.value in
-    ap length is ∙ shown_size (name_at x) refs entries size ∙ size
+    let is = c.in_ok-answers.ensures ∙ ap (λ rs. entries_shown (indexed_name x) rs c.deref.result.now) c.in_ok-references.ensures ∙ ap (entries_shown (indexed_name x) refs) c.deref.ensures.value in
+    ap length is ∙ shown_size (indexed_name x) refs entries size ∙ size
 
 pub returns-clause-answers : goal.returns-clause-answers
 returns-clause-answers c =
     let x = indexed_of c.args.classes.now in
     let count = length c.args.classes.now.standing.now in
-    let d = name_at x c.args.class in
+    let d = indexed_name x c.args.class in
     let how = loading_of x (load_at c.args.loads.now c.args.class) in
     let refs = c.in-Class.facts.now.references in
     let own : refs ≡ references_of (record_at x c.args.class) = ap (λ s. references_of (stands_of s)) (sym c.in-Class.is) ∙ ap references_of c.at.ensures in
@@ -42,7 +42,7 @@ returns-clause-answers c =
     let shared : c.in_ok-references.references ≡ refs = c.in_ok-references.ensures in
     let made = c.in_ok-entries.ensures in
     let list = c.in_ok-answers.answers in
-    let is : list ≡ entries_shown (name_at x) refs c.in_ok-entries.entries.items = c.in_ok-answers.ensures ∙ ap (λ rs. entries_shown (name_at x) rs c.deref.result.now) shared ∙ ap (entries_shown (name_at x) refs) c.deref.ensures.value in
+    let is : list ≡ entries_shown (indexed_name x) refs c.in_ok-entries.entries.items = c.in_ok-answers.ensures ∙ ap (λ rs. entries_shown (indexed_name x) rs c.deref.result.now) shared ∙ ap (entries_shown (indexed_name x) refs) c.deref.ensures.value in
     let f = λ (linked : Linked) (e : linked ≡ record { answers = list; links = links_in c.name.result.now c.in-Class.facts.now list })
     (m : World) (told : TellsLoads m x count c.args.loads.now) (index : IsIndexed m x).
     subst (λ rs. AreAnswers m d how rs linked.answers) own (subst (AreAnswers m d how refs) (sym (ap (λ (l : Linked). l.answers) e ∙ is)) (made.1 m (subst (λ n. TellsLoads m x n c.args.loads.now) (sym size) told) index)) in
@@ -57,6 +57,6 @@ returns-clause-links c =
     let f = λ (linked : Linked) (e : linked ≡ record { answers = list; links = links_in c.name.result.now facts list }).
     ap (λ (l : Linked). l.links) e
     ∙ ap (λ n. links_in n facts list) c.name.ensures
-    ∙ ap (λ s. links_of (name_at x c.args.class) s list) own
-    ∙ ap (links_of (name_at x c.args.class) (record_at x c.args.class)) (sym (ap (λ (l : Linked). l.answers) e)) in
+    ∙ ap (λ s. links_of (indexed_name x c.args.class) s list) own
+    ∙ ap (links_of (indexed_name x c.args.class) (record_at x c.args.class)) (sym (ap (λ (l : Linked). l.answers) e)) in
     if_ok_map _ _ _ f c.of-2.ensures

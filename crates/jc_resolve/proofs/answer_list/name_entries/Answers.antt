@@ -1,6 +1,6 @@
 use Rattle.std.proofs.Common.{◌≡◌, ◌+◌, ◌∷◌, [], ◌++◌, take, get_or, sym, subst}
 use Rattle.std.proofs.lemmas.List.{take_more}
-use Rattle.jc_numbered.specs.inside.Indexed.{name_at}
+use Rattle.jc_numbered.specs.inside.Indexed.{indexed_name}
 use Rattle.jc_numbered.specs.inside.Shown.{indexed_of}
 use Rattle.jc_resolve.specs.declared.entry.Entry.{Entry}
 use Rattle.jc_resolve.specs.declared.entry.Entry.TheVariants as entry
@@ -10,7 +10,7 @@ use Rattle.jc_resolve.proofs.answer_list.name_entries.Goals as goal
 
 pub loop-entry-init : goal.loop-entry-init
 loop-entry-init c =
-    let name = name_at (indexed_of c.args.classes.now) in
+    let name = indexed_name (indexed_of c.args.classes.now) in
     record {
       names = c.in_ok-names.ensures name;
       named = subst (λ es. AreNamed name c.in_ok-names.names.texts es []) (sym c.in_ok-named.ensures.items) tt;
@@ -18,7 +18,7 @@ loop-entry-init c =
 
 pub loop-entry-preserved : goal.loop-entry-preserved
 loop-entry-preserved c =
-    let name = name_at (indexed_of c.args.classes.now) in
+    let name = indexed_name (indexed_of c.args.classes.now) in
     let entries = c.args.entries.now in
     let i = c.loop-entry.entry-index in
     let h = c.in_ok-answer.ensures in
@@ -34,7 +34,7 @@ loop-entry-preserved c =
 
 pub returns : goal.returns
 returns c =
-    let name = name_at (indexed_of c.args.classes.now) in
+    let name = indexed_name (indexed_of c.args.classes.now) in
     let entries = c.args.entries.now in
     let e : take c.loop-entry.entry-index entries ≡ entries = take_whole entries c.loop-entry.entry-index c.loop-entry-test.false in
     named_same name c.loop-entry.names.texts c.loop-entry.named.items entries (subst (AreNamed name c.loop-entry.names.texts c.loop-entry.named.items) e c.loop-entry.invariant.named)

@@ -4,7 +4,7 @@ use Rattle.jc_classes.specs.Worlds.{member, methods_of}
 use Rattle.jc_classes.specs.MethodLookup.{of_object, FindsInterfaceMethod}
 use Rattle.jc_classes.specs.MethodLookup.FindsInterfaceMethod.{own, in_object, in_interface}
 use Rattle.jc_classes.specs.Lent.{key_lent}
-use Rattle.jc_numbered.specs.inside.Indexed.{name_at, record_at}
+use Rattle.jc_numbered.specs.inside.Indexed.{indexed_name, record_at}
 use Rattle.jc_numbered.specs.inside.Shown.{indexed_of}
 use Rattle.jc_resolve.proofs.lookups.IfOks.{if_ok_map}
 use Rattle.jc_resolve.proofs.lookups.FieldWalk.{none_of}
@@ -27,7 +27,7 @@ returns-in-Some-open_method-clause-found c =
     λ m h.
     let none = record_is m count x c.args.classes.now.graph h (λ r. member (methods_of r) k) c.args.start None c.requires.start (none_of member_lent _ c.method.result c.method.ensures c.in_default.not-Some) in
     let e = record_is m count x c.args.classes.now.graph h (λ r. of_object r k) c.args.classes.now.object (Some (member_lent c.in-Some-open_method.member)) c.args.classes.now.object_within (sym c.in-Some-open_method.ensures) in
-    subst (λ n. FindsInterfaceMethod m k (name_at x c.args.start) (Some (record { home = n; member = (member_lent c.in-Some-open_method.member) }))) (sym c.args.classes.now.object_name)
+    subst (λ n. FindsInterfaceMethod m k (indexed_name x c.args.start) (Some (record { home = n; member = (member_lent c.in-Some-open_method.member) }))) (sym c.args.classes.now.object_name)
     (in_object none (subst (λ n. of_object (m n) k ≡ Some (member_lent c.in-Some-open_method.member)) c.args.classes.now.object_name e))
 
 pub returns-clause-found : goal.returns-clause-found

@@ -2,12 +2,12 @@ use Rattle.std.proofs.Common.{◌≡◌, ◌<◌, ◌≤◌, ◌∙◌, ap, arit
 use Rattle.std.proofs.lemmas.List.{length-take-le}
 use Rattle.std.proofs.lemmas.Option.{gets}
 use Rattle.jc_classes.specs.Names.{names_of, package_of}
-use Rattle.jc_numbered.specs.inside.Indexed.{name_at}
+use Rattle.jc_numbered.specs.inside.Indexed.{indexed_name}
 use Rattle.jc_numbered.specs.inside.Shown.{indexed_of}
 use Rattle.jc_numbered.proofs.lookups.PackageLemmas.{end_at, no_end, package_front, package_short}
 use Rattle.jc_numbered.proofs.classes.Classes.package.Goals as goal
 
-end_is : (c : goal.After-row_known-1) → c.in-Some.end.now ≡ length (package_of (name_at (indexed_of c.args.self.now) c.args.node))
+end_is : (c : goal.After-row_known-1) → c.in-Some.end.now ≡ length (package_of (indexed_name (indexed_of c.args.self.now) c.args.node))
 end_is c =
     let ends = c.deref.result.now in
     let within : c.args.node < length ends = grind (arith, gets, c.in-Some.ensures.lookup) in
@@ -16,12 +16,12 @@ end_is c =
 
 pub slice_bounds-result-end : goal.slice_bounds-result-end
 slice_bounds-result-end c =
-    let name = name_at (indexed_of c.args.self.now) c.args.node in
+    let name = indexed_name (indexed_of c.args.self.now) c.args.node in
     sym (length-take-le c.in-Some.end.now c.name.result.now (omega (arith, end_is c, package_short name, ap length c.name.ensures)))
 
 pub returns-in-Some : goal.returns-in-Some
 returns-in-Some c =
-    let name = name_at (indexed_of c.args.self.now) c.args.node in
+    let name = indexed_name (indexed_of c.args.self.now) c.args.node in
     ap (take c.in-Some.end.now) c.name.ensures ∙ ap (λ n. take n name) (end_is c) ∙ package_front name
 
 pub returns-in-None : goal.returns-in-None

@@ -1,5 +1,5 @@
 use Rattle.std.proofs.Common.{◌∷◌, [], subst}
-use Rattle.jc_numbered.specs.inside.Indexed.{name_at}
+use Rattle.jc_numbered.specs.inside.Indexed.{indexed_name}
 use Rattle.jc_numbered.specs.inside.Shown.{indexed_of}
 use Rattle.jc_classes.specs.inside.ClassTexts.{IsFront}
 use Rattle.jc_resolve.specs.inside.Naming.{IsNumberOf}
@@ -8,7 +8,7 @@ use Rattle.jc_resolve.proofs.answer_list.Naming.add.Goals as goal
 
 pub returns-then-node-len-clause-names : goal.returns-then-node-len-clause-names
 returns-then-node-len-clause-names c =
-    let name = name_at (indexed_of c.args.classes.now) in
+    let name = indexed_name (indexed_of c.args.classes.now) in
     let old = c.args.self.now.texts in
     let new = c.push.new.self in
     let ok = c.in_ok-push.ensures.ok in
@@ -18,6 +18,6 @@ returns-then-node-len-clause-names c =
 
 pub returns-else-node-len-clause-names : goal.returns-else-node-len-clause-names
 returns-else-node-len-clause-names c =
-    let name = name_at (indexed_of c.args.classes.now) in
+    let name = indexed_name (indexed_of c.args.classes.now) in
     let front : IsFront c.args.self.now.texts c.push.new.self = (c.name.result.now ∷ [], c.in_ok-push.ensures.ok) in
     numbers_stay name c.args.self.now.texts c.push.new.self c.args.self.now.numbers.items front c.requires

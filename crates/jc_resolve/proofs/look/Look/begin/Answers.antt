@@ -2,7 +2,7 @@ use Rattle.std.proofs.lemmas.Grind.{common_steps}
 use Rattle.std.proofs.Common.{◌<◌, length, sym, subst, ap, ◌∙◌, arith}
 use Rattle.std.proofs.lemmas.List.{get_or_default}
 use Rattle.jc_classes.specs.Resolution.{Starts}
-use Rattle.jc_numbered.specs.inside.Indexed.{name_at}
+use Rattle.jc_numbered.specs.inside.Indexed.{indexed_name}
 use Rattle.jc_numbered.specs.inside.Shown.{indexed_of}
 use Rattle.jc_resolve.specs.inside.Resolved.{named_of, begun_of, loading_of, IsWithinAll}
 use Rattle.jc_numbered.specs.inside.Loading.{load_at}
@@ -20,16 +20,16 @@ returns-in-Class-clause-starts c =
     let v = c.in-Class.node in
     let k : v < count = subst (λ (r : NamedNode). IsWithinAll count r) c.in-Class.is c.requires in
     let s = begun_of x c.class_begun.result in
-    λ m text t h. subst (λ (r : NamedNode). Starts m (name_at x c.args.self.now.class) (named_of x r text) s) (sym c.in-Class.is)
-    (class_starts m count x c.args.self.now.classes.now.graph h c.args.self.now.loads.now t c.args.self.now.classes.now.object c.args.self.now.classes.now.object_within c.args.self.now.classes.now.object_name (name_at x c.args.self.now.class) v k _ (get_or_default c.args.self.now.loads.now v _ (Fails fault.NoClass 0) (omega (arith, k, c.args.self.now.size))) c.can_see.result (c.can_see.ensures) s (λ flags. c.class_begun.ensures.start x (loading_of x (load_at c.args.self.now.loads.now c.args.self.now.classes.now.object)) flags))
+    λ m text t h. subst (λ (r : NamedNode). Starts m (indexed_name x c.args.self.now.class) (named_of x r text) s) (sym c.in-Class.is)
+    (class_starts m count x c.args.self.now.classes.now.graph h c.args.self.now.loads.now t c.args.self.now.classes.now.object c.args.self.now.classes.now.object_within c.args.self.now.classes.now.object_name (indexed_name x c.args.self.now.class) v k _ (get_or_default c.args.self.now.loads.now v _ (Fails fault.NoClass 0) (omega (arith, k, c.args.self.now.size))) c.can_see.result (c.can_see.ensures) s (λ flags. c.class_begun.ensures.start x (loading_of x (load_at c.args.self.now.loads.now c.args.self.now.classes.now.object)) flags))
 
 pub returns-in-None-clause-starts : goal.returns-in-None-clause-starts
 returns-in-None-clause-starts c =
     let x = indexed_of c.args.self.now.classes.now in
     let count = length c.args.self.now.classes.now.standing.now in
     let s = begun_of x c.object_begun.result in
-    λ m text t h. subst (λ (r : NamedNode). Starts m (name_at x c.args.self.now.class) (named_of x r text) s) (sym (c.in-Array.is ∙ ap (λ o. reference.Array o) c.in-None.is))
-    (primitive_starts m count x c.args.self.now.classes.now.graph h c.args.self.now.loads.now t c.args.self.now.classes.now.object c.args.self.now.classes.now.object_within c.args.self.now.classes.now.object_name (name_at x c.args.self.now.class) text _ (get_or_default c.args.self.now.loads.now c.args.self.now.classes.now.object _ (Fails fault.NoClass 0) (omega (arith, c.args.self.now.classes.now.object_within, c.args.self.now.size))) s (c.object_begun.ensures.start x c.args.self.now.classes.now.object_name))
+    λ m text t h. subst (λ (r : NamedNode). Starts m (indexed_name x c.args.self.now.class) (named_of x r text) s) (sym (c.in-Array.is ∙ ap (λ o. reference.Array o) c.in-None.is))
+    (primitive_starts m count x c.args.self.now.classes.now.graph h c.args.self.now.loads.now t c.args.self.now.classes.now.object c.args.self.now.classes.now.object_within c.args.self.now.classes.now.object_name (indexed_name x c.args.self.now.class) text _ (get_or_default c.args.self.now.loads.now c.args.self.now.classes.now.object _ (Fails fault.NoClass 0) (omega (arith, c.args.self.now.classes.now.object_within, c.args.self.now.size))) s (c.object_begun.ensures.start x c.args.self.now.classes.now.object_name))
 
 pub returns-in-Some-clause-starts : goal.returns-in-Some-clause-starts
 returns-in-Some-clause-starts c =
@@ -38,8 +38,8 @@ returns-in-Some-clause-starts c =
     let v = c.in-Some.node in
     let k : v < count = subst (λ (r : NamedNode). IsWithinAll count r) (c.in-Array.is ∙ ap (λ o. reference.Array o) c.in-Some.is) c.requires in
     let s = begun_of x c.element_begun.result in
-    λ m text t h. subst (λ (r : NamedNode). Starts m (name_at x c.args.self.now.class) (named_of x r text) s) (sym (c.in-Array.is ∙ ap (λ o. reference.Array o) c.in-Some.is))
-    (element_starts m count x c.args.self.now.classes.now.graph h c.args.self.now.loads.now t c.args.self.now.classes.now.object c.args.self.now.classes.now.object_within c.args.self.now.classes.now.object_name (name_at x c.args.self.now.class) text v k _ (get_or_default c.args.self.now.loads.now v _ (Fails fault.NoClass 0) (omega (arith, k, c.args.self.now.size))) _ (get_or_default c.args.self.now.loads.now c.args.self.now.classes.now.object _ (Fails fault.NoClass 0) (omega (arith, c.args.self.now.classes.now.object_within, c.args.self.now.size))) c.can_see-in-Some.result (c.can_see-in-Some.ensures) s (c.element_begun.ensures.start x text 0 c.args.self.now.classes.now.object_name))
+    λ m text t h. subst (λ (r : NamedNode). Starts m (indexed_name x c.args.self.now.class) (named_of x r text) s) (sym (c.in-Array.is ∙ ap (λ o. reference.Array o) c.in-Some.is))
+    (element_starts m count x c.args.self.now.classes.now.graph h c.args.self.now.loads.now t c.args.self.now.classes.now.object c.args.self.now.classes.now.object_within c.args.self.now.classes.now.object_name (indexed_name x c.args.self.now.class) text v k _ (get_or_default c.args.self.now.loads.now v _ (Fails fault.NoClass 0) (omega (arith, k, c.args.self.now.size))) _ (get_or_default c.args.self.now.loads.now c.args.self.now.classes.now.object _ (Fails fault.NoClass 0) (omega (arith, c.args.self.now.classes.now.object_within, c.args.self.now.size))) c.can_see-in-Some.result (c.can_see-in-Some.ensures) s (c.element_begun.ensures.start x text 0 c.args.self.now.classes.now.object_name))
 
 pub returns-in-Class-clause-at : goal.returns-in-Class-clause-at
 returns-in-Class-clause-at c = grind (arith, common_steps)

@@ -2,7 +2,7 @@ use Rattle.std.proofs.Common.{length, sym, subst, option_map}
 use Rattle.jc_classes.specs.declared.linkage_error.LinkageError.TheVariants.{NoField}
 use Rattle.jc_classes.specs.Resolution.{Starts, Settles}
 use Rattle.jc_classes.specs.Resolution.ResolvesField.{ends, looks}
-use Rattle.jc_numbered.specs.inside.Indexed.{name_at}
+use Rattle.jc_numbered.specs.inside.Indexed.{indexed_name}
 use Rattle.jc_numbered.specs.inside.Shown.{indexed_of, found_at}
 use Rattle.jc_numbered.specs.inside.Access.{IsTarget}
 use Rattle.jc_numbered.specs.inside.Settled.{answer_of}
@@ -33,19 +33,19 @@ settle-requires-clause-good c = asker_good c.args.self.now
 pub returns-in_ok-settled-in-At-clause-found : goal.returns-in_ok-settled-in-At-clause-found
 returns-in_ok-settled-in-At-clause-found c =
     let x = indexed_of c.args.self.now.classes.now in
-    let d = name_at x c.args.self.now.class in
+    let d = indexed_name x c.args.self.now.class in
     let r = c.args.named in
     let s = c.in_ok-settled-in-At.settled in
     λ m text t h. looks
     (subst (λ (b : Begun). Starts m d (named_of x r text) (begun_of x b)) c.in-At.is (c.begin.ensures.starts m text t h))
     (c.in_ok-found-in-At.ensures.found m h)
-    (subst (λ n. Settles m d n (name_at x c.in-At.start) NoField (option_map (found_at x) c.in_ok-found-in-At.found) (answer_of x n NoField s)) (c.target_of-target.ensures.named x text)
+    (subst (λ n. Settles m d n (indexed_name x c.in-At.start) NoField (option_map (found_at x) c.in_ok-found-in-At.found) (answer_of x n NoField s)) (c.target_of-target.ensures.named x text)
     (c.in_ok-settled-in-At.ensures.found m text (element_of x r) NoField h))
 
 pub returns-in_default-clause-found : goal.returns-in_default-clause-found
 returns-in_default-clause-found c =
     let x = indexed_of c.args.self.now.classes.now in
-    λ m text t h. ends (subst (λ s. Starts m (name_at x c.args.self.now.class) (named_of x c.args.named text) s) (begun_ends x c.begin.result c.in_default.not-At) (c.begin.ensures.starts m text t h))
+    λ m text t h. ends (subst (λ s. Starts m (indexed_name x c.args.self.now.class) (named_of x c.args.named text) s) (begun_ends x c.begin.result c.in_default.not-At) (c.begin.ensures.starts m text t h))
 
 pub returns-in_ok-settled-in-At-clause-keyed : goal.returns-in_ok-settled-in-At-clause-keyed
 returns-in_ok-settled-in-At-clause-keyed c = settled_keyed (key_lent c.args.key) c.in_ok-found-in-At.found c.in_ok-settled-in-At.settled c.in_ok-settled-in-At.ensures.hit c.in_ok-found-in-At.ensures.keyed

@@ -2,7 +2,7 @@ use Rattle.std.proofs.Common.{length, sym, subst, option_map}
 use Rattle.jc_classes.specs.declared.linkage_error.LinkageError.TheVariants.{NoMethod}
 use Rattle.jc_classes.specs.Resolution.{Starts, Settles}
 use Rattle.jc_classes.specs.Resolution.ResolvesMethod.{ends, looks, interface}
-use Rattle.jc_numbered.specs.inside.Indexed.{name_at}
+use Rattle.jc_numbered.specs.inside.Indexed.{indexed_name}
 use Rattle.jc_numbered.specs.inside.Shown.{indexed_of, found_at}
 use Rattle.jc_numbered.specs.inside.Access.{IsTarget}
 use Rattle.jc_numbered.specs.inside.Settled.{answer_of}
@@ -37,20 +37,20 @@ settle-requires-clause-good c = asker_good c.args.self.now
 pub returns-in_ok-settled-in-At-clause-found : goal.returns-in_ok-settled-in-At-clause-found
 returns-in_ok-settled-in-At-clause-found c =
     let x = indexed_of c.args.self.now.classes.now in
-    let d = name_at x c.args.self.now.class in
+    let d = indexed_name x c.args.self.now.class in
     let r = c.args.named in
     let s = c.in_ok-settled-in-At.settled in
     λ m text t h. looks
     (subst (λ (b : Begun). Starts m d (named_of x r text) (begun_of x b)) c.in-At.is (c.begin.ensures.starts m text t h))
     (record_is m (length c.args.self.now.classes.now.standing.now) x c.args.self.now.classes.now.graph h (λ r. is_interface r) c.in-At.start false (c.begin.ensures.at c.in-At.start c.in-At.is).0 (ap (λ f. has f interface_flag) (sym c.flags.ensures) ∙ sym c.is_in.ensures ∙ c.if-is_in.false))
     (c.in_ok-found-in-At.ensures.found m h)
-    (subst (λ n. Settles m d n (name_at x c.in-At.start) NoMethod (option_map (found_at x) c.in_ok-found-in-At.found) (answer_of x n NoMethod s)) (c.target_of-target.ensures.named x text)
+    (subst (λ n. Settles m d n (indexed_name x c.in-At.start) NoMethod (option_map (found_at x) c.in_ok-found-in-At.found) (answer_of x n NoMethod s)) (c.target_of-target.ensures.named x text)
     (c.in_ok-settled-in-At.ensures.found m text (element_of x r) NoMethod h))
 
 pub returns-in_default-clause-found : goal.returns-in_default-clause-found
 returns-in_default-clause-found c =
     let x = indexed_of c.args.self.now.classes.now in
-    λ m text t h. ends (subst (λ s. Starts m (name_at x c.args.self.now.class) (named_of x c.args.named text) s) (begun_ends x c.begin.result c.in_default.not-At) (c.begin.ensures.starts m text t h))
+    λ m text t h. ends (subst (λ s. Starts m (indexed_name x c.args.self.now.class) (named_of x c.args.named text) s) (begun_ends x c.begin.result c.in_default.not-At) (c.begin.ensures.starts m text t h))
 
 pub flags-requires : goal.flags-requires
 flags-requires c = (c.begin.ensures.at c.in-At.start c.in-At.is).0
@@ -58,7 +58,7 @@ flags-requires c = (c.begin.ensures.at c.in-At.start c.in-At.is).0
 pub returns-then-is_in-clause-found : goal.returns-then-is_in-clause-found
 returns-then-is_in-clause-found c =
     let x = indexed_of c.args.self.now.classes.now in
-    let d = name_at x c.args.self.now.class in
+    let d = indexed_name x c.args.self.now.class in
     let r = c.args.named in
     λ m text t h. interface
     (subst (λ (b : Begun). Starts m d (named_of x r text) (begun_of x b)) c.in-At.is (c.begin.ensures.starts m text t h))

@@ -4,7 +4,7 @@ use Rattle.jc_classes.specs.Facts.{Reference}
 use Rattle.jc_classes.specs.declared.linkage_error.LinkageError.TheVariants as error
 use Rattle.jc_classes.specs.Resolution.{ResolvesClass, ResolvesField, ResolvesMethod, ResolvesInterfaceMethod}
 use Rattle.jc_classes.specs.Parts.{ResolvesOf}
-use Rattle.jc_numbered.specs.inside.Indexed.{Indexed, name_at, IsIndexed}
+use Rattle.jc_numbered.specs.inside.Indexed.{Indexed, indexed_name, IsIndexed}
 use Rattle.jc_numbered.specs.inside.Shown.{indexed_of}
 use Rattle.jc_resolve.specs.inside.Entries.{IsKeyedOutcome, entry_shown}
 use Rattle.jc_resolve.specs.inside.Resolved.{named_of, outcome_of, TellsLoads}
@@ -29,29 +29,29 @@ pub returns-in-Class-clause-found : goal.returns-in-Class-clause-found
 returns-in-Class-clause-found c =
     let x = indexed_of c.args.self.now.classes.now in
     let count = length c.args.self.now.classes.now.standing.now in
-    let d = name_at x c.args.self.now.class in
+    let d = indexed_name x c.args.self.now.class in
     let r = reference_lent c.args.reference in
     let text = c.args.reference.class.now in
     let ne : named_of x c.named-named.result text ≡ r.named = c.named-named.ensures.named x c.requires.node in
     let same : named_of x c.named-named.result (text_of r.named) ≡ r.named = subst (λ z. named_of x c.named-named.result z ≡ r.named) (sym (text_named text)) ne in
-    let f = λ (e : Entry) (h : (m : World) (q : Reference) → TellsLoads m x count c.args.self.now.loads.now → IsIndexed m x → named_of x c.named-named.result (text_of q.named) ≡ q.named → ResolvesClass m d q.named (entry_shown (name_at x) q e))
+    let f = λ (e : Entry) (h : (m : World) (q : Reference) → TellsLoads m x count c.args.self.now.loads.now → IsIndexed m x → named_of x c.named-named.result (text_of q.named) ≡ q.named → ResolvesClass m d q.named (entry_shown (indexed_name x) q e))
     (m : World) (told : TellsLoads m x count c.args.self.now.loads.now) (index : IsIndexed m x).
-    subst (λ k. ResolvesOf m d k r (entry_shown (name_at x) r e)) (sym c.in-Class.is) (h m r told index same) in
+    subst (λ k. ResolvesOf m d k r (entry_shown (indexed_name x) r e)) (sym c.in-Class.is) (h m r told index same) in
     f c.class_entry.result c.class_entry.ensures
 
 pub returns-in_ok-outcome-in-Field-clause-found : goal.returns-in_ok-outcome-in-Field-clause-found
 returns-in_ok-outcome-in-Field-clause-found c =
     let x = indexed_of c.args.self.now.classes.now in
     let count = length c.args.self.now.classes.now.standing.now in
-    let d = name_at x c.args.self.now.class in
+    let d = indexed_name x c.args.self.now.class in
     let r = reference_lent c.args.reference in
     let text = c.args.reference.class.now in
     let ne : named_of x c.named-named.result text ≡ r.named = c.named-named.ensures.named x c.requires.node in
     let o = c.in_ok-outcome-in-Field.outcome in
     let keyed = c.in_ok-outcome-in-Field.ensures.keyed in
-    let f = λ (e : Entry) (h : (y : Indexed) (q : Reference) → q.key ≡ key_lent c.args.reference.key → IsKeyedOutcome q.key o → entry_shown (name_at y) q e ≡ outcome_of y q.named error.NoField o)
+    let f = λ (e : Entry) (h : (y : Indexed) (q : Reference) → q.key ≡ key_lent c.args.reference.key → IsKeyedOutcome q.key o → entry_shown (indexed_name y) q e ≡ outcome_of y q.named error.NoField o)
     (m : World) (told : TellsLoads m x count c.args.self.now.loads.now) (index : IsIndexed m x).
-    subst (λ k. ResolvesOf m d k r (entry_shown (name_at x) r e)) (sym c.in-Field.is)
+    subst (λ k. ResolvesOf m d k r (entry_shown (indexed_name x) r e)) (sym c.in-Field.is)
     (subst (λ z. ResolvesField m d r.named r.key z) (sym (h x r refl keyed))
     (subst (λ z. ResolvesField m d z r.key (outcome_of x z error.NoField o)) ne (c.in_ok-outcome-in-Field.ensures.found m text told index))) in
     f c.outcome_entry.result c.outcome_entry.ensures
@@ -60,15 +60,15 @@ pub returns-in_ok-outcome-in-Method-clause-found : goal.returns-in_ok-outcome-in
 returns-in_ok-outcome-in-Method-clause-found c =
     let x = indexed_of c.args.self.now.classes.now in
     let count = length c.args.self.now.classes.now.standing.now in
-    let d = name_at x c.args.self.now.class in
+    let d = indexed_name x c.args.self.now.class in
     let r = reference_lent c.args.reference in
     let text = c.args.reference.class.now in
     let ne : named_of x c.named-named.result text ≡ r.named = c.named-named.ensures.named x c.requires.node in
     let o = c.in_ok-outcome-in-Method.outcome in
     let keyed = c.in_ok-outcome-in-Method.ensures.keyed in
-    let f = λ (e : Entry) (h : (y : Indexed) (q : Reference) → q.key ≡ key_lent c.args.reference.key → IsKeyedOutcome q.key o → entry_shown (name_at y) q e ≡ outcome_of y q.named error.NoMethod o)
+    let f = λ (e : Entry) (h : (y : Indexed) (q : Reference) → q.key ≡ key_lent c.args.reference.key → IsKeyedOutcome q.key o → entry_shown (indexed_name y) q e ≡ outcome_of y q.named error.NoMethod o)
     (m : World) (told : TellsLoads m x count c.args.self.now.loads.now) (index : IsIndexed m x).
-    subst (λ k. ResolvesOf m d k r (entry_shown (name_at x) r e)) (sym c.in-Method.is)
+    subst (λ k. ResolvesOf m d k r (entry_shown (indexed_name x) r e)) (sym c.in-Method.is)
     (subst (λ z. ResolvesMethod m d r.named r.key z) (sym (h x r refl keyed))
     (subst (λ z. ResolvesMethod m d z r.key (outcome_of x z error.NoMethod o)) ne (c.in_ok-outcome-in-Method.ensures.found m text told index))) in
     f c.outcome_entry-in-Method.result c.outcome_entry-in-Method.ensures
@@ -77,15 +77,15 @@ pub returns-in_ok-outcome-in-InterfaceMethod-clause-found : goal.returns-in_ok-o
 returns-in_ok-outcome-in-InterfaceMethod-clause-found c =
     let x = indexed_of c.args.self.now.classes.now in
     let count = length c.args.self.now.classes.now.standing.now in
-    let d = name_at x c.args.self.now.class in
+    let d = indexed_name x c.args.self.now.class in
     let r = reference_lent c.args.reference in
     let text = c.args.reference.class.now in
     let ne : named_of x c.named-named.result text ≡ r.named = c.named-named.ensures.named x c.requires.node in
     let o = c.in_ok-outcome-in-InterfaceMethod.outcome in
     let keyed = c.in_ok-outcome-in-InterfaceMethod.ensures.keyed in
-    let f = λ (e : Entry) (h : (y : Indexed) (q : Reference) → q.key ≡ key_lent c.args.reference.key → IsKeyedOutcome q.key o → entry_shown (name_at y) q e ≡ outcome_of y q.named error.NoMethod o)
+    let f = λ (e : Entry) (h : (y : Indexed) (q : Reference) → q.key ≡ key_lent c.args.reference.key → IsKeyedOutcome q.key o → entry_shown (indexed_name y) q e ≡ outcome_of y q.named error.NoMethod o)
     (m : World) (told : TellsLoads m x count c.args.self.now.loads.now) (index : IsIndexed m x).
-    subst (λ k. ResolvesOf m d k r (entry_shown (name_at x) r e)) (sym c.in-InterfaceMethod.is)
+    subst (λ k. ResolvesOf m d k r (entry_shown (indexed_name x) r e)) (sym c.in-InterfaceMethod.is)
     (subst (λ z. ResolvesInterfaceMethod m d r.named r.key z) (sym (h x r refl keyed))
     (subst (λ z. ResolvesInterfaceMethod m d z r.key (outcome_of x z error.NoMethod o)) ne (c.in_ok-outcome-in-InterfaceMethod.ensures.found m text told index))) in
     f c.outcome_entry-in-InterfaceMethod.result c.outcome_entry-in-InterfaceMethod.ensures
