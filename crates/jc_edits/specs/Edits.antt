@@ -1,49 +1,12 @@
 -- Edits of the files and of the outside prefixes of a session: why one is refused, and what stands after one.
-use Rattle.std.specs.Prelude.{ℕ, ◌==◌, nat_lt, ◌||◌, List, length, Option, Some, None, if◌then◌else◌}
-use Rattle.std.specs.FinMap as map
-use Rattle.jc_report.specs.Files.{Files}
+use Rattle.std.specs.Prelude.{nat_lt, List, length, ℕ, Option, Some, None, if◌then◌else◌}
 use Rattle.jc_classes.specs.Names.{Name}
-use Rattle.jc_input.specs.Changes.{Change, Adds, Replaces, Removes, PrefixChange, AddsPrefix, DropsPrefix, EditChange, OfFiles, OfPrefixes}
+use Rattle.jc_input.specs.Changes.{PrefixChange, AddsPrefix, DropsPrefix, EditChange, OfFiles, OfPrefixes}
+use Rattle.jc_limits.specs.FileEdits.{after, judge, ◌or_else◌}
 use Rattle.jc_link.specs.Prefixes.{holds, is_bad_prefix, with_one, without}
 use Rattle.jc_edits.specs.SessionState.{HeldFiles}
 use Rattle.jc_input.specs.declared.edit.EditError.{EditError}
 use Rattle.jc_input.specs.declared.edit.EditError.TheVariants as errors
-
-abbrev pub path_fault : List ℕ → Option EditError
-path_fault path = if length path == 0 || nat_lt 4096 (length path) then Some errors.BadPath else None
-
-abbrev pub size_fault : List ℕ → Option EditError
-size_fault bytes = if nat_lt 16777216 (length bytes) then Some errors.TooLarge else None
-
-abbrev pub there_fault : Files → List ℕ → Option EditError
-there_fault f path = if map.contains_key f path then Some errors.AlreadyThere else None
-
-abbrev pub missing_fault : Files → List ℕ → Option EditError
-missing_fault f path = if map.contains_key f path then None else Some errors.NoSuchFile
-
-abbrev pub room_beside : ℕ → Option EditError
-room_beside count = if nat_lt count 65535 then None else Some errors.TooMany
-
-abbrev pub room_fault : Files → Option EditError
-room_fault f = room_beside (map.len f)
-
--- the first of the two that applies
-infixr 10 ◌or_else◌
-abbrev pub ◌or_else◌ : Option EditError → Option EditError → Option EditError
-None or_else second = second
-(Some fault) or_else second = Some fault
-
--- the first refusal that applies
-abbrev pub judge : Files → Change → Option EditError
-judge f (Adds path bytes) = path_fault path or_else (there_fault f path or_else (size_fault bytes or_else room_fault f))
-judge f (Replaces path bytes) = path_fault path or_else (missing_fault f path or_else size_fault bytes)
-judge f (Removes path) = path_fault path or_else missing_fault f path
-
--- the files after an edit that is not refused
-abbrev pub after : Files → Change → Files
-after f (Adds path bytes) = map.insert f path bytes
-after f (Replaces path bytes) = map.insert f path bytes
-after f (Removes path) = map.remove f path
 
 -- ---- of outside prefixes
 

@@ -13,7 +13,7 @@ use Rattle.jc_input.specs.declared.edit.Done.{Done}
 use Rattle.jc_link.specs.Prefixes.{is_covered}
 use Rattle.jc_link.specs.Tables.{or_built_in}
 use Rattle.jc_edits.specs.SessionState.{HeldFiles, SessionState, held_of}
-use Rattle.jc_edits.specs.Edits.{after}
+use Rattle.jc_limits.specs.FileEdits.{after}
 
 -- whether files give a class of the name
 abbrev pub gives : Files → Name → Bool

@@ -1,20 +1,15 @@
 //! Whether an edit is refused.
 
 ghost use Rattle.std.specs.Prelude.{◌≡◌};
-ghost use Rattle.jc_edits.specs.Edits as files_of;
+ghost use Rattle.jc_edits.specs.Edits as edits;
+ghost use Rattle.jc_limits.specs.FileEdits as files_of;
 ghost use Rattle.jc_input.specs.Changes.{Adds, Replaces, change_lent, prefix_change};
 
 use crate::file::File;
 use jc_base::ByteMap;
 use jc_input::{EditError, LentEdit, PrefixEdit};
+use jc_limits::{path_fault, room_fault, size_fault};
 use jc_link::{MOST_PREFIXES, Outside, is_bad_prefix};
-
-const LONGEST_PATH: usize = 4_096;
-
-/// The most bytes that a file may have.
-pub const LARGEST_FILE: usize = 16_777_216;
-
-const MOST_FILES: usize = 65_535;
 
 /// The first refusal of the edit that applies, but for memory.
 pub(crate) fn judge(files: &ByteMap<File>, edit: &LentEdit<'_>) -> Option<EditError>
@@ -44,17 +39,6 @@ fn judge_replace(files: &ByteMap<File>, path: &[u8], bytes: &[u8]) -> Option<Edi
         .or(size_fault(bytes))
 }
 
-/// The fault of a path by itself.
-pub fn path_fault(path: &[u8]) -> Option<EditError>
-    ensures { result ≡ files_of.path_fault path.now }
-{
-    if path.is_empty() || path.len() > LONGEST_PATH {
-        Some(EditError::BadPath)
-    } else {
-        None
-    }
-}
-
 fn there_fault(files: &ByteMap<File>, path: &[u8]) -> Option<EditError>
     ensures { result ≡ files_of.there_fault files.now path.now }
 {
@@ -75,31 +59,9 @@ fn missing_fault(files: &ByteMap<File>, path: &[u8]) -> Option<EditError>
     }
 }
 
-/// The fault of a file's bytes by themselves.
-pub fn size_fault(bytes: &[u8]) -> Option<EditError>
-    ensures { result ≡ files_of.size_fault bytes.now }
-{
-    if bytes.len() > LARGEST_FILE {
-        Some(EditError::TooLarge)
-    } else {
-        None
-    }
-}
-
-/// The fault of one more file beside so many.
-pub fn room_fault(count: usize) -> Option<EditError>
-    ensures { result ≡ files_of.room_beside count }
-{
-    if count < MOST_FILES {
-        None
-    } else {
-        Some(EditError::TooMany)
-    }
-}
-
 /// The first refusal of an edit of the outside prefixes that applies, but for memory.
 pub(crate) fn judge_prefix(outside: &Outside, edit: PrefixEdit<'_>) -> Option<EditError>
-    ensures { result ≡ files_of.judge_prefix outside.now (prefix_change edit.entry) }
+    ensures { result ≡ edits.judge_prefix outside.now (prefix_change edit.entry) }
 {
     match edit {
         PrefixEdit::Add(prefix) => prefix_fault(prefix)
@@ -110,7 +72,7 @@ pub(crate) fn judge_prefix(outside: &Outside, edit: PrefixEdit<'_>) -> Option<Ed
 }
 
 fn prefix_fault(prefix: &[u8]) -> Option<EditError>
-    ensures { result ≡ files_of.prefix_fault prefix.now }
+    ensures { result ≡ edits.prefix_fault prefix.now }
 {
     if is_bad_prefix(prefix) {
         Some(EditError::BadPrefix)
@@ -120,7 +82,7 @@ fn prefix_fault(prefix: &[u8]) -> Option<EditError>
 }
 
 fn held_fault(outside: &Outside, prefix: &[u8]) -> Option<EditError>
-    ensures { result ≡ files_of.held_fault outside.now prefix.now }
+    ensures { result ≡ edits.held_fault outside.now prefix.now }
 {
     if outside.has(prefix) {
         Some(EditError::PrefixThere)
@@ -130,7 +92,7 @@ fn held_fault(outside: &Outside, prefix: &[u8]) -> Option<EditError>
 }
 
 fn lacking_fault(outside: &Outside, prefix: &[u8]) -> Option<EditError>
-    ensures { result ≡ files_of.lacking_fault outside.now prefix.now }
+    ensures { result ≡ edits.lacking_fault outside.now prefix.now }
 {
     if outside.has(prefix) {
         None
@@ -140,7 +102,7 @@ fn lacking_fault(outside: &Outside, prefix: &[u8]) -> Option<EditError>
 }
 
 fn full_fault(outside: &Outside) -> Option<EditError>
-    ensures { result ≡ files_of.full_fault outside.now }
+    ensures { result ≡ edits.full_fault outside.now }
 {
     if outside.len() < MOST_PREFIXES {
         None

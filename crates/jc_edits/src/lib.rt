@@ -15,7 +15,6 @@ mod session;
 
 pub use jc_input::{Done, Edit, EditError, LentEdit, PrefixEdit};
 pub use jc_report::{FileRow, FileState, winners_are_least};
-pub use judge::{LARGEST_FILE, path_fault, room_fault, size_fault};
 pub use laws::{affected_either_way, files_differ, turned_differ};
 pub use report::Report;
 pub use report_text::{WriteError, write_part_of, write_report};

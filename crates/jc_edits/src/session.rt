@@ -1,6 +1,6 @@
 //! A session over class files.
 
-ghost use Rattle.std.specs.Prelude.{◌≡◌, ◌≤◌, ◌-◌, None, IfOk, IfSome, OnOk, OnErr, is_some, option_and_then};
+ghost use Rattle.std.specs.Prelude.{◌≡◌, ◌≤◌, ◌-◌, IfOk, IfSome, OnOk, OnErr, is_some, option_and_then};
 ghost use Rattle.std.specs.Option.{option_map};
 ghost use Rattle.std.specs.FinMap as map;
 ghost use Rattle.jc_classes.specs.NameLists.{Lists};
@@ -9,7 +9,8 @@ ghost use Rattle.jc_classes.specs.Parts.{IsPart};
 ghost use Rattle.jc_report.specs.FileRows.{winner};
 ghost use Rattle.jc_report.specs.Reports.{world_of};
 ghost use Rattle.jc_input.specs.Changes.{OfFiles, OfPrefixes, change_lent, change_of, prefix_change};
-ghost use Rattle.jc_edits.specs.Edits.{after, after_edit, after_prefix, judge, judge_edit, judge_prefix};
+ghost use Rattle.jc_limits.specs.FileEdits.{after, judge};
+ghost use Rattle.jc_edits.specs.Edits.{after_edit, after_prefix, judge_edit, judge_prefix};
 ghost use Rattle.jc_edits.specs.Judged.{IsAnswered};
 ghost use Rattle.jc_edits.specs.Reported.{CountsHoldersAt, IsDependant};
 ghost use Rattle.jc_edits.specs.SessionState.{held_of};

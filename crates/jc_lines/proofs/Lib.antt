@@ -1,3 +1,2 @@
-pub mod checks
 pub mod listings
 pub mod runs

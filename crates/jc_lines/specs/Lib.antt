@@ -1,7 +1,5 @@
 pub mod AnswerText
 pub mod Answers
-pub mod Checks
-pub mod LentChecks
 pub mod ListedText
 pub mod Runs
 pub mod inside
@@ -19,6 +17,7 @@ pub use Rattle.jc_input.specs.LineReading
 pub use Rattle.jc_input.specs.Lines
 pub use Rattle.jc_input.specs.RunErrors
 pub use Rattle.jc_input.specs.Sources
+pub use Rattle.jc_limits.specs.FileEdits
 pub use Rattle.jc_edits.specs.Edits
 pub use Rattle.jc_edits.specs.Judged
 pub use Rattle.jc_edits.specs.SaidPart

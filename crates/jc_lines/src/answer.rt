@@ -1,7 +1,7 @@
 //! The answer to one line.
 ghost use Rattle.std.specs.Prelude.{◌≡◌, ◌≤◌, ◌≢◌, IfErr, IsSome, None, Some};
 ghost use Rattle.jc_input.specs.declared.run_error.RunError.TheVariants.{NoMemory, Read};
-ghost use Rattle.jc_input.specs.Changes.{EditChange, OfFiles, change_lent};
+ghost use Rattle.jc_input.specs.Changes.{EditChange, change_lent};
 ghost use Rattle.jc_edits.specs.Edits.{judge_edit};
 ghost use Rattle.jc_edits.specs.SessionState.{HeldFiles, held_of};
 ghost use Rattle.jc_input.specs.Sources.{SourceAnswers};

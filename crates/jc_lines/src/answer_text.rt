@@ -1,6 +1,6 @@
 //! The texts that answer lines.
 
-ghost use Rattle.std.specs.Prelude.{◌≡◌, codes, OnOk, OnErr};
+ghost use Rattle.std.specs.Prelude.{codes, OnOk, OnErr};
 ghost use Rattle.std.specs.Io.KnownBytes.{Appends};
 ghost use Rattle.jc_base.specs.Device.{CountsFault, WritesFront};
 ghost use Rattle.jc_text.specs.Sends.{Sends};

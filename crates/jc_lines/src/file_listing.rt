@@ -1,6 +1,6 @@
 //! The listing of a file, and of a class.
 
-ghost use Rattle.std.specs.Prelude.{◌≡◌, ◌++◌, Err, IfErr, IfOk, IsSome, MatchResult, Ok, codes};
+ghost use Rattle.std.specs.Prelude.{◌≡◌, Err, IfErr, IfOk, IsSome, MatchResult, Ok, codes};
 ghost use Rattle.jc_list.specs.declared.list_error.ListError.TheVariants.{NoMemory, Write};
 ghost use Rattle.jc_list.specs.ListErrors.{CountsWrites, WritesListing};
 ghost use Rattle.jc_lines.specs.ListedText.{file_text, is_faulty_file, listed_text, unreadable_text};

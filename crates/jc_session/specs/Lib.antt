@@ -6,6 +6,7 @@ pub use Rattle.jc_base.specs.Device
 pub use Rattle.jc_base.specs.TextTests
 pub use Rattle.jc_input.specs.Changes
 pub use Rattle.jc_input.specs.EditErrors
+pub use Rattle.jc_limits.specs.FileEdits
 pub use Rattle.jc_edits.specs.Edits
 pub use Rattle.jc_edits.specs.Judged
 pub use Rattle.jc_edits.specs.SaidPart

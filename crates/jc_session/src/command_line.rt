@@ -1,13 +1,13 @@
 //! The program, apart from the standard streams: words and devices in, a status out.
 
-ghost use Rattle.std.specs.Prelude.{◌≡◌, [], Bool, List, Option, Result, Some, map as map_each, ℕ};
+ghost use Rattle.std.specs.Prelude.{◌≡◌, [], Bool, List, Result, Some, map as map_each, ℕ};
 ghost use Rattle.std.specs.FinMap as map;
 ghost use Rattle.jc_classes.specs.Names.{names_of};
 ghost use Rattle.jc_input.specs.declared.source.SourceError.{SourceError};
 ghost use Rattle.jc_input.specs.declared.run_error.Ended.{Ended};
 ghost use Rattle.jc_input.specs.declared.run_error.RunError.{RunError};
 ghost use Rattle.jc_edits.specs.SessionState.{HeldFiles, held_of};
-ghost use Rattle.jc_lines.specs.Checks.{Answer, CheckFault, ChecksAs, GivesAnswers, added};
+ghost use Rattle.jc_check.specs.Checks.{Answer, CheckFault, ChecksAs, GivesAnswers, added};
 ghost use Rattle.jc_lines.specs.Runs.{RunsByAnswers, RunsFrom, left_by};
 ghost use Rattle.jc_input.specs.Sources.{TakesAnswer, answer_of};
 ghost use Rattle.jc_session.specs.Statuses.{Checks, CountsInput, CountsOutput, IsOutcome, ListsAs, Outcome, Performs, Tells};
@@ -19,8 +19,10 @@ use crate::folder::FolderSource;
 use crate::walk::{WalkFault, class_files};
 use crate::words::{Request, asked};
 use jc_base::{Input, Output};
-use jc_edits::{EditError, LARGEST_FILE, Session};
-use jc_lines::{CheckForm, FileSource, Source, SourceError, check, list_file, run};
+use jc_check::{CheckForm, check};
+use jc_edits::{EditError, Session};
+use jc_limits::LARGEST_FILE;
+use jc_lines::{FileSource, Source, SourceError, list_file, run};
 use jc_link::Outside;
 use std::alloc::Global;
 use std::rt::Files;

@@ -10,7 +10,7 @@ ghost use Rattle.jc_session.specs.inside.Requests.{AreRefused, AsksFor, AsksForm
 use crate::fault::Fault;
 use clap::error::ErrorKind;
 use clap::{Arg, ArgAction, ArgMatches, Command};
-use jc_lines::CheckForm;
+use jc_check::CheckForm;
 use jc_link::{Outside, OutsideError};
 use std::alloc::{AllocError, Global};
 

@@ -10,7 +10,7 @@ use Rattle.jc_input.specs.Changes.{bytes_of, path_of}
 use Rattle.jc_report.specs.Files.{Files}
 use Rattle.jc_report.specs.FileRows.{winner}
 use Rattle.jc_report.specs.Reports.{facts_at, world_of}
-use Rattle.jc_edits.specs.Edits as edits
+use Rattle.jc_limits.specs.FileEdits as edits
 use Rattle.jc_edits.specs.Touched.{AffectedEitherWay, FilesDiffer, is_path, is_touched}
 use Rattle.jc_edits.specs.inside.Changing.{won}
 use Rattle.jc_edits.specs.inside.Growth.{put_at}

@@ -8,7 +8,8 @@ use Rattle.jc_input.specs.declared.edit.EditError.{EditError}
 use Rattle.jc_input.specs.declared.edit.EditError.TheVariants as errors
 use Rattle.jc_input.specs.Changes.{Change, PrefixChange, EditChange, OfFiles, OfPrefixes}
 use Rattle.jc_input.specs.Sources.{SourceAnswers}
-use Rattle.jc_edits.specs.Edits.{after, after_prefix, judge, judge_edit, judge_prefix}
+use Rattle.jc_limits.specs.FileEdits.{after, judge}
+use Rattle.jc_edits.specs.Edits.{after_prefix, judge_edit, judge_prefix}
 use Rattle.jc_edits.specs.Judged.{IsJudged}
 use Rattle.jc_edits.specs.SessionState.{HeldFiles, SessionState, held_of}
 use Rattle.jc_lines.specs.AnswerText.{refused_text}

@@ -4,8 +4,8 @@ use Rattle.jc_input.specs.declared.run_error.Ended.{Ended}
 use Rattle.jc_input.specs.declared.run_error.RunError.{RunError}
 use Rattle.jc_input.specs.declared.run_error.RunError.TheVariants as run_errors
 use Rattle.jc_input.specs.RunErrors.{CountsReads, CountsWrites}
-use Rattle.jc_lines.specs.Checks.{CheckFault, FileRefused, FileUnread, WriteFailed}
-use Rattle.jc_lines.specs.Checks as checks
+use Rattle.jc_check.specs.Checks.{CheckFault, FileRefused, FileUnread, WriteFailed}
+use Rattle.jc_check.specs.Checks as checks
 use Rattle.jc_session.specs.Statuses.{Checks, Fault, NoMemory, Outcome, Usage, fault_of, outcome_of_check, CountsInput, CountsOutput}
 
 pub input_counts : (e : RunError) (old new : ℕ) → CountsReads {T = Ended} (Err e) old new → CountsInput (Err (fault_of e)) old new

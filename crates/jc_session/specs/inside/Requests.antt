@@ -7,8 +7,8 @@ use Rattle.clap.specs.declared.parser.matches.Found.{Found}
 use Rattle.jc_classes.specs.Names.{Name}
 use Rattle.jc_classes.specs.Numbers.{IsOnce}
 use Rattle.jc_link.specs.Prefixes.{prefixes_fault, standard_prefixes}
-use Rattle.jc_lines.specs.declared.checking.CheckForm.{CheckForm}
-use Rattle.jc_lines.specs.declared.checking.CheckForm.TheVariants as forms
+use Rattle.jc_check.specs.declared.checking.CheckForm.{CheckForm}
+use Rattle.jc_check.specs.declared.checking.CheckForm.TheVariants as forms
 use Rattle.jc_session.specs.declared.words.Request.{Request}
 use Rattle.jc_session.specs.declared.words.Request.TheVariants as requests
 
