@@ -9,12 +9,19 @@ use std::alloc::{AllocError, Global};
 /// Bytes by the names that a file gives them.
 pub(crate) type Names = ByteMap<Vec<u8>>;
 
-/// Bytes one after another, where those of the open brackets begin, and where the last part does.
+/// Bytes one after another, the open brackets, and where the last part begins.
 #[derive(Drop)]
 struct Parts {
     bytes: Vec<u8>,
-    open: Vec<usize>,
+    open: Vec<Bracket>,
     last: usize,
+}
+
+/// Where what it holds begins, and in how many bytes its length stands in front.
+#[derive(Drop)]
+struct Bracket {
+    at: usize,
+    length_bytes: usize,
 }
 
 impl Parts {
@@ -23,8 +30,14 @@ impl Parts {
             Token::Quoted(text) => self.push(text.as_bytes())?,
             Token::Word(word) => self.push_word(alloc, names, word)?,
             Token::Times(times) => self.repeat(alloc, times)?,
-            Token::Open => self.open.push(self.bytes.len())?,
-            Token::Close => self.last = self.open.pop().context("a bracket too many")?,
+            Token::Open(length_bytes) => self.open.push(Bracket {
+                at: self.bytes.len(),
+                length_bytes,
+            })?,
+            Token::Close => {
+                let bracket = self.open.pop().context("a bracket too many")?;
+                self.close(alloc, bracket)?;
+            }
             _ => bail!("a mark is no part"),
         }
         Ok(())
@@ -45,6 +58,21 @@ impl Parts {
             bail!("nothing has the name {word}");
         };
         Ok(self.push(bytes)?)
+    }
+
+    /// Puts the length of what a bracket holds in front of it.
+    fn close(&mut self, alloc: Global, bracket: Bracket) -> Result<()> {
+        let Bracket { at, length_bytes } = bracket;
+        let held = Vec::from_slice(alloc, self.bytes.get(at..).unwrap_or(&[]))?;
+        self.bytes.truncate(at);
+        let length = u32::try_from(held.len()).context("a bracket that holds too much")?;
+        let digits = length.to_be_bytes();
+        let front = digits.len().saturating_sub(length_bytes);
+        self.bytes
+            .extend_from_slice(digits.get(front..).unwrap_or(&[]))?;
+        self.bytes.extend_from_slice(&held)?;
+        self.last = at;
+        Ok(())
     }
 
     /// Has the last part stand so many times.

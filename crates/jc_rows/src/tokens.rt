@@ -9,7 +9,8 @@ pub(crate) enum Token<'a> {
     Quoted(&'a str),
     /// Hexadecimal digits, a name or another word.
     Word(&'a str),
-    Open,
+    /// A bracket, behind which the length of what it holds stands in so many bytes.
+    Open(usize),
     Close,
     /// `*N`: the part in front of it stands so many times.
     Times(usize),
@@ -17,15 +18,21 @@ pub(crate) enum Token<'a> {
     Arrow,
 }
 
-const MARKS: [(&str, Token); 4] = [
-    ("(", Token::Open),
+const MARKS: [(&str, Token); 7] = [
+    ("(", Token::Open(0)),
+    ("u2[", Token::Open(2)),
+    ("u4[", Token::Open(4)),
     (")", Token::Close),
+    ("]", Token::Close),
     ("=", Token::Equals),
     ("->", Token::Arrow),
 ];
 
 fn ends_a_word(byte: u8) -> bool {
-    matches!(byte, b' ' | b'\t' | b'"' | b'(' | b')' | b'*' | b'=' | b'#')
+    matches!(
+        byte,
+        b' ' | b'\t' | b'"' | b'(' | b')' | b']' | b'*' | b'=' | b'#'
+    )
 }
 
 fn split_word(text: &str) -> (&str, &str) {
