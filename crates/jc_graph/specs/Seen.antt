@@ -32,7 +32,7 @@ unseen [] = 0
 unseen (b ∷ bs) = cond b 0 1 + unseen bs
 
 -- these nodes were added, at the end of the list
-pub record Grows (flags : List Bool) (list : List ℕ) (flags2 : List Bool) (list2 : List ℕ) (nodes : List ℕ) : Type 0 where
+pub record SeesMore (flags : List Bool) (list : List ℕ) (flags2 : List Bool) (list2 : List ℕ) (nodes : List ℕ) : Type 0 where
   pub seen : IsSeen flags list → IsSeen flags2 list2
   pub size : length flags2 ≡ length flags
   pub kept : (v : ℕ) → flag_at flags v ≡ true → flag_at flags2 v ≡ true

@@ -2,7 +2,7 @@
 
 ghost use Rattle.std.specs.Prelude.{◌≡◌, ◌<◌, ◌++◌, ◌∷◌, [], ℕ, length, OnOk, OnErr, IfOk, true, false, slice_set};
 ghost use Rattle.std.specs.List.{All};
-ghost use Rattle.jc_graph.specs.Seen.{Grows, flag_at, node_at};
+ghost use Rattle.jc_graph.specs.Seen.{SeesMore, flag_at, node_at};
 
 use jc_base::NoMemory;
 use std::alloc::Global;
@@ -95,7 +95,7 @@ impl Seen {
     /// Adds a node, unless it is there.
     fn add_once(&mut self, node: usize) -> Result<(), NoMemory>
         requires { node < length self.old.flags }
-        ensures { OnOk result (Grows self.old.flags self.old.list self.new.flags self.new.list (node ∷ [])) }
+        ensures { OnOk result (SeesMore self.old.flags self.old.list self.new.flags self.new.list (node ∷ [])) }
     {
         if self.has(node) {
             return Ok(());
@@ -107,7 +107,7 @@ impl Seen {
     /// Adds each node of a list that is not there.
     pub fn add_all(&mut self, nodes: &[usize]) -> Result<(), NoMemory>
         requires { All (λ v. v < length self.old.flags) nodes.now }
-        ensures { OnOk result (Grows self.old.flags self.old.list self.new.flags self.new.list nodes.now) }
+        ensures { OnOk result (SeesMore self.old.flags self.old.list self.new.flags self.new.list nodes.now) }
     {
         for node in nodes {
             self.add_once(*node)?;

@@ -4,7 +4,7 @@ use Rattle.std.proofs.lemmas.Bool.{false≢true}
 use Rattle.std.proofs.lemmas.List.Elements.{Contains-get_or, All-contains}
 use Rattle.std.proofs.lemmas.List.{get_or_default}
 use Rattle.std.specs.List.{Contains, All}
-use Rattle.jc_graph.specs.Seen.{flag_at, node_at, IsSeen, Grows}
+use Rattle.jc_graph.specs.Seen.{flag_at, node_at, IsSeen, SeesMore}
 use Rattle.jc_graph.specs.Graph.{Ups, Above}
 use Rattle.jc_graph.specs.Graph.Above.{direct, further}
 use Rattle.jc_graph.specs.Seen.{AboveSome, TellsAbove}
@@ -30,7 +30,7 @@ module _ (count : ℕ) (up : Ups) (starts : List ℕ) where
     first = λ j v l. absurd (omega arith);
   }
 
-  pub rooted_more : (flags : List Bool) (list : List ℕ) (f2 : List Bool) (l2 : List ℕ) (i : ℕ) → i < length starts → Rooted count up starts flags list i → Grows flags list f2 l2 (up (node_at starts i)) → Rooted count up starts f2 l2 (i + 1)
+  pub rooted_more : (flags : List Bool) (list : List ℕ) (f2 : List Bool) (l2 : List ℕ) (i : ℕ) → i < length starts → Rooted count up starts flags list i → SeesMore flags list f2 l2 (up (node_at starts i)) → Rooted count up starts f2 l2 (i + 1)
   rooted_more flags list f2 l2 i l r g = record {
     size = g.size ∙ r.size;
     seen = g.seen r.seen;
@@ -41,7 +41,7 @@ module _ (count : ℕ) (up : Ups) (starts : List ℕ) where
         (last_or_less j i k);
   }
 
-  pub climbing_more : (flags : List Bool) (list : List ℕ) (f2 : List Bool) (l2 : List ℕ) (at : ℕ) → at < length list → Climbing count up starts flags list at → Grows flags list f2 l2 (up (node_at list at)) → Climbing count up starts f2 l2 (at + 1)
+  pub climbing_more : (flags : List Bool) (list : List ℕ) (f2 : List Bool) (l2 : List ℕ) (at : ℕ) → at < length list → Climbing count up starts flags list at → SeesMore flags list f2 l2 (up (node_at list at)) → Climbing count up starts f2 l2 (at + 1)
   climbing_more flags list f2 l2 at l r g =
       let here : AboveSome up starts (node_at list at) = r.rooted.sound (node_at list at) (r.rooted.seen.flagged (node_at list at) (contains_at list at l)) in
       record {

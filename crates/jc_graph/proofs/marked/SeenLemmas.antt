@@ -3,7 +3,7 @@ use Rattle.std.proofs.Common.{◌≡◌, ℕ, ◌+◌, ◌<◌, length-append, z
 use Rattle.std.proofs.lemmas.Bool.{false≢true}
 use Rattle.std.proofs.lemmas.List.Elements.{Contains-append_left, Contains-append_right, Contains-append_cases, Contains-push, Contains-push_cases, All-push, All-pop, All-contains}
 use Rattle.std.specs.List.{Contains}
-use Rattle.jc_graph.specs.Seen.{flag_at, node_at, IsListed, IsSeen, unseen, Grows}
+use Rattle.jc_graph.specs.Seen.{flag_at, node_at, IsListed, IsSeen, unseen, SeesMore}
 
 pub flag_same : (flags : List Bool) (v : ℕ) (b : Bool) → v < length flags → flag_at (set flags v b) v ≡ b
 flag_same [] v b l = absurd (omega arith)
@@ -73,8 +73,8 @@ pub contains_one : (v u : ℕ) → Contains (v ∷ []) u → v ≡ u
 contains_one v u (zero, l, e) = e
 contains_one v u (suc k, l, e) = absurd (omega arith)
 
-pub grows_same : (flags : List Bool) (list : List ℕ) (v : ℕ) → flag_at flags v ≡ true → Grows flags list flags list (v ∷ [])
-grows_same flags list v e = record {
+pub sees_same : (flags : List Bool) (list : List ℕ) (v : ℕ) → flag_at flags v ≡ true → SeesMore flags list flags list (v ∷ [])
+sees_same flags list v e = record {
   seen = λ s. s;
   size = refl;
   kept = λ u h. h;
@@ -90,8 +90,8 @@ node_push [] v j l = absurd (omega arith)
 node_push (x ∷ xs) v zero l = refl
 node_push (x ∷ xs) v (suc j) l = node_push xs v j (omega arith)
 
-pub grows_add : (flags : List Bool) (list : List ℕ) (v : ℕ) → v < length flags → flag_at flags v ≡ false → Grows flags list (set flags v true) (list ++ v ∷ []) (v ∷ [])
-grows_add flags list v l e = record {
+pub sees_add : (flags : List Bool) (list : List ℕ) (v : ℕ) → v < length flags → flag_at flags v ≡ false → SeesMore flags list (set flags v true) (list ++ v ∷ []) (v ∷ [])
+sees_add flags list v l e = record {
   seen = seen_add flags list v l;
   size = length-set flags v true;
   kept = λ u h. flag_stays flags v u h;
@@ -102,8 +102,8 @@ grows_add flags list v l e = record {
   counted = let h = length-append list (v ∷ []) in let k = unseen_set flags v l e in omega arith;
 }
 
-pub grows_more : (f : List Bool) (l : List ℕ) (f2 : List Bool) (l2 : List ℕ) (f3 : List Bool) (l3 xs ys : List ℕ) → Grows f l f2 l2 xs → Grows f2 l2 f3 l3 ys → Grows f l f3 l3 (xs ++ ys)
-grows_more f l f2 l2 f3 l3 xs ys g h = record {
+pub sees_more : (f : List Bool) (l : List ℕ) (f2 : List Bool) (l2 : List ℕ) (f3 : List Bool) (l3 xs ys : List ℕ) → SeesMore f l f2 l2 xs → SeesMore f2 l2 f3 l3 ys → SeesMore f l f3 l3 (xs ++ ys)
+sees_more f l f2 l2 f3 l3 xs ys g h = record {
   seen = λ s. h.seen (g.seen s);
   size = h.size ∙ g.size;
   kept = λ v e. h.kept v (g.kept v e);
@@ -114,8 +114,8 @@ grows_more f l f2 l2 f3 l3 xs ys g h = record {
   counted = h.counted ∙ g.counted;
 }
 
-pub grows_none : (f : List Bool) (l : List ℕ) → Grows f l f l []
-grows_none f l = record {
+pub sees_none : (f : List Bool) (l : List ℕ) → SeesMore f l f l []
+sees_none f l = record {
   seen = λ s. s;
   size = refl;
   kept = λ u h. h;
