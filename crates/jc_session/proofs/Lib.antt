@@ -1,2 +1,3 @@
+pub mod asking
 pub mod endings
 pub mod walking

@@ -1,4 +1,5 @@
 pub mod Statuses
+pub mod Words
 pub mod inside
 pub use Rattle.jc_base.specs.Bytes
 pub use Rattle.jc_base.specs.CodeUnits

@@ -22,6 +22,7 @@ use Rattle.jc_limits.specs.FileEdits.{size_fault}
 use Rattle.jc_edits.specs.SessionState.{HeldFiles}
 use Rattle.jc_lines.specs.Runs.{RunsByAnswers, left_by}
 use Rattle.jc_report.specs.Reports.{IsReport, Report, is_wrong}
+use Rattle.jc_session.specs.Words.{AsksCheck, AsksListing, AsksRun, Word}
 
 -- why the program ends with a line on standard error
 pub data Fault : Type 0 where
@@ -52,10 +53,12 @@ IsOutcome (Err e) h outcome = outcome ≡ Err (fault_of e)
 abbrev pub begun : List (List ℕ) → HeldFiles
 begun prefixes = record { files = map.empty; prefixes = prefixes }
 
--- a run over the input, with no files at first, by the answers that its source gave, had this outcome
-abbrev pub RunsSession : Outcome → (input coming before now : Option (List ℕ)) → Type 0
-RunsSession outcome input coming before now =
-    (prefixes : List (List ℕ)) × (ending : Result Ended RunError) × (held : HeldFiles) × IsOutcome ending held outcome
+-- a run over the input, with no files at first, by the prefixes that the words ask for and the answers that its source gave, had
+-- this outcome
+abbrev pub RunsSession : (words : List Word) → Outcome → (input coming before now : Option (List ℕ)) → Type 0
+RunsSession words outcome input coming before now =
+    (prefixes : List (List ℕ)) × AsksRun words prefixes
+    × (ending : Result Ended RunError) × (held : HeldFiles) × IsOutcome ending held outcome
     × RunsByAnswers (begun prefixes) input ending (left_by held (Some []) coming before now)
 
 -- the listing of a file was written, or why the bytes are none, or not all of it
@@ -83,29 +86,39 @@ abbrev pub outcome_of_check : Result Bool CheckFault → Outcome
 outcome_of_check (Ok wrong) = Ok wrong
 outcome_of_check (Err fault) = Err (fault_of_check fault)
 
--- a folder could not be walked, or the files at the paths that the walk gave were checked, by what was read at each
-abbrev pub Checks : Outcome → (before now : Option (List ℕ)) → Type 0
-Checks outcome before now =
+-- the file that the words ask for was listed
+abbrev pub Lists : (words : List Word) → Outcome → (before now : Option (List ℕ)) → Type 0
+Lists words outcome before now =
+    (path : List ℕ) × AsksListing words path × (answer : Result (List ℕ) SourceError) × ListsAs path answer outcome before now
+
+-- the files at some paths were checked, as the words ask for it, by what was read at each
+abbrev pub ChecksFiles : (words : List Word) → Outcome → (before now : Option (List ℕ)) → Type 0
+ChecksFiles words outcome before now =
+    (prefixes : List (List ℕ)) × (form : CheckForm) × (folder : List ℕ) × AsksCheck words prefixes form folder
+    × (paths : List (List ℕ)) × (answers : List Answer) × (checked : Result Bool CheckFault)
+    × (outcome ≡ outcome_of_check checked)
+    × ChecksAs prefixes form (added map.empty paths answers) checked before now
+
+-- a folder could not be walked, or the files at the paths that the walk gave were checked
+abbrev pub Checks : (words : List Word) → Outcome → (before now : Option (List ℕ)) → Type 0
+Checks words outcome before now =
     ((outcome ≡ Err NoMemory) × Keeps before now)
     ⊎ ((folder : List ℕ) × (outcome ≡ Err (Unread folder)) × Keeps before now)
-    ⊎ ((prefixes : List (List ℕ)) × (form : CheckForm) × (paths : List (List ℕ)) × (answers : List Answer) × (checked : Result Bool CheckFault)
-    × (outcome ≡ outcome_of_check checked)
-    × ChecksAs prefixes form (added map.empty paths answers) checked before now)
+    ⊎ ChecksFiles words outcome before now
 
 -- the first word
-abbrev pub NamesCommand : (command : List ℕ) → (words : List (List ℕ)) → Type 0
-NamesCommand command words = (behind : List (List ℕ)) × (words ≡ command ∷ behind)
+abbrev pub NamesCommand : (command : Word) → (words : List Word) → Type 0
+NamesCommand command words = (behind : List Word) × (words ≡ command ∷ behind)
 
 -- the words were refused, or there was no memory for them; or the command that they name was done: a run, a listing
 -- of a file, or a check of a tree. Nothing but a run touches the input, of which a function tells what is left
-abbrev pub Performs : {R : Type 0} → (remaining : R → Option (List ℕ)) → (words : List (List ℕ)) → Outcome
+abbrev pub Performs : {R : Type 0} → (remaining : R → Option (List ℕ)) → (words : List Word) → Outcome
     → (input coming : R) → (before now : Option (List ℕ)) → Type 0
 Performs remaining words outcome input coming before now =
     (((outcome ≡ Err Usage) ⊎ (outcome ≡ Err NoMemory)) × (coming ≡ input) × Keeps before now)
-    ⊎ (NamesCommand (codes "session") words × RunsSession outcome (remaining input) (remaining coming) before now)
-    ⊎ (NamesCommand (codes "list") words × (coming ≡ input)
-    × ((path : List ℕ) × (answer : Result (List ℕ) SourceError) × ListsAs path answer outcome before now))
-    ⊎ (NamesCommand (codes "check") words × (coming ≡ input) × Checks outcome before now)
+    ⊎ (NamesCommand (codes "session") words × RunsSession words outcome (remaining input) (remaining coming) before now)
+    ⊎ (NamesCommand (codes "list") words × (coming ≡ input) × Lists words outcome before now)
+    ⊎ (NamesCommand (codes "check") words × (coming ≡ input) × Checks words outcome before now)
 
 abbrev pub fault_status : Fault → ℕ
 fault_status Usage = 2

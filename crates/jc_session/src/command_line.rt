@@ -12,6 +12,7 @@ ghost use Rattle.jc_lines.specs.Runs.{RunsByAnswers, RunsFrom, left_by};
 ghost use Rattle.jc_input.specs.Sources.{TakesAnswer, answer_of};
 ghost use Rattle.jc_session.specs.Statuses.{Checks, CountsInput, CountsOutput, IsOutcome, ListsAs, Outcome, Performs, Tells};
 ghost use Rattle.jc_session.specs.Statuses.{begun, outcome_of_check, status_of};
+ghost use Rattle.jc_session.specs.Words.{AsksCheck, Word};
 ghost use Rattle.jc_session.specs.inside.LentFaults.{outcome_lent};
 
 use crate::fault::{Fault, tell};
@@ -77,7 +78,8 @@ fn check_folder<'a, F: Files + AllocGlobal, W: Output, E: Output>(
     err: &mut E,
 ) -> u8
     ensures { (outcome : Outcome)
-        × Checks outcome (W.written out.old) (W.written out.new)
+        × ((words : List Word) → AsksCheck words outside.now form.now folder.now
+        → Checks words outcome (W.written out.old) (W.written out.new))
         × (result ≡ status_of outcome)
         × CountsOutput outcome (W.failures out.old) (W.failures out.new)
         × Tells outcome (E.written err.old) (E.written err.new) (E.failures err.old) (E.failures err.new) }

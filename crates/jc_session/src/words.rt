@@ -1,11 +1,15 @@
 //! What the words after the program's name ask for.
 
-ghost use Rattle.std.specs.Prelude.{◌≡◌, ◌⊎◌, ◌↔◌, IfErr, IfOk, None, OnErr, Some, codes, map};
-ghost use Rattle.clap.specs.Matches.{first_value, found_of};
+ghost use Rattle.std.specs.Prelude.{◌≡◌, ◌⊎◌, ◌↔◌, IfErr, IfOk, None, OnErr, Some, codes, false, map};
+ghost use Rattle.clap.specs.Matches.{found_of};
+ghost use Rattle.clap.specs.Simple.{app_of, subcommand_rows_of};
 ghost use Rattle.clap.specs.Values.{kind_of};
+ghost use Rattle.clap.specs.Walk.{first_of, rows_of, rule_of};
 ghost use Rattle.jc_session.specs.Statuses.{NamesCommand, NoMemory, Usage};
+ghost use Rattle.jc_session.specs.Words as line;
+ghost use Rattle.jc_session.specs.Words.{AsksForm, HoldsGiven, given};
 ghost use Rattle.jc_session.specs.inside.LentFaults.{fault_lent};
-ghost use Rattle.jc_session.specs.inside.Requests.{AreRefused, AsksFor, AsksForm, HoldsGiven, command_of, given_among};
+ghost use Rattle.jc_session.specs.inside.Requests.{AreRefused, AsksAmong, AsksBy, AsksFor, HasLeaf, IsLeaf, command_of};
 
 use crate::fault::Fault;
 use clap::error::ErrorKind;
@@ -27,6 +31,7 @@ pub(crate) enum Request<'w> {
 /// What the words ask for: `session` and prefixes, `list` and a path, or `check`, its options and a folder.
 pub(crate) fn asked<'w>(alloc: Global, words: &'w [&'w str]) -> Result<Request<'w>, Fault<'w>>
     ensures command { IfOk result (λ request. NamesCommand (command_of request) (map (λ word. word.now) words.now)) }
+    ensures asks { IfOk result (AsksFor (map (λ word. word.now) words.now)) }
     ensures fault { IfErr result (λ fault. (fault_lent fault ≡ Usage) ⊎ (fault_lent fault ≡ NoMemory)) }
 {
     let matches = match jclink_command(alloc)?.try_get_matches_from(words) {
@@ -46,6 +51,7 @@ fn request_of<'w>(
     matches: &ArgMatches<'w>,
 ) -> Result<Request<'w>, Fault<'w>>
     ensures command { IfOk result (λ request. command.now ≡ command_of request) }
+    ensures asks { IfOk result (AsksBy (subcommand_rows_of matches.now)) }
     ensures fault { IfErr result (λ fault. (fault_lent fault ≡ Usage) ⊎ (fault_lent fault ≡ NoMemory)) }
 {
     match (command, matches.subcommand()) {
@@ -59,8 +65,8 @@ fn request_of<'w>(
 /// The file to list. None is usage.
 fn list_request<'w>(matches: &ArgMatches<'w>) -> Result<Request<'w>, Fault<'w>>
     ensures command { IfOk result (λ request. command_of request ≡ codes "list") }
-    ensures asks { IfOk result (AsksFor (found_of matches.now)) }
-    ensures none { OnErr result (first_value (found_of matches.now) (codes "FILE") ≡ None) }
+    ensures asks { IfOk result (AsksAmong (rows_of (found_of matches.now))) }
+    ensures none { OnErr result (first_of (codes "FILE") (rows_of (found_of matches.now)) ≡ None) }
     ensures fault { IfErr result (λ fault. (fault_lent fault ≡ Usage) ⊎ (fault_lent fault ≡ NoMemory)) }
 {
     match matches.get_str("FILE") {
@@ -72,7 +78,7 @@ fn list_request<'w>(matches: &ArgMatches<'w>) -> Result<Request<'w>, Fault<'w>>
 /// The folder to check, the outside prefixes, and what is written of the report.
 fn check_request<'w>(alloc: Global, matches: &ArgMatches<'w>) -> Result<Request<'w>, Fault<'w>>
     ensures command { IfOk result (λ request. command_of request ≡ codes "check") }
-    ensures asks { IfOk result (AsksFor (found_of matches.now)) }
+    ensures asks { IfOk result (AsksAmong (rows_of (found_of matches.now))) }
     ensures fault { IfErr result (λ fault. (fault_lent fault ≡ Usage) ⊎ (fault_lent fault ≡ NoMemory)) }
 {
     match matches.get_str("DIR") {
@@ -87,7 +93,7 @@ fn check_request<'w>(alloc: Global, matches: &ArgMatches<'w>) -> Result<Request<
 /// What is written of the report: with `--errors` what makes it wrong, of what each `--only` names. `--only` alone is
 /// usage.
 fn form<'w>(alloc: Global, matches: &ArgMatches<'w>) -> Result<CheckForm, Fault<'w>>
-    ensures asks { IfOk result (AsksForm (found_of matches.now)) }
+    ensures asks { IfOk result (AsksForm (rows_of (found_of matches.now))) }
     ensures fault { IfErr result (λ fault. (fault_lent fault ≡ Usage) ⊎ (fault_lent fault ≡ NoMemory)) }
 {
     match (matches.get_flag("errors"), matches.get_strs("only")) {
@@ -103,8 +109,8 @@ fn form<'w>(alloc: Global, matches: &ArgMatches<'w>) -> Result<CheckForm, Fault<
 
 /// The outside prefixes: those that are given, else the standard ones.
 fn outside<'w>(alloc: Global, matches: &ArgMatches<'w>) -> Result<Outside, Fault<'w>>
-    ensures held { IfOk result (HoldsGiven (given_among (found_of matches.now))) }
-    ensures refused { IfErr result (λ fault. fault_lent fault ≡ Usage → AreRefused (given_among (found_of matches.now))) }
+    ensures held { IfOk result (HoldsGiven (given (codes "outside") (rows_of (found_of matches.now)))) }
+    ensures refused { IfErr result (λ fault. fault_lent fault ≡ Usage → AreRefused (given (codes "outside") (rows_of (found_of matches.now)))) }
     ensures fault { IfErr result (λ fault. (fault_lent fault ≡ Usage) ⊎ (fault_lent fault ≡ NoMemory)) }
 {
     match matches.get_strs("outside") {
@@ -143,7 +149,10 @@ fn words_fault(error: &clap::Error) -> Fault<'static>
     }
 }
 
-fn jclink_command<'a>(alloc: Global) -> Result<Command<'a>, AllocError> {
+/// The command line, one command with three.
+fn jclink_command<'a>(alloc: Global) -> Result<Command<'a>, AllocError>
+    ensures { IfOk result (λ command. app_of command ≡ line.jclink_command) }
+{
     let command = Command::new(alloc, "jclink")
         .no_binary_name(true)
         .subcommand_required(true);
@@ -156,20 +165,28 @@ fn jclink_command<'a>(alloc: Global) -> Result<Command<'a>, AllocError> {
 fn with_subcommand<'a>(
     command: Command<'a>,
     subcommand: Result<Command<'a>, AllocError>,
-) -> Result<Command<'a>, AllocError> {
+) -> Result<Command<'a>, AllocError>
+    ensures { IfOk result (HasLeaf (app_of command.entry) subcommand.entry) }
+{
     command.subcommand(subcommand?)
 }
 
-fn session_command<'a>(alloc: Global) -> Result<Command<'a>, AllocError> {
+fn session_command<'a>(alloc: Global) -> Result<Command<'a>, AllocError>
+    ensures { IfOk result (IsLeaf line.session_command) }
+{
     Command::new(alloc, "session").arg(prefix_option(alloc, "outside"))
 }
 
-fn list_command<'a>(alloc: Global) -> Result<Command<'a>, AllocError> {
+fn list_command<'a>(alloc: Global) -> Result<Command<'a>, AllocError>
+    ensures { IfOk result (IsLeaf line.list_command) }
+{
     let file = Arg::new(alloc, "FILE").required(true);
     Command::new(alloc, "list").arg(file)
 }
 
-fn check_command<'a>(alloc: Global) -> Result<Command<'a>, AllocError> {
+fn check_command<'a>(alloc: Global) -> Result<Command<'a>, AllocError>
+    ensures { IfOk result (IsLeaf line.check_command) }
+{
     let errors = Arg::new(alloc, "errors")
         .long("errors")
         .action(ArgAction::SetTrue);
@@ -182,6 +199,9 @@ fn check_command<'a>(alloc: Global) -> Result<Command<'a>, AllocError> {
 }
 
 /// An option that may be given several times.
-fn prefix_option<'a>(alloc: Global, name: &'a str) -> Arg<'a> {
+fn prefix_option<'a>(alloc: Global, name: &'a str) -> Arg<'a>
+    ensures rule { rule_of result ≡ line.prefix_option name.entry.now }
+    ensures own { result.global ≡ false }
+{
     Arg::new(alloc, name).long(name).action(ArgAction::Append)
 }

@@ -7,6 +7,7 @@ use Rattle.jc_input.specs.RunErrors.{CountsReads, CountsWrites}
 use Rattle.jc_check.specs.Checks.{CheckFault, FileRefused, FileUnread, WriteFailed}
 use Rattle.jc_check.specs.Checks as checks
 use Rattle.jc_session.specs.Statuses.{Checks, Fault, NoMemory, Outcome, Usage, fault_of, outcome_of_check, CountsInput, CountsOutput}
+use Rattle.jc_session.specs.Words.{Word}
 
 pub input_counts : (e : RunError) (old new : ℕ) → CountsReads {T = Ended} (Err e) old new → CountsInput (Err (fault_of e)) old new
 input_counts run_errors.Read old new counts = counts
@@ -33,7 +34,7 @@ counts_of_check (Err WriteFailed) n = refl
 counts_of_check (Err checks.NoMemory) n = refl
 
 -- a check reads no input
-pub input_unread : (outcome : Outcome) (before now : Option (List ℕ)) (n : ℕ) → Checks outcome before now → CountsInput outcome n n
-input_unread outcome before now n =
+pub input_unread : (words : List Word) (outcome : Outcome) (before now : Option (List ℕ)) (n : ℕ) → Checks words outcome before now → CountsInput outcome n n
+input_unread words outcome before now n =
     ⊎_elim (λ h. subst (λ x. CountsInput x n n) (sym h.0) refl)
-    (⊎_elim (λ h. subst (λ x. CountsInput x n n) (sym h.1) refl) (λ h. subst (λ x. CountsInput x n n) (sym h.5) (counts_of_check h.4 n)))
+    (⊎_elim (λ h. subst (λ x. CountsInput x n n) (sym h.1) refl) (λ h. subst (λ x. CountsInput x n n) (sym h.7) (counts_of_check h.6 n)))

@@ -1,13 +1,23 @@
 use Rattle.std.proofs.Common.{Err, inl, inr, refl}
 use Rattle.std.proofs.KnownBytes.{Keeps-refl}
-use Rattle.jc_session.specs.Statuses.{NoMemory, Unread}
+use Rattle.jc_session.specs.Statuses.{NoMemory, Unread, outcome_of_check}
 use Rattle.jc_session.proofs.command_line.check_folder.Goals as goal
+
+pub returns-in-Ok : goal.returns-in-Ok
+returns-in-Ok g c =
+    let did = c.check_files.ensures in (
+      outcome_of_check did.1,
+      λ words asked. inr (inr (c.args.outside.now, c.args.form.now, c.args.folder.now, asked, _, did.0, did.1, refl, did.3)),
+      did.4,
+      did.5,
+      did.6,
+    )
 
 pub returns-in-Err-Unread : goal.returns-in-Err-Unread
 returns-in-Err-Unread g c =
     let path = c.deref-in-Err-Unread.result.now in
-    (Err (Unread path), inr (inl (path, refl, Keeps-refl (g.W.Output.written c.args.out.now))), c.conclude.ensures.status, refl, c.conclude.ensures.tells)
+    (Err (Unread path), λ words asked. inr (inl (path, refl, Keeps-refl (g.W.Output.written c.args.out.now))), c.conclude.ensures.status, refl, c.conclude.ensures.tells)
 
 pub returns-in-Err-NoMemory : goal.returns-in-Err-NoMemory
 returns-in-Err-NoMemory g c =
-    (Err NoMemory, inl (refl, Keeps-refl (g.W.Output.written c.args.out.now)), c.conclude-in-Err-NoMemory.ensures.status, refl, c.conclude-in-Err-NoMemory.ensures.tells)
+    (Err NoMemory, λ words asked. inl (refl, Keeps-refl (g.W.Output.written c.args.out.now)), c.conclude-in-Err-NoMemory.ensures.status, refl, c.conclude-in-Err-NoMemory.ensures.tells)

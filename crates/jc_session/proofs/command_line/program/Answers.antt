@@ -1,21 +1,27 @@
-use Rattle.std.proofs.Common.{Err, codes, inl, inr, map, refl, rules}
+use Rattle.std.proofs.Common.{Err, codes, inl, inr, map, refl, rules, subst}
 use Rattle.jc_session.proofs.endings.FailuresCounted.{input_idle, input_unread, output_idle}
 use Rattle.jc_session.proofs.endings.WordsRefused.{words_perform}
 use Rattle.jc_session.specs.Statuses.{NamesCommand}
 use Rattle.jc_session.specs.inside.LentFaults.{fault_lent}
+use Rattle.jc_session.specs.inside.Requests.{AsksFor}
 use Rattle.jc_session.proofs.command_line.program.Goals as goal
 
 pub returns-in-Ok-Session : goal.returns-in-Ok-Session
 returns-in-Ok-Session g c =
     let did = c.serve.ensures in
-    let named : NamesCommand (codes "session") (map (λ word. word.now) c.args.words.now) = search rules in
-    (did.2, inr (inl (named, (c.in-Ok-Session.outside, did.0, did.1, did.3, did.9))), did.4, did.5, did.6, did.7)
+    let words = map (λ word. word.now) c.args.words.now in
+    let named : NamesCommand (codes "session") words = search rules in
+    let asked = subst (AsksFor words) c.in-Ok-Session.field-0-is c.in-Ok-Session.ensures.asks in
+    (did.2, inr (inl (named, (c.in-Ok-Session.outside, asked, did.0, did.1, did.3, did.9))), did.4, did.5, did.6, did.7)
 
 pub returns-in-Ok-Check : goal.returns-in-Ok-Check
 returns-in-Ok-Check g c =
     let did = c.check_folder.ensures in
-    let named : NamesCommand (codes "check") (map (λ word. word.now) c.args.words.now) = search rules in
-    (did.0, inr (inr (inr (named, refl, did.1))), did.2, input_unread did.0 _ _ _ did.1, did.3, did.4)
+    let words = map (λ word. word.now) c.args.words.now in
+    let named : NamesCommand (codes "check") words = search rules in
+    let asked = subst (AsksFor words) c.in-Ok-Check.field-0-is c.in-Ok-Check.ensures.asks in
+    let checks = did.1 words asked in
+    (did.0, inr (inr (inr (named, refl, checks))), did.2, input_unread words did.0 _ _ _ checks, did.3, did.4)
 
 pub returns-in-Err : goal.returns-in-Err
 returns-in-Err g c =

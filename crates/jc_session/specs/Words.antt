@@ -1,0 +1,98 @@
+-- What the words of the command line ask for, as `clap` finds it among them.
+use Rattle.std.specs.Prelude.{◌≡◌, ◌↔◌, ℕ, true, List, codes, IsSome, Option, Some, None}
+use Rattle.std.specs.List.{Contains}
+use Rattle.clap.specs.Simple.{App, new_app, new_rule, on_top, subcommand_of, with_rule, with_subcommand}
+use Rattle.clap.specs.Walk.{Row, Rule, all_of, first_of, one_of}
+use Rattle.clap.specs.declared.builder.action.ArgAction.TheVariants.{Append, SetTrue}
+use Rattle.jc_check.specs.declared.checking.CheckForm.{CheckForm}
+use Rattle.jc_check.specs.declared.checking.CheckForm.TheVariants as forms
+use Rattle.jc_classes.specs.Names.{Name}
+use Rattle.jc_classes.specs.Numbers.{IsOnce}
+use Rattle.jc_link.specs.Prefixes.{standard_prefixes}
+
+-- ---- the command line
+
+abbrev pub Word : Type 0
+Word = List ℕ
+
+-- `--name PREFIX`, which may be given several times
+abbrev pub prefix_option : Word → Rule
+prefix_option name = record (new_rule name) { long = Some name; action = Some Append }
+
+-- `--name`
+abbrev pub flag : Word → Rule
+flag name = record (new_rule name) { long = Some name; action = Some SetTrue }
+
+-- a path that has to be given
+abbrev pub path_wanted : Word → Rule
+path_wanted name = record (new_rule name) { required = true }
+
+abbrev pub session_command : App
+session_command = with_rule (new_app (codes "session")) (prefix_option (codes "outside"))
+
+abbrev pub list_command : App
+list_command = with_rule (new_app (codes "list")) (path_wanted (codes "FILE"))
+
+abbrev pub check_options : App
+check_options = with_rule (with_rule (with_rule (new_app (codes "check"))
+    (flag (codes "errors"))) (prefix_option (codes "only"))) (prefix_option (codes "outside"))
+
+abbrev pub check_command : App
+check_command = with_rule check_options (path_wanted (codes "DIR"))
+
+-- one of its commands has to be named, by the first word
+abbrev pub jclink_alone : App
+jclink_alone = on_top (λ s. record s { no_binary_name = true; subcommand_required = true }) (new_app (codes "jclink"))
+
+abbrev pub jclink_command : App
+jclink_command = with_subcommand (with_subcommand (with_subcommand jclink_alone session_command.top) list_command.top) check_command.top
+
+-- the words name this command, and behind it `clap` finds these rows, one for each option and path that has a value
+abbrev pub Finds : (words : List Word) → (command : Word) → List Row → Type 0
+Finds words command rows = subcommand_of jclink_command words ≡ Some (command, rows)
+
+-- ---- prefixes
+
+-- what an option was given, each time
+abbrev pub given : (option : Word) → List Row → Option (List Name)
+given option rows = all_of option rows
+
+-- the prefixes that are given, each once, or the standard ones where none is
+abbrev pub HoldsGiven : Option (List Name) → List Name → Type 0
+HoldsGiven None held = held ≡ standard_prefixes
+HoldsGiven (Some texts) held = ((p : Name) → Contains held p ↔ Contains texts p) × IsOnce held
+
+-- ---- the form of a check
+
+-- a flag that is given has the text `true`, and one that is not has `false`
+abbrev pub IsGiven : (flag : Word) → List Row → Type 0
+IsGiven flag rows = one_of flag rows ≡ Some (codes "true")
+
+abbrev pub IsLacking : (flag : Word) → List Row → Type 0
+IsLacking flag rows = one_of flag rows ≡ Some (codes "false")
+
+-- what makes a report wrong is told of what each `--only` names, or of all where none is given
+abbrev pub TellsOnly : Option (List Name) → Option (List Name) → Type 0
+TellsOnly named None = named ≡ None
+TellsOnly named (Some held) = IsSome named × HoldsGiven named held
+
+-- without `--errors` the report is asked for, and with it what makes that wrong; `--only` is for errors alone
+abbrev pub AsksForm : List Row → CheckForm → Type 0
+AsksForm rows forms.Report = ¬ (IsGiven (codes "errors") rows) × (given (codes "only") rows ≡ None)
+AsksForm rows (forms.Errors held) = ¬ (IsLacking (codes "errors") rows) × TellsOnly (given (codes "only") rows) held
+
+-- ---- what is asked for
+
+-- a run of a session by these prefixes
+abbrev pub AsksRun : List Word → (prefixes : List Name) → Type 0
+AsksRun words prefixes = (rows : List Row) × Finds words (codes "session") rows × HoldsGiven (given (codes "outside") rows) prefixes
+
+-- the listing of the file at a path
+abbrev pub AsksListing : List Word → (path : Word) → Type 0
+AsksListing words path = (rows : List Row) × Finds words (codes "list") rows × (Some path ≡ first_of (codes "FILE") rows)
+
+-- a check of a folder by these prefixes, in this form
+abbrev pub AsksCheck : List Word → (prefixes : List Name) → CheckForm → (folder : Word) → Type 0
+AsksCheck words prefixes form folder =
+    (rows : List Row) × Finds words (codes "check") rows × HoldsGiven (given (codes "outside") rows) prefixes
+    × AsksForm rows form × (Some folder ≡ first_of (codes "DIR") rows)
