@@ -244,7 +244,7 @@ impl Facts {
 
     /// Whether a constant is used, and so resolved where what names it is run: an instruction, an exception handler,
     /// a method handle or an argument of a bootstrap method names it, or a reference to a member that is named so is
-    /// of this class. Not of an index that no constant has.
+    /// of this class.
     pub fn is_used(&self, index: u16) -> bool
         ensures { result ≡ is_used self.now index }
     {

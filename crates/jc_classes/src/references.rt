@@ -1,11 +1,12 @@
 //! The references of a class, shared with its facts.
 
-ghost use Rattle.std.specs.Prelude.{◌≡◌, length, option_map, slice_get};
+ghost use Rattle.std.specs.Prelude.{◌≡◌, IfOk, length, option_map, slice_get};
 ghost use Rattle.jc_classes.specs.Lent.{reference_lent};
 
 use crate::facts::ReferenceEntry;
 use crate::reference::Reference;
 use crate::text_list::TextList;
+use jc_base::NoMemory;
 use std::marker::Model;
 use std::rc::Rc;
 
@@ -43,5 +44,17 @@ impl References {
             Some(entry) => Some(entry.lend(self.texts.as_ref())),
             None => None,
         }
+    }
+
+    /// The same references, shared.
+    ///
+    /// Answers `NoMemory` only where they are shared as often as can be counted.
+    pub fn share(&self) -> Result<References, NoMemory>
+        ensures { IfOk result (λ references. references ≡ self.now) }
+    {
+        Ok(References {
+            texts: self.texts.clone()?,
+            entries: self.entries.clone()?,
+        })
     }
 }

@@ -67,6 +67,11 @@ sends_nothing written failures a = record {
   outcome = outcome_nothing written failures a (cases_Bool a.failed);
 }
 
+-- a text that is handed over once a write has failed
+pub sends_dropped : {W : Type 0} {written : W → Option (List ℕ)} {failures : W → ℕ} {a : TextWriter W} {text : List ℕ} → a.failed ≡ true
+    → Sends written failures a a text
+sends_dropped e = record { same_reference = refl; outcome = Drops e e (Keeps-refl _) refl }
+
 pub sends_equal : {W : Type 0} {written : W → Option (List ℕ)} {failures : W → ℕ} {a b : TextWriter W} {first second : List ℕ} → first ≡ second
     → Sends written failures a b first → Sends written failures a b second
 sends_equal {written = written} {failures = failures} {a = a} {b = b} same first_sent = subst (Sends written failures a b) same first_sent

@@ -16,6 +16,9 @@ impl<'w, W: Output> TextWriter<'w, W> {
     pub fn shown(&mut self, text: &[u8])
         ensures { Sends W.written W.failures self.old self.new (shown text.now) }
     {
+        if self.has_failed() {
+            return;
+        }
         if are_plain(text) {
             self.text(text);
         } else if check_units(text).is_ok() {

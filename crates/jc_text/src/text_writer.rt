@@ -42,6 +42,13 @@ impl<'w, W: Output> TextWriter<'w, W> {
         }
     }
 
+    /// Whether a write has failed, so that no more is written.
+    pub(crate) fn has_failed(&self) -> bool
+        ensures { result ≡ self.now.failed }
+    {
+        self.failed
+    }
+
     /// Writes what waits, and tells whether a write has failed.
     pub fn finish(&mut self) -> Result<(), DeviceFault>
         ensures sends { Sends W.written W.failures self.old self.new [] }

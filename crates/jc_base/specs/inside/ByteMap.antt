@@ -2,6 +2,10 @@
 use Rattle.std.specs.Prelude.{ℕ, List, map}
 use Rattle.std.specs.declared.vec.Vec.{Vec}
 
+-- a key, as its bytes
+abbrev pub bytes_of : {A : Type 0} → Vec ℕ A → List ℕ
+bytes_of key = key.items
+
 -- the entries, with each key as its bytes
 abbrev pub byte_entries : {A V : Type 0} → List (Vec ℕ A × V) → List (List ℕ × V)
 byte_entries es = map (λ e. (e.0.items, e.1)) es

@@ -1,6 +1,5 @@
 -- Marks by index.
-use Rattle.std.proofs.Common.{◌≡◌, ◌∙◌, ℕ, ◌+◌, ◌<◌, ◌≤◌, ◌||◌, ◌==◌, Bool, true, false, List, ◌∷◌, [], length, length-set, replicate, set, map, take, refl, ap, sym, arith, ◌⊎◌, ⊎_elim}
-use Rattle.std.specs.List.{list_any, range_with_len}
+use Rattle.std.proofs.Common.{◌≡◌, ◌∙◌, ℕ, ◌+◌, ◌<◌, ◌≤◌, ◌||◌, ◌==◌, Bool, true, false, List, [], length, length-set, replicate, set, take, refl, ap, sym, arith, ◌⊎◌, ⊎_elim}
 use Rattle.std.proofs.Math.ListN.{get_or}
 use Rattle.std.proofs.lemmas.List.{ext_get_or, get_or-replicate, get_or-set_other, get_or-set_same, length-replicate}
 use Rattle.std.proofs.lemmas.List.Folds.{list_any_more}

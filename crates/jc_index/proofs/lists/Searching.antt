@@ -23,7 +23,7 @@ adjacent (x ∷ y ∷ ns) h (suc k) d l = adjacent (y ∷ ns) h.1 k d (omega ari
 not_less : (a b : Name) → name_cmp a b ≡ Less → is_lt (name_cmp b a) ≡ false
 not_less a b e = ap is_lt (bytes_cmp_total.antisymm b a ∙ ap ordering_reverse e)
 
-falls_never : (ns : List Name) (name : Name) → IsStrictlySortedBy name_cmp ns → IsNonDecreasingBy (λ y. ordering_index (name_cmp y name)) ns
+pub falls_never : (ns : List Name) (name : Name) → IsStrictlySortedBy name_cmp ns → IsNonDecreasingBy (λ y. ordering_index (name_cmp y name)) ns
 falls_never ns name h = searchable_from_sorted bytes_cmp_total (λ n. n) ns name (λ k d z l. subst (λ i. is_lt (name_cmp (get_or ns i d) (get_or ns k d)) ≡ false) (sym (add-one k)) (not_less (get_or ns k d) (get_or ns (suc k) d) (adjacent ns h k d (omega arith))))
 
 less_index : (o p : Ordering) → ordering_index o ≤ ordering_index p → p ≡ Less → o ≡ Less

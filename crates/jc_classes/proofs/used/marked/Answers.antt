@@ -1,4 +1,4 @@
-use Rattle.std.proofs.Common.{◌≡◌, ◌∙◌, ◌+◌, [], ap, rules, subst, sym}
+use Rattle.std.proofs.Common.{◌+◌, [], rules, subst}
 use Rattle.std.proofs.lemmas.List.{take_all}
 use Rattle.jc_view.specs.ClassFile.{all_slots}
 use Rattle.jc_classes.proofs.using.Marking.{AreMarked, all_marks, marked_more, marked_none}

@@ -1,4 +1,4 @@
-use Rattle.std.proofs.Common.{◌≡◌, ◌∙◌, ◌++◌, ap}
+use Rattle.std.proofs.Common.{◌∙◌, ◌++◌, ap}
 use Rattle.std.specs.List.{flat_map}
 use Rattle.jc_view.specs.Attributes.{bootstrap_attributes}
 use Rattle.jc_view.specs.ClassFile.{Attribute}

@@ -1,4 +1,4 @@
-use Rattle.std.proofs.Common.{◌≡◌, ◌∙◌, ◌++◌, ap}
+use Rattle.std.proofs.Common.{◌∙◌, ◌++◌, ap}
 use Rattle.jc_view.specs.Attributes.{Bootstrap}
 use Rattle.jc_view.specs.Reading.{after_table}
 use Rattle.jc_view.specs.AttributeReading.{after_bootstrap, bootstrap_value}

@@ -1,6 +1,6 @@
 use Rattle.std.proofs.Common.{◌≡◌, ◌∙◌, ◌++◌, ap, subst}
 use Rattle.std.specs.Prelude.{IfOk}
-use Rattle.jc_classes.specs.UsedConstants.{named, used_constants}
+use Rattle.jc_classes.specs.UsedConstants.{used_constants}
 use Rattle.jc_classes.specs.inside.Using.{are_marks, owners}
 use Rattle.jc_classes.proofs.using.Adding.{marks_whole, used_whole}
 use Rattle.jc_classes.proofs.used.used.Goals as goal

@@ -3,6 +3,7 @@ use Rattle.std.specs.Option.{IsSome, ghost_name_of, option_copied_mut}
 use Rattle.std.specs.BTreeMap.{get_by}
 use Rattle.std.specs.FinMap as fin
 use borrow.Follows.Closed.{read_of}
+use Rattle.jc_base.specs.inside.ByteMap.{bytes_of}
 use Rattle.jc_base.proofs.maps.TreeEntries.{finite, query, get-finite, written-finite}
 use Rattle.jc_base.proofs.byte_map.ByteMap.get_mut.Goals as goal
 
@@ -16,12 +17,12 @@ returns g c =
     let key = c.args.key.now in
     let old = c.self.inside.entries in
     let follows = c.get_mut.follows in
-    let found : option_copied_mut c.get_mut.result ≡ get_by (query key) old = follows.claims.0 in (
-      lent c.get_mut.result {o = get_by (query key) old} found _ _ _ _
-          (λ there w. written-finite key old (follows.lender w) w there (follows.holds w) ∙ ap (λ m. fin.insert m key w) c.self.view_is)
-          (ap (λ m. finite m.entries) follows.holds-at-none ∙ c.self.view_is),
+    let found : option_copied_mut c.get_mut.result ≡ get_by (query bytes_of key) old = follows.claims.0 in (
+      lent c.get_mut.result {o = get_by (query bytes_of key) old} found _ _ _ _
+          (λ there w. written-finite bytes_of key old (follows.lender w) w there (follows.holds w) ∙ ap (λ m. fin.insert m key w) c.self.view_is)
+          (ap (λ m. finite bytes_of m.entries) follows.holds-at-none ∙ c.self.view_is),
       record {
-        value = found ∙ sym (get-finite old.entries key) ∙ ap (λ m. fin.get m key) c.self.view_is;
+        value = found ∙ sym (get-finite bytes_of old.entries key) ∙ ap (λ m. fin.get m key) c.self.view_is;
         writes_back = tt;
       },
     )

@@ -1,14 +1,15 @@
 use Rattle.std.proofs.Common.{sym, ap, ◌∙◌}
 use Rattle.std.specs.FinMap as fin
+use Rattle.jc_base.specs.inside.ByteMap.{bytes_of}
 use Rattle.jc_base.proofs.maps.TreeEntries.{get-finite, remove-finite}
 use Rattle.jc_base.proofs.byte_map.ByteMap.remove.Goals as goal
 
 pub returns-clause-before : goal.returns-clause-before
 returns-clause-before g c =
     let key = c.args.key.now in
-    c.remove.ensures.value ∙ sym (get-finite c.self.inside.entries.entries key) ∙ ap (λ m. fin.get m key) c.self.view_is
+    c.remove.ensures.value ∙ sym (get-finite bytes_of c.self.inside.entries.entries key) ∙ ap (λ m. fin.get m key) c.self.view_is
 
 pub returns-clause-removed : goal.returns-clause-removed
 returns-clause-removed g c =
     let key = c.args.key.now in
-    remove-finite key c.self.inside.entries c.remove.new.self c.remove.ensures.updates ∙ ap (λ m. fin.remove m key) c.self.view_is
+    remove-finite bytes_of key c.self.inside.entries c.remove.new.self c.remove.ensures.updates ∙ ap (λ m. fin.remove m key) c.self.view_is
