@@ -8,9 +8,7 @@ use Rattle.jc_classes.specs.Parts.{IsPart, Part}
 use Rattle.jc_classes.specs.Worlds.{World}
 use Rattle.jc_link.specs.Tables.{Places, class_at, world}
 use Rattle.jc_link.specs.declared.meter.Meter.{Meter}
-use Rattle.jc_report.specs.ClassRows.{required_rows}
 use Rattle.jc_report.specs.Reports.{Class, GivesRow, name_of}
-use Rattle.jc_report.specs.RowKeys.{IsPlain}
 use Rattle.jc_report.specs.Rows.{AreRows, Row}
 use Rattle.jc_linkage.specs.Affected.{IsBounded}
 use Rattle.jc_linkage.specs.Turns.{turns}
@@ -44,12 +42,6 @@ pub record AreHeldClasses (a : Linkage) (classes : List Class) : Type 0 where
   pub rises : IsStrictlySortedBy name_cmp (map name_of classes)
   pub sound : All (IsHeldClass a) classes
   pub complete : (name : Name) (c : Facts) → class_at a.classes name ≡ Some c → Contains (map name_of classes) name
-
--- no byte of a class and of a name is 0 in the rows that the classes may require
-abbrev pub HasPlainRows : Linkage → Type 0
-HasPlainRows a =
-    (name : Name) (c : Facts) (p : Part) (row : Row) → class_at a.classes name ≡ Some c
-    → Contains (required_rows c p) row → IsPlain row
 
 -- the rows that the classes give by these rules, sorted
 abbrev pub AreRowsHeld : (Facts → Part → List Row) → Linkage → List Row → Type 0

@@ -14,7 +14,8 @@ use jc_base::NoMemory;
 use jc_classes::Facts;
 use jc_index::NameList;
 use jc_link::{Closure, Meter, Outside, Part, Table, gather, make_part};
-use jc_report::required_keys;
+use jc_report::required_of;
+use jc_required::RowList;
 use std::alloc::Global;
 
 /// The part of a class, and the names that it depends on.
@@ -23,8 +24,8 @@ pub(crate) struct Kept {
     pub(crate) part: Part,
     /// The names of its reach.
     pub(crate) reach: NameList,
-    /// The keys of the rows that it requires.
-    pub(crate) required: NameList,
+    /// The rows that it requires.
+    pub(crate) required: RowList,
 }
 
 /// What is to be kept of a class.
@@ -73,7 +74,7 @@ pub(crate) fn make_one(
 {
     let name_kept = Vec::from_slice(alloc, name)?;
     let closure = gather(alloc, table, outside, name, meter)?;
-    let (part, required) = part_and_keys(alloc, &closure, meter)?;
+    let (part, required) = part_and_rows(alloc, &closure, meter)?;
     let kept = Kept {
         part,
         reach: closure.into_names(),
@@ -85,12 +86,12 @@ pub(crate) fn make_one(
     })
 }
 
-/// The part of the class that a closure was gathered for, and the keys of the rows that it requires.
-fn part_and_keys(
+/// The part of the class that a closure was gathered for, and the rows that it requires.
+fn part_and_rows(
     alloc: Global,
     closure: &Closure,
     meter: &mut Meter,
-) -> Result<(Part, NameList), NoMemory>
+) -> Result<(Part, RowList), NoMemory>
     ensures part { (m : World) (d : Name) → IsClosure m d closure.now → IfOk result (λ made. IsPart m d made.0) }
     ensures required { (m : World) (d : Name) → IsClosure m d closure.now → IfOk result (λ made. HasKeysOf m d made.1 made.0) }
     ensures made { OnOk result (meter.new.made ≡ counted meter.old.made 1) }
@@ -102,12 +103,12 @@ fn part_and_keys(
     Ok((part, required))
 }
 
-/// The keys of the rows that a class requires by its record; none where it has none.
-fn required_by(alloc: Global, own: Option<&Facts>, part: &Part) -> Result<NameList, NoMemory>
+/// The rows that a class requires by its record; none where it has none.
+fn required_by(alloc: Global, own: Option<&Facts>, part: &Part) -> Result<RowList, NoMemory>
     ensures { IfOk result (λ keys. AreKeys keys (required_by (option_copied own.entry) part.now)) }
 {
     match own {
-        Some(facts) => Ok(NameList::of(required_keys(alloc, facts, part)?)),
-        None => Ok(NameList::new(alloc)),
+        Some(facts) => Ok(RowList::of(required_of(alloc, facts, part)?)),
+        None => Ok(RowList::new(alloc)),
     }
 }

@@ -15,6 +15,7 @@ mod step;
 mod turning;
 
 pub use classes::HeldClasses;
+pub use jc_required::Required;
 pub use linkage::Linkage;
-pub use rows::{Provided, Required};
+pub use rows::Provided;
 pub use step::Step;

@@ -7,7 +7,7 @@ ghost use Rattle.jc_classes.specs.Names.{Name, names_of};
 ghost use Rattle.jc_classes.specs.Parts.{IsPart, Reach};
 ghost use Rattle.jc_link.specs.Tables.{class_at};
 ghost use Rattle.jc_linkage.specs.Holders.{CountsHoldersAt};
-ghost use Rattle.jc_linkage.specs.Linkages.{AreHeldClasses, AreRowsHeld, HasPlainRows, IsBoundedIn, given, turned, world_held};
+ghost use Rattle.jc_linkage.specs.Linkages.{AreHeldClasses, AreRowsHeld, IsBoundedIn, given, turned, world_held};
 ghost use Rattle.jc_report.specs.ClassRows.{provided_rows, required_rows};
 ghost use Rattle.jc_linkage.specs.Steps.{changed, is_touched};
 ghost use Rattle.jc_linkage.specs.inside.Holding as holding;
@@ -16,12 +16,13 @@ use crate::changing::{change_classes, counting};
 use crate::classes::HeldClasses;
 use crate::kept::Kept;
 use crate::links::Links;
-use crate::rows::{Provided, Required};
+use crate::rows::Provided;
 use crate::step::Step;
 use crate::turning::remake_turned;
 use jc_base::{ByteMap, NoMemory};
 use jc_classes::Facts;
 use jc_link::{Meter, Outside, Part, Table};
+use jc_required::Required;
 use std::alloc::Global;
 use std::marker::Model;
 
@@ -169,21 +170,19 @@ impl Linkage {
 
     /// The rows that the classes require. No memory.
     pub fn required(&self) -> Required<'_>
-        ensures { HasPlainRows self.now → AreRowsHeld required_rows self.now result }
+        ensures { AreRowsHeld required_rows self.now result }
     {
-        self.links.required.names_have_users();
-        Required {
-            keys: self.links.required.keys(),
-        }
+        self.links.required.rows_have_users();
+        self.links.required.rows()
     }
 
     /// How many classes require the row at a place of [`Linkage::required`], from 0; 0 beyond the last. No memory.
     pub fn holders(&self, place: usize) -> usize
-        ensures { HasPlainRows self.now → CountsHoldersAt self.now place result }
+        ensures { CountsHoldersAt self.now place result }
     {
-        self.links.required.names_have_users();
+        self.links.required.rows_have_users();
         match self.links.required.nth(place) {
-            Some((_, holders)) => holders.names().len(),
+            Some(holders) => holders.names().len(),
             None => 0,
         }
     }

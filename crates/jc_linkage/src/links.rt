@@ -8,13 +8,14 @@ ghost use Rattle.jc_linkage.specs.inside.LinkSets.{Adds, AddsSome, TakesOut, lin
 use crate::kept::Kept;
 use jc_base::NoMemory;
 use jc_index::Index;
+use jc_required::RowIndex;
 use std::alloc::Global;
 
 /// For each name the classes whose reach holds it, and for each row the classes that require it.
 #[derive(Drop)]
 pub(crate) struct Links {
     pub(crate) reach: Index,
-    pub(crate) required: Index,
+    pub(crate) required: RowIndex,
 }
 
 impl Links {
@@ -24,7 +25,7 @@ impl Links {
     {
         Links {
             reach: Index::new(alloc),
-            required: Index::new(alloc),
+            required: RowIndex::new(alloc),
         }
     }
 

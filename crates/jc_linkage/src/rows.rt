@@ -1,11 +1,10 @@
-//! The rows that the classes provide and require.
+//! The rows that the classes provide.
 
 ghost use Rattle.std.specs.Iterator.{YieldsFirstBy, item_count};
 ghost use Rattle.jc_report.specs.RowView.{row_lent};
 ghost use Rattle.jc_linkage.specs.inside.Lending.{rows_left};
 
 use crate::classes::HeldClasses;
-use jc_index::Keys;
 use jc_report::{ProvidedRows, Row, provided_in_order};
 use std::marker::Model;
 
@@ -53,34 +52,5 @@ fn next_row<'a>(rows: &mut Option<ProvidedRows<'a>>) -> Option<Row<'a>>
     match rows {
         Some(rows) => rows.next(),
         None => None,
-    }
-}
-
-/// The rows that the classes of a [`crate::Linkage`] require, in their order, seen as the list of those that are left.
-#[derive(Drop)]
-pub struct Required<'a> {
-    pub(crate) keys: Keys<'a>,
-}
-
-impl<'a> Model for Required<'a> {
-    ghost use Rattle.std.specs.Prelude.{List, map};
-    ghost use Rattle.jc_report.specs.RowKeys.{row_of};
-    ghost use Rattle.jc_report.specs.Rows as rows;
-
-    ghost Value = { List rows.Row };
-
-    ghost view = { λ a. map row_of a.keys };
-}
-
-impl<'a> Iterator for Required<'a> {
-    type Item = Row<'a>;
-
-    ghost next_gives = { YieldsFirstBy row_lent (λ left. left) };
-
-    ghost remaining = { item_count (λ left. left) };
-
-    fn next(&mut self) -> Option<Row<'a>> {
-        let key = self.keys.next()?;
-        Some(Row::of_key(key))
     }
 }

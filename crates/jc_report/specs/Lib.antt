@@ -10,6 +10,7 @@ pub mod ReportLaws
 pub mod ReportLists
 pub mod ReportText
 pub mod Reports
+pub mod RequiredRows
 pub mod RowKeyLaws
 pub mod RowKeys
 pub mod RowView

@@ -78,7 +78,7 @@ pub(crate) fn push_required<'t>(
 }
 
 /// Whether an answer says that what is referred to is outside, or that nothing gives it.
-fn is_required(kind: AnswerKind) -> bool
+pub(crate) fn is_required(kind: AnswerKind) -> bool
     ensures { (a : Answer) → kind_of a ≡ kind → class_rows.is_required a ≡ result }
 {
     match kind {
@@ -101,7 +101,7 @@ fn is_missing(error: LinkageError) -> bool
     }
 }
 
-fn reference_row(reference: Reference<'_>) -> Row<'_>
+pub(crate) fn reference_row(reference: Reference<'_>) -> Row<'_>
     ensures { row_lent result ≡ reference_row (reference_lent reference.entry) }
 {
     Row {

@@ -4,11 +4,8 @@ ghost use Rattle.std.specs.Prelude.{◌≡◌, ◌↔◌, ℕ, List, Some, None}
 ghost use Rattle.jc_report.specs.Files.{Files};
 ghost use Rattle.jc_report.specs.FileRows.{winner};
 ghost use Rattle.jc_report.specs.ReportLaws.{ErrorsAreTold, ReportIsOne, WrongAmongAll};
-ghost use Rattle.jc_report.specs.RowKeyLaws.{KeysKeepOrder, RowsArePlain};
+ghost use Rattle.jc_report.specs.RowKeyLaws.{KeysKeepOrder};
 ghost use Rattle.jc_report.specs.Winners.{NamesAt, IsWinner};
-
-use jc_base::{bytes_are_in_range, names_are_well_spelled, texts_are_decided};
-use jc_file::faults_are_exact;
 
 /// The file that gives a class is the one with the least path of those that name it, and there is none
 /// only where no file names it.
@@ -28,17 +25,7 @@ pub fn errors_are_told()
     ensures all { WrongAmongAll }
 {}
 
-/// The classes and names in the rows that a class file gives hold no byte 0.
-pub fn rows_are_plain()
-    ensures { RowsArePlain }
-{
-    texts_are_decided();
-    names_are_well_spelled();
-    bytes_are_in_range();
-    faults_are_exact();
-}
-
-/// Keys stand in the order of their rows, and each gives its row back.
+/// Keys stand in the order of their rows.
 pub fn keys_keep_order()
     ensures { KeysKeepOrder }
 {}

@@ -15,23 +15,21 @@ mod provided_rows;
 mod report;
 mod report_lists;
 mod report_text;
+mod required_row;
 mod row;
-mod row_key;
 mod row_set;
 mod tree;
 
 pub use errors_text::write_errors;
 pub use file_row::{FileRow, FileState};
 pub use file_row_text::write_refusal;
-pub use laws::{
-    errors_are_told, keys_keep_order, report_is_one, rows_are_plain, winners_are_least,
-};
+pub use laws::{errors_are_told, keys_keep_order, report_is_one, winners_are_least};
 pub use lent_class::{LentClass, LentClasses};
 pub use part_text::write_part;
 pub use provided_rows::{ProvidedRows, provided_in_order};
 pub use report::{TreeReport, is_any_wrong};
 pub use report_lists::ReportLists;
 pub use report_text::{write_lists, write_report};
+pub use required_row::{RequiredRow, required_of};
 pub use row::Row;
-pub use row_key::required_keys;
 pub use tree::{AddError, Tree};

@@ -1,5 +1,5 @@
 -- The rows that the held classes require.
-use Rattle.std.proofs.Common.{◌≡◌, ◌∙◌, true, List, [], Some, None, Option, is_some, map, refl, sym, ap, subst}
+use Rattle.std.proofs.Common.{◌≡◌, ◌∙◌, true, List, [], ◌∷◌, Some, None, Option, is_some, map, refl, sym, ap, subst}
 use Rattle.std.proofs.lemmas.Bool.{false≢true}
 use Rattle.std.specs.Prelude.{unwrap_or}
 use Rattle.std.specs.FinMap as fin
@@ -10,9 +10,11 @@ use Rattle.jc_index.specs.Indexes.{HaveUsers, UserLists, is_key, users_of}
 use Rattle.jc_link.specs.Closures.{facts_standing}
 use Rattle.jc_report.specs.ClassRows.{required_rows}
 use Rattle.jc_report.specs.Reports.{Class, GivesRow}
-use Rattle.jc_report.specs.RowKeys.{row_of}
-use Rattle.jc_report.specs.Rows.{AreRows}
-use Rattle.jc_linkage.specs.Linkages.{AreHeldClasses, HasPlainRows, Linkage, world_held}
+use Rattle.jc_report.proofs.row_keys.KeyOrder.{row_back, row_of}
+use Rattle.jc_report.specs.RowKeys.{row_key}
+use Rattle.jc_report.specs.Rows.{AreRows, Row}
+use Rattle.jc_index.proofs.indexes.Lists.{keys_list}
+use Rattle.jc_linkage.specs.Linkages.{AreHeldClasses, Linkage, world_held}
 use Rattle.jc_linkage.specs.declared.kept.Kept.{Kept}
 use Rattle.jc_linkage.specs.declared.links.Links.{Links}
 use Rattle.jc_linkage.specs.inside.Holding.{IsHeld}
@@ -21,10 +23,14 @@ use Rattle.jc_linkage.specs.inside.Kept.Relation.{Requires}
 use Rattle.jc_linkage.proofs.held.Places.{kept_by}
 use Rattle.jc_linkage.proofs.held.Rows.{rows_of_kept}
 
+rows_back : (rows : List Row) → map row_of (map row_key rows) ≡ rows
+rows_back [] = refl
+rows_back (row ∷ rows) = (λ i. row_back row i ∷ rows_back rows i)
+
 pub keys_required : (a : Linkage) (d : Name) (f : Facts) (k : Kept) → IsKeptOf (world_held a) d k → facts_standing (world_held a d) ≡ Some f → AreKeys k.required (required_rows f k.part)
 keys_required a d f k of e = subst (λ o. AreKeys k.required (required_by o k.part)) e of.required
 
-module _ (a : Linkage) (kept : KeptMap) (links : Links) (held : IsHeld a.classes a.prefixes kept links) (plain : HasPlainRows a) (classes : List Class) (h : AreHeldClasses a classes) where
+module _ (a : Linkage) (kept : KeptMap) (links : Links) (held : IsHeld a.classes a.prefixes kept links) (classes : List Class) (h : AreHeldClasses a classes) where
   key_used : (lists : UserLists) (key user : Name) → has (users_of lists key) user ≡ true → is_key lists key ≡ true
   key_used lists key user there = by (fin.get lists key) there
     where
@@ -32,13 +38,18 @@ module _ (a : Linkage) (kept : KeptMap) (links : Links) (held : IsHeld a.classes
       by (Some users) e = refl
       by None e = absurd (false≢true e)
 
-  pub rows_required : (keys : List Name) → Lists keys (λ name. is_key links.required name ≡ true)
+  pub required_keys : (keys : List Name) → Lists keys (λ name. is_key links.required name ≡ true)
       → HaveUsers links.required → AreRows (map row_of keys) (GivesRow required_rows classes)
-  rows_required keys lists used =
+  required_keys keys lists used =
       rows_of_kept a kept held.parts required_rows (λ (k : Kept). k.required) (keys_required a) classes h keys lists.rises
-      plain
       (λ key there.
       let user = used key (lists.sound key there) in
       let found = kept_by Requires (fin.get kept user.0) key (sym (held.linked Requires key user.0) ∙ user.1) in
       (user.0, found.0, found.1, found.2))
       (λ d k e key there. lists.complete key (key_used links.required key d (held.linked Requires key d ∙ ap (λ o. has (names_kept Requires o) key) e ∙ there)))
+
+  -- the rows whose keys are those that have users
+  pub rows_required : (rows : List Row) → map row_key rows ≡ fin.keys links.required → HaveUsers links.required → AreRows rows (GivesRow required_rows classes)
+  rows_required rows same used =
+      subst (λ (all : List Row). AreRows all (GivesRow required_rows classes)) (ap (map row_of) (sym same) ∙ rows_back rows)
+      (required_keys (fin.keys links.required) (keys_list links.required) used)

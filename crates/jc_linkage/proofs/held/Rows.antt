@@ -14,8 +14,9 @@ use Rattle.jc_classes.proofs.worlds.Parts.{part_one}
 use Rattle.jc_link.specs.Closures.{facts_standing}
 use Rattle.jc_link.specs.Tables.{class_at}
 use Rattle.jc_report.specs.Reports.{Class, GivesRow, name_of}
-use Rattle.jc_report.specs.RowKeys.{IsPlain, row_key, row_of}
+use Rattle.jc_report.specs.RowKeys.{row_key}
 use Rattle.jc_report.specs.Rows.{AreRows, Row}
+use Rattle.jc_report.proofs.row_keys.KeyOrder.{row_of}
 use Rattle.jc_report.proofs.row_keys.RowsOfKeys.{rows_of_keys}
 use Rattle.jc_linkage.specs.Linkages.{AreHeldClasses, IsHeldClass, Linkage, given, world_held}
 use Rattle.jc_linkage.specs.declared.kept.Kept.{Kept}
@@ -82,11 +83,9 @@ module _ (a : Linkage) (kept : KeptMap) (held : IsKept (given a) (world_held a) 
         )
 
     pub rows_of_kept : (all : List Name) → IsStrictlySortedBy name_cmp all
-        → ((name : Name) (c : Facts) (p : Part) (row : Row) → class_at a.classes name ≡ Some c → Contains (rows c p) row → IsPlain row)
         → ((key : Name) → has all key ≡ true → (d : Name) × (k : Kept) × (fin.get kept d ≡ Some k) × (has (keys k) key ≡ true))
         → ((d : Name) (k : Kept) → fin.get kept d ≡ Some k → (key : Name) → has (keys k) key ≡ true → has all key ≡ true)
         → AreRows (map row_of all) (GivesRow rows classes)
-    rows_of_kept all rises plain sound complete = rows_of_keys all (GivesRow rows classes) rises
-        (λ row g. plain (name_of g.class) g.class.facts g.class.part row (All-contains (IsHeldClass a) classes g.class h.sound g.among).facts g.gives)
+    rows_of_kept all rises sound complete = rows_of_keys all (GivesRow rows classes) rises
         (λ key there. let k = sound key (has_of all key there) in row_given k.0 k.1 k.2 key k.3)
         (λ row g. let k = key_given row g in contains_of all (row_key row) (complete (name_of g.class) k.0 k.1 (row_key row) k.2))

@@ -6,21 +6,20 @@ use Rattle.std.proofs.lemmas.Bool.{cond-true, cond-false}
 use Rattle.std.proofs.lemmas.Option.{get_or_from_slice_get, slice_get_within}
 use Rattle.jc_classes.specs.Facts.{Reference}
 use Rattle.jc_classes.specs.Resolution.{Answer}
-use Rattle.jc_report.specs.declared.row.Row.{Row}
 use Rattle.jc_report.specs.ClassRows.{is_required, reference_row, rows_required}
-use Rattle.jc_report.specs.RowView.{row_lent}
 use Rattle.jc_report.specs.Rows as rows
 
 first_of : {X : Type 0} (xs : List X) (n : ℕ) (x : X) → slice_get xs n ≡ Some x → drop n xs ≡ x ∷ drop (n + 1) xs
 first_of xs n x e = drop_more xs n x (slice_get_within xs n x e) ∙ ap (λ y. y ∷ drop (n + 1) xs) (get_or_from_slice_get xs n x x e)
 
 -- a row that is added stands before those that are left
-pub added : (done grown : List Row) (r : Row) (row : rows.Row) (left : List rows.Row) → grown ≡ done ++ r ∷ [] → row_lent r ≡ row → map row_lent grown ++ left ≡ map row_lent done ++ (row ∷ left)
-added done grown r row left e f =
-    ap (λ xs. map row_lent xs ++ left) e
-    ∙ ap (λ xs. xs ++ left) (map-append row_lent done (r ∷ []))
-    ∙ append_assoc (map row_lent done) (row_lent r ∷ []) left
-    ∙ ap (λ x. map row_lent done ++ (x ∷ left)) f
+pub added : {X : Type 0} (lent : X → rows.Row) (done grown : List X) (r : X) (row : rows.Row) (left : List rows.Row) → grown ≡ done ++ r ∷ [] → lent r ≡ row
+    → map lent grown ++ left ≡ map lent done ++ (row ∷ left)
+added lent done grown r row left e f =
+    ap (λ xs. map lent xs ++ left) e
+    ∙ ap (λ xs. xs ++ left) (map-append lent done (r ∷ []))
+    ∙ append_assoc (map lent done) (lent r ∷ []) left
+    ∙ ap (λ x. map lent done ++ (x ∷ left)) f
 
 pub left_required : (refs : List Reference) (n : ℕ) (r : Reference) → slice_get refs n ≡ Some r → (a : Answer) (answers : List Answer) → is_required a ≡ true
     → rows_required (drop n refs) (a ∷ answers) ≡ reference_row r ∷ rows_required (drop (n + 1) refs) answers

@@ -1,5 +1,6 @@
 -- The order of rows is total, and rows that tie are equal.
-use Rattle.std.proofs.Common.{◌≡◌, refl, ap}
+use Rattle.std.proofs.Common.{◌≡◌, ℕ, ◌==◌, refl, ap}
+use Rattle.std.specs.Prelude.{if◌then◌else◌}
 use Rattle.std.specs.declared.cmp.Ordering.{Ordering}
 use Rattle.std.specs.declared.cmp.Ordering.TheVariants.{Less, Equal, Greater}
 use Rattle.std.specs.Ordering.{nat_cmp, ordering_then}
@@ -8,7 +9,6 @@ use Rattle.std.specs.FinMap.{nat_cmp-IsAntisymmetric}
 use Rattle.jc_base.proofs.maps.FiniteMaps.{bytes_cmp_total, bytes_cmp-IsAntisymmetric}
 use Rattle.jc_classes.specs.declared.reference_kind.ReferenceKind.{ReferenceKind}
 use Rattle.jc_classes.specs.declared.reference_kind.ReferenceKind.TheVariants as kinds
-use Rattle.jc_report.specs.RowKeys.{kind_of}
 use Rattle.jc_report.specs.Rows.{Row, kind_number, row_cmp}
 
 pub row_cmp_total : IsTotalOrder row_cmp
@@ -17,8 +17,15 @@ row_cmp_total =
     (then_total (on_total (λ (r : Row). kind_number r.kind) nat_cmp_total)
     (then_total (on_total (λ (r : Row). r.key.name) bytes_cmp_total) (on_total (λ (r : Row). r.key.descriptor) bytes_cmp_total)))
 
+-- the kind of its number
+pub kind_of : ℕ → ReferenceKind
+kind_of number =
+    if number == 0 then kinds.Class else (if number == 1 then kinds.Field
+    else (if number == 2 then kinds.Method else kinds.InterfaceMethod))
+
 -- a kind's number gives it back
 pub kind_back : (k : ReferenceKind) → kind_of (kind_number k) ≡ k
+unfolding kind_of
 kind_back kinds.Class = refl
 kind_back kinds.Field = refl
 kind_back kinds.Method = refl

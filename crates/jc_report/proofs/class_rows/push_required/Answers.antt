@@ -24,7 +24,7 @@ loop-number-preserved c =
       | then-is_required+in-Some+in_ok-push-in-Some w ↦
           let r = reference_lent w.in-Some.reference in
           ap (λ rows. map row_lent rows.items ++ left) w.rows-is
-          ∙ added _ _ _ (reference_row r) left w.in_ok-push-in-Some.ensures.items w.reference_row.ensures
+          ∙ added row_lent _ _ _ (reference_row r) left w.in_ok-push-in-Some.ensures.items w.reference_row.ensures
           ∙ ap (λ xs. map row_lent c.loop-number.rows.items ++ xs) (sym (read ∙ left_required refs n r (sym w.in-Some.ensures) a rest (required ∙ w.if-is_required.true)))
           ∙ c.loop-number.invariant
       | else-is_required w ↦

@@ -1,4 +1,4 @@
-use Rattle.std.proofs.Common.{[], ◌∙◌, ◌++◌, ap, codes, cond, sym}
+use Rattle.std.proofs.Common.{[], ◌++◌, ap, codes, cond, sym}
 use Rattle.jc_classes.specs.Facts.{is_used}
 use Rattle.jc_classes.specs.Lent.{reference_lent}
 use Rattle.jc_resolve.specs.Answers.{answer_of}

@@ -7,4 +7,4 @@ returns c =
     let a = c.args.self.now in
     let inside = c.self.inside in
     let held = held_of a inside.table inside.outside c.self.view_is inside.kept inside.links c.self.invariant.0 in
-    λ plain classes are. rows_required a inside.kept inside.links held plain classes are c.keys.result c.keys.ensures c.names_have_users.ensures
+    λ classes are. rows_required a inside.kept inside.links held classes are c.rows.result c.rows.ensures c.rows_have_users.ensures

@@ -1,0 +1,23 @@
+-- The rows that a class requires, lent from its references.
+use Rattle.std.specs.Prelude.{List, [], map, Option, None, Some, slice_get}
+use Rattle.jc_classes.specs.Facts.{Reference}
+use Rattle.jc_classes.specs.Names.{Name}
+use Rattle.jc_report.specs.ClassRows.{class_row, reference_row}
+use Rattle.jc_report.specs.RowKeys.{row_key}
+use Rattle.jc_report.specs.Rows as rows
+use Rattle.jc_report.specs.declared.required_row.RequiredRow.{RequiredRow}
+
+abbrev pub row_of_some : Option Reference → rows.Row
+row_of_some (Some reference) = reference_row reference
+row_of_some None = class_row []
+
+-- the row of the reference of its number
+abbrev pub row_required : RequiredRow → rows.Row
+row_required row = row_of_some (slice_get row.references row.number)
+
+-- the key of its row
+abbrev pub spelled : RequiredRow → Name
+spelled row = row_key (row_required row)
+
+abbrev pub spelled_all : List RequiredRow → List Name
+spelled_all rows = map spelled rows

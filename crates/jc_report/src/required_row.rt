@@ -1,0 +1,117 @@
+//! The rows that a class requires, which share their texts with it.
+
+ghost use Rattle.std.specs.Prelude.{◌≡◌, IfOk, map, slice_get};
+ghost use Rattle.std.specs.Cmp.{eq_by_cmp_equiv, on_total, partial_equiv_from_equiv, partial_order_from_agreeing_total};
+ghost use Rattle.std.specs.Ordering.{as_partial_cmp, eq_by_cmp, on};
+ghost use Rattle.std.proofs.Common.{refl};
+ghost use Rattle.jc_base.proofs.maps.FiniteMaps.{bytes_cmp_total};
+ghost use Rattle.jc_base.specs.Bytes.{bytes_cmp};
+ghost use Rattle.jc_report.specs.ClassRows.{required_rows};
+ghost use Rattle.jc_report.specs.RequiredRows.{row_of_some, row_required, spelled};
+ghost use Rattle.jc_report.specs.RowView.{row_lent};
+
+use crate::class_rows::{class_row, is_required, reference_row};
+use crate::row::Row;
+use jc_base::NoMemory;
+use jc_classes::{Facts, References};
+use jc_link::Part;
+use std::alloc::Global;
+use std::cmp::Ordering;
+
+/// A row that a class requires, as the number of one of its references, with which it shares its texts, so that it
+/// may outlive the class. It compares as its [`Row`] does.
+#[derive(Drop)]
+pub struct RequiredRow {
+    references: References,
+    number: usize,
+}
+
+impl RequiredRow {
+    /// The row. No memory.
+    pub fn row(&self) -> Row<'_>
+        ensures { row_lent result ≡ row_required self.now }
+    {
+        match self.references.at(self.number) {
+            Some(reference) => reference_row(reference),
+            None => class_row(&[]),
+        }
+    }
+
+    /// The same row, shared.
+    ///
+    /// Answers `NoMemory` only where it is shared as often as can be counted.
+    pub fn share(&self) -> Result<RequiredRow, NoMemory>
+        ensures { IfOk result (λ row. row_required row ≡ row_required self.now) }
+    {
+        Ok(RequiredRow {
+            references: self.references.share()?,
+            number: self.number,
+        })
+    }
+}
+
+impl PartialEq for RequiredRow {
+    ghost eq = { eq_by_cmp (on spelled bytes_cmp) };
+
+    ghost laws = { partial_equiv_from_equiv (eq_by_cmp_equiv (on_total spelled bytes_cmp_total)) };
+
+    fn eq(&self, other: &RequiredRow) -> bool {
+        self.cmp(other) == Ordering::Equal
+    }
+}
+
+impl Eq for RequiredRow {
+    ghost laws = { eq_by_cmp_equiv (on_total spelled bytes_cmp_total) };
+}
+
+impl PartialOrd for RequiredRow {
+    ghost partial_cmp = { as_partial_cmp (on spelled bytes_cmp) };
+
+    ghost laws = { partial_order_from_agreeing_total (on spelled bytes_cmp) (on_total spelled bytes_cmp_total) (λ x y. refl) (λ x y. refl) };
+
+    fn partial_cmp(&self, other: &RequiredRow) -> Option<Ordering> {
+        Some(self.cmp(other))
+    }
+}
+
+impl Ord for RequiredRow {
+    ghost cmp = { on spelled bytes_cmp };
+
+    ghost total = { on_total spelled bytes_cmp_total };
+
+    ghost matches_partial_cmp = { λ x y. refl };
+
+    ghost matches_eq = { λ x y. refl };
+
+    fn cmp(&self, other: &RequiredRow) -> Ordering {
+        self.row().cmp(&other.row())
+    }
+}
+
+/// The rows that a class requires, in the order of its references.
+pub fn required_of(alloc: Global, facts: &Facts, part: &Part) -> Result<Vec<RequiredRow>, NoMemory>
+    ensures { IfOk result (λ rows. map row_required rows.items ≡ required_rows facts.now part.now) }
+{
+    let references = facts.shared_references()?;
+    let answers = part.answers();
+    let mut rows = Vec::new(alloc);
+    for number in 0..answers.len() {
+        if is_required(answers.kind(number)) {
+            match references.at(number) {
+                Some(_) => rows.push(numbered(&references, number)?)?,
+                None => return Ok(rows),
+            }
+        }
+    }
+    Ok(rows)
+}
+
+/// The row of the reference of a number.
+fn numbered(references: &References, number: usize) -> Result<RequiredRow, NoMemory>
+    ensures { IfOk result (λ row. row_required row ≡ row_of_some (slice_get references.now number)) }
+{
+    Ok(RequiredRow {
+        references: references.share()?,
+        number,
+    })
+}

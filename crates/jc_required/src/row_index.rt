@@ -1,0 +1,205 @@
+//! An index holds for each row the classes that require it.
+
+ghost use Rattle.std.specs.Prelude.{◌≡◌, ◌&&◌, not, [], OnErr, OnOk, map as map_each, slice_get};
+ghost use Rattle.std.specs.FinMap as map;
+ghost use Rattle.std.specs.Iterator.{YieldsFirstBy, item_count};
+ghost use Rattle.std.specs.Option.{option_copied, option_map};
+ghost use Rattle.jc_classes.specs.NameLists.{has};
+ghost use Rattle.jc_classes.specs.Names.{Name, same_name};
+ghost use Rattle.jc_index.specs.Indexes.{HaveUsers, Linked, LinkedAt, LinkedAtSome, Unlinked, UnlinkedAt, has_but, users_of};
+ghost use Rattle.jc_report.specs.RequiredRows.{spelled};
+ghost use Rattle.jc_report.specs.RowKeys.{row_key};
+ghost use Rattle.jc_report.specs.RowView.{row_lent};
+
+use crate::row_list::RowList;
+use crate::row_map::{RowMap, Rows};
+use jc_base::NoMemory;
+use jc_index::NameList;
+use jc_report::{RequiredRow, Row};
+use std::alloc::Global;
+use std::marker::Model;
+
+/// For each of some rows its users, in the order of their bytes, seen as a map from the keys of rows to lists of
+/// names.
+#[derive(Drop)]
+pub struct RowIndex {
+    alloc: Global,
+    lists: RowMap<NameList>,
+}
+
+impl Model for RowIndex {
+    ghost use Rattle.std.specs.Coded.{coded_list, coded_ℕ};
+    ghost use Rattle.std.specs.FinMap as map;
+    ghost use Rattle.jc_index.specs.Indexes.{UserLists};
+    ghost use Rattle.jc_index.specs.inside.IsIndex.{IsIndex};
+
+    ghost Value = { UserLists };
+
+    ghost coded = { map.code (coded_list coded_ℕ) (coded_list (coded_list coded_ℕ)) };
+
+    ghost view = { λ a. a.lists };
+
+    ghost invariant = { λ a. IsIndex a.lists };
+}
+
+impl RowIndex {
+    /// An index without users. No memory.
+    pub fn new(alloc: Global) -> RowIndex
+        ensures { (key : Name) → users_of result key ≡ [] }
+    {
+        RowIndex {
+            alloc,
+            lists: RowMap::new(alloc),
+        }
+    }
+
+    /// A row has a place here only with a user.
+    pub fn rows_have_users(&self)
+        ensures { HaveUsers self.now }
+    {
+        let _lists = &self.lists;
+    }
+
+    /// The users of the row at a place among those that have users, from 0; nothing beyond the last. No memory.
+    pub fn nth(&self, place: usize) -> Option<&NameList>
+        ensures { option_copied result ≡ option_map (λ entry. entry.1) (slice_get (map.entries self.now) place) }
+    {
+        match self.lists.iter().nth(place) {
+            Some((_, users)) => Some(users),
+            None => None,
+        }
+    }
+
+    /// The rows that have users, rising. No memory.
+    pub fn rows(&self) -> Required<'_>
+        ensures { map_each row_key result ≡ map.keys self.now }
+    {
+        Required {
+            rows: self.lists.rows(),
+        }
+    }
+
+    /// Adds a user at a row.
+    fn link(&mut self, row: &RequiredRow, user: &[u8]) -> Result<(), NoMemory>
+        ensures ok { OnOk result (Linked self.old self.new (spelled row.now) user.now) }
+        ensures err { OnErr result (self.new ≡ self.old) }
+    {
+        let user = Vec::from_slice(self.alloc, user)?;
+        if let Some(list) = self.lists.get_mut(row) {
+            list.add(user)?;
+            return Ok(());
+        }
+        let name = row.share()?;
+        let mut list = NameList::new(self.alloc);
+        list.add(user)?;
+        self.lists.insert(name, list)?;
+        Ok(())
+    }
+
+    /// Takes a user out at a row. No memory.
+    fn unlink(&mut self, row: &RequiredRow, user: &[u8])
+        ensures { Unlinked self.old self.new (spelled row.now) user.now }
+    {
+        if let Some(list) = self.lists.get_mut(row) {
+            list.remove(user);
+            if list.is_empty() {
+                self.lists.remove(row);
+            }
+        }
+    }
+
+    /// Adds a user at each of some rows. At want of memory it may be added at some of them.
+    pub fn link_all(&mut self, rows: &RowList, user: &[u8]) -> Result<(), NoMemory>
+        ensures ok { OnOk result (LinkedAt self.old self.new (has rows.now) user.now) }
+        ensures err { OnErr result (LinkedAtSome self.old self.new (has rows.now) user.now) }
+    {
+        let none = RowList::new(self.alloc);
+        self.link_all_but(rows, &none, user)
+    }
+
+    /// Adds a user at each of some rows that others lack. At want of memory it may be added at some of them.
+    pub fn link_all_but(
+        &mut self,
+        rows: &RowList,
+        others: &RowList,
+        user: &[u8],
+    ) -> Result<(), NoMemory>
+        ensures ok { OnOk result (LinkedAt self.old self.new (has_but rows.now others.now) user.now) }
+        ensures err { OnErr result (LinkedAtSome self.old self.new (has_but rows.now others.now) user.now) }
+    {
+        for row in rows.rows() {
+            self.link_unless(row, others, user)?;
+        }
+        Ok(())
+    }
+
+    /// Adds a user at a row, unless others have it.
+    fn link_unless(
+        &mut self,
+        row: &RequiredRow,
+        others: &RowList,
+        user: &[u8],
+    ) -> Result<(), NoMemory>
+        ensures ok { OnOk result (LinkedAt self.old self.new (λ n. same_name n (spelled row.now) && not (has others.now n)) user.now) }
+        ensures err { OnErr result (self.new ≡ self.old) }
+    {
+        if others.has(row) {
+            return Ok(());
+        }
+        self.link(row, user)
+    }
+
+    /// Takes a user out at each of some rows. No memory.
+    pub fn unlink_all(&mut self, rows: &RowList, user: &[u8])
+        ensures { UnlinkedAt self.old self.new (has rows.now) user.now }
+    {
+        for row in rows.rows() {
+            self.unlink(row, user);
+        }
+    }
+
+    /// Takes a user out at each of some rows that others lack. No memory.
+    pub fn unlink_all_but(&mut self, rows: &RowList, others: &RowList, user: &[u8])
+        ensures { UnlinkedAt self.old self.new (has_but rows.now others.now) user.now }
+    {
+        for row in rows.rows() {
+            self.unlink_unless(row, others, user);
+        }
+    }
+
+    /// Takes a user out at a row, unless others have it. No memory.
+    fn unlink_unless(&mut self, row: &RequiredRow, others: &RowList, user: &[u8])
+        ensures { UnlinkedAt self.old self.new (λ n. same_name n (spelled row.now) && not (has others.now n)) user.now }
+    {
+        if !others.has(row) {
+            self.unlink(row, user);
+        }
+    }
+}
+
+/// The rows of a [`RowIndex`] that have users, in their order, seen as the list of those that are left.
+#[derive(Drop)]
+pub struct Required<'i> {
+    rows: Rows<'i, NameList>,
+}
+
+impl<'i> Model for Required<'i> {
+    ghost use Rattle.std.specs.Prelude.{List};
+    ghost use Rattle.jc_report.specs.Rows.{Row};
+
+    ghost Value = { List Row };
+
+    ghost view = { λ a. a.rows };
+}
+
+impl<'i> Iterator for Required<'i> {
+    type Item = Row<'i>;
+
+    ghost next_gives = { YieldsFirstBy row_lent (λ left. left) };
+
+    ghost remaining = { item_count (λ left. left) };
+
+    fn next(&mut self) -> Option<Row<'i>> {
+        self.rows.next()
+    }
+}
