@@ -19,7 +19,7 @@ use jc_base::NoMemory;
 use jc_input::{LentEdit, PrefixEdit};
 use jc_link::{Meter, Outside};
 use jc_linkage::{HeldClasses, Linkage, Provided, Required};
-use jc_report::{is_any_wrong, rows_are_plain};
+use jc_report::is_any_wrong;
 use std::alloc::Global;
 use std::marker::Model;
 
@@ -129,7 +129,6 @@ impl Report {
     pub fn classes(&self) -> HeldClasses<'_>
         ensures { (r : reports.Report) × IsReportOf self.now r × (result ≡ r.classes) }
     {
-        rows_are_plain();
         self.linkage.classes()
     }
 
@@ -144,7 +143,6 @@ impl Report {
     pub fn required(&self) -> Required<'_>
         ensures { (r : reports.Report) → IsReportOf self.now r → result ≡ r.required }
     {
-        rows_are_plain();
         self.linkage.required()
     }
 
@@ -152,7 +150,6 @@ impl Report {
     pub(crate) fn holders(&self, place: usize) -> usize
         ensures { CountsHoldersAt self.now place result }
     {
-        rows_are_plain();
         self.linkage.holders(place)
     }
 

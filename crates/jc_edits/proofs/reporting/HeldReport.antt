@@ -11,17 +11,16 @@ use Rattle.jc_classes.specs.Facts.{Facts}
 use Rattle.jc_classes.specs.Names.{Name, name_cmp}
 use Rattle.jc_classes.specs.Parts.{IsPart, Part}
 use Rattle.jc_classes.specs.Worlds.{World}
-use Rattle.jc_linkage.specs.Linkages.{AreHeldClasses, HasPlainRows, IsHeldClass, Linkage, world_held}
+use Rattle.jc_linkage.specs.Linkages.{AreHeldClasses, IsHeldClass, Linkage, world_held}
 use Rattle.jc_link.specs.Prefixes.{is_covered}
 use Rattle.jc_link.specs.Tables.{class_at, or_built_in, stands_by}
 use Rattle.jc_report.specs.ClassRows.{provided_rows, required_rows}
 use Rattle.jc_report.specs.Files.{Files}
 use Rattle.jc_report.specs.FileRows.{rows}
 use Rattle.jc_report.specs.Reports.{Class, GivesRow, IsClassOf, IsReport, Report, facts_at, name_of, world_of}
-use Rattle.jc_report.specs.RowKeyLaws.{RowsArePlain}
-use Rattle.jc_report.specs.RowKeys.{IsPlain, row_key, row_of}
+use Rattle.jc_report.specs.RowKeys.{row_key}
 use Rattle.jc_report.specs.Rows.{AreRows, Row}
-use Rattle.jc_report.proofs.reports.OneReport.{all_has}
+use Rattle.jc_report.proofs.row_keys.KeyOrder.{row_of}
 use Rattle.jc_report.proofs.row_keys.RowsOfKeys.{rows_of_keys}
 use Rattle.jc_report.proofs.rows.RowsAreOne.{are_rows_one}
 
@@ -90,11 +89,11 @@ module _ (rows_by : Facts → Part → List Row) (classes : List Class) where
       record { class = found.0; among = from_has classes found.0 found.1; gives = from_has (class_gives found.0) row found.2 }
 
   -- there is a list of them
-  pub rows_there : ((row : Row) → GivesRow rows_by classes row → IsPlain row) → (put : List Row) × AreRows put (GivesRow rows_by classes)
+  pub rows_there : (put : List Row) × AreRows put (GivesRow rows_by classes)
   unfolding keys_given
-  rows_there plain = (
+  rows_there = (
     map row_of (key_list keys_given),
-    rows_of_keys (key_list keys_given) (GivesRow rows_by classes) (key_list_rises keys_given) plain
+    rows_of_keys (key_list keys_given) (GivesRow rows_by classes) (key_list_rises keys_given)
         (λ key h.
         let found = has-from_map row_key (flat_map class_gives classes) key (unlisted keys_given key h) in
         (found.0, given found.0 found.1, sym found.2))
@@ -106,9 +105,6 @@ module _ (rows_by : Facts → Part → List Row) (classes : List Class) where
 module _ (f : Files) (a : Linkage) (meets : (name : Name) → class_at a.classes name ≡ facts_at f name) where
   worlds : world_held a ≡ world_of f a.prefixes
   worlds = λ i name. stands_by (or_built_in (meets name i) name) (is_covered a.prefixes name)
-
-  pub plain_held : RowsArePlain → HasPlainRows a
-  plain_held law = λ name c p row h. (law f name c p row (sym (meets name) ∙ h)).1
 
   class_of : (c : Class) → IsHeldClass a c → IsClassOf f a.prefixes c
   class_of c h = record {
@@ -130,24 +126,11 @@ module _ (f : Files) (a : Linkage) (meets : (name : Name) → class_at a.classes
     complete = λ name c h. is.complete name c (sym (meets name) ∙ h);
   }
 
-  plain_class : RowsArePlain → (classes : List Class) → AreHeldClasses a classes → (row : Row) (c : Class) → Contains classes c
-      → (Contains (provided_rows c.facts c.part) row → IsPlain row) × (Contains (required_rows c.facts c.part) row → IsPlain row)
-  plain_class law classes held row c among =
-      let is = all_has (IsHeldClass a) classes c held.sound (has_from classes c among) in
-      law f (name_of c) c.facts c.part row (sym (meets (name_of c)) ∙ is.facts)
-
-  plain_given : RowsArePlain → (classes : List Class) → AreHeldClasses a classes → (row : Row)
-      → (GivesRow provided_rows classes row → IsPlain row) × (GivesRow required_rows classes row → IsPlain row)
-  plain_given law classes held row = (
-    λ g. (plain_class law classes held row g.class g.among).0 g.gives,
-    λ g. (plain_class law classes held row g.class g.among).1 g.gives,
-  )
-
   -- there is a report with the classes that are held
-  pub report_held : RowsArePlain → (classes : List Class) → AreHeldClasses a classes → (r : Report) × IsReport f a.prefixes r × (classes ≡ r.classes)
-  report_held law classes held =
-      let provided = rows_there provided_rows classes (λ row. (plain_given law classes held row).0) in
-      let required = rows_there required_rows classes (λ row. (plain_given law classes held row).1) in (
+  pub report_held : (classes : List Class) → AreHeldClasses a classes → (r : Report) × IsReport f a.prefixes r × (classes ≡ r.classes)
+  report_held classes held =
+      let provided = rows_there provided_rows classes in
+      let required = rows_there required_rows classes in (
         record { files = rows f; classes = classes; circular = map name_of (filter (λ c. c.part.circular) classes); provided = provided.0; required = required.0 },
         record {
           files = refl;

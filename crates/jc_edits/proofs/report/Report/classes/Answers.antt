@@ -7,5 +7,5 @@ use Rattle.jc_edits.proofs.report.Report.classes.Goals as goal
 pub returns : goal.returns
 returns c =
     let inside = c.self.inside in
-    let made = report_held inside.held.files inside.linkage c.self.invariant.classes c.rows_are_plain.ensures c.classes.result c.classes.ensures in
+    let made = report_held inside.held.files inside.linkage c.self.invariant.classes c.classes.result c.classes.ensures in
     (made.0, subst (λ (s : HeldFiles). IsReport s.files s.prefixes made.0) c.self.view_is made.1, made.2)

@@ -1,7 +1,7 @@
 use Rattle.std.proofs.Common.{subst, sym}
 use Rattle.jc_report.specs.Reports.{IsReport}
 use Rattle.jc_edits.specs.SessionState.{HeldFiles}
-use Rattle.jc_edits.proofs.reporting.HeldReport.{held_classes, plain_held}
+use Rattle.jc_edits.proofs.reporting.HeldReport.{held_classes}
 use Rattle.jc_edits.proofs.report.Report.holders.Goals as goal
 
 pub returns : goal.returns
@@ -9,4 +9,4 @@ returns c = λ r is.
     let inside = c.self.inside in
     let meets = c.self.invariant.classes in
     let here = subst (λ (s : HeldFiles). IsReport s.files s.prefixes r) (sym c.self.view_is) is in
-    c.holders.ensures (plain_held inside.held.files inside.linkage meets c.rows_are_plain.ensures) r.classes (held_classes inside.held.files inside.linkage meets r here) r.required here.required
+    c.holders.ensures r.classes (held_classes inside.held.files inside.linkage meets r here) r.required here.required

@@ -1,12 +1,12 @@
 use Rattle.std.proofs.Common.{subst, sym}
 use Rattle.jc_report.specs.Reports.{IsReport}
 use Rattle.jc_edits.specs.SessionState.{HeldFiles}
-use Rattle.jc_edits.proofs.reporting.HeldReport.{plain_held, required_held}
+use Rattle.jc_edits.proofs.reporting.HeldReport.{required_held}
 use Rattle.jc_edits.proofs.report.Report.required.Goals as goal
 
 pub returns : goal.returns
 returns c = λ r is.
     let inside = c.self.inside in
     let meets = c.self.invariant.classes in
-    required_held inside.held.files inside.linkage meets c.required.result (c.required.ensures (plain_held inside.held.files inside.linkage meets c.rows_are_plain.ensures)) r
+    required_held inside.held.files inside.linkage meets c.required.result c.required.ensures r
     (subst (λ (s : HeldFiles). IsReport s.files s.prefixes r) (sym c.self.view_is) is)
