@@ -1,6 +1,6 @@
 -- How a run over the lines of an input ends, and what it has done by then.
 use Rattle.std.specs.Prelude.{◌≡◌, ℕ, ◌<◌, ◌≤◌, ◌⊎◌, ◌↔◌, Bool, true, false, ⊤, IsSome}
-use Rattle.std.specs.Prelude.{List, ◌∷◌, ◌++◌, length, take, Option, Some, None, Result, Ok, Err}
+use Rattle.std.specs.Prelude.{List, [], ◌∷◌, ◌++◌, length, take, Option, Some, None, Result, Ok, Err}
 use Rattle.std.specs.List.{list_any}
 use Rattle.std.specs.Io.KnownBytes.{Appends, Keeps}
 use Rattle.jc_input.specs.declared.run_error.RunError.{RunError}
@@ -9,7 +9,7 @@ use Rattle.jc_input.specs.declared.run_error.Ended.{Ended}
 use Rattle.jc_input.specs.declared.run_error.Ended.TheVariants as ended
 use Rattle.jc_input.specs.declared.source.SourceError.{SourceError}
 use Rattle.jc_input.specs.declared.source.SourceError.TheVariants as sources
-use Rattle.jc_edits.specs.SessionState.{HeldFiles}
+use Rattle.jc_edits.specs.SessionState.{HeldFiles, SessionState, held_of}
 use Rattle.jc_input.specs.Changes.{Change, Adds, Replaces, Removes, AddsPrefix, DropsPrefix, OfFiles, OfPrefixes}
 use Rattle.jc_edits.specs.Edits.{judge_edit}
 use Rattle.jc_report.specs.FileRows.{winner}
@@ -153,3 +153,17 @@ RunsFrom h source input ending left =
 abbrev pub RunsByAnswers : HeldFiles → (input : Option (List ℕ)) → Result Ended RunError → Left → Type 0
 RunsByAnswers h input ending left =
     (bytes : List ℕ) → input ≡ Some bytes → (s : SourceAnswers) × RunsAs h s bytes ending left
+
+-- ---- by functions that tell a source's answers to come, an input's bytes to come, and what is written to an output
+
+abbrev pub RunsOver : {S R W : Type 0} → (S → Option SourceAnswers) → (R → Option (List ℕ)) → (W → Option (List ℕ)) → Result Ended RunError
+    → (old new : SessionState) (source source_now : S) (input input_now : R) (out out_now : W) → Type 0
+RunsOver answers remaining written ending old new source source_now input input_now out out_now =
+    RunsFrom (held_of old) (answers source) (remaining input) ending
+    (left_by (held_of new) (answers source_now) (remaining input_now) (written out) (written out_now))
+
+abbrev pub RunsOverByAnswers : {R W : Type 0} → (R → Option (List ℕ)) → (W → Option (List ℕ)) → Result Ended RunError
+    → (old new : SessionState) (input input_now : R) (out out_now : W) → Type 0
+RunsOverByAnswers remaining written ending old new input input_now out out_now =
+    RunsByAnswers (held_of old) (remaining input) ending
+    (left_by (held_of new) (Some []) (remaining input_now) (written out) (written out_now))

@@ -1,18 +1,15 @@
 //! The answer to one line.
-ghost use Rattle.std.specs.Prelude.{◌≡◌, ◌≤◌, ◌≢◌, IfErr, IsSome, None, Some};
+ghost use Rattle.std.specs.Prelude.{◌≡◌, ◌≤◌, ◌≢◌, IfErr, IsSome, None};
 ghost use Rattle.jc_input.specs.declared.run_error.RunError.TheVariants.{NoMemory, Read};
 ghost use Rattle.jc_input.specs.Changes.{EditChange, change_lent};
 ghost use Rattle.jc_edits.specs.Edits.{judge_edit};
 ghost use Rattle.jc_edits.specs.SessionState.{HeldFiles, held_of};
-ghost use Rattle.jc_input.specs.Sources.{SourceAnswers};
-ghost use Rattle.jc_lines.specs.Answers.{Lists, edit_reply};
-ghost use Rattle.jc_lines.specs.ListedText.{listed_text};
 ghost use Rattle.jc_report.specs.FileRows.{winner};
 ghost use Rattle.jc_input.specs.RunErrors.{CountsWrites};
 ghost use Rattle.jc_lines.specs.Runs.{LineMayLack};
 ghost use Rattle.jc_input.specs.LentCommands.{command_lent};
-ghost use Rattle.jc_lines.specs.inside.Replies.{Gives, GivesByAnswers, GivesByReply, GivesOwed, IsEdited, LacksOnlyIf};
-ghost use Rattle.jc_lines.specs.inside.Replies.{PlacingMayLack, placed, placing_reply, said_by};
+ghost use Rattle.jc_lines.specs.inside.Replies.{AnswersLine, AnswersLineByAnswers, AnswersPlacing, AnswersPlacingByAnswers};
+ghost use Rattle.jc_lines.specs.inside.Replies.{IsEdited, LacksOnlyIf, PlacingMayLack, SaysEdit, SaysListing, placed, said_by};
 
 use crate::answer_text::{write_bad_line, write_edit_answer, write_unread};
 use crate::file_listing::list_winner;
@@ -55,11 +52,10 @@ pub(crate) fn answer<S: Source, W: Output>(
     command: Command<'_>,
     out: &mut W,
 ) -> Result<Next, RunError>
-    ensures gives { (s : SourceAnswers) → S.answers source.old ≡ Some s → GivesOwed (held_of session.old) s
-        (command_lent command.entry) result (held_of session.new) (S.answers source.new) (W.written out.old) (W.written out.new) }
+    ensures gives { AnswersLine S.answers W.written (command_lent command.entry) result
+        session.old session.new source.old source.new out.old out.new }
     ensures lacks { LacksOnlyIf (S.answers source.old) (λ s. LineMayLack (held_of session.old) s (command_lent command.entry)) result }
-    ensures any { GivesByAnswers (held_of session.old) (command_lent command.entry)
-        result (held_of session.new) (W.written out.old) (W.written out.new) }
+    ensures any { AnswersLineByAnswers W.written (command_lent command.entry) result session.old session.new out.old out.new }
     ensures failures { CountsWrites result (W.failures out.old) (W.failures out.new) }
     ensures err { IfErr result (λ e. e ≢ Read) }
     ensures asks_rise { session.old.asks ≤ session.new.asks }
@@ -93,12 +89,10 @@ fn answer_sourced<S: Source, W: Output>(
     placing: Placing,
     out: &mut W,
 ) -> Result<Next, RunError>
-    ensures gives { (s : SourceAnswers) → S.answers source.old ≡ Some s → Gives (held_of session.old) s
-        (placing_reply (held_of session.old) placing path.now s) result (held_of session.new)
-        (S.answers source.new) (W.written out.old) (W.written out.new) }
+    ensures gives { AnswersPlacing S.answers W.written placing path.now result
+        session.old session.new source.old source.new out.old out.new }
     ensures lacks { LacksOnlyIf (S.answers source.old) (PlacingMayLack (held_of session.old) placing path.now) result }
-    ensures any { GivesByReply (held_of session.old) (placing_reply (held_of session.old) placing path.now)
-        (PlacingMayLack (held_of session.old) placing path.now) result (held_of session.new) (W.written out.old) (W.written out.new) }
+    ensures any { AnswersPlacingByAnswers W.written placing path.now result session.old session.new out.old out.new }
     ensures failures { CountsWrites result (W.failures out.old) (W.failures out.new) }
     ensures err { IfErr result (λ e. e ≢ Read) }
     ensures asks_rise { session.old.asks ≤ session.new.asks }
@@ -113,8 +107,7 @@ fn answer_sourced<S: Source, W: Output>(
 
 /// Says that an edit was made, or why it is refused.
 fn answer_edit<W: Output>(edited: Result<Done, EditError>, out: &mut W) -> Result<Next, RunError>
-    ensures gives { (h g : HeldFiles) (change : EditChange) → IsEdited h g change edited → (s t : SourceAnswers)
-        → Gives h s (edit_reply h t change) result g (Some t) (W.written out.old) (W.written out.new) }
+    ensures gives { SaysEdit edited result (W.written out.old) (W.written out.new) }
     ensures lacks { (h g : HeldFiles) (change : EditChange) → IsEdited h g change edited
         → result ≡ Err NoMemory → judge_edit h change ≡ None }
     ensures failures { CountsWrites result (W.failures out.old) (W.failures out.new) }
@@ -133,8 +126,7 @@ fn answer_listing<W: Output>(
     name: &[u8],
     out: &mut W,
 ) -> Result<Next, RunError>
-    ensures gives { (s : SourceAnswers) → Gives (held_of session.now) s (Lists (listed_text session.now.files name.now))
-        result (held_of session.now) (Some s) (W.written out.old) (W.written out.new) }
+    ensures gives { SaysListing session.now name.now result (W.written out.old) (W.written out.new) }
     ensures lacks { result ≡ Err NoMemory → IsSome (winner session.now.files name.now) }
     ensures failures { CountsWrites result (W.failures out.old) (W.failures out.new) }
     ensures err { IfErr result (λ e. e ≢ Read) }

@@ -1,12 +1,11 @@
 //! A run over lines.
-ghost use Rattle.std.specs.Prelude.{◌≡◌, ◌≤◌, ◌≢◌, [], true, IfErr, Some};
+ghost use Rattle.std.specs.Prelude.{◌≡◌, ◌≤◌, ◌≢◌, true, IfErr};
 ghost use Rattle.jc_input.specs.declared.run_error.RunError.TheVariants.{Read};
 ghost use Rattle.jc_input.specs.Lines.{command_of};
-ghost use Rattle.jc_input.specs.Sources.{SourceAnswers};
 ghost use Rattle.jc_input.specs.RunErrors.{CountsReads, CountsWrites};
 ghost use Rattle.jc_edits.specs.SessionState.{held_of};
-ghost use Rattle.jc_lines.specs.Runs.{LineMayLack, RunsByAnswers, RunsFrom, left_by};
-ghost use Rattle.jc_lines.specs.inside.Replies.{GivesLast, GivesLastByAnswers, LacksOnlyIf};
+ghost use Rattle.jc_lines.specs.Runs.{LineMayLack, RunsOver, RunsOverByAnswers};
+ghost use Rattle.jc_lines.specs.inside.Replies.{AnswersLast, AnswersLastByAnswers, LacksOnlyIf};
 
 use crate::answer::{Next, answer};
 use jc_base::{Input, Output};
@@ -25,11 +24,10 @@ pub fn run<S: Source, R: Input, W: Output>(
     input: &mut R,
     out: &mut W,
 ) -> Result<Ended, RunError>
-    ensures runs { RunsFrom (held_of session.old) (S.answers source.old) (R.remaining input.old) result
-        (left_by (held_of session.new) (S.answers source.new) (R.remaining input.new) (W.written out.old) (W.written out.new)) }
+    ensures runs { RunsOver S.answers R.remaining W.written result
+        session.old session.new source.old source.new input.old input.new out.old out.new }
     // Of any source: by the answers that it gave.
-    ensures by_answers { RunsByAnswers (held_of session.old) (R.remaining input.old) result
-        (left_by (held_of session.new) (Some []) (R.remaining input.new) (W.written out.old) (W.written out.new)) }
+    ensures by_answers { RunsOverByAnswers R.remaining W.written result session.old session.new input.old input.new out.old out.new }
 
     // An input that has ended is not read.
     ensures ended { R.ended input.old ≡ true → input.new ≡ input.old }
@@ -57,10 +55,10 @@ fn answer_last<S: Source, W: Output>(
     line: &[u8],
     out: &mut W,
 ) -> Result<Ended, RunError>
-    ensures gives { (s : SourceAnswers) → S.answers source.old ≡ Some s → GivesLast (held_of session.old) s line.now
-        result (held_of session.new) (S.answers source.new) (W.written out.old) (W.written out.new) }
+    ensures gives { AnswersLast S.answers W.written line.now result
+        session.old session.new source.old source.new out.old out.new }
     ensures lacks { LacksOnlyIf (S.answers source.old) (λ s. LineMayLack (held_of session.old) s (command_of line.now)) result }
-    ensures any { GivesLastByAnswers (held_of session.old) line.now result (held_of session.new) (W.written out.old) (W.written out.new) }
+    ensures any { AnswersLastByAnswers W.written line.now result session.old session.new out.old out.new }
     ensures failures { CountsWrites result (W.failures out.old) (W.failures out.new) }
     ensures err { IfErr result (λ e. e ≢ Read) }
     ensures asks_rise { session.old.asks ≤ session.new.asks }

@@ -20,7 +20,8 @@ use Rattle.jc_list.specs.Listing.{WritesBeginning}
 use Rattle.jc_lines.specs.ListedText.{file_text, is_faulty_file}
 use Rattle.jc_limits.specs.FileEdits.{size_fault}
 use Rattle.jc_edits.specs.SessionState.{HeldFiles}
-use Rattle.jc_lines.specs.Runs.{RunsByAnswers, left_by}
+use Rattle.jc_lines.specs.Runs.{RunsByAnswers, RunsFrom, left_by}
+use Rattle.jc_input.specs.Sources.{SourceAnswers}
 use Rattle.jc_report.specs.Reports.{IsReport, Report, is_wrong}
 use Rattle.jc_session.specs.Words.{AsksCheck, AsksListing, AsksRun, Word}
 
@@ -60,6 +61,16 @@ RunsSession words outcome input coming before now =
     (prefixes : List (List ℕ)) × AsksRun words prefixes
     × (ending : Result Ended RunError) × (held : HeldFiles) × IsOutcome ending held outcome
     × RunsByAnswers (begun prefixes) input ending (left_by held (Some []) coming before now)
+
+-- a run from these files and prefixes had this outcome, by the answers that its source has to come, and by those that it gave.
+-- Functions tell the source's answers to come, the input's bytes to come, and what is written to the output
+abbrev pub Serves : {S R W : Type 0} → (S → Option SourceAnswers) → (R → Option (List ℕ)) → (W → Option (List ℕ)) → HeldFiles → Outcome
+    → (source source_now : S) (input input_now : R) (out out_now : W) → Type 0
+Serves answers remaining written h outcome source source_now input input_now out out_now =
+    (ending : Result Ended RunError) × (held : HeldFiles) × IsOutcome ending held outcome
+    × RunsFrom h (answers source) (remaining input) ending
+    (left_by held (answers source_now) (remaining input_now) (written out) (written out_now))
+    × RunsByAnswers h (remaining input) ending (left_by held (Some []) (remaining input_now) (written out) (written out_now))
 
 -- the listing of a file was written, or why the bytes are none, or not all of it
 abbrev pub ListsFile : List ℕ → Outcome → (before now : Option (List ℕ)) → Type 0
@@ -152,6 +163,11 @@ WritesUnlessFailed text before after old new =
 abbrev pub Tells : Outcome → (before after : Option (List ℕ)) (old new : ℕ) → Type 0
 Tells (Ok wrong) before after old new = Keeps before after × (new ≡ old)
 Tells (Err fault) before after old new = WritesUnlessFailed (fault_text fault) before after old new
+
+-- the status is the outcome's, and a fault is told on an output whose bytes and whose failures functions tell
+abbrev pub Concludes : {E : Type 0} → (E → Option (List ℕ)) → (E → ℕ) → Outcome → (status : ℕ) → (err err_now : E) → Type 0
+Concludes written failures outcome status err err_now =
+    (status ≡ status_of outcome) × Tells outcome (written err) (written err_now) (failures err) (failures err_now)
 
 -- the input's count of failures rises with this fault alone
 abbrev pub CountsInput : Outcome → ℕ → ℕ → Type 0

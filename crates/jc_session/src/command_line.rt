@@ -1,17 +1,14 @@
 //! The program, apart from the standard streams: words and devices in, a status out.
 
-ghost use Rattle.std.specs.Prelude.{◌≡◌, [], Bool, List, Result, Some, map as map_each, ℕ};
+ghost use Rattle.std.specs.Prelude.{Bool, List, Result, map as map_each, ℕ};
 ghost use Rattle.std.specs.FinMap as map;
 ghost use Rattle.jc_classes.specs.Names.{names_of};
 ghost use Rattle.jc_input.specs.declared.source.SourceError.{SourceError};
-ghost use Rattle.jc_input.specs.declared.run_error.Ended.{Ended};
-ghost use Rattle.jc_input.specs.declared.run_error.RunError.{RunError};
-ghost use Rattle.jc_edits.specs.SessionState.{HeldFiles, held_of};
+ghost use Rattle.jc_edits.specs.SessionState.{held_of};
 ghost use Rattle.jc_check.specs.Checks.{Answer, CheckFault, ChecksAs, GivesAnswers, added};
-ghost use Rattle.jc_lines.specs.Runs.{RunsByAnswers, RunsFrom, left_by};
 ghost use Rattle.jc_input.specs.Sources.{TakesAnswer, answer_of};
-ghost use Rattle.jc_session.specs.Statuses.{Checks, CountsInput, CountsOutput, IsOutcome, ListsAs, Outcome, Performs, Tells};
-ghost use Rattle.jc_session.specs.Statuses.{begun, outcome_of_check, status_of};
+ghost use Rattle.jc_session.specs.Statuses.{Checks, Concludes, CountsInput, CountsOutput, ListsAs, Outcome, Performs, Serves};
+ghost use Rattle.jc_session.specs.Statuses.{begun, outcome_of_check};
 ghost use Rattle.jc_session.specs.Words.{AsksCheck, Word};
 ghost use Rattle.jc_session.specs.inside.LentFaults.{outcome_lent};
 
@@ -44,21 +41,14 @@ pub fn program<F: Files + AllocGlobal, R: Input, W: Output, E: Output>(
 ) -> u8
     ensures { (outcome : Outcome)
         × Performs R.remaining (map_each (λ word. word.now) words.now) outcome input.old input.new (W.written out.old) (W.written out.new)
-        × (result ≡ status_of outcome)
         × CountsInput outcome (R.failures input.old) (R.failures input.new)
         × CountsOutput outcome (W.failures out.old) (W.failures out.new)
-        × Tells outcome (E.written err.old) (E.written err.new) (E.failures err.old) (E.failures err.new) }
+        × Concludes E.written E.failures outcome result err.old err.new }
 {
     match asked(rt.alloc(), words) {
         Ok(Request::Session(outside)) => {
-            serve(
-                rt.alloc(),
-                outside,
-                &mut FileSource::new(rt),
-                input,
-                out,
-                err,
-            )
+            let outcome = serve(rt.alloc(), outside, &mut FileSource::new(rt), input, out);
+            conclude(err, outcome)
         }
         Ok(Request::List(path)) => list(rt.alloc(), &mut FileSource::new(rt), path, out, err),
         Ok(Request::Check(outside, form, folder)) => {
@@ -80,9 +70,8 @@ fn check_folder<'a, F: Files + AllocGlobal, W: Output, E: Output>(
     ensures { (outcome : Outcome)
         × ((words : List Word) → AsksCheck words outside.now form.now folder.now
         → Checks words outcome (W.written out.old) (W.written out.new))
-        × (result ≡ status_of outcome)
         × CountsOutput outcome (W.failures out.old) (W.failures out.new)
-        × Tells outcome (E.written err.old) (E.written err.new) (E.failures err.old) (E.failures err.new) }
+        × Concludes E.written E.failures outcome result err.old err.new }
 {
     match class_files(rt, folder) {
         Ok(paths) => {
@@ -107,9 +96,8 @@ fn check_files<S: Source, W: Output, E: Output>(
     ensures { (answers : List Answer) × (checked : Result Bool CheckFault)
         × GivesAnswers (S.answers source.old) (names_of paths.now) answers (S.answers source.new)
         × ChecksAs outside.now form.now (added map.empty (names_of paths.now) answers) checked (W.written out.old) (W.written out.new)
-        × (result ≡ status_of (outcome_of_check checked))
         × CountsOutput (outcome_of_check checked) (W.failures out.old) (W.failures out.new)
-        × Tells (outcome_of_check checked) (E.written err.old) (E.written err.new) (E.failures err.old) (E.failures err.new) }
+        × Concludes E.written E.failures (outcome_of_check checked) result err.old err.new }
 {
     match check(alloc, outside, form, paths, source, out) {
         Ok(wrong) => conclude(err, Ok(wrong)),
@@ -126,11 +114,10 @@ fn list<S: Source, W: Output, E: Output>(
     err: &mut E,
 ) -> u8
     ensures { (answer : Result (List ℕ) SourceError) × (outcome : Outcome)
-        × (result ≡ status_of outcome)
         × ListsAs path.now answer outcome (W.written out.old) (W.written out.new)
         × TakesAnswer (S.answers source.old) path.now answer (S.answers source.new)
         × CountsOutput outcome (W.failures out.old) (W.failures out.new)
-        × Tells outcome (E.written err.old) (E.written err.new) (E.failures err.old) (E.failures err.new) }
+        × Concludes E.written E.failures outcome result err.old err.new }
 {
     let outcome = list_answer(alloc, path.as_bytes(), source.read(path.as_bytes()), out);
     conclude(err, outcome)
@@ -155,45 +142,18 @@ fn list_answer<'w, W: Output>(
     }
 }
 
-/// Runs a session without files to its end, tells on `err` why it stopped, and gives the status.
-fn serve<S: Source, R: Input, W: Output, E: Output>(
-    alloc: Global,
-    outside: Outside,
-    source: &mut S,
-    input: &mut R,
-    out: &mut W,
-    err: &mut E,
-) -> u8
-    ensures { (ending : Result Ended RunError) × (held : HeldFiles) × (outcome : Outcome) × IsOutcome ending held outcome
-        × (result ≡ status_of outcome)
-        × CountsInput outcome (R.failures input.old) (R.failures input.new)
-        × CountsOutput outcome (W.failures out.old) (W.failures out.new)
-        × Tells outcome (E.written err.old) (E.written err.new) (E.failures err.old) (E.failures err.new)
-        × RunsFrom (begun outside) (S.answers source.old) (R.remaining input.old) ending
-        (left_by held (S.answers source.new) (R.remaining input.new) (W.written out.old) (W.written out.new))
-        × RunsByAnswers (begun outside) (R.remaining input.old) ending
-        (left_by held (Some []) (R.remaining input.new) (W.written out.old) (W.written out.new)) }
-{
-    let outcome = perform(alloc, outside, source, input, out);
-    conclude(err, outcome)
-}
-
 /// Runs a session without files to its end, and says whether the report held then is wrong.
-fn perform<S: Source, R: Input, W: Output>(
+fn serve<S: Source, R: Input, W: Output>(
     alloc: Global,
     outside: Outside,
     source: &mut S,
     input: &mut R,
     out: &mut W,
 ) -> Result<bool, Fault<'static>>
-    ensures { (ending : Result Ended RunError) × (held : HeldFiles)
-        × IsOutcome ending held (outcome_lent result)
-        × CountsInput (outcome_lent result) (R.failures input.old) (R.failures input.new)
-        × CountsOutput (outcome_lent result) (W.failures out.old) (W.failures out.new)
-        × RunsFrom (begun outside) (S.answers source.old) (R.remaining input.old) ending
-        (left_by held (S.answers source.new) (R.remaining input.new) (W.written out.old) (W.written out.new))
-        × RunsByAnswers (begun outside) (R.remaining input.old) ending
-        (left_by held (Some []) (R.remaining input.new) (W.written out.old) (W.written out.new)) }
+    ensures runs { Serves S.answers R.remaining W.written (begun outside) (outcome_lent result)
+        source.old source.new input.old input.new out.old out.new }
+    ensures reads { CountsInput (outcome_lent result) (R.failures input.old) (R.failures input.new) }
+    ensures writes { CountsOutput (outcome_lent result) (W.failures out.old) (W.failures out.new) }
 {
     let mut session = Session::new(alloc, outside)?;
     run_through(alloc, &mut session, source, input, out)
@@ -207,14 +167,10 @@ fn run_through<S: Source, R: Input, W: Output>(
     input: &mut R,
     out: &mut W,
 ) -> Result<bool, Fault<'static>>
-    ensures { (ending : Result Ended RunError)
-        × IsOutcome ending (held_of session.new) (outcome_lent result)
-        × CountsInput (outcome_lent result) (R.failures input.old) (R.failures input.new)
-        × CountsOutput (outcome_lent result) (W.failures out.old) (W.failures out.new)
-        × RunsFrom (held_of session.old) (S.answers source.old) (R.remaining input.old) ending
-        (left_by (held_of session.new) (S.answers source.new) (R.remaining input.new) (W.written out.old) (W.written out.new))
-        × RunsByAnswers (held_of session.old) (R.remaining input.old) ending
-        (left_by (held_of session.new) (Some []) (R.remaining input.new) (W.written out.old) (W.written out.new)) }
+    ensures runs { Serves S.answers R.remaining W.written (held_of session.old) (outcome_lent result)
+        source.old source.new input.old input.new out.old out.new }
+    ensures reads { CountsInput (outcome_lent result) (R.failures input.old) (R.failures input.new) }
+    ensures writes { CountsOutput (outcome_lent result) (W.failures out.old) (W.failures out.new) }
 {
     match run(alloc, session, source, input, out) {
         Ok(_) => Ok(session.report().wrong()),
@@ -224,8 +180,7 @@ fn run_through<S: Source, R: Input, W: Output>(
 
 /// Tells a fault, and gives the status.
 fn conclude<E: Output>(err: &mut E, outcome: Result<bool, Fault<'_>>) -> u8
-    ensures status { result ≡ status_of (outcome_lent outcome.entry) }
-    ensures tells { Tells (outcome_lent outcome.entry) (E.written err.old) (E.written err.new) (E.failures err.old) (E.failures err.new) }
+    ensures { Concludes E.written E.failures (outcome_lent outcome.entry) result err.old err.new }
 {
     match outcome {
         Ok(true) => 1,

@@ -11,7 +11,7 @@ use Rattle.jc_input.specs.declared.run_error.RunError.{RunError}
 use Rattle.jc_input.specs.declared.run_error.RunError.TheVariants as run_errors
 use Rattle.jc_input.specs.declared.run_error.Ended.{Ended}
 use Rattle.jc_input.specs.declared.run_error.Ended.TheVariants as ended
-use Rattle.jc_edits.specs.SessionState.{HeldFiles}
+use Rattle.jc_edits.specs.SessionState.{HeldFiles, SessionState, held_of}
 use Rattle.jc_input.specs.Changes.{Change, Adds, Replaces, EditChange}
 use Rattle.jc_input.specs.declared.edit.Done.{Done}
 use Rattle.jc_input.specs.declared.edit.EditError.{EditError}
@@ -20,7 +20,8 @@ use Rattle.jc_edits.specs.Judged.{IsJudged}
 use Rattle.jc_input.specs.Lines.{Command, command_of}
 use Rattle.jc_input.specs.Sources.{SourceAnswers, next_answer}
 use Rattle.jc_lines.specs.Runs.{LineMayLack, MayLack}
-use Rattle.jc_lines.specs.Answers.{Reply, Says, Lists, Ends, Lacks, Replies, sourced_reply}
+use Rattle.jc_lines.specs.Answers.{Reply, Says, Lists, Ends, Lacks, Replies, edit_reply, sourced_reply}
+use Rattle.jc_lines.specs.ListedText.{listed_text}
 
 -- the change that places bytes at a path
 abbrev pub placed : Placing → List ℕ → List ℕ → Change
@@ -113,3 +114,55 @@ GivesByReply h reply_by may_lack_by result new before after =
     (given : SourceAnswers) × ((later : SourceAnswers) →
     Gives h (given ++ later) (reply_by (given ++ later)) result new (Some later) before after
     × (result ≡ Err run_errors.NoMemory → may_lack_by (given ++ later)))
+
+-- ---- what calls do to a session, to a source whose answers to come a function tells, and to an output whose bytes one tells
+
+-- what a line is owed was given
+abbrev pub AnswersLine : {S W : Type 0} → (S → Option SourceAnswers) → (W → Option (List ℕ)) → Command → Result Next RunError
+    → (old new : SessionState) (source source_now : S) (out out_now : W) → Type 0
+AnswersLine answers written command result old new source source_now out out_now =
+    (s : SourceAnswers) → answers source ≡ Some s
+    → GivesOwed (held_of old) s command result (held_of new) (answers source_now) (written out) (written out_now)
+
+-- and for what stands behind the last LF
+abbrev pub AnswersLast : {S W : Type 0} → (S → Option SourceAnswers) → (W → Option (List ℕ)) → List ℕ → Result Ended RunError
+    → (old new : SessionState) (source source_now : S) (out out_now : W) → Type 0
+AnswersLast answers written line result old new source source_now out out_now =
+    (s : SourceAnswers) → answers source ≡ Some s
+    → GivesLast (held_of old) s line result (held_of new) (answers source_now) (written out) (written out_now)
+
+-- and for a line that places bytes of the source
+abbrev pub AnswersPlacing : {S W : Type 0} → (S → Option SourceAnswers) → (W → Option (List ℕ)) → Placing → List ℕ → Result Next RunError
+    → (old new : SessionState) (source source_now : S) (out out_now : W) → Type 0
+AnswersPlacing answers written placing path result old new source source_now out out_now =
+    (s : SourceAnswers) → answers source ≡ Some s
+    → Gives (held_of old) s (placing_reply (held_of old) placing path s) result (held_of new) (answers source_now) (written out) (written out_now)
+
+-- the same whatever the source is
+
+abbrev pub AnswersLineByAnswers : {W : Type 0} → (W → Option (List ℕ)) → Command → Result Next RunError
+    → (old new : SessionState) (out out_now : W) → Type 0
+AnswersLineByAnswers written command result old new out out_now =
+    GivesByAnswers (held_of old) command result (held_of new) (written out) (written out_now)
+
+abbrev pub AnswersLastByAnswers : {W : Type 0} → (W → Option (List ℕ)) → List ℕ → Result Ended RunError
+    → (old new : SessionState) (out out_now : W) → Type 0
+AnswersLastByAnswers written line result old new out out_now =
+    GivesLastByAnswers (held_of old) line result (held_of new) (written out) (written out_now)
+
+abbrev pub AnswersPlacingByAnswers : {W : Type 0} → (W → Option (List ℕ)) → Placing → List ℕ → Result Next RunError
+    → (old new : SessionState) (out out_now : W) → Type 0
+AnswersPlacingByAnswers written placing path result old new out out_now =
+    GivesByReply (held_of old) (placing_reply (held_of old) placing path) (PlacingMayLack (held_of old) placing path)
+    result (held_of new) (written out) (written out_now)
+
+-- it was said that an edit was made, whatever the files and prefixes were before and behind it, or why it is refused
+abbrev pub SaysEdit : Result Done EditError → Result Next RunError → (before after : Option (List ℕ)) → Type 0
+SaysEdit edited result before after =
+    (h g : HeldFiles) (change : EditChange) → IsEdited h g change edited → (s t : SourceAnswers)
+    → Gives h s (edit_reply h t change) result g (Some t) before after
+
+-- the file that a class is taken from was listed
+abbrev pub SaysListing : SessionState → List ℕ → Result Next RunError → (before after : Option (List ℕ)) → Type 0
+SaysListing session name result before after =
+    (s : SourceAnswers) → Gives (held_of session) s (Lists (listed_text session.files name)) result (held_of session) (Some s) before after

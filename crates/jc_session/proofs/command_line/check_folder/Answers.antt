@@ -10,14 +10,13 @@ returns-in-Ok g c =
       λ words asked. inr (inr (c.args.outside.now, c.args.form.now, c.args.folder.now, asked, _, did.0, did.1, refl, did.3)),
       did.4,
       did.5,
-      did.6,
     )
 
 pub returns-in-Err-Unread : goal.returns-in-Err-Unread
 returns-in-Err-Unread g c =
     let path = c.deref-in-Err-Unread.result.now in
-    (Err (Unread path), λ words asked. inr (inl (path, refl, Keeps-refl (g.W.Output.written c.args.out.now))), c.conclude.ensures.status, refl, c.conclude.ensures.tells)
+    (Err (Unread path), λ words asked. inr (inl (path, refl, Keeps-refl (g.W.Output.written c.args.out.now))), refl, c.conclude.ensures)
 
 pub returns-in-Err-NoMemory : goal.returns-in-Err-NoMemory
 returns-in-Err-NoMemory g c =
-    (Err NoMemory, λ words asked. inl (refl, Keeps-refl (g.W.Output.written c.args.out.now)), c.conclude-in-Err-NoMemory.ensures.status, refl, c.conclude-in-Err-NoMemory.ensures.tells)
+    (Err NoMemory, λ words asked. inl (refl, Keeps-refl (g.W.Output.written c.args.out.now)), refl, c.conclude-in-Err-NoMemory.ensures)
