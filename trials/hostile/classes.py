@@ -247,7 +247,7 @@ def packages_of_long_names():
 
 
 def members_of_a_long_missing_name():
-    """Each a row that is required, whose key in a session has the class's name."""
+    """Each a row that is required, which a session keeps."""
     pool = Pool()
     pool.of_class(b"A"), pool.of_class(OBJECT)
     for name in itertools.islice(names(), MOST // 3 - 20):

@@ -24,8 +24,8 @@ import common
 SECONDS, BASE, EACH = 30, 50_000_000, 40
 # So much memory a run may ask for at most, lest the machine ends it.
 ROOM = 12 << 30
-# A session keeps the reach of each class, of a chain half the square of its length, and a key of its own for each row that is required.
-NO_SESSION = {"references_below_a_chain", "members_of_a_long_missing_name"}
+# A session keeps the reach of each class, of a chain half the square of its length.
+NO_SESSION = {"references_below_a_chain", "few_references_each_below_a_chain"}
 
 
 def measured(words, lines, out, folder, most):
