@@ -20,8 +20,7 @@ use Rattle.jc_list.specs.Listing.{WritesBeginning}
 use Rattle.jc_lines.specs.ListedText.{file_text, is_faulty_file}
 use Rattle.jc_limits.specs.FileEdits.{size_fault}
 use Rattle.jc_edits.specs.SessionState.{HeldFiles}
-use Rattle.jc_lines.specs.Runs.{RunsByAnswers, RunsFrom, left_by}
-use Rattle.jc_input.specs.Sources.{SourceAnswers}
+use Rattle.jc_lines.specs.Runs.{RunsByAnswers, left_by}
 use Rattle.jc_report.specs.Reports.{IsReport, Report, is_wrong}
 use Rattle.jc_session.specs.Words.{AsksCheck, AsksListing, AsksRun, Word}
 
@@ -61,16 +60,6 @@ RunsSession words outcome input coming before now =
     (prefixes : List (List ℕ)) × AsksRun words prefixes
     × (ending : Result Ended RunError) × (held : HeldFiles) × IsOutcome ending held outcome
     × RunsByAnswers (begun prefixes) input ending (left_by held (Some []) coming before now)
-
--- a run from these files and prefixes had this outcome, by the answers that its source has to come, and by those that it gave.
--- Functions tell the source's answers to come, the input's bytes to come, and what is written to the output
-abbrev pub Serves : {S R W : Type 0} → (S → Option SourceAnswers) → (R → Option (List ℕ)) → (W → Option (List ℕ)) → HeldFiles → Outcome
-    → (source source_now : S) (input input_now : R) (out out_now : W) → Type 0
-Serves answers remaining written h outcome source source_now input input_now out out_now =
-    (ending : Result Ended RunError) × (held : HeldFiles) × IsOutcome ending held outcome
-    × RunsFrom h (answers source) (remaining input) ending
-    (left_by held (answers source_now) (remaining input_now) (written out) (written out_now))
-    × RunsByAnswers h (remaining input) ending (left_by held (Some []) (remaining input_now) (written out) (written out_now))
 
 -- the listing of a file was written, or why the bytes are none, or not all of it
 abbrev pub ListsFile : List ℕ → Outcome → (before now : Option (List ℕ)) → Type 0

@@ -2,3 +2,4 @@ pub mod FolderNames
 pub mod LentFaults
 pub mod Paths
 pub mod Requests
+pub mod Serving

@@ -7,10 +7,11 @@ ghost use Rattle.jc_input.specs.declared.source.SourceError.{SourceError};
 ghost use Rattle.jc_edits.specs.SessionState.{held_of};
 ghost use Rattle.jc_check.specs.Checks.{Answer, CheckFault, ChecksAs, GivesAnswers, added};
 ghost use Rattle.jc_input.specs.Sources.{TakesAnswer, answer_of};
-ghost use Rattle.jc_session.specs.Statuses.{Checks, Concludes, CountsInput, CountsOutput, ListsAs, Outcome, Performs, Serves};
+ghost use Rattle.jc_session.specs.Statuses.{Checks, Concludes, CountsInput, CountsOutput, ListsAs, Outcome, Performs};
 ghost use Rattle.jc_session.specs.Statuses.{begun, outcome_of_check};
 ghost use Rattle.jc_session.specs.Words.{AsksCheck, Word};
 ghost use Rattle.jc_session.specs.inside.LentFaults.{outcome_lent};
+ghost use Rattle.jc_session.specs.inside.Serving.{Serves};
 
 use crate::fault::{Fault, tell};
 use crate::folder::FolderSource;
