@@ -25,7 +25,7 @@ SECONDS, BASE, EACH = 30, 50_000_000, 40
 # So much memory a run may ask for at most, lest the machine ends it.
 ROOM = 12 << 30
 # A session keeps the reach of each class, of a chain half the square of its length.
-NO_SESSION = {"references_below_a_chain", "few_references_each_below_a_chain"}
+NO_SESSION = {"references_below_a_chain"}
 
 
 def measured(words, lines, out, folder, most):
