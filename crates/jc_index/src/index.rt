@@ -10,6 +10,7 @@ ghost use Rattle.jc_classes.specs.Names.{Name, name_cmp, names_of, same_name};
 ghost use Rattle.jc_index.specs.Indexes.{HaveUsers, Linked, LinkedAt, LinkedAtSome, Unlinked, UnlinkedAt, has_but, is_key, users_of};
 
 use crate::name_list::NameList;
+use crate::packed_names::PackedNames;
 use jc_base::{ByteMap, NoMemory, byte_map};
 use std::alloc::Global;
 use std::marker::Model;
@@ -100,8 +101,7 @@ impl Index {
             return Ok(());
         }
         let name = Vec::from_slice(self.alloc, name)?;
-        let mut list = NameList::new(self.alloc);
-        list.add(user)?;
+        let list = NameList::one(self.alloc, user)?;
         self.lists.insert(name, list)?;
         Ok(())
     }
@@ -119,32 +119,32 @@ impl Index {
     }
 
     /// Adds a user at each of some names. At want of memory it may be added at some of them.
-    pub fn link_all(&mut self, names: &NameList, user: &[u8]) -> Result<(), NoMemory>
+    pub fn link_all(&mut self, names: &PackedNames, user: &[u8]) -> Result<(), NoMemory>
         ensures ok { OnOk result (LinkedAt self.old self.new (has names.now) user.now) }
         ensures err { OnErr result (LinkedAtSome self.old self.new (has names.now) user.now) }
     {
-        let none = NameList::new(self.alloc);
+        let none = PackedNames::new(self.alloc);
         self.link_all_but(names, &none, user)
     }
 
     /// Adds a user at each of some names that others lack. At want of memory it may be added at some of them.
     pub fn link_all_but(
         &mut self,
-        names: &NameList,
-        others: &NameList,
+        names: &PackedNames,
+        others: &PackedNames,
         user: &[u8],
     ) -> Result<(), NoMemory>
         ensures ok { OnOk result (LinkedAt self.old self.new (has_but names.now others.now) user.now) }
         ensures err { OnErr result (LinkedAtSome self.old self.new (has_but names.now others.now) user.now) }
     {
-        for name in names.names() {
-            self.link_unless(name, others, user)?;
+        for place in 0..names.len() {
+            self.link_unless(names.name(place), others, user)?;
         }
         Ok(())
     }
 
     /// Adds a user at a name, unless others have it.
-    fn link_unless(&mut self, name: &[u8], others: &NameList, user: &[u8]) -> Result<(), NoMemory>
+    fn link_unless(&mut self, name: &[u8], others: &PackedNames, user: &[u8]) -> Result<(), NoMemory>
         ensures ok { OnOk result (LinkedAt self.old self.new (λ n. same_name n name.now && not (has others.now n)) user.now) }
         ensures err { OnErr result (self.new ≡ self.old) }
     {
@@ -155,25 +155,25 @@ impl Index {
     }
 
     /// Takes a user out at each of some names. No memory.
-    pub fn unlink_all(&mut self, names: &NameList, user: &[u8])
+    pub fn unlink_all(&mut self, names: &PackedNames, user: &[u8])
         ensures { UnlinkedAt self.old self.new (has names.now) user.now }
     {
-        for name in names.names() {
-            self.unlink(name, user);
+        for place in 0..names.len() {
+            self.unlink(names.name(place), user);
         }
     }
 
     /// Takes a user out at each of some names that others lack. No memory.
-    pub fn unlink_all_but(&mut self, names: &NameList, others: &NameList, user: &[u8])
+    pub fn unlink_all_but(&mut self, names: &PackedNames, others: &PackedNames, user: &[u8])
         ensures { UnlinkedAt self.old self.new (has_but names.now others.now) user.now }
     {
-        for name in names.names() {
-            self.unlink_unless(name, others, user);
+        for place in 0..names.len() {
+            self.unlink_unless(names.name(place), others, user);
         }
     }
 
     /// Takes a user out at a name, unless others have it. No memory.
-    fn unlink_unless(&mut self, name: &[u8], others: &NameList, user: &[u8])
+    fn unlink_unless(&mut self, name: &[u8], others: &PackedNames, user: &[u8])
         ensures { UnlinkedAt self.old self.new (λ n. same_name n name.now && not (has others.now n)) user.now }
     {
         if !others.has(name) {

@@ -3,6 +3,8 @@
 
 mod index;
 mod name_list;
+mod packed_names;
 
 pub use index::{Index, Keys};
 pub use name_list::NameList;
+pub use packed_names::PackedNames;

@@ -1,6 +1,6 @@
 //! Names in their order, each once.
 
-ghost use Rattle.std.specs.Prelude.{◌≡◌, ◌↔◌, ◌||◌, ◌&&◌, not, IsTrue, OnErr, OnOk, IfErr, IfOk, []};
+ghost use Rattle.std.specs.Prelude.{◌≡◌, ◌∷◌, ◌↔◌, ◌||◌, ◌&&◌, not, IsTrue, OnErr, OnOk, IfErr, IfOk, []};
 ghost use Rattle.std.specs.List.Sorted.{IsStrictlySortedBy};
 ghost use Rattle.jc_classes.specs.NameLists.{has};
 ghost use Rattle.jc_classes.specs.Names.{Name, name_cmp, names_of, same_name};
@@ -33,13 +33,13 @@ impl Model for NameList {
 }
 
 impl NameList {
-    /// No names. No memory.
-    pub fn new(alloc: Global) -> NameList
-        ensures { result ≡ [] }
+    /// One name.
+    pub fn one(alloc: Global, name: Vec<u8>) -> Result<NameList, NoMemory>
+        ensures { IfOk result (λ list. list ≡ name.items ∷ []) }
     {
-        NameList {
-            names: Vec::new(alloc),
-        }
+        let mut names = Vec::with_capacity(alloc, 1)?;
+        names.push(name)?;
+        Ok(NameList { names })
     }
 
     /// These names, put in order, each once. No memory.

@@ -12,7 +12,7 @@ ghost use Rattle.jc_linkage.specs.inside.Kept.{AllFresh, AreKeys, HasKeysOf, IsK
 
 use jc_base::NoMemory;
 use jc_classes::Facts;
-use jc_index::NameList;
+use jc_index::PackedNames;
 use jc_link::{Closure, Meter, Outside, Part, Table, gather, make_part};
 use jc_report::required_of;
 use jc_required::RowList;
@@ -23,7 +23,7 @@ use std::alloc::Global;
 pub(crate) struct Kept {
     pub(crate) part: Part,
     /// The names of its reach.
-    pub(crate) reach: NameList,
+    pub(crate) reach: PackedNames,
     /// The rows that it requires.
     pub(crate) required: RowList,
 }
@@ -75,9 +75,10 @@ pub(crate) fn make_one(
     let name_kept = Vec::from_slice(alloc, name)?;
     let closure = gather(alloc, table, outside, name, meter)?;
     let (part, required) = part_and_rows(alloc, &closure, meter)?;
+    let reach = PackedNames::of(alloc, &closure.into_names())?;
     let kept = Kept {
         part,
-        reach: closure.into_names(),
+        reach,
         required,
     };
     Ok(Fresh {

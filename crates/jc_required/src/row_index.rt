@@ -89,10 +89,9 @@ impl RowIndex {
             list.add(user)?;
             return Ok(());
         }
-        let name = row.share()?;
-        let mut list = NameList::new(self.alloc);
-        list.add(user)?;
-        self.lists.insert(name, list)?;
+        let shared = row.share()?;
+        let list = NameList::one(self.alloc, user)?;
+        self.lists.insert(shared, list)?;
         Ok(())
     }
 

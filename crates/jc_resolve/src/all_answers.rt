@@ -28,13 +28,18 @@ struct Asked {
     number: usize,
 }
 
-/// With fewer references than these none is looked for that names the same class as another: what is above a class
-/// may then be walked once for each of them.
-const FEW: usize = 256;
+/// So many classes may be walked over in vain: with fewer, for all references together, those that name the same class
+/// are not brought together.
+const FEW: usize = 65_536;
 
-/// The references; where they are many, those that name one class side by side, and of these those that ask for the
-/// same.
-fn by_class(alloc: Global, facts: &Facts, nodes: &[Option<usize>]) -> Result<Vec<Asked>, NoMemory>
+/// The references; where it may cost more to walk over what is above them than to bring them together, those that name
+/// one class side by side, and of these those that ask for the same.
+fn by_class(
+    alloc: Global,
+    facts: &Facts,
+    nodes: &[Option<usize>],
+    classes: usize,
+) -> Result<Vec<Asked>, NoMemory>
     requires { length nodes.now ≡ length facts.now.references }
     ensures { IfOk result (λ order. AreNumbered (length facts.now.references) order.items) }
 {
@@ -48,7 +53,8 @@ fn by_class(alloc: Global, facts: &Facts, nodes: &[Option<usize>]) -> Result<Vec
             number,
         })?;
     }
-    if order.len() >= FEW {
+    let walked = order.len().saturating_mul(classes);
+    if walked >= FEW {
         order.sort_unstable();
     }
     Ok(order)
@@ -126,7 +132,7 @@ fn answer_each(
     ensures size { OnOk result (length entries.new.items ≡ length facts.now.references) }
     ensures answered { OnOk result (AreAllAnswered look.now facts.now.references entries.new.items) }
 {
-    let order = by_class(alloc, facts, nodes)?;
+    let order = by_class(alloc, facts, nodes, look.classes.len())?;
     let mut before = None;
     for asked in &order {
         let number = asked.number;

@@ -119,6 +119,14 @@ or_last false b e = e
 pub has_added : (old new : List Name) (user : Name) → ((d : Name) → has new d ≡ (has old d || same_name d user)) → has new user ≡ true
 has_added old new user more = more user ∙ or_last (has old user) (same_name user user) (same_self user)
 
+-- of one user
+pub has_one : (user d : Name) → has (user ∷ []) d ≡ same_name d user
+has_one user d = or_none (same_name d user)
+  where
+    or_none : (b : Bool) → (b || false) ≡ b
+    or_none true = refl
+    or_none false = refl
+
 -- a list that is put back changes nothing
 pub put_back : (lists : UserLists) (name : Name) (list : List Name) → fin.get lists name ≡ Some list → fin.insert lists name list ≡ lists
 put_back = insert_found

@@ -1,12 +1,9 @@
 -- Links that were added and taken out at the first of some names.
-use Rattle.std.proofs.Common.{◌≡◌, ℕ, ◌+◌, ◌<◌, Bool, true, false, not, ◌&&◌, ◌||◌, List, [], length, take, get_or, refl, sym, ap, ◌∙◌}
+use Rattle.std.proofs.Common.{◌≡◌, ℕ, ◌+◌, ◌<◌, Bool, true, false, not, ◌&&◌, ◌||◌, List, [], length, take, refl, sym, ap, ◌∙◌}
 use Rattle.std.proofs.lemmas.Bool.{false≢true}
-use Rattle.std.proofs.lemmas.List.{get_or-map}
 use Rattle.std.proofs.lemmas.List.Folds.{list_any_more}
-use Rattle.std.specs.declared.vec.Vec.{Vec}
-use Rattle.std.specs.declared.alloc.Global.{Global}
 use Rattle.jc_classes.specs.NameLists.{has}
-use Rattle.jc_classes.specs.Names.{Name, names_of, same_name}
+use Rattle.jc_classes.specs.Names.{Name, same_name}
 use Rattle.jc_classes.specs.Numbers.{name_at}
 use Rattle.jc_index.specs.Indexes.{UserLists, users_of, Between}
 use Rattle.jc_index.proofs.lists.Edited.{has_front}
@@ -18,10 +15,6 @@ LinkedTo old new names passes upto user = (n d : Name) → has (users_of new n) 
 -- but this one at the first names, of those that pass a test
 abbrev pub UnlinkedTo : (old new : UserLists) (names : List Name) (passes : Name → Bool) (upto : ℕ) (user : Name) → Type 0
 UnlinkedTo old new names passes upto user = (n d : Name) → has (users_of new n) d ≡ (has (users_of old n) d && not (same_name d user && (has (take upto names) n && passes n)))
-
--- the name at a place of held names
-pub held_name : (xs : List (Vec ℕ Global)) (i : ℕ) (x : Vec ℕ Global) → i < length xs → x ≡ get_or xs i x → name_at (names_of xs) i ≡ x.items
-held_name xs i x l e = get_or-map (λ (v : Vec ℕ Global). v.items) xs i x [] l ∙ ap (λ (v : Vec ℕ Global). v.items) (sym e)
 
 has_more : (names : List Name) (i : ℕ) (name n : Name) → i < length names → name_at names i ≡ name → has (take (i + 1) names) n ≡ (has (take i names) n || same_name n name)
 has_more names i name n l e = list_any_more (same_name n) names i [] l ∙ ap (λ z. has (take i names) n || same_name n z) e
@@ -63,13 +56,13 @@ linked_some old new names passes i user so_far n d = (
   λ e. few_true (has (users_of old n) d) (same_name d user) (has (take i names) n && passes n) (has names n && passes n) (both_more (has (take i names) n) (has names n) (passes n) (has_front names i n)) (sym (so_far n d) ∙ e),
 )
 
+pub and_yes : (a : Bool) → (a && true) ≡ a
+and_yes true = refl
+and_yes false = refl
+
 -- where there are no others
 pub no_others : (names others : List Name) (n : Name) → others ≡ [] → (has names n && not (has others n)) ≡ has names n
 no_others names others n e = ap (λ l. has names n && not (has l n)) e ∙ and_yes (has names n)
-  where
-    and_yes : (a : Bool) → (a && true) ≡ a
-    and_yes true = refl
-    and_yes false = refl
 
 -- a user is added at no name that others have, and at one that they lack
 pub had_by_others : (a x s o : Bool) → (x ≡ true → o ≡ true) → a ≡ (a || (s && (x && not o)))

@@ -116,3 +116,7 @@ same_rising (x ∷ xs) (y ∷ ys) h k e =
 pub rises_none : IsStrictlySortedBy name_cmp []
 unfolding IsStrictlySortedBy
 rises_none = tt
+
+pub rises_one : (name : Name) → IsStrictlySortedBy name_cmp (name ∷ [])
+unfolding IsStrictlySortedBy
+rises_one name = (tt, tt)

@@ -1,4 +1,4 @@
-use Rattle.std.proofs.Common.{sym, subst}
+use Rattle.std.proofs.Common.{sym, subst, ◌∙◌}
 use Rattle.jc_classes.specs.NameLists.{Lists}
 use Rattle.jc_classes.specs.Parts.{Reach}
 use Rattle.jc_link.specs.Tables.{world}
@@ -12,6 +12,6 @@ returns-clause-kept c =
     let closed = c.in_ok-closure.ensures.closure in
     record {
       part = made.part m d closed;
-      reach = subst (λ names. Lists names (Reach m d)) (sym c.into_names.ensures) closed.names;
+      reach = subst (λ names. Lists names (Reach m d)) (sym (c.in_ok-reach.ensures ∙ c.into_names.ensures)) closed.names;
       required = made.required m d closed;
     }

@@ -5,7 +5,7 @@ use Rattle.jc_resolve.proofs.answering.Asking.{number_of, numbered_sorted}
 use Rattle.jc_resolve.proofs.loading.Nets.{take_whole}
 use Rattle.jc_resolve.specs.inside.Answered.{AreNumbered}
 use Rattle.jc_resolve.proofs.all_answers.by_class.Goals as goal
-use Rattle.jc_resolve.proofs.all_answers.by_class.Goals.{then-len-ge-FEW, else-len-ge-FEW}
+use Rattle.jc_resolve.proofs.all_answers.by_class.Goals.{then-walked-ge-FEW, else-walked-ge-FEW}
 
 pub loop-place-init : goal.loop-place-init
 loop-place-init c = ap (map number_of) c.in_ok-order.ensures.items
@@ -26,7 +26,7 @@ returns c =
     let order = c.loop-place.order.items in
     let whole = take_whole alike c.loop-place.place (omega (arith, c.loop-place-test.false, c.loop-place.auto.place-end, c.len-place-end.ensures, c.in_ok-alike.alike.ok.0)) in
     let each : AreNumbered count order = subst (AreNumbers count) (sym (c.loop-place.invariant ∙ whole)) c.in_ok-alike.ensures in
-    elim c.if-len-ge-FEW.branch [
-      | then-len-ge-FEW w ↦ subst (λ o. AreNumbered count o.items) (sym w.order-is) (numbered_sorted count order w.sort_unstable.new.self.items w.sort_unstable.ensures.permutation each)
-      | else-len-ge-FEW w ↦ subst (λ o. AreNumbered count o.items) (sym w.order-is) each
+    elim c.if-walked-ge-FEW.branch [
+      | then-walked-ge-FEW w ↦ subst (λ o. AreNumbered count o.items) (sym w.order-is) (numbered_sorted count order w.sort_unstable.new.self.items w.sort_unstable.ensures.permutation each)
+      | else-walked-ge-FEW w ↦ subst (λ o. AreNumbered count o.items) (sym w.order-is) each
     ]

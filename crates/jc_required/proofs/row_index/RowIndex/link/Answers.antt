@@ -4,7 +4,7 @@ use Rattle.jc_classes.specs.NameLists.{has}
 use Rattle.jc_classes.specs.Names.{Name, same_name}
 use Rattle.jc_index.specs.Indexes.{users_of}
 use Rattle.jc_index.specs.inside.IsIndex.{IsIndex}
-use Rattle.jc_index.proofs.indexes.Lists.{on_err_any, linked_by, is_index-insert, not_empty, has_added, put_back}
+use Rattle.jc_index.proofs.indexes.Lists.{on_err_any, linked_by, is_index-insert, not_empty, has_added, has_one, put_back}
 use Rattle.jc_report.specs.RequiredRows.{spelled}
 use Rattle.jc_report.specs.RowKeys.{row_key}
 use Rattle.jc_required.proofs.row_index.RowIndex.link.Goals as goal
@@ -30,10 +30,10 @@ returns-clause-ok c =
     let old = c.self.inside.lists in
     let name = spelled c.args.row.now in
     let user = c.args.user.now in
-    let list = c.add-2.new.self in
+    let list = c.in_ok-list.list in
     let more : (d : Name) → has list d ≡ (has [] d || same_name d user) =
-    λ d. c.in_ok-add-2.ensures.ok d ∙ ap (λ l. has l d || same_name d c.in_ok-user.user.items) c.new-list.ensures ∙ ap (same_name d) c.in_ok-user.ensures.items in
-    λ n d. ap (λ lists. has (users_of lists n) d) (c.in_ok-insert.ensures.ok ∙ ap (λ x. fin.insert old x list) (ap row_key c.in_ok-name.ensures))
+    λ d. ap (λ l. has l d) c.in_ok-list.ensures ∙ has_one c.in_ok-user.user.items d ∙ ap (same_name d) c.in_ok-user.ensures.items in
+    λ n d. ap (λ lists. has (users_of lists n) d) (c.in_ok-insert.ensures.ok ∙ ap (λ x. fin.insert old x list) (ap row_key c.in_ok-shared.ensures))
     ∙ linked_by old name user None list (sym c.in_default.ensures.value) more n d
     ∙ ap (λ lists. has (users_of lists n) d || (same_name n name && same_name d user)) c.self.view_is
 
@@ -50,5 +50,7 @@ invariant_of-self-in-Some c =
 
 pub invariant_of-self-2 : goal.invariant_of-self-2
 invariant_of-self-2 c =
-    subst IsIndex (sym c.in_ok-insert.ensures.ok) (is_index-insert c.self.inside.lists (spelled c.in_ok-name.name) c.add-2.new.self c.self.invariant
-    (not_empty c.add-2.new.self c.in_ok-user.user.items (has_added c.new-list.result c.add-2.new.self c.in_ok-user.user.items c.in_ok-add-2.ensures.ok)))
+    let list = c.in_ok-list.list in
+    let user = c.in_ok-user.user.items in
+    subst IsIndex (sym c.in_ok-insert.ensures.ok) (is_index-insert c.self.inside.lists (spelled c.in_ok-shared.shared) list c.self.invariant
+    (not_empty list user (has_added [] list user (λ d. ap (λ l. has l d) c.in_ok-list.ensures ∙ has_one user d))))

@@ -1,0 +1,8 @@
+use Rattle.std.proofs.Common.{sym, subst}
+use Rattle.std.specs.List.Sorted.{IsStrictlySortedBy}
+use Rattle.jc_classes.specs.Names.{name_cmp}
+use Rattle.jc_index.proofs.lists.Rising.{rises_none}
+use Rattle.jc_index.proofs.packed_names.PackedNames.new.Goals as goal
+
+pub invariant_of-result : goal.invariant_of-result
+invariant_of-result c = subst (IsStrictlySortedBy name_cmp) (sym c.new.ensures) rises_none

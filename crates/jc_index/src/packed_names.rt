@@ -1,0 +1,96 @@
+//! Names in one buffer.
+
+ghost use Rattle.std.specs.Prelude.{◌≡◌, [], length, IfOk};
+ghost use Rattle.jc_classes.specs.NameLists.{has};
+ghost use Rattle.jc_classes.specs.Names.{names_of};
+ghost use Rattle.jc_classes.specs.Numbers.{name_at};
+
+use crate::name_list::NameList;
+use jc_base::NoMemory;
+use jc_classes::TextList;
+use std::alloc::Global;
+use std::cmp::Ordering;
+use std::marker::Model;
+
+/// Names in the order of their bytes, each once, in one buffer, seen as the list of them: for names that are kept and
+/// not changed.
+#[derive(Drop)]
+pub struct PackedNames {
+    names: TextList,
+}
+
+impl Model for PackedNames {
+    ghost use Rattle.std.specs.Prelude.{List};
+    ghost use Rattle.std.specs.Coded.{coded_list, coded_ℕ};
+    ghost use Rattle.std.specs.List.Sorted.{IsStrictlySortedBy};
+    ghost use Rattle.jc_classes.specs.Names.{Name, name_cmp};
+
+    ghost Value = { List Name };
+
+    ghost coded = { coded_list (coded_list coded_ℕ) };
+
+    ghost view = { λ a. a.names };
+
+    ghost invariant = { λ a. IsStrictlySortedBy name_cmp a.names };
+}
+
+impl PackedNames {
+    /// No names. No memory.
+    pub fn new(alloc: Global) -> PackedNames
+        ensures { result ≡ [] }
+    {
+        PackedNames {
+            names: TextList::new(alloc),
+        }
+    }
+
+    /// The names of a list.
+    pub fn of(alloc: Global, list: &NameList) -> Result<PackedNames, NoMemory>
+        ensures { IfOk result (λ packed. packed ≡ list.now) }
+    {
+        let names = pack(alloc, list.names())?;
+        Ok(PackedNames { names })
+    }
+
+    /// How many names there are. No memory.
+    pub fn len(&self) -> usize
+        ensures { result ≡ length self.now }
+    {
+        self.names.len()
+    }
+
+    /// The name at a place, from 0; an empty one beyond the last. No memory.
+    pub fn name(&self, place: usize) -> &[u8]
+        ensures { result.now ≡ name_at self.now place }
+    {
+        self.names.text(place)
+    }
+
+    /// Whether a name is among them. No memory.
+    pub fn has(&self, name: &[u8]) -> bool
+        ensures { result ≡ has self.now name.now }
+    {
+        let mut low = 0;
+        let mut high = self.names.len();
+        while low < high {
+            let middle = low + (high - low) / 2;
+            match self.names.text(middle).cmp(name) {
+                Ordering::Less => low = middle + 1,
+                Ordering::Equal => return true,
+                Ordering::Greater => high = middle,
+            }
+        }
+        false
+    }
+}
+
+/// Copies of names, one behind the other, with no room to spare.
+fn pack(alloc: Global, names: &[Vec<u8>]) -> Result<TextList, NoMemory>
+    ensures { IfOk result (λ texts. texts ≡ names_of names.now) }
+{
+    let mut texts = TextList::with_room(alloc, names.len(), 0)?;
+    for name in names {
+        texts.push(name)?;
+    }
+    Ok(texts.fitted())
+}
