@@ -144,7 +144,12 @@ impl Index {
     }
 
     /// Adds a user at a name, unless others have it.
-    fn link_unless(&mut self, name: &[u8], others: &PackedNames, user: &[u8]) -> Result<(), NoMemory>
+    fn link_unless(
+        &mut self,
+        name: &[u8],
+        others: &PackedNames,
+        user: &[u8],
+    ) -> Result<(), NoMemory>
         ensures ok { OnOk result (LinkedAt self.old self.new (λ n. same_name n name.now && not (has others.now n)) user.now) }
         ensures err { OnErr result (self.new ≡ self.old) }
     {
