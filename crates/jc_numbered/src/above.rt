@@ -3,6 +3,7 @@
 ghost use Rattle.std.specs.Prelude.{◌≡◌, ◌<◌, ◌∷◌, [], length, IfOk, OnOk, None};
 ghost use Rattle.std.specs.List.{All, filter};
 ghost use Rattle.jc_numbered.specs.inside.Above.{IsAbove, Knows, SeesAbove};
+ghost use Rattle.jc_numbered.specs.inside.Picks.{is_interface_at};
 ghost use Rattle.jc_numbered.specs.inside.Shown.{indexed_of};
 ghost use Rattle.jc_numbered.specs.inside.Settled.{lies_outside, TellsOutsideAbove};
 
@@ -17,6 +18,8 @@ use std::alloc::Global;
 #[derive(Drop)]
 pub struct Above {
     seen: Seen,
+    /// Those of them that are interfaces.
+    interfaces: Vec<usize>,
     /// The class, where one was asked for.
     start: Option<usize>,
     /// The outside one with the least name.
@@ -31,6 +34,7 @@ impl Above {
     {
         Ok(Above {
             seen: Seen::new(alloc, count)?,
+            interfaces: Vec::new(alloc),
             start: None,
             outside: None,
         })
@@ -48,16 +52,17 @@ impl Above {
         }
         self.start = None;
         classes.see_above(&mut self.seen, &[start])?;
+        self.interfaces = interfaces_among(alloc, classes, self.seen.nodes())?;
         self.outside = find_outside(alloc, classes, &self.seen, start)?;
         self.start = Some(start);
         Ok(())
     }
 
-    /// What is above the class that was asked for, each once.
-    pub fn nodes(&self) -> &[usize]
-        ensures { result.now ≡ self.now.seen.list }
+    /// The interfaces above the class that was asked for, each once.
+    pub fn interfaces(&self) -> &[usize]
+        ensures { result.now ≡ self.now.interfaces.items }
     {
-        self.seen.nodes()
+        self.interfaces.as_slice()
     }
 
     /// The outside one of these with the least name.
@@ -66,6 +71,24 @@ impl Above {
     {
         self.outside
     }
+}
+
+/// The nodes that are interfaces.
+fn interfaces_among(
+    alloc: Global,
+    classes: &Classes,
+    nodes: &[usize],
+) -> Result<Vec<usize>, NoMemory>
+    requires { All (λ v. v < length classes.now.standing.now) nodes.now }
+    ensures { IfOk result (λ r. r.items ≡ filter (is_interface_at (indexed_of classes.now)) nodes.now) }
+{
+    let mut found = Vec::new(alloc);
+    for node in nodes {
+        if classes.is_interface(*node) {
+            found.push(*node)?;
+        }
+    }
+    Ok(found)
 }
 
 /// The nodes that are outside.

@@ -10,7 +10,7 @@ ghost use Rattle.jc_graph.specs.Graph.{ups_of};
 ghost use Rattle.jc_numbered.specs.inside.Indexed.{filled, indexed_name, record_at, super_at, supers_before, onward_nodes, IsGraph};
 ghost use Rattle.jc_numbered.specs.inside.Members.{declared_at};
 ghost use Rattle.jc_numbered.specs.inside.Packages.{package_end, same_package};
-ghost use Rattle.jc_numbered.specs.inside.Picks.{gives};
+ghost use Rattle.jc_numbered.specs.inside.Picks.{gives, is_interface_at};
 ghost use Rattle.jc_numbered.specs.inside.Settled.{lies_outside};
 
 use crate::polymorphic::declared;
@@ -130,6 +130,14 @@ impl<'c, 't> Classes<'c, 't> {
             Standing::Class(facts) => facts.flags(),
             _ => 0,
         }
+    }
+
+    /// Whether a node is an interface.
+    pub(crate) fn is_interface(&self, node: usize) -> bool
+        requires { node < length self.now.standing.now }
+        ensures { result ≡ is_interface_at (indexed_of self.now) node }
+    {
+        AccessFlag::Interface.is_in(self.flags(node))
     }
 
     /// A node's own field.

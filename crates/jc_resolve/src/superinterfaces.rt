@@ -95,7 +95,7 @@ pub(crate) fn find_above<'a>(
     ensures found { IfOk result (TellsInInterfaces (indexed_of classes.now) (key_lent key.entry) start) }
 {
     room.above.see(alloc, classes, start)?;
-    let nodes = candidates(alloc, classes, room.above.nodes(), key)?;
+    let nodes = candidates(alloc, classes, room.above.interfaces(), key)?;
     classes.see_above(&mut room.covered, nodes.as_slice())?;
     match pick(classes, &room.covered, nodes.as_slice(), key) {
         Some(node) => match classes.given(node, key) {

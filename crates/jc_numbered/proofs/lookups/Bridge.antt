@@ -1,11 +1,14 @@
 -- From numbers to names.
-use Rattle.std.proofs.Common.{◌≡◌, ℕ, ◌<◌, zero, suc, Bool, true, false, cond, List, [], ◌∷◌, map, length, refl, sym, ap, subst, ◌∙◌, ◌⊎◌, inl, inr, ⊎_elim, arith}
+use Rattle.std.proofs.Common.{◌≡◌, ℕ, ◌<◌, zero, suc, Bool, true, false, cond, List, [], ◌∷◌, Option, None, is_some, map, length, refl, sym, ap, subst, ◌∙◌, ◌⊎◌, inl, inr, ⊎_elim, arith}
 use Rattle.std.proofs.lemmas.Bool.{false≢true}
 use Rattle.std.specs.List.{Contains, filter}
 use Rattle.std.proofs.lemmas.List.Elements.{Contains-append_right}
+use Rattle.jc_classes.specs.Facts.{Key, Member}
+use Rattle.jc_classes.specs.MethodLookup.{only_inheritable}
 use Rattle.jc_classes.specs.Names.{Name}
-use Rattle.jc_classes.specs.Worlds.{Stands, World, Above, supers_of, Above as above}
+use Rattle.jc_classes.specs.Worlds.{Stands, World, Above, member, methods_of, supers_of, Above as above}
 use Rattle.jc_numbered.specs.inside.Indexed.{Indexed, indexed_name, record_at, IsGraph, IsIndexed}
+use Rattle.jc_numbered.specs.inside.Picks.{is_interface_at, offers}
 use Rattle.jc_graph.specs.Graph.{Above as AboveNode}
 use Rattle.jc_graph.specs.Graph.Above.{direct, further}
 
@@ -52,6 +55,26 @@ filter_out p (w ∷ vs) v = elim (p w) as (λ b. p w ≡ b → Contains (cond b 
       (cons_cases w v (filter p vs) h)
   | false ↦ λ t h. let r = filter_out p vs v h in (tail_in w v vs r.0, r.1)
 ] refl
+
+-- where what passes one test passes another, those that pass it are among those that pass the other
+filter_twice : (p q : ℕ → Bool) → ((v : ℕ) → p v ≡ true → q v ≡ true) → (vs : List ℕ) → filter p (filter q vs) ≡ filter p vs
+filter_twice p q h [] = refl
+filter_twice p q h (w ∷ vs) = elim (q w) as (λ b. q w ≡ b → filter p (cond b (w ∷ filter q vs) (filter q vs)) ≡ cond (p w) (w ∷ filter p vs) (filter p vs)) [
+  | true ↦ λ t. ap (λ z. cond (p w) (w ∷ z) z) (filter_twice p q h vs)
+  | false ↦ λ t. filter_twice p q h vs ∙ left_out (p w) (w ∷ filter p vs) (filter p vs) (λ e. false≢true (sym t ∙ h w e))
+] refl
+  where
+    left_out : (b : Bool) (us vs : List ℕ) → (b ≡ true → ⊥) → vs ≡ cond b us vs
+    left_out true us vs never = absurd (never refl)
+    left_out false us vs never = refl
+
+-- only an interface offers a method
+pub offers_interfaces : (x : Indexed) (k : Key) (vs : List ℕ) → filter (offers x k) (filter (is_interface_at x) vs) ≡ filter (offers x k) vs
+offers_interfaces x k vs = filter_twice (offers x k) (is_interface_at x) (λ v e. is_one (is_interface_at x v) (only_inheritable (member (methods_of (record_at x v)) k)) e) vs
+  where
+    is_one : (b : Bool) (o : Option Member) → is_some (cond b o None) ≡ true → b ≡ true
+    is_one true o e = refl
+    is_one false o e = absurd (false≢true e)
 
 module _ (m : World) (count : ℕ) (x : Indexed) (graph : IsGraph count x) (index : IsIndexed m x) where
   pub named : {v : ℕ} → v < count → v < length x.names

@@ -1,9 +1,11 @@
 -- What is known to be above a class.
 use Rattle.std.specs.Prelude.{◌≡◌, ℕ, List, [], ◌∷◌, length, Some}
+use Rattle.std.specs.List.{filter}
 use Rattle.jc_graph.specs.Seen.{TellsAbove}
 use Rattle.jc_graph.specs.declared.seen.Seen.{Seen}
 use Rattle.jc_numbered.specs.declared.above.Above.{Above}
 use Rattle.jc_numbered.specs.inside.Indexed.{Indexed}
+use Rattle.jc_numbered.specs.inside.Picks.{is_interface_at}
 use Rattle.jc_numbered.specs.inside.Settled.{TellsOutsideAbove}
 
 -- it is what is above some nodes
@@ -13,6 +15,7 @@ SeesAbove count x starts s = TellsAbove count x.supertypes starts s.flags s.list
 -- it is what is above this class
 pub record IsAbove (count : ℕ) (x : Indexed) (start : ℕ) (a : Above) : Type 0 where
   pub seen : SeesAbove count x (start ∷ []) a.seen
+  pub interfaces : a.interfaces.items ≡ filter (is_interface_at x) a.seen.list
   pub outside : TellsOutsideAbove x start a.outside
 
 -- it is what is above the class that was asked for, if one was

@@ -1,0 +1,8 @@
+use Rattle.std.proofs.Common.{◌≡◌, take}
+use Rattle.std.specs.List.{filter}
+use Rattle.jc_numbered.specs.inside.Shown.{indexed_of}
+use Rattle.jc_numbered.specs.inside.Picks.{is_interface_at}
+use Rattle.jc_numbered.proofs.above.interfaces_among.Given as goal
+
+abbrev pub invariant-loop-node : goal.invariant-loop-node
+invariant-loop-node l = l.found.items ≡ filter (is_interface_at (indexed_of l.classes)) (take l.node-index l.nodes)
