@@ -126,23 +126,25 @@ impl RowIndex {
         ensures ok { OnOk result (LinkedAt self.old self.new (has_but rows.now others.now) user.now) }
         ensures err { OnErr result (LinkedAtSome self.old self.new (has_but rows.now others.now) user.now) }
     {
-        for row in rows.rows() {
-            self.link_unless(row, others, user)?;
+        let list = rows.rows();
+        for place in 0..list.len() {
+            self.link_unless(&list[place], place, others, user)?;
         }
         Ok(())
     }
 
-    /// Adds a user at a row, unless others have it.
+    /// Adds a user at a row, unless others have it, most likely at this place.
     fn link_unless(
         &mut self,
         row: &RequiredRow,
+        place: usize,
         others: &RowList,
         user: &[u8],
     ) -> Result<(), NoMemory>
         ensures ok { OnOk result (LinkedAt self.old self.new (λ n. same_name n (spelled row.now) && not (has others.now n)) user.now) }
         ensures err { OnErr result (self.new ≡ self.old) }
     {
-        if others.has(row) {
+        if others.has_near(place, row) {
             return Ok(());
         }
         self.link(row, user)
@@ -161,16 +163,17 @@ impl RowIndex {
     pub fn unlink_all_but(&mut self, rows: &RowList, others: &RowList, user: &[u8])
         ensures { UnlinkedAt self.old self.new (has_but rows.now others.now) user.now }
     {
-        for row in rows.rows() {
-            self.unlink_unless(row, others, user);
+        let list = rows.rows();
+        for place in 0..list.len() {
+            self.unlink_unless(&list[place], place, others, user);
         }
     }
 
-    /// Takes a user out at a row, unless others have it. No memory.
-    fn unlink_unless(&mut self, row: &RequiredRow, others: &RowList, user: &[u8])
+    /// Takes a user out at a row, unless others have it, most likely at this place. No memory.
+    fn unlink_unless(&mut self, row: &RequiredRow, place: usize, others: &RowList, user: &[u8])
         ensures { UnlinkedAt self.old self.new (λ n. same_name n (spelled row.now) && not (has others.now n)) user.now }
     {
-        if !others.has(row) {
+        if !others.has_near(place, row) {
             self.unlink(row, user);
         }
     }

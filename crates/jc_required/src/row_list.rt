@@ -66,4 +66,14 @@ impl RowList {
     {
         self.rows.binary_search(row).is_ok()
     }
+
+    /// The same. A place is looked at first where the row is likely to stand.
+    pub(crate) fn has_near(&self, place: usize, row: &RequiredRow) -> bool
+        ensures { result ≡ has self.now (spelled row.now) }
+    {
+        match self.rows.get(place) {
+            Some(near) => near == row || self.has(row),
+            None => self.has(row),
+        }
+    }
 }

@@ -1,5 +1,6 @@
 -- Rows by their keys.
-use Rattle.std.proofs.Common.{◌≡◌, ◌∙◌, ℕ, ◌<◌, ◌≤◌, true, List, [], ◌∷◌, length, map, get_or, Result, Ok, Err, refl, sym, ap, subst, arith}
+use Rattle.std.proofs.Common.{◌≡◌, ◌∙◌, ℕ, ◌<◌, ◌≤◌, true, List, [], ◌∷◌, length, map, get_or, slice_get, Some, Result, Ok, Err, refl, sym, ap, subst, arith}
+use Rattle.std.proofs.lemmas.Option.{get_or_from_slice_get, slice_get_within}
 use Rattle.std.proofs.lemmas.List.{get_or-map, length-map}
 use Rattle.std.specs.Cmp.{Equal-is}
 use Rattle.std.specs.Prelude.{is_ok}
@@ -59,3 +60,9 @@ searched (x ∷ xs) key (Err i) bound is rises =
       above = λ k l within. ap (λ n. name_cmp n key) (key_at all k x (omega (arith, within, count))) ∙ split.1 k x l (omega (arith, within, count));
     } in
     sym (gap_lacks (spelled_all all) key i gap)
+
+-- a row at a place that has the key
+pub near_has : (xs : List RequiredRow) (i : ℕ) (x : RequiredRow) (key : Name) → slice_get xs i ≡ Some x → spelled x ≡ key → has (spelled_all xs) key ≡ true
+near_has xs i x key e same =
+    let within = slice_get_within xs i x e in
+    stands_has (spelled_all xs) key i (omega (arith, within, length-map xs spelled), held_row xs i x within (sym (get_or_from_slice_get xs i x x e)) ∙ same)

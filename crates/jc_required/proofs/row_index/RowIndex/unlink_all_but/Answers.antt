@@ -1,18 +1,28 @@
-use Rattle.std.proofs.Common.{◌≡◌, ◌<◌, not, length, arith}
-use Rattle.std.proofs.lemmas.List.{length-map}
+use Rattle.std.proofs.Common.{◌≡◌, ◌<◌, ◌≤◌, ◌&&◌, not, length, ap, ◌∙◌, arith}
+use Rattle.std.proofs.lemmas.List.{length-map, take_all}
 use Rattle.jc_classes.specs.NameLists.{has}
+use Rattle.jc_classes.specs.Names.{same_name}
 use Rattle.jc_classes.specs.Numbers.{name_at}
+use Rattle.jc_index.specs.Indexes.{users_of}
 use Rattle.jc_index.proofs.indexes.Loops.{unlinked_more}
 use Rattle.jc_report.specs.RequiredRows.{spelled, spelled_all}
 use Rattle.jc_required.proofs.rows.RowLists.{held_row}
 use Rattle.jc_required.proofs.row_index.RowIndex.unlink_all_but.Goals as goal
 
-pub loop-row-preserved : goal.loop-row-preserved
-loop-row-preserved c =
-    let items = c.rows-row-items.result.now in
-    let i = c.loop-row.row-index in
-    let name = spelled c.row-item.result in
-    let within : i < length items = omega arith in
-    let named : name_at (spelled_all items) i ≡ name = held_row items i c.row-item.result within c.row-item.is in
-    unlinked_more c.args.self.now c.loop-row.self c.unlink_unless.new.self (spelled_all items) (λ n. not (has c.args.others.now n)) i name c.args.user.now
-    (omega (arith, within, length-map items spelled)) named c.loop-row.invariant c.unlink_unless.ensures
+pub loop-place-preserved : goal.loop-place-preserved
+loop-place-preserved c =
+    let items = c.rows-list.result.now in
+    let place = c.loop-place.place in
+    let name = spelled c.index-list-place.result in
+    let within : place < length items = omega (arith, c.loop-place-test.true, c.loop-place.auto.place-end) in
+    let named : name_at (spelled_all items) place ≡ name = held_row items place c.index-list-place.result within c.index-list-place.is in
+    unlinked_more c.args.self.now c.loop-place.self c.unlink_unless.new.self (spelled_all items) (λ n. not (has c.args.others.now n)) place name c.args.user.now
+    (omega (arith, within, length-map items spelled)) named c.loop-place.invariant c.unlink_unless.ensures
+
+pub returns : goal.returns
+returns c = λ n d.
+    let items = c.rows-list.result.now in
+    let names = spelled_all items in
+    let past : length names ≤ c.loop-place.place = omega (arith, c.loop-place-test.false, c.loop-place.auto.place-end, length-map items spelled) in
+    c.loop-place.invariant n d
+    ∙ ap (λ l. has (users_of c.args.self.now n) d && not (same_name d c.args.user.now && (has l n && not (has c.args.others.now n)))) (take_all c.loop-place.place names past ∙ c.rows-list.ensures)
