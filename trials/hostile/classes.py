@@ -159,17 +159,20 @@ def provided_by_a_long_name():
 
 # ---- supertypes
 
-def an_interface_many_times():
-    pool = Pool()
-    interface = pool.of_class(b"I")
-    files = {"I.class": plain(b"I", flags=PUBLIC | INTERFACE | ABSTRACT),
-             "C.class": class_file(pool, b"C", interfaces=[interface] * 65535)}
+def below_an_interface(pool, interfaces):
+    """A class with these superinterfaces, all of one name, and classes below it with references to it."""
+    files = {"I.class": plain(b"I", flags=PUBLIC | INTERFACE | ABSTRACT), "C.class": class_file(pool, b"C", interfaces=interfaces)}
     for number in range(20):
         user = Pool()
         for _ in range(3000):
             user.reference(10, b"C", b"m", b"()V")
         files[f"S{number}.class"] = class_file(user, b"S%d" % number, parent=b"C")
     return files
+
+
+def an_interface_many_times():
+    pool = Pool()
+    return below_an_interface(pool, [pool.of_class(b"I")] * 65535)
 
 
 def user_of(tag, owner, name, descriptor):
@@ -181,11 +184,20 @@ def user_of(tag, owner, name, descriptor):
     return class_file(pool, b"U")
 
 
+def below_a_chain(length):
+    """References that are looked for in all of a chain of superclasses, and found in none."""
+    files = {f"{number}.class": plain(b"C%d" % number, parent=b"C%d" % (number - 1) if number else OBJECT) for number in range(length)}
+    return {**files, "U.class": user_of(10, b"C%d" % (length - 1), b"m", b"()V")}
+
+
 def references_below_a_chain():
-    """Each is looked for in all of a chain of superclasses, and found in none. The chain is no longer, since each of its classes reaches all
-    above it, which costs the square of its length."""
-    files = {f"{number}.class": plain(b"C%d" % number, parent=b"C%d" % (number - 1) if number else OBJECT) for number in range(4000)}
-    return {**files, "U.class": user_of(10, b"C3999", b"m", b"()V")}
+    """The chain is no longer, since each of its classes reaches all above it, which costs the square of its length."""
+    return below_a_chain(4000)
+
+
+def references_below_a_shorter_chain():
+    """As long as a session may hold it: that keeps what each class reaches, and makes anew what is below a class that comes."""
+    return below_a_chain(1000)
 
 
 def few_references_each_below_a_chain():
@@ -213,13 +225,7 @@ def an_interface_by_many_constants():
     interfaces = []
     while pool.room() > 8:
         interfaces.append(pool.add(b"\7" + u2(pool.add(b"\1" + u2(1) + b"I"))))
-    files = {"I.class": plain(b"I", flags=PUBLIC | INTERFACE | ABSTRACT), "C.class": class_file(pool, b"C", interfaces=interfaces)}
-    for number in range(20):
-        user = Pool()
-        for _ in range(3000):
-            user.reference(10, b"C", b"m", b"()V")
-        files[f"S{number}.class"] = class_file(user, b"S%d" % number, parent=b"C")
-    return files
+    return below_an_interface(pool, interfaces)
 
 
 def interfaces_that_give_one_method():
@@ -346,7 +352,7 @@ def format_faults():
 
 KINDS = [methods_of_one_name, few_methods_of_one_name, fields_and_references, references_to_one_member, constants_of_one_missing_class, calls_of_method_handles,
          provided_by_a_long_name, an_interface_many_times, an_interface_by_many_constants, references_below_a_chain,
-         few_references_each_below_a_chain, references_below_interfaces,
+         references_below_a_shorter_chain, few_references_each_below_a_chain, references_below_interfaces,
          interfaces_that_give_one_method, packages_of_long_names, members_of_a_long_missing_name, one_signature, one_descriptor, one_array_type,
          one_array_type_and_a_fault, one_interface_method, instructions_that_do_not_link,
          many_methods_of_few_instructions, code_faults, handlers, format_faults]

@@ -3,9 +3,9 @@
 
     run.py [KIND ..] [--seconds N]
 
-A KIND is a function of classes.py, all of them where none is named. Each kind is checked by `jclink check`, and added to a
-session, by `jclink session`. `check` writes to a device that takes nothing: texts may be long, and how they are written is not
-asked here. The limits are 30 seconds of a processor, and 50 MB with 40 bytes for each byte of the files. A run that takes more
+A KIND is a function of classes.py, all of them where none is named. Each kind is checked by `jclink check`, and added file by
+file to a session, by `jclink session`, which then gives its report. `check` writes to a device that takes nothing: texts may be
+long, and how they are written is not asked here. The session writes its whole report, to a device that takes all. The limits are 30 seconds of a processor, and 50 MB with 40 bytes for each byte of the files. A run that takes more
 than N seconds, 120 where no number is given, is broken off. The status is 1 where a limit is not kept.
 """
 import argparse
@@ -24,7 +24,7 @@ import common
 SECONDS, BASE, EACH = 30, 50_000_000, 40
 # So much memory a run may ask for at most, lest the machine ends it.
 ROOM = 12 << 30
-# A session keeps the reach of each class, of a chain half the square of its length.
+# A session keeps the reach of each class, of a chain half the square of its length. A shorter one is a kind of its own.
 NO_SESSION = {"references_below_a_chain"}
 
 
@@ -57,7 +57,7 @@ def tried(kind, most):
     with tempfile.TemporaryDirectory() as room:
         for path, data in files.items():
             pathlib.Path(room, path).write_bytes(data)
-        lines = b"".join(b"add %s\n" % path.encode() for path in sorted(files)) + b"end\n"
+        lines = b"".join(b"add %s\n" % path.encode() for path in sorted(files)) + b"report\nend\n"
         right = told(kind.__name__, len(files), size, ["check", "."], b"", "/dev/full", (3,), room, most)
         if kind.__name__ not in NO_SESSION:
             right &= told(kind.__name__, len(files), size, ["session"], lines, "/dev/null", (0, 1), room, most)

@@ -3,7 +3,7 @@ use Rattle.std.specs.Prelude.{◌≡◌, ℕ, ◌<◌, ◌≤◌, ◌+◌, ◌�
 use Rattle.std.specs.Prelude.{true, false, cond, List, [], ◌∷◌, length, slice_index_or}
 use Rattle.std.specs.Bool.{Decides}
 use Rattle.std.specs.List.{Contains, All}
-use Rattle.jc_graph.specs.Graph.{Ups, Above}
+use Rattle.jc_graph.specs.Graph.{Successors, Above}
 
 abbrev pub flag_at : List Bool → ℕ → Bool
 flag_at flags v = slice_index_or flags v false
@@ -43,11 +43,11 @@ pub record SeesMore (flags : List Bool) (list : List ℕ) (flags2 : List Bool) (
   pub counted : unseen flags2 + length list2 ≡ unseen flags + length list
 
 -- one or more steps from some of the starts lead to it
-abbrev pub AboveSome : Ups → List ℕ → ℕ → Type 0
-AboveSome up starts v = (s : ℕ) × Contains starts s × Above up s v
+abbrev pub AboveSome : Successors → List ℕ → ℕ → Type 0
+AboveSome next starts v = (s : ℕ) × Contains starts s × Above next s v
 
 -- the flags and the list have what is above some of the starts, and nothing else
-pub record TellsAbove (count : ℕ) (up : Ups) (starts : List ℕ) (flags : List Bool) (list : List ℕ) : Type 0 where
+pub record TellsAbove (count : ℕ) (next : Successors) (starts : List ℕ) (flags : List Bool) (list : List ℕ) : Type 0 where
   pub size : length flags ≡ count
   pub seen : IsSeen flags list
-  pub tells : (v : ℕ) → Decides (flag_at flags v) (AboveSome up starts v)
+  pub tells : (v : ℕ) → Decides (flag_at flags v) (AboveSome next starts v)

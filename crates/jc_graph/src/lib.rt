@@ -5,9 +5,9 @@
 
 mod above;
 mod marks;
-mod rows;
 mod seen;
 mod sorting;
+mod successors;
 mod walk;
 
 pub use above::mark_above;

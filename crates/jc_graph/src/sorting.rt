@@ -1,7 +1,7 @@
 //! Which nodes are above themselves, and an order of all nodes.
 
 ghost use Rattle.std.specs.Prelude.{length, IfOk};
-ghost use Rattle.jc_graph.specs.Graph.{ups_of, AreNodes, TellsCircular, IsOrder};
+ghost use Rattle.jc_graph.specs.Graph.{successors_of, AreNodes, TellsCircular, IsOrder};
 
 use crate::walk::Walk;
 use jc_base::NoMemory;
@@ -16,14 +16,14 @@ pub struct Sorted {
 }
 
 /// Sorts all nodes, each of which is visited once.
-pub fn sort_nodes(alloc: Global, ups: &[Vec<usize>]) -> Result<Sorted, NoMemory>
-    requires { AreNodes (ups_of ups.now) (length ups.now) }
-    ensures circular { IfOk result (λ s. TellsCircular (ups_of ups.now) (length ups.now) s.circular.items) }
-    ensures order { IfOk result (λ s. IsOrder (ups_of ups.now) (length ups.now) s.circular.items s.order.items) }
+pub fn sort_nodes(alloc: Global, graph: &[Vec<usize>]) -> Result<Sorted, NoMemory>
+    requires { AreNodes (successors_of graph.now) (length graph.now) }
+    ensures circular { IfOk result (λ s. TellsCircular (successors_of graph.now) (length graph.now) s.circular.items) }
+    ensures order { IfOk result (λ s. IsOrder (successors_of graph.now) (length graph.now) s.circular.items s.order.items) }
 {
-    let mut walk = Walk::new(alloc, ups.len())?;
-    for node in 0..ups.len() {
-        walk.see(ups, node)?;
+    let mut walk = Walk::new(alloc, graph.len())?;
+    for node in 0..graph.len() {
+        walk.see(graph, node)?;
     }
     let Walk {
         circular,

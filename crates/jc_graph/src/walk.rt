@@ -2,13 +2,13 @@
 
 ghost use Rattle.std.specs.Prelude.{◌≡◌, ◌<◌, ◌≤◌, ◌-◌, ℕ, OnOk, IfOk, length, replicate, [], false};
 ghost use Rattle.std.specs.List.{All};
-ghost use Rattle.jc_graph.specs.Graph.{ups_of, AreNodes, Above};
+ghost use Rattle.jc_graph.specs.Graph.{successors_of, AreNodes, Above};
 ghost use Rattle.jc_graph.specs.inside.Walk.{HasStep, IsWalk, SeesNode, TellsRing, Turned};
 ghost use Rattle.jc_graph.specs.inside.Walk.{last_segment, last_step, node_at, place_at, state_of};
 ghost use Rattle.jc_graph.specs.declared.walk.Place.TheVariants.{Unseen, On};
 
 use crate::marks::mark;
-use crate::rows::row;
+use crate::successors::successors;
 use jc_base::NoMemory;
 use std::alloc::Global;
 
@@ -40,12 +40,12 @@ pub(crate) struct Walk {
 }
 
 /// Whether the nodes of a segment that has no more steps to take are on a ring.
-fn is_ring(ups: &[Vec<usize>], nodes: &[usize]) -> bool
-    requires { All (λ v. v < length ups.now) nodes.now }
-    ensures { TellsRing (ups_of ups.now) nodes.now result }
+fn is_ring(graph: &[Vec<usize>], nodes: &[usize]) -> bool
+    requires { All (λ v. v < length graph.now) nodes.now }
+    ensures { TellsRing (successors_of graph.now) nodes.now result }
 {
     match nodes {
-        [node] => row(ups, *node).contains(node),
+        [node] => successors(graph, *node).contains(node),
         _ => true,
     }
 }
@@ -71,13 +71,13 @@ impl Walk {
     }
 
     /// Goes on to a node that was not seen.
-    fn visit(&mut self, ups: &[Vec<usize>], node: usize) -> Result<(), NoMemory>
-        requires walk { IsWalk (ups_of ups.now) (length ups.now) (state_of self.old) }
-        requires node { node < length ups.now }
+    fn visit(&mut self, graph: &[Vec<usize>], node: usize) -> Result<(), NoMemory>
+        requires walk { IsWalk (successors_of graph.now) (length graph.now) (state_of self.old) }
+        requires node { node < length graph.now }
         requires unseen { place_at self.old.place.items node ≡ Unseen }
-        requires above { (p : ℕ) → p < length self.old.path.items → Above (ups_of ups.now) (node_at self.old.path.items p) node }
+        requires above { (p : ℕ) → p < length self.old.path.items → Above (successors_of graph.now) (node_at self.old.path.items p) node }
         ensures seen { OnOk result (place_at self.new.place.items node ≡ On (length self.old.path.items)) }
-        ensures turned { OnOk result (Turned (ups_of ups.now) (length ups.now) (state_of self.old) (state_of self.new)) }
+        ensures turned { OnOk result (Turned (successors_of graph.now) (length graph.now) (state_of self.old) (state_of self.new)) }
     {
         let segment = Segment {
             path_from: self.path.len(),
@@ -86,20 +86,20 @@ impl Walk {
         self.place[node] = Place::On(segment.path_from);
         self.path.push(node)?;
         self.segments.push(segment)?;
-        self.steps.extend_from_slice(row(ups, node))?;
+        self.steps.extend_from_slice(successors(graph, node))?;
         Ok(())
     }
 
     /// Ends the last segment, which has no more steps to take.
-    fn end(&mut self, ups: &[Vec<usize>], last: Segment) -> Result<(), NoMemory>
-        requires walk { IsWalk (ups_of ups.now) (length ups.now) (state_of self.old) }
+    fn end(&mut self, graph: &[Vec<usize>], last: Segment) -> Result<(), NoMemory>
+        requires walk { IsWalk (successors_of graph.now) (length graph.now) (state_of self.old) }
         requires some { 0 < length self.old.segments.items }
         requires last { last ≡ last_segment (state_of self.old) }
         requires no_step { length self.old.steps.items ≤ last.steps_from }
-        ensures { OnOk result (Turned (ups_of ups.now) (length ups.now) (state_of self.old) (state_of self.new)) }
+        ensures { OnOk result (Turned (successors_of graph.now) (length graph.now) (state_of self.old) (state_of self.new)) }
     {
         let (_, nodes) = self.path.as_slice().split_at(last.path_from);
-        let ring = is_ring(ups, nodes);
+        let ring = is_ring(graph, nodes);
         mark(self.place.as_mut_slice(), nodes, Place::Done);
         mark(self.circular.as_mut_slice(), nodes, ring);
         self.order.extend_from_slice(nodes)?;
@@ -118,16 +118,16 @@ impl Walk {
 
     /// Takes the last step, which is one from the last segment. A step to a node that was not seen waits
     /// until that node is done.
-    fn take(&mut self, ups: &[Vec<usize>], last: Segment) -> Result<(), NoMemory>
-        requires nodes { AreNodes (ups_of ups.now) (length ups.now) }
-        requires walk { IsWalk (ups_of ups.now) (length ups.now) (state_of self.old) }
+    fn take(&mut self, graph: &[Vec<usize>], last: Segment) -> Result<(), NoMemory>
+        requires nodes { AreNodes (successors_of graph.now) (length graph.now) }
+        requires walk { IsWalk (successors_of graph.now) (length graph.now) (state_of self.old) }
         requires has { HasStep (state_of self.old) }
         requires last { last ≡ last_segment (state_of self.old) }
-        ensures { OnOk result (Turned (ups_of ups.now) (length ups.now) (state_of self.old) (state_of self.new)) }
+        ensures { OnOk result (Turned (successors_of graph.now) (length graph.now) (state_of self.old) (state_of self.new)) }
     {
         let target = self.target();
         match self.place[target] {
-            Place::Unseen => self.visit(ups, target),
+            Place::Unseen => self.visit(graph, target),
             Place::On(at) => {
                 if at < last.path_from {
                     self.segments.pop();
@@ -145,36 +145,36 @@ impl Walk {
     }
 
     /// One turn at the last segment.
-    fn turn(&mut self, ups: &[Vec<usize>], last: Segment) -> Result<(), NoMemory>
-        requires nodes { AreNodes (ups_of ups.now) (length ups.now) }
-        requires walk { IsWalk (ups_of ups.now) (length ups.now) (state_of self.old) }
+    fn turn(&mut self, graph: &[Vec<usize>], last: Segment) -> Result<(), NoMemory>
+        requires nodes { AreNodes (successors_of graph.now) (length graph.now) }
+        requires walk { IsWalk (successors_of graph.now) (length graph.now) (state_of self.old) }
         requires some { 0 < length self.old.segments.items }
         requires last { last ≡ last_segment (state_of self.old) }
-        ensures { OnOk result (Turned (ups_of ups.now) (length ups.now) (state_of self.old) (state_of self.new)) }
+        ensures { OnOk result (Turned (successors_of graph.now) (length graph.now) (state_of self.old) (state_of self.new)) }
     {
         if last.steps_from < self.steps.len() {
-            self.take(ups, last)
+            self.take(graph, last)
         } else {
-            self.end(ups, last)
+            self.end(graph, last)
         }
     }
 
     /// Sees a node, and all that is above it.
-    pub(crate) fn see(&mut self, ups: &[Vec<usize>], node: usize) -> Result<(), NoMemory>
-        requires nodes { AreNodes (ups_of ups.now) (length ups.now) }
-        requires walk { IsWalk (ups_of ups.now) (length ups.now) (state_of self.old) }
-        requires node { node < length ups.now }
+    pub(crate) fn see(&mut self, graph: &[Vec<usize>], node: usize) -> Result<(), NoMemory>
+        requires nodes { AreNodes (successors_of graph.now) (length graph.now) }
+        requires walk { IsWalk (successors_of graph.now) (length graph.now) (state_of self.old) }
+        requires node { node < length graph.now }
         requires empty { length self.old.segments.items ≡ 0 }
-        ensures walk { OnOk result (IsWalk (ups_of ups.now) (length ups.now) (state_of self.new)) }
+        ensures walk { OnOk result (IsWalk (successors_of graph.now) (length graph.now) (state_of self.new)) }
         ensures empty { OnOk result (length self.new.segments.items ≡ 0) }
         ensures seen { OnOk result (SeesNode self.old.place.items self.new.place.items node) }
     {
         if let Place::Unseen = self.place[node] {
-            self.visit(ups, node)?;
+            self.visit(graph, node)?;
         }
         while let Some(last) = self.segments.last() {
             let last = *last;
-            self.turn(ups, last)?;
+            self.turn(graph, last)?;
         }
         Ok(())
     }

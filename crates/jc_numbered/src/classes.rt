@@ -6,7 +6,7 @@ ghost use Rattle.jc_classes.specs.Lent.{key_lent, member_lent, stands_of};
 ghost use Rattle.jc_classes.specs.MethodLookup.{of_object};
 ghost use Rattle.jc_classes.specs.Names.{names_of, object as java_lang_object, package_of};
 ghost use Rattle.jc_classes.specs.Worlds.{member, fields_of, methods_of, flags_of};
-ghost use Rattle.jc_graph.specs.Graph.{ups_of};
+ghost use Rattle.jc_graph.specs.Graph.{successors_of};
 ghost use Rattle.jc_numbered.specs.inside.Indexed.{filled, indexed_name, record_at, super_at, supers_before, onward_nodes, IsGraph};
 ghost use Rattle.jc_numbered.specs.inside.Members.{declared_at};
 ghost use Rattle.jc_numbered.specs.inside.Packages.{package_end, same_package};
@@ -225,7 +225,7 @@ impl<'c, 't> Classes<'c, 't> {
     /// The supertypes of a node.
     pub fn supertypes(&self, node: usize) -> &[usize]
         requires { node < length self.now.supertypes.now }
-        ensures { result.now ≡ ups_of self.now.supertypes.now node }
+        ensures { result.now ≡ successors_of self.now.supertypes.now node }
     {
         self.supertypes[node].as_slice()
     }

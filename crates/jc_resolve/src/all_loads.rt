@@ -4,7 +4,7 @@ ghost use Rattle.std.specs.Prelude.{◌≡◌, ◌<◌, length, map, IfOk};
 ghost use Rattle.std.specs.List.{All};
 ghost use Rattle.jc_graph.specs.Graph.{TellsCircular};
 ghost use Rattle.jc_numbered.specs.inside.Shown.{indexed_of};
-ghost use Rattle.jc_graph.specs.Graph.{ups_of};
+ghost use Rattle.jc_graph.specs.Graph.{successors_of};
 ghost use Rattle.jc_resolve.specs.inside.Resolved.{AreLoads};
 ghost use Rattle.jc_resolve.specs.inside.Loading.{load_of, is_good, IsSorted, TellsRank};
 
@@ -48,7 +48,7 @@ pub(crate) fn load_all(
     classes: &Classes,
     sorted: &Sorted,
 ) -> Result<Vec<Load>, NoMemory>
-    requires circular { TellsCircular (ups_of classes.now.supertypes.now) (length classes.now.standing.now) sorted.now.circular.items }
+    requires circular { TellsCircular (successors_of classes.now.supertypes.now) (length classes.now.standing.now) sorted.now.circular.items }
     requires order { IsSorted (length classes.now.standing.now) (indexed_of classes.now) sorted.now }
     ensures size { IfOk result (λ v. length v.items ≡ length classes.now.standing.now) }
     ensures loads { IfOk result (λ v. AreLoads (length classes.now.standing.now) (indexed_of classes.now) v.items) }

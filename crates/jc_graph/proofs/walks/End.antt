@@ -8,7 +8,7 @@ use Rattle.jc_graph.specs.declared.walk.Place.{Place}
 use Rattle.jc_graph.specs.declared.walk.Place.TheVariants.{Unseen, On, Done}
 use Rattle.jc_graph.specs.declared.walk.Segment.{Segment}
 use Rattle.jc_graph.specs.inside.Marks.{set_all}
-use Rattle.jc_graph.specs.Graph.{Ups, Above}
+use Rattle.jc_graph.specs.Graph.{Successors, Above}
 use Rattle.jc_graph.specs.Graph.Above.{direct, further}
 use Rattle.jc_graph.specs.inside.Walk.{State, node_at, place_at, flag_at, segment_at, Leads, Way, Source, Told, IsPath, IsDone, IsWalk, last_segment, last_nodes, TellsRing, ended}
 use Rattle.jc_graph.specs.inside.Walk.Told.{waits, done, back}
@@ -17,9 +17,9 @@ use Rattle.jc_graph.proofs.walks.Turns.{each_whole, less_or_not, last_is_last, l
 use Rattle.jc_graph.proofs.walks.MarkLemmas.{same_or_not, length-set_all, set_all_in, set_all_out}
 
 -- what follows a set from which no step leads out
-above_within : (up : Ups) (P : ℕ → Type 0) (v : ℕ) → ((w : ℕ) → Contains (up v) w → P w) → ((u w : ℕ) → P u → Contains (up u) w → P w) → (x : ℕ) → Above up v x → P x
-above_within up P v first closed x (direct c) = first x c
-above_within up P v first closed x (further {mid} r c) = closed mid x (above_within up P v first closed mid r) c
+above_within : (next : Successors) (P : ℕ → Type 0) (v : ℕ) → ((w : ℕ) → Contains (next v) w → P w) → ((u w : ℕ) → P u → Contains (next u) w → P w) → (x : ℕ) → Above next v x → P x
+above_within next P v first closed x (direct c) = first x c
+above_within next P v first closed x (further {mid} r c) = closed mid x (above_within next P v first closed mid r) c
 
 place_cases : (x : Place) → (x ≡ Unseen) ⊎ (((p : ℕ) × (x ≡ On p)) ⊎ (x ≡ Done))
 place_cases Unseen = inl refl
@@ -43,7 +43,7 @@ first_take zero gs e = refl
 first_take (suc m) [] e = refl
 first_take (suc m) (g ∷ gs) e = e
 
-module _ (up : Ups) (count : ℕ) (s : State) (h : IsWalk up count s) (some : 0 < length s.segments) (no_step : length s.steps ≤ (last_segment s).steps_from) (ring : Bool) (tells : TellsRing up (last_nodes s) ring) where
+module _ (next : Successors) (count : ℕ) (s : State) (h : IsWalk next count s) (some : 0 < length s.segments) (no_step : length s.steps ≤ (last_segment s).steps_from) (ring : Bool) (tells : TellsRing next (last_nodes s) ring) where
   abbrev from : ℕ
   from = (last_segment s).path_from
 
@@ -135,10 +135,10 @@ module _ (up : Ups) (count : ℕ) (s : State) (h : IsWalk up count s) (some : 0 
   leads_from_last p w l m (done e) = inl e
   leads_from_last p w l m (back q e a) = inr (q, e, a (length s.segments - 1) (record { path_from = 0; steps_from = 0 }) (omega (arith, some)) m)
 
-  last_leads : (v w : ℕ) → IsLast v → Contains (up v) w → (place_at s.place w ≡ Done) ⊎ IsLast w
+  last_leads : (v w : ℕ) → IsLast v → Contains (next v) w → (place_at s.place w ≡ Done) ⊎ IsLast w
   last_leads v w o c =
       let i = h.path.has_place v o.0 o.1 in
-      leads_from_last o.0 w i.0 o.2 (h.path.told o.0 w i.0 (subst (λ x. Contains (up x) w) (sym i.1) c))
+      leads_from_last o.0 w i.0 o.2 (h.path.told o.0 w i.0 (subst (λ x. Contains (next x) w) (sym i.1) c))
 
   done_or_last : (w : ℕ) → (place_at s.place w ≡ Done) ⊎ IsLast w → place_at places w ≡ Done
   done_or_last w r = ⊎_elim (shut_done w) (λ o. shut_last w o.0 o.1 o.2) r
@@ -158,36 +158,36 @@ module _ (up : Ups) (count : ℕ) (s : State) (h : IsWalk up count s) (some : 0 
       (λ (e : p ≡ from → ⊥). (from, omega arith, omega arith, e))
       (same_or_not p from)
 
-  last_ring : (v : ℕ) → IsLast v → ring ≡ true → Above up v v
+  last_ring : (v : ℕ) → IsLast v → ring ≡ true → Above next v v
   last_ring v o t = ⊎_elim
-      (λ (e : length (last_nodes s) ≡ 1). direct (subst (λ x. Contains (up x) x) (only_is v e o) ((tells.0 e).0 t)))
+      (λ (e : length (last_nodes s) ≡ 1). direct (subst (λ x. Contains (next x) x) (only_is v e o) ((tells.0 e).0 t)))
       (λ n.
       let i = h.path.has_place v o.0 o.1 in
       let q = other o.0 i.0 o.2 n in
-      let there = h.path.joined o.0 q.0 i.0 q.1 (leads_to_last up s h.path o.0 q.0 q.2) in
-      let again = h.path.joined q.0 o.0 q.1 i.0 (leads_to_last up s h.path q.0 o.0 o.2) in
-      subst (λ x. Above up x x) i.1 (⊎_elim
+      let there = h.path.joined o.0 q.0 i.0 q.1 (leads_to_last next s h.path o.0 q.0 q.2) in
+      let again = h.path.joined q.0 o.0 q.1 i.0 (leads_to_last next s h.path q.0 o.0 o.2) in
+      subst (λ x. Above next x x) i.1 (⊎_elim
       (λ e. absurd (q.3 (same_on o.0 q.0 (sym (h.path.on_path o.0 i.0) ∙ ap (place_at s.place) e ∙ h.path.on_path q.0 q.1))))
       (λ a. above_way a again)
       there))
       (same_or_not (length (last_nodes s)) 1)
 
   -- no ring: from the only node all steps lead to nodes that were done
-  plain_leads : (v w : ℕ) → IsLast v → ring ≡ false → Contains (up v) w → place_at s.place w ≡ Done
+  plain_leads : (v w : ℕ) → IsLast v → ring ≡ false → Contains (next v) w → place_at s.place w ≡ Done
   plain_leads v w o f c = ⊎_elim
       (λ (e : length (last_nodes s) ≡ 1). ⊎_elim
       (λ d. d)
       (λ b.
       let same : v ≡ w = sym (only_is v e o) ∙ only_is w e b in
-      let t : ring ≡ true = (tells.0 e).1 (subst (λ x. Contains (up x) x) (sym (only_is v e o)) (subst (Contains (up v)) (sym same) c)) in
+      let t : ring ≡ true = (tells.0 e).1 (subst (λ x. Contains (next x) x) (sym (only_is v e o)) (subst (Contains (next v)) (sym same) c)) in
       absurd (false≢true (sym f ∙ t)))
       (last_leads v w o c))
       (λ n. absurd (false≢true (sym f ∙ tells.1 n)))
       (same_or_not (length (last_nodes s)) 1)
 
-  last_plain : (v : ℕ) → IsLast v → ring ≡ false → Above up v v → ⊥
+  last_plain : (v : ℕ) → IsLast v → ring ≡ false → Above next v v → ⊥
   last_plain v o f a =
-      done_not_on o.0 (sym (above_within up (λ w. place_at s.place w ≡ Done) v (λ w c. plain_leads v w o f c) h.done.closed v a) ∙ o.1)
+      done_not_on o.0 (sym (above_within next (λ w. place_at s.place w ≡ Done) v (λ w c. plain_leads v w o f c) h.done.closed v a) ∙ o.1)
 
   order_upto : (k : ℕ) → k < length (s.order ++ last_nodes s) → (k < length s.order) ⊎ (length s.order ≤ k)
   order_upto k l = less_or_not k (length s.order)
@@ -202,7 +202,7 @@ module _ (up : Ups) (count : ℕ) (s : State) (h : IsWalk up count s) (some : 0 
       let e = get_or-append_right s.order (last_nodes s) (length s.order) k 0 refl m ∙ get_or-drop from s.path (k - length s.order) 0 in
       (p, ap (place_at s.place) e ∙ h.path.on_path p in', omega arith)
 
-  done_ended : IsDone up places flags (s.order ++ last_nodes s)
+  done_ended : IsDone next places flags (s.order ++ last_nodes s)
   done_ended = record {
     closed = λ v w e c. done_or_last w (⊎_elim (λ d. inl (h.done.closed v w d c)) (λ o. last_leads v w o c) (was_done v e));
     ring = λ v e t. ⊎_elim (λ d. h.done.ring v d (sym (flag_done v d) ∙ t)) (λ o. last_ring v o (sym (flag_last v o) ∙ t)) (was_done v e);
@@ -218,7 +218,7 @@ module _ (up : Ups) (count : ℕ) (s : State) (h : IsWalk up count s) (some : 0 
     before = λ k w l f c. ⊎_elim
         (λ o.
         let e = order_old k o in
-        let b = h.done.before k w o (sym (flag_done (node_at s.order k) (h.done.done k o)) ∙ ap (flag_at flags) (sym e) ∙ f) (subst (λ x. Contains (up x) w) e c) in
+        let b = h.done.before k w o (sym (flag_done (node_at s.order k) (h.done.done k o)) ∙ ap (flag_at flags) (sym e) ∙ f) (subst (λ x. Contains (next x) w) e c) in
         (b.0, b.1, order_old b.0 (omega (arith, b.1)) ∙ b.2))
         (λ o.
         let i = order_new k l o in
@@ -236,14 +236,14 @@ module _ (up : Ups) (count : ℕ) (s : State) (h : IsWalk up count s) (some : 0 
   segments_rest : length (take (length s.segments - 1) s.segments) ≡ length s.segments - 1
   segments_rest = length-take-le (length s.segments - 1) s.segments (omega arith)
 
-  source_ended : (i : ℕ) → i < length s.steps → Source up (ended ring s) i
+  source_ended : (i : ℕ) → i < length s.steps → Source next (ended ring s) i
   source_ended i l =
       let z = h.path.sources i l in
       let b : z.at < from = z.before (length s.segments - 1) (record { path_from = 0; steps_from = 0 }) (omega (arith, some)) (omega arith) in
       record {
         at = z.at;
         within = omega (arith, path_size, b);
-        leads = subst (λ x. Contains (up x) (node_at s.steps i)) (sym (node_old z.at b)) z.leads;
+        leads = subst (λ x. Contains (next x) (node_at s.steps i)) (sym (node_old z.at b)) z.leads;
         after = All-take (λ (g : Segment). g.steps_from ≤ i → g.path_from ≤ z.at) (length s.segments - 1) s.segments z.after;
         before = All-take (λ (g : Segment). i < g.steps_from → z.at < g.path_from) (length s.segments - 1) s.segments z.before;
       }
@@ -256,12 +256,12 @@ module _ (up : Ups) (count : ℕ) (s : State) (h : IsWalk up count s) (some : 0 
       (λ (l : from ≤ q). done (shut_last w q e l))
       (less_or_not q from)
 
-  joined_ended : (p q : ℕ) → p < from → q < from → Leads (take (length s.segments - 1) s.segments) p q → Way up (node_at (take from s.path) p) (node_at (take from s.path) q)
+  joined_ended : (p q : ℕ) → p < from → q < from → Leads (take (length s.segments - 1) s.segments) p q → Way next (node_at (take from s.path) p) (node_at (take from s.path) q)
   joined_ended p q l m a =
       let w = h.path.joined p q (omega (arith, from_within)) (omega (arith, from_within)) (each_whole (λ (g : Segment). g.path_from ≤ p → g.path_from ≤ q) s.segments (record { path_from = 0; steps_from = 0 }) a (λ b. absurd (omega arith))) in
-      subst (λ x. Way up x (node_at (take from s.path) q)) (sym (node_old p l)) (subst (λ x. Way up (node_at s.path p) x) (sym (node_old q m)) w)
+      subst (λ x. Way next x (node_at (take from s.path) q)) (sym (node_old p l)) (subst (λ x. Way next (node_at s.path p) x) (sym (node_old q m)) w)
 
-  path_ended : IsPath up (ended ring s)
+  path_ended : IsPath next (ended ring s)
   path_ended = record {
     on_path = λ p l.
         let m : p < from = omega (arith, path_size) in
@@ -280,12 +280,12 @@ module _ (up : Ups) (count : ℕ) (s : State) (h : IsWalk up count s) (some : 0 
         let z = h.path.rising j k a (omega arith) in
         omega (arith, x, y, z);
     within = All-take (λ (g : Segment). (g.path_from ≤ length (take from s.path)) × (g.steps_from ≤ length s.steps)) (length s.segments - 1) s.segments
-        (λ k d l. let w = h.path.within k d l in let z = last_is_last up s h.path k d l in (omega (arith, z, path_size), w.1));
+        (λ k d l. let w = h.path.within k d l in let z = last_is_last next s h.path k d l in (omega (arith, z, path_size), w.1));
     joined = λ p q l m a. joined_ended p q (omega (arith, path_size)) (omega (arith, path_size)) a;
     sources = source_ended;
     told = λ p w l c.
         let m : p < from = omega (arith, path_size) in
-        told_ended p w (h.path.told p w (omega (arith, from_within)) (subst (λ x. Contains (up x) w) (node_old p m) c));
+        told_ended p w (h.path.told p w (omega (arith, from_within)) (subst (λ x. Contains (next x) w) (node_old p m) c));
   }
 
   pub ended_stays : (v : ℕ) → place_at places v ≡ Unseen → place_at s.place v ≡ Unseen
@@ -300,7 +300,7 @@ module _ (up : Ups) (count : ℕ) (s : State) (h : IsWalk up count s) (some : 0 
       r))
       (place_cases (place_at s.place v))
 
-  pub ended_walk : IsWalk up count (ended ring s)
+  pub ended_walk : IsWalk next count (ended ring s)
   ended_walk = record {
     places = length-set_all s.place (last_nodes s) Done ∙ h.places;
     flags = length-set_all s.circular (last_nodes s) ring ∙ h.flags;
@@ -309,8 +309,8 @@ module _ (up : Ups) (count : ℕ) (s : State) (h : IsWalk up count s) (some : 0 
   }
 
 -- the nodes of the last segment are nodes
-pub last_in : (up : Ups) (count : ℕ) (s : State) → IsWalk up count s → All (λ v. v < count) (last_nodes s)
-last_in up count s h = λ k d l.
+pub last_in : (next : Successors) (count : ℕ) (s : State) → IsWalk next count s → All (λ v. v < count) (last_nodes s)
+last_in next count s h = λ k d l.
     let p : (last_segment s).path_from + k < length s.path = omega (arith, length-drop (last_segment s).path_from s.path) in
     let e = get_or-drop (last_segment s).path_from s.path k d ∙ get_or_default s.path ((last_segment s).path_from + k) d 0 p in
     let o = ap (place_at s.place) e ∙ h.path.on_path ((last_segment s).path_from + k) p in
@@ -319,5 +319,5 @@ last_in up count s h = λ k d l.
     (λ (m : length s.place ≤ get_or (last_nodes s) k d). absurd (unseen_not_on _ (sym (get_or_past s.place _ Unseen m) ∙ o)))
     (less_or_not (get_or (last_nodes s) k d) (length s.place))
 
-pub last_begins : (up : Ups) (s : State) → IsPath up s → 0 < length s.segments → (last_segment s).path_from ≤ length s.path
-last_begins up s h some = (h.within (length s.segments - 1) (record { path_from = 0; steps_from = 0 }) (omega (arith, some))).0
+pub last_begins : (next : Successors) (s : State) → IsPath next s → 0 < length s.segments → (last_segment s).path_from ≤ length s.path
+last_begins next s h some = (h.within (length s.segments - 1) (record { path_from = 0; steps_from = 0 }) (omega (arith, some))).0

@@ -5,7 +5,7 @@ use Rattle.jc_graph.specs.declared.walk.Place.{Place}
 use Rattle.jc_graph.specs.declared.walk.Place.TheVariants.{Unseen, On, Done}
 use Rattle.jc_graph.specs.declared.walk.Segment.{Segment}
 use Rattle.jc_graph.specs.inside.Marks.{set_all}
-use Rattle.jc_graph.specs.Graph.{Ups, Above}
+use Rattle.jc_graph.specs.Graph.{Successors, Above}
 use Rattle.jc_graph.specs.inside.Walk.{State, node_at, place_at, IsWalk, last_segment, last_nodes, last_step, HasStep, TellsRing, visited, dropped, joined_last, ended, Turned, unseen, is_unseen}
 use Rattle.jc_graph.proofs.walks.Visit.{visit_walk, unseen_set, place_other, place_same}
 use Rattle.jc_graph.proofs.walks.Turns.{path_dropped, path_joined}
@@ -39,11 +39,11 @@ unseen_all : (ps : List Place) (vs : List ℕ) → unseen (set_all ps vs Done) �
 unseen_all ps [] = omega arith
 unseen_all ps (v ∷ vs) = let a = unseen_all (set ps v Done) vs in let b = unseen_done ps v in omega arith
 
-pub visit_turned : (up : Ups) (count : ℕ) (s : State) (v : ℕ) → IsWalk up count s → v < count → place_at s.place v ≡ Unseen → ((p : ℕ) → p < length s.path → Above up (node_at s.path p) v) → length (s.steps ++ up v) < 2 ^ 64 → length s.segments < 2 ^ 64 → Turned up count s (visited up s v)
-visit_turned up count s v h l none led small few =
+pub visit_turned : (next : Successors) (count : ℕ) (s : State) (v : ℕ) → IsWalk next count s → v < count → place_at s.place v ≡ Unseen → ((p : ℕ) → p < length s.path → Above next (node_at s.path p) v) → length (s.steps ++ next v) < 2 ^ 64 → length s.segments < 2 ^ 64 → Turned next count s (visited next s v)
+visit_turned next count s v h l none led small few =
     let fewer = unseen_set s.place v (length s.path) (omega (arith, h.places)) none in
     record {
-      walk = visit_walk up count s v h l none led;
+      walk = visit_walk next count s v h l none led;
       less = omega (arith, fewer, length-append s.segments ((record { path_from = length s.path; steps_from = length s.steps }) ∷ []));
       stays = λ w e. ⊎_elim
           (λ (o : w ≡ v). absurd (on_unseen (length s.path) (sym (place_same s.place v (length s.path) (omega (arith, h.places))) ∙ ap (place_at (set s.place v (On (length s.path)))) (sym o) ∙ e)))
@@ -51,25 +51,25 @@ visit_turned up count s v h l none led small few =
           (same_or_not w v);
     }
 
-pub dropped_turned : (up : Ups) (count : ℕ) (s : State) → IsWalk up count s → HasStep s → (place_at s.place (last_step s) ≡ Done) ⊎ ((q : ℕ) × (place_at s.place (last_step s) ≡ On q) × ((last_segment s).path_from ≤ q)) → Turned up count s (dropped s)
-dropped_turned up count s h has k = record {
-  walk = record { places = h.places; flags = h.flags; path = path_dropped up s h.path has k; done = h.done };
+pub dropped_turned : (next : Successors) (count : ℕ) (s : State) → IsWalk next count s → HasStep s → (place_at s.place (last_step s) ≡ Done) ⊎ ((q : ℕ) × (place_at s.place (last_step s) ≡ On q) × ((last_segment s).path_from ≤ q)) → Turned next count s (dropped s)
+dropped_turned next count s h has k = record {
+  walk = record { places = h.places; flags = h.flags; path = path_dropped next s h.path has k; done = h.done };
   less = omega (arith, has.1, length-take-le (length s.steps - 1) s.steps (omega arith));
   stays = λ v e. e;
 }
 
-pub joined_turned : (up : Ups) (count : ℕ) (s : State) → IsWalk up count s → HasStep s → (q : ℕ) → place_at s.place (last_step s) ≡ On q → q < (last_segment s).path_from → Turned up count s (joined_last s)
-joined_turned up count s h has q e l = record {
-  walk = record { places = h.places; flags = h.flags; path = path_joined up s h.path has q e l; done = h.done };
+pub joined_turned : (next : Successors) (count : ℕ) (s : State) → IsWalk next count s → HasStep s → (q : ℕ) → place_at s.place (last_step s) ≡ On q → q < (last_segment s).path_from → Turned next count s (joined_last s)
+joined_turned next count s h has q e l = record {
+  walk = record { places = h.places; flags = h.flags; path = path_joined next s h.path has q e l; done = h.done };
   less = omega (arith, has.0, length-take-le (length s.segments - 1) s.segments (omega arith));
   stays = λ v f. f;
 }
 
-pub ended_turned : (up : Ups) (count : ℕ) (s : State) → IsWalk up count s → 0 < length s.segments → length s.steps ≤ (last_segment s).steps_from → (ring : Bool) → TellsRing up (last_nodes s) ring → Turned up count s (ended ring s)
-ended_turned up count s h some no_step ring tells = record {
-  walk = ended_walk up count s h some no_step ring tells;
+pub ended_turned : (next : Successors) (count : ℕ) (s : State) → IsWalk next count s → 0 < length s.segments → length s.steps ≤ (last_segment s).steps_from → (ring : Bool) → TellsRing next (last_nodes s) ring → Turned next count s (ended ring s)
+ended_turned next count s h some no_step ring tells = record {
+  walk = ended_walk next count s h some no_step ring tells;
   less = omega (arith, some, length-take-le (length s.segments - 1) s.segments (omega arith), unseen_all s.place (last_nodes s));
-  stays = ended_stays up count s h some no_step ring tells;
+  stays = ended_stays next count s h some no_step ring tells;
 }
 
 pub place_read : (ps : List Place) (t w : ℕ) (r x : Place) → t ≡ w → w < length ps → r ≡ get_or ps t r → r ≡ x → place_at ps w ≡ x

@@ -5,7 +5,7 @@ use Rattle.std.proofs.lemmas.List.Elements.{All-take}
 use Rattle.std.specs.List.{Contains, All}
 use Rattle.jc_graph.specs.declared.walk.Place.TheVariants.{On, Done}
 use Rattle.jc_graph.specs.declared.walk.Segment.{Segment}
-use Rattle.jc_graph.specs.Graph.{Ups, Above, AreNodes}
+use Rattle.jc_graph.specs.Graph.{Successors, Above, AreNodes}
 use Rattle.jc_graph.specs.inside.Walk.{State, node_at, place_at, segment_at, Leads, Way, Source, Told, IsPath, last_segment, last_step, HasStep, dropped, joined_last}
 use Rattle.jc_graph.specs.inside.Walk.Told.{waits, done, back}
 use Rattle.jc_graph.specs.Graph.Above.{direct}
@@ -24,7 +24,7 @@ each_whole P xs e h here = λ k d l. ⊎_elim
 pub less_or_not : (a b : ℕ) → (a < b) ⊎ (b ≤ a)
 less_or_not a b = grind arith
 
-module _ (up : Ups) (s : State) (h : IsPath up s) where
+module _ (next : Successors) (s : State) (h : IsPath next s) where
   -- no segment begins after the last
   pub last_is_last : All (λ g. g.path_from ≤ (last_segment s).path_from) s.segments
   last_is_last = λ k d l.
@@ -36,9 +36,9 @@ module _ (up : Ups) (s : State) (h : IsPath up s) where
   pub leads_to_last : (p q : ℕ) → (last_segment s).path_from ≤ q → Leads s.segments p q
   leads_to_last p q l = λ k d m a. let r = last_is_last k d m in omega (arith, r)
 
-module _ (up : Ups) (s : State) (h : IsPath up s) (has : HasStep s) where
+module _ (next : Successors) (s : State) (h : IsPath next s) (has : HasStep s) where
   -- where the last step comes from
-  pub origin : Source up s (length s.steps - 1)
+  pub origin : Source next s (length s.steps - 1)
   origin = h.sources (length s.steps - 1) (omega (arith, has.1))
 
   pub origin_in_last : (last_segment s).path_from ≤ origin.at
@@ -46,10 +46,10 @@ module _ (up : Ups) (s : State) (h : IsPath up s) (has : HasStep s) where
   origin_in_last = origin.after (length s.segments - 1) (record { path_from = 0; steps_from = 0 }) (omega (arith, has.0)) (omega (arith, has.1))
 
   pub leads_to_origin : (p : ℕ) → Leads s.segments p origin.at
-  leads_to_origin p = leads_to_last up s h p origin.at origin_in_last
+  leads_to_origin p = leads_to_last next s h p origin.at origin_in_last
 
   -- the last step leads from every place of the path
-  pub all_above : (p : ℕ) → p < length s.path → Above up (node_at s.path p) (last_step s)
+  pub all_above : (p : ℕ) → p < length s.path → Above next (node_at s.path p) (last_step s)
   all_above p l = way_above (h.joined p origin.at l origin.within (leads_to_origin p)) (direct origin.leads)
 
   node_rest : (i : ℕ) → i < length s.steps - 1 → node_at (take (length s.steps - 1) s.steps) i ≡ node_at s.steps i
@@ -58,11 +58,11 @@ module _ (up : Ups) (s : State) (h : IsPath up s) (has : HasStep s) where
   steps_rest : length (take (length s.steps - 1) s.steps) ≡ length s.steps - 1
   steps_rest = length-take-le (length s.steps - 1) s.steps (omega arith)
 
-  source_dropped : (i : ℕ) → i < length (take (length s.steps - 1) s.steps) → Source up (dropped s) i
+  source_dropped : (i : ℕ) → i < length (take (length s.steps - 1) s.steps) → Source next (dropped s) i
   source_dropped i l =
       let m : i < length s.steps - 1 = omega (arith, steps_rest) in
       let q = h.sources i (omega arith) in
-      record { at = q.at; within = q.within; leads = subst (Contains (up (node_at s.path q.at))) (sym (node_rest i m)) q.leads; after = q.after; before = q.before }
+      record { at = q.at; within = q.within; leads = subst (Contains (next (node_at s.path q.at))) (sym (node_rest i m)) q.leads; after = q.after; before = q.before }
 
   told_dropped : (place_at s.place (last_step s) ≡ Done) ⊎ ((q : ℕ) × (place_at s.place (last_step s) ≡ On q) × ((last_segment s).path_from ≤ q)) → (p w : ℕ) → Told s p w → Told (dropped s) p w
   told_dropped k p w (waits i l e a) = ⊎_elim
@@ -72,7 +72,7 @@ module _ (up : Ups) (s : State) (h : IsPath up s) (has : HasStep s) where
       let g : last_step s ≡ w = ap (node_at s.steps) (sym f) ∙ e in
       ⊎_elim
       (λ d. done (ap (place_at s.place) (sym g) ∙ d))
-      (λ b. back b.0 (ap (place_at s.place) (sym g) ∙ b.1) (leads_to_last up s h p b.0 b.2))
+      (λ b. back b.0 (ap (place_at s.place) (sym g) ∙ b.1) (leads_to_last next s h p b.0 b.2))
       k)
       (less_or_not i (length s.steps - 1))
   told_dropped k p w (done e) = done e
@@ -83,7 +83,7 @@ module _ (up : Ups) (s : State) (h : IsPath up s) (has : HasStep s) where
       let w = h.within k d l in
       let b = origin.before k d l in
       let o = origin_in_last in
-      let z = last_is_last up s h k d l in (
+      let z = last_is_last next s h k d l in (
         w.0,
         ⊎_elim
             (λ (m : length s.steps - 1 < (get_or s.segments k d).steps_from). absurd (omega (arith, b m, o, z)))
@@ -91,7 +91,7 @@ module _ (up : Ups) (s : State) (h : IsPath up s) (has : HasStep s) where
             (less_or_not (length s.steps - 1) (get_or s.segments k d).steps_from),
       )
 
-  pub path_dropped : (place_at s.place (last_step s) ≡ Done) ⊎ ((q : ℕ) × (place_at s.place (last_step s) ≡ On q) × ((last_segment s).path_from ≤ q)) → IsPath up (dropped s)
+  pub path_dropped : (place_at s.place (last_step s) ≡ Done) ⊎ ((q : ℕ) × (place_at s.place (last_step s) ≡ On q) × ((last_segment s).path_from ≤ q)) → IsPath next (dropped s)
   path_dropped k = record {
     on_path = h.on_path;
     has_place = h.has_place;
@@ -106,7 +106,7 @@ module _ (up : Ups) (s : State) (h : IsPath up s) (has : HasStep s) where
 
 -- ---- the last two segments, where the last step leads back before the last one
 
-module _ (up : Ups) (s : State) (h : IsPath up s) (has : HasStep s) (q : ℕ) (here : place_at s.place (last_step s) ≡ On q) (early : q < (last_segment s).path_from) where
+module _ (next : Successors) (s : State) (h : IsPath next s) (has : HasStep s) (q : ℕ) (here : place_at s.place (last_step s) ≡ On q) (early : q < (last_segment s).path_from) where
   target_is : node_at s.path q ≡ last_step s
   target_is = (h.has_place (last_step s) q here).1
 
@@ -125,15 +125,15 @@ module _ (up : Ups) (s : State) (h : IsPath up s) (has : HasStep s) (q : ℕ) (h
       (λ k d m b. a k d m (omega arith))
       (λ b. absurd (omega arith))
 
-  joined_joined : (p r : ℕ) → p < length s.path → r < length s.path → Leads (take (length s.segments - 1) s.segments) p r → Way up (node_at s.path p) (node_at s.path r)
+  joined_joined : (p r : ℕ) → p < length s.path → r < length s.path → Leads (take (length s.segments - 1) s.segments) p r → Way next (node_at s.path p) (node_at s.path r)
   joined_joined p r l m a = ⊎_elim
       (λ (o : p < (last_segment s).path_from). h.joined p r l m (each_whole (λ (g : Segment). g.path_from ≤ p → g.path_from ≤ r) s.segments (record { path_from = 0; steps_from = 0 }) a (λ b. absurd (omega arith))))
       (λ (o : (last_segment s).path_from ≤ p).
-      let first = all_above up s h has p l in
-      inr (above_way first (subst (λ x. Way up x (node_at s.path r)) target_is (h.joined q r target_within m (leads_on p r a o)))))
+      let first = all_above next s h has p l in
+      inr (above_way first (subst (λ x. Way next x (node_at s.path r)) target_is (h.joined q r target_within m (leads_on p r a o)))))
       (less_or_not p (last_segment s).path_from)
 
-  source_joined : (i : ℕ) → i < length s.steps → Source up (joined_last s) i
+  source_joined : (i : ℕ) → i < length s.steps → Source next (joined_last s) i
   source_joined i l =
       let z = h.sources i l in
       record { at = z.at; within = z.within; leads = z.leads; after = All-take (λ (g : Segment). g.steps_from ≤ i → g.path_from ≤ z.at) (length s.segments - 1) s.segments z.after; before = All-take (λ (g : Segment). i < g.steps_from → z.at < g.path_from) (length s.segments - 1) s.segments z.before }
@@ -152,7 +152,7 @@ module _ (up : Ups) (s : State) (h : IsPath up s) (has : HasStep s) (q : ℕ) (h
       absurd (omega (arith, f, h.first)))
       (less_or_not 0 (length s.segments - 1))
 
-  pub path_joined : IsPath up (joined_last s)
+  pub path_joined : IsPath next (joined_last s)
   path_joined = record {
     on_path = h.on_path;
     has_place = h.has_place;
@@ -173,5 +173,5 @@ module _ (up : Ups) (s : State) (h : IsPath up s) (has : HasStep s) (q : ℕ) (h
   }
 
 -- the last step leads to a node
-pub target_in : (up : Ups) (count : ℕ) (s : State) → IsPath up s → HasStep s → AreNodes up count → last_step s < count
-target_in up count s h has nodes = let o = h.sources (length s.steps - 1) (omega (arith, has.1)) in nodes (node_at s.path o.at) (last_step s) o.leads
+pub target_in : (next : Successors) (count : ℕ) (s : State) → IsPath next s → HasStep s → AreNodes next count → last_step s < count
+target_in next count s h has nodes = let o = h.sources (length s.steps - 1) (omega (arith, has.1)) in nodes (node_at s.path o.at) (last_step s) o.leads

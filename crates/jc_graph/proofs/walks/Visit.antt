@@ -6,7 +6,7 @@ use Rattle.std.specs.List.{Contains}
 use Rattle.jc_graph.specs.declared.walk.Place.{Place}
 use Rattle.jc_graph.specs.declared.walk.Place.TheVariants.{Unseen, On, Done}
 use Rattle.jc_graph.specs.declared.walk.Segment.{Segment}
-use Rattle.jc_graph.specs.Graph.{Ups, Above}
+use Rattle.jc_graph.specs.Graph.{Successors, Above}
 use Rattle.jc_graph.specs.inside.Walk.{State, node_at, place_at, segment_at, Leads, Way, Source, Told, IsDone, IsWalk, visited, unseen, is_unseen}
 use Rattle.jc_graph.specs.inside.Walk.Told.{waits, done, back}
 use Rattle.jc_graph.proofs.walks.Ways.{each_init, each_last, last_or_before}
@@ -37,14 +37,14 @@ on_not_unseen p e = cc
 done_not_unseen : Done ≡ Unseen → ⊥
 done_not_unseen e = cc
 
-module _ (up : Ups) (count : ℕ) (s : State) (v : ℕ) (h : IsWalk up count s) (in' : v < count) (none : place_at s.place v ≡ Unseen) (led : (p : ℕ) → p < length s.path → Above up (node_at s.path p) v) where
+module _ (next : Successors) (count : ℕ) (s : State) (v : ℕ) (h : IsWalk next count s) (in' : v < count) (none : place_at s.place v ≡ Unseen) (led : (p : ℕ) → p < length s.path → Above next (node_at s.path p) v) where
   abbrev new : Segment
   new = record { path_from = length s.path; steps_from = length s.steps }
 
   size : v < length s.place
   size = omega (arith, h.places)
 
-  done_visit : IsDone up (set s.place v (On (length s.path))) s.circular s.order
+  done_visit : IsDone next (set s.place v (On (length s.path))) s.circular s.order
   done_visit =
       let b = λ (w : ℕ). done_back s.place v (length s.path) w size in
       let f = λ (w : ℕ) (e : place_at s.place w ≡ Done). still s.place v (length s.path) w Done none e done_not_unseen in
@@ -88,11 +88,11 @@ module _ (up : Ups) (count : ℕ) (s : State) (v : ℕ) (h : IsWalk up count s) 
       (omega (arith, length-append s.path (v ∷ []), o.0), node_old p o.0 ∙ o.1))
       (same_or_not w v)
 
-  joined_visit : (p q : ℕ) → p < length (s.path ++ v ∷ []) → q < length (s.path ++ v ∷ []) → Leads (s.segments ++ new ∷ []) p q → Way up (node_at (s.path ++ v ∷ []) p) (node_at (s.path ++ v ∷ []) q)
+  joined_visit : (p q : ℕ) → p < length (s.path ++ v ∷ []) → q < length (s.path ++ v ∷ []) → Leads (s.segments ++ new ∷ []) p q → Way next (node_at (s.path ++ v ∷ []) p) (node_at (s.path ++ v ∷ []) q)
   joined_visit p q l m a = ⊎_elim
       (λ o. ⊎_elim
-      (λ i. subst (λ x. Way up x (node_at (s.path ++ v ∷ []) q)) (sym (node_old p o)) (subst (λ x. Way up (node_at s.path p) x) (sym (node_old q i)) (h.path.joined p q o i (leads_old p q a))))
-      (λ i. inr (subst (λ x. Above up x (node_at (s.path ++ v ∷ []) q)) (sym (node_old p o)) (subst (λ x. Above up (node_at s.path p) x) (sym (ap (node_at (s.path ++ v ∷ [])) i ∙ node_new)) (led p o))))
+      (λ i. subst (λ x. Way next x (node_at (s.path ++ v ∷ []) q)) (sym (node_old p o)) (subst (λ x. Way next (node_at s.path p) x) (sym (node_old q i)) (h.path.joined p q o i (leads_old p q a))))
+      (λ i. inr (subst (λ x. Above next x (node_at (s.path ++ v ∷ []) q)) (sym (node_old p o)) (subst (λ x. Above next (node_at s.path p) x) (sym (ap (node_at (s.path ++ v ∷ [])) i ∙ node_new)) (led p o))))
       (upto q m))
       (λ o. let b : length s.path ≤ p → length s.path ≤ q = each_last (λ (g : Segment). g.path_from ≤ p → g.path_from ≤ q) s.segments new a in
       let c : length s.path ≤ q = b (omega arith) in
@@ -100,40 +100,40 @@ module _ (up : Ups) (count : ℕ) (s : State) (v : ℕ) (h : IsWalk up count s) 
       inl (ap (node_at (s.path ++ v ∷ [])) e))
       (upto p l)
 
-  steps_upto : (i : ℕ) → i < length (s.steps ++ up v) → (i < length s.steps) ⊎ (length s.steps ≤ i)
+  steps_upto : (i : ℕ) → i < length (s.steps ++ next v) → (i < length s.steps) ⊎ (length s.steps ≤ i)
   steps_upto i l = grind arith
 
-  source_visit : (i : ℕ) → i < length (s.steps ++ up v) → Source up (visited up s v) i
+  source_visit : (i : ℕ) → i < length (s.steps ++ next v) → Source next (visited next s v) i
   source_visit i l = ⊎_elim
       (λ o. let q = h.path.sources i o in record {
         at = q.at;
         within = omega (arith, length-append s.path (v ∷ []), q.within);
-        leads = subst (λ x. Contains (up x) (node_at (s.steps ++ up v) i)) (sym (node_old q.at q.within)) (subst (λ x. Contains (up (node_at s.path q.at)) x) (sym (get_or_append_left s.steps (up v) 0 i o)) q.leads);
+        leads = subst (λ x. Contains (next x) (node_at (s.steps ++ next v) i)) (sym (node_old q.at q.within)) (subst (λ x. Contains (next (node_at s.path q.at)) x) (sym (get_or_append_left s.steps (next v) 0 i o)) q.leads);
         after = All-push (λ (g : Segment). g.steps_from ≤ i → g.path_from ≤ q.at) s.segments new q.after (λ b. absurd (omega arith));
         before = All-push (λ (g : Segment). i < g.steps_from → q.at < g.path_from) s.segments new q.before (λ b. q.within);
       })
       (λ o. let k : ℕ = i - length s.steps in
       let e : length s.steps + k ≡ i = omega arith in
-      let short : k < length (up v) = omega (arith, length-append s.steps (up v)) in
+      let short : k < length (next v) = omega (arith, length-append s.steps (next v)) in
       record {
         at = length s.path;
         within = omega (arith, length-append s.path (v ∷ []));
-        leads = subst (λ x. Contains (up x) (node_at (s.steps ++ up v) i)) (sym node_new) (subst (λ x. Contains (up v) x) (sym (get_or-append-add s.steps (up v) k 0) ∙ ap (node_at (s.steps ++ up v)) e) (k, short, get_or_default (up v) k _ 0 short));
+        leads = subst (λ x. Contains (next x) (node_at (s.steps ++ next v) i)) (sym node_new) (subst (λ x. Contains (next v) x) (sym (get_or-append-add s.steps (next v) k 0) ∙ ap (node_at (s.steps ++ next v)) e) (k, short, get_or_default (next v) k _ 0 short));
         after = All-push (λ (g : Segment). g.steps_from ≤ i → g.path_from ≤ length s.path) s.segments new (λ j d m b. (h.path.within j d m).0) (λ b. omega arith);
         before = All-push (λ (g : Segment). i < g.steps_from → length s.path < g.path_from) s.segments new (λ j d m b. let w = h.path.within j d m in absurd (omega (arith, w.1))) (λ b. absurd (omega arith));
       })
       (steps_upto i l)
 
-  told_still : (p w : ℕ) → p < length s.path → Told s p w → Told (visited up s v) p w
-  told_still p w l (waits i m e a) = waits i (omega (arith, length-append s.steps (up v))) (get_or_append_left s.steps (up v) 0 i m ∙ e) (All-push (λ (g : Segment). g.path_from ≤ p → g.steps_from ≤ i) s.segments new a (λ b. absurd (omega arith)))
+  told_still : (p w : ℕ) → p < length s.path → Told s p w → Told (visited next s v) p w
+  told_still p w l (waits i m e a) = waits i (omega (arith, length-append s.steps (next v))) (get_or_append_left s.steps (next v) 0 i m ∙ e) (All-push (λ (g : Segment). g.path_from ≤ p → g.steps_from ≤ i) s.segments new a (λ b. absurd (omega arith)))
   told_still p w l (done e) = done (still s.place v (length s.path) w Done none e done_not_unseen)
   told_still p w l (back q e a) = back q (still s.place v (length s.path) w (On q) none e (on_not_unseen q)) (leads_more p q l a)
 
-  told_visit : (p w : ℕ) → p < length (s.path ++ v ∷ []) → Contains (up (node_at (s.path ++ v ∷ []) p)) w → Told (visited up s v) p w
+  told_visit : (p w : ℕ) → p < length (s.path ++ v ∷ []) → Contains (next (node_at (s.path ++ v ∷ []) p)) w → Told (visited next s v) p w
   told_visit p w l c = ⊎_elim
-      (λ o. told_still p w o (h.path.told p w o (subst (λ x. Contains (up x) w) (node_old p o) c)))
-      (λ o. let d : Contains (up v) w = subst (λ x. Contains (up x) w) (ap (node_at (s.path ++ v ∷ [])) o ∙ node_new) c in
-      waits (length s.steps + d.0) (omega (arith, length-append s.steps (up v), d.1)) (get_or-append-add s.steps (up v) d.0 0 ∙ get_or_default (up v) d.0 0 w d.1 ∙ d.2)
+      (λ o. told_still p w o (h.path.told p w o (subst (λ x. Contains (next x) w) (node_old p o) c)))
+      (λ o. let d : Contains (next v) w = subst (λ x. Contains (next x) w) (ap (node_at (s.path ++ v ∷ [])) o ∙ node_new) c in
+      waits (length s.steps + d.0) (omega (arith, length-append s.steps (next v), d.1)) (get_or-append-add s.steps (next v) d.0 0 ∙ get_or_default (next v) d.0 0 w d.1 ∙ d.2)
       (All-push (λ (g : Segment). g.path_from ≤ p → g.steps_from ≤ length s.steps + d.0) s.segments new (λ j z m b. let y = h.path.within j z m in omega (arith, y.1)) (λ b. omega arith)))
       (upto p l)
 
@@ -166,7 +166,7 @@ module _ (up : Ups) (count : ℕ) (s : State) (v : ℕ) (h : IsWalk up count s) 
       (segments_upto j (omega arith)))
       (segments_upto k l)
 
-  pub visit_walk : IsWalk up count (visited up s v)
+  pub visit_walk : IsWalk next count (visited next s v)
   visit_walk = record {
     places = length-set s.place v (On (length s.path)) ∙ h.places;
     flags = h.flags;
@@ -176,9 +176,9 @@ module _ (up : Ups) (count : ℕ) (s : State) (v : ℕ) (h : IsWalk up count s) 
       first = first_visit;
       covers = λ e. absurd (omega (arith, length-append s.segments (new ∷ [])));
       rising = rising_visit;
-      within = All-push (λ (g : Segment). (g.path_from ≤ length (s.path ++ v ∷ [])) × (g.steps_from ≤ length (s.steps ++ up v))) s.segments new
-          (λ k d l. let w = h.path.within k d l in (omega (arith, w.0, length-append s.path (v ∷ [])), omega (arith, w.1, length-append s.steps (up v))))
-          (omega (arith, length-append s.path (v ∷ [])), omega (arith, length-append s.steps (up v)));
+      within = All-push (λ (g : Segment). (g.path_from ≤ length (s.path ++ v ∷ [])) × (g.steps_from ≤ length (s.steps ++ next v))) s.segments new
+          (λ k d l. let w = h.path.within k d l in (omega (arith, w.0, length-append s.path (v ∷ [])), omega (arith, w.1, length-append s.steps (next v))))
+          (omega (arith, length-append s.path (v ∷ [])), omega (arith, length-append s.steps (next v)));
       joined = joined_visit;
       sources = source_visit;
       told = told_visit;

@@ -8,7 +8,7 @@ use Rattle.jc_graph.specs.declared.walk.Segment.{Segment}
 use Rattle.jc_graph.specs.declared.walk.Walk.{Walk}
 use Rattle.std.specs.Bool.{Decides}
 use Rattle.jc_graph.specs.inside.Marks.{set_all}
-use Rattle.jc_graph.specs.Graph.{Ups, Above}
+use Rattle.jc_graph.specs.Graph.{Successors, Above}
 
 pub record State : Type 0 where
   pub path : List ℕ
@@ -44,14 +44,14 @@ segment_at segments k = slice_index_or segments k (record { path_from = 0; steps
 abbrev pub Leads : List Segment → ℕ → ℕ → Type 0
 Leads segments p q = All (λ g. g.path_from ≤ p → g.path_from ≤ q) segments
 
-abbrev pub Way : Ups → ℕ → ℕ → Type 0
-Way up a b = (a ≡ b) ⊎ Above up a b
+abbrev pub Way : Successors → ℕ → ℕ → Type 0
+Way next a b = (a ≡ b) ⊎ Above next a b
 
 -- a step that waits leads from a place of the path
-pub record Source (up : Ups) (s : State) (i : ℕ) : Type 0 where
+pub record Source (next : Successors) (s : State) (i : ℕ) : Type 0 where
   pub at : ℕ
   pub within : at < length s.path
-  pub leads : Contains (up (node_at s.path at)) (node_at s.steps i)
+  pub leads : Contains (next (node_at s.path at)) (node_at s.steps i)
   pub after : All (λ g. g.steps_from ≤ i → g.path_from ≤ at) s.segments
   pub before : All (λ g. i < g.steps_from → at < g.path_from) s.segments
 
@@ -62,7 +62,7 @@ pub data Told (s : State) (p w : ℕ) : Type 0 where
   done : place_at s.place w ≡ Done → Told s p w
   back : (q : ℕ) → place_at s.place w ≡ On q → Leads s.segments p q → Told s p w
 
-pub record IsPath (up : Ups) (s : State) : Type 0 where
+pub record IsPath (next : Successors) (s : State) : Type 0 where
   pub on_path : (p : ℕ) → p < length s.path → place_at s.place (node_at s.path p) ≡ On p
   pub has_place : (v p : ℕ) → place_at s.place v ≡ On p → (p < length s.path) × (node_at s.path p ≡ v)
   pub first : (segment_at s.segments 0).path_from ≡ 0
@@ -71,32 +71,32 @@ pub record IsPath (up : Ups) (s : State) : Type 0 where
       → (segment_at s.segments j).path_from ≤ (segment_at s.segments k).path_from
   pub within : All (λ g. (g.path_from ≤ length s.path) × (g.steps_from ≤ length s.steps)) s.segments
   pub joined : (p q : ℕ) → p < length s.path → q < length s.path → Leads s.segments p q
-      → Way up (node_at s.path p) (node_at s.path q)
-  pub sources : (i : ℕ) → i < length s.steps → Source up s i
-  pub told : (p w : ℕ) → p < length s.path → Contains (up (node_at s.path p)) w → Told s p w
+      → Way next (node_at s.path p) (node_at s.path q)
+  pub sources : (i : ℕ) → i < length s.steps → Source next s i
+  pub told : (p w : ℕ) → p < length s.path → Contains (next (node_at s.path p)) w → Told s p w
 
-pub record IsDone (up : Ups) (place : List Place) (circular : List Bool) (order : List ℕ) : Type 0 where
-  pub closed : (v w : ℕ) → place_at place v ≡ Done → Contains (up v) w → place_at place w ≡ Done
-  pub ring : (v : ℕ) → place_at place v ≡ Done → flag_at circular v ≡ true → Above up v v
-  pub plain : (v : ℕ) → place_at place v ≡ Done → flag_at circular v ≡ false → Above up v v → ⊥
+pub record IsDone (next : Successors) (place : List Place) (circular : List Bool) (order : List ℕ) : Type 0 where
+  pub closed : (v w : ℕ) → place_at place v ≡ Done → Contains (next v) w → place_at place w ≡ Done
+  pub ring : (v : ℕ) → place_at place v ≡ Done → flag_at circular v ≡ true → Above next v v
+  pub plain : (v : ℕ) → place_at place v ≡ Done → flag_at circular v ≡ false → Above next v v → ⊥
   pub listed : (v : ℕ) → place_at place v ≡ Done → Contains order v
   pub done : (k : ℕ) → k < length order → place_at place (node_at order k) ≡ Done
   pub before : (k w : ℕ) → k < length order → flag_at circular (node_at order k) ≡ false
-      → Contains (up (node_at order k)) w → (j : ℕ) × (j < k) × (node_at order j ≡ w)
+      → Contains (next (node_at order k)) w → (j : ℕ) × (j < k) × (node_at order j ≡ w)
 
-pub record IsWalk (up : Ups) (count : ℕ) (s : State) : Type 0 where
+pub record IsWalk (next : Successors) (count : ℕ) (s : State) : Type 0 where
   pub places : length s.place ≡ count
   pub flags : length s.circular ≡ count
-  pub path : IsPath up s
-  pub done : IsDone up s.place s.circular s.order
+  pub path : IsPath next s
+  pub done : IsDone next s.place s.circular s.order
 
 -- ---- what each step makes of a walk
 
-abbrev pub visited : Ups → State → ℕ → State
-visited up s v = record {
+abbrev pub visited : Successors → State → ℕ → State
+visited next s v = record {
   path = s.path ++ v ∷ [];
   segments = s.segments ++ (record { path_from = length s.path; steps_from = length s.steps }) ∷ [];
-  steps = s.steps ++ up v;
+  steps = s.steps ++ next v;
   place = slice_set s.place v (On (length s.path));
   circular = s.circular;
   order = s.order;
@@ -143,9 +143,9 @@ abbrev pub last_nodes : State → List ℕ
 last_nodes s = drop (last_segment s).path_from s.path
 
 -- whether a segment that is ended is on a ring
-abbrev pub TellsRing : Ups → List ℕ → Bool → Type 0
-TellsRing up nodes ring =
-    (length nodes ≡ 1 → Decides ring (Contains (up (node_at nodes 0)) (node_at nodes 0)))
+abbrev pub TellsRing : Successors → List ℕ → Bool → Type 0
+TellsRing next nodes ring =
+    (length nodes ≡ 1 → Decides ring (Contains (next (node_at nodes 0)) (node_at nodes 0)))
     × ((length nodes ≡ 1 → ⊥) → ring ≡ true)
 
 abbrev pub ended : Bool → State → State
@@ -159,7 +159,7 @@ ended ring s = record {
 }
 
 -- one turn: it is still a walk, less is left to do, and nothing that was seen is forgotten
-pub record Turned (up : Ups) (count : ℕ) (old new : State) : Type 0 where
-  pub walk : IsWalk up count new
+pub record Turned (next : Successors) (count : ℕ) (old new : State) : Type 0 where
+  pub walk : IsWalk next count new
   pub less : left new < left old
   pub stays : (v : ℕ) → place_at new.place v ≡ Unseen → place_at old.place v ≡ Unseen

@@ -10,7 +10,7 @@ use Rattle.jc_classes.specs.Worlds.{Stands, World, super_of, supers_of}
 use Rattle.jc_classes.specs.Worlds.Stands.{Nothing}
 use Rattle.jc_classes.specs.Lent.{stands_of}
 use Rattle.jc_classes.specs.declared.standing.Standing.{Standing}
-use Rattle.jc_graph.specs.Graph.{ups_of}
+use Rattle.jc_graph.specs.Graph.{successors_of}
 use Rattle.jc_graph.specs.Seen.{flag_at}
 
 pub record Indexed : Type 0 where
@@ -25,7 +25,7 @@ abbrev pub filled : List (Vec ℕ Global) → List Standing → List (Vec ℕ Gl
 filled names standing supertypes rank good = record {
   names = names_of names;
   records = map stands_of standing;
-  supertypes = ups_of supertypes;
+  supertypes = successors_of supertypes;
   rank = rank;
   good = good;
 }

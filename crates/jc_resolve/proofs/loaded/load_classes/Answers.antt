@@ -2,7 +2,7 @@ use Rattle.std.proofs.Common.{◌≡◌, ℕ, [], length, map, refl, sym, ap, su
 use Rattle.std.proofs.lemmas.List.{length-map}
 use Rattle.std.specs.declared.vec.Vec.{Vec}
 use Rattle.std.specs.declared.alloc.Global.{Global}
-use Rattle.jc_graph.specs.Graph.{ups_of, TellsCircular, IsOrder}
+use Rattle.jc_graph.specs.Graph.{successors_of, TellsCircular, IsOrder}
 use Rattle.jc_graph.specs.Seen.{flag_at}
 use Rattle.jc_numbered.specs.inside.Indexed.{Indexed, filled, IsGraph}
 use Rattle.jc_resolve.specs.inside.Loading.{is_good, TellsRank}
@@ -50,8 +50,8 @@ invariant_of-classes c =
     let size : length n ≡ count = sym (length-map n (λ (v : Vec ℕ Global). v.items)) ∙ names in
     let flags = c.in_ok-sorted.sorted.circular.items in
     let order = c.in_ok-sorted.sorted.order.items in
-    let rings : TellsCircular x.supertypes count flags = subst (λ k. TellsCircular (ups_of u) k flags) c.requires.size c.in_ok-sorted.ensures.circular in
-    let ordered : IsOrder x.supertypes count flags order = subst (λ k. IsOrder (ups_of u) k flags order) c.requires.size c.in_ok-sorted.ensures.order in
+    let rings : TellsCircular x.supertypes count flags = subst (λ k. TellsCircular (successors_of u) k flags) c.requires.size c.in_ok-sorted.ensures.circular in
+    let ordered : IsOrder x.supertypes count flags order = subst (λ k. IsOrder (successors_of u) k flags order) c.requires.size c.in_ok-sorted.ensures.order in
     let loads = c.in_ok-loads.loads.items in
     let ranked : TellsRank count order rank = subst (λ z. TellsRank count z rank) c.as_slice.ensures.value c.in_ok-rank.ensures in
     let goods : good ≡ map is_good loads = c.in_ok-good.ensures ∙ ap (map is_good) c.as_slice-2.ensures.value in
@@ -78,7 +78,7 @@ returns-clause-loaded c =
     record {
       net = net_again n s u [] rank [] good c.requires.net;
       loads_size = c.in_ok-loads.ensures.size;
-      rings = subst (λ k. TellsCircular (ups_of u) k c.in_ok-sorted.sorted.circular.items) c.requires.size c.in_ok-sorted.ensures.circular;
+      rings = subst (λ k. TellsCircular (successors_of u) k c.in_ok-sorted.sorted.circular.items) c.requires.size c.in_ok-sorted.ensures.circular;
       told = λ m i. c.in_ok-loads.ensures.loads m (index_again n s u rank rank0 good good0 i);
       good = λ v h. ap (λ f. flag_at f v) goods ∙ good_from loads v h;
     }

@@ -5,7 +5,7 @@ use Rattle.std.specs.Vec.{with_items}
 use Rattle.jc_graph.specs.declared.walk.Segment.{Segment}
 use Rattle.jc_graph.specs.declared.walk.Place.TheVariants.{Done}
 use Rattle.jc_graph.specs.inside.Marks.{set_all}
-use Rattle.jc_graph.specs.Graph.{ups_of}
+use Rattle.jc_graph.specs.Graph.{successors_of}
 use Rattle.jc_graph.specs.inside.Walk.{state_of, last_nodes, ended, TellsRing, Turned}
 use Rattle.jc_graph.proofs.walks.MarkLemmas.{length-set_all}
 use Rattle.jc_graph.proofs.walks.End.{last_in, last_begins}
@@ -16,33 +16,33 @@ pub split_at-requires : goal.split_at-requires
 split_at-requires c =
     let s = state_of c.args.self.now in
     let e = ap (λ (g : Segment). g.path_from) c.requires.last in
-    let l = last_begins (ups_of c.args.ups.now) s c.requires.walk.path c.requires.some in
+    let l = last_begins (successors_of c.args.graph.now) s c.requires.walk.path c.requires.some in
     omega (arith, e, l, c.as_slice.ensures.len, c.args.self.now.path.ok.0)
 
 pub is_ring-ring-requires : goal.is_ring-ring-requires
 is_ring-ring-requires c =
     let s = state_of c.args.self.now in
     let e : c.split_at.result.1.now ≡ last_nodes s = c.split_at.ensures.back ∙ ap (drop c.args.last.path_from) c.as_slice.ensures.value ∙ ap (λ (g : Segment). drop g.path_from s.path) c.requires.last in
-    subst (All (λ v. v < length c.args.ups.now)) (sym e) (last_in (ups_of c.args.ups.now) (length c.args.ups.now) s c.requires.walk)
+    subst (All (λ v. v < length c.args.graph.now)) (sym e) (last_in (successors_of c.args.graph.now) (length c.args.graph.now) s c.requires.walk)
 
 pub mark-requires : goal.mark-requires
 mark-requires c =
     let s = state_of c.args.self.now in
     let e : c.split_at.result.1.now ≡ last_nodes s = c.split_at.ensures.back ∙ ap (drop c.args.last.path_from) c.as_slice.ensures.value ∙ ap (λ (g : Segment). drop g.path_from s.path) c.requires.last in
     let n = ap length c.as_mut_slice.ensures.value in
-    subst (All (λ v. v < length c.as_mut_slice.result.now)) (sym e) (λ k d l. let h = last_in (ups_of c.args.ups.now) (length c.args.ups.now) s c.requires.walk k d l in omega (arith, h, n, c.requires.walk.places))
+    subst (All (λ v. v < length c.as_mut_slice.result.now)) (sym e) (λ k d l. let h = last_in (successors_of c.args.graph.now) (length c.args.graph.now) s c.requires.walk k d l in omega (arith, h, n, c.requires.walk.places))
 
 pub mark-requires-2 : goal.mark-requires-2
 mark-requires-2 c =
     let s = state_of c.args.self.now in
     let e : c.split_at.result.1.now ≡ last_nodes s = c.split_at.ensures.back ∙ ap (drop c.args.last.path_from) c.as_slice.ensures.value ∙ ap (λ (g : Segment). drop g.path_from s.path) c.requires.last in
     let n = ap length c.as_mut_slice-2.ensures.value in
-    subst (All (λ v. v < length c.as_mut_slice-2.result.now)) (sym e) (λ k d l. let h = last_in (ups_of c.args.ups.now) (length c.args.ups.now) s c.requires.walk k d l in omega (arith, h, n, c.requires.walk.flags))
+    subst (All (λ v. v < length c.as_mut_slice-2.result.now)) (sym e) (λ k d l. let h = last_in (successors_of c.args.graph.now) (length c.args.graph.now) s c.requires.walk k d l in omega (arith, h, n, c.requires.walk.flags))
 
 pub returns : goal.returns
 returns c =
-    let up = ups_of c.args.ups.now in
-    let count = length c.args.ups.now in
+    let next = successors_of c.args.graph.now in
+    let count = length c.args.graph.now in
     let s = state_of c.args.self.now in
     let ring = c.is_ring-ring.result in
     let from = ap (λ (g : Segment). g.path_from) c.requires.last in
@@ -58,4 +58,4 @@ returns c =
     let t = same_state (state_of (record { path = c.truncate.new.self; segments = c.pop.new.self; steps = c.args.self.now.steps; place = with_items c.args.self.now.place c.mark.new.marks; circular = with_items c.args.self.now.circular c.mark-2.new.marks; order = c.extend_from_slice.new.self })) (ended ring s)
     path segments refl place_is circular_is order in
     let no_step = ap (λ (g : Segment). g.steps_from) c.requires.last in
-    subst (λ t. Turned up count s t) (sym t) (ended_turned up count s c.requires.walk c.requires.some (omega (arith, no_step, c.requires.no_step)) ring (subst (λ nodes. TellsRing up nodes ring) e c.is_ring-ring.ensures))
+    subst (λ t. Turned next count s t) (sym t) (ended_turned next count s c.requires.walk c.requires.some (omega (arith, no_step, c.requires.no_step)) ring (subst (λ nodes. TellsRing next nodes ring) e c.is_ring-ring.ensures))
