@@ -4,8 +4,9 @@
     run.py [KIND ..] [--seconds N]
 
 A KIND is a function of classes.py, all of them where none is named. Each kind is checked by `jclink check`, and added file by
-file to a session, by `jclink session`, which then gives its report. `check` writes to a device that takes nothing: texts may be
-long, and how they are written is not asked here. The session writes its whole report, to a device that takes all. The limits are 30 seconds of a processor, and 50 MB with 40 bytes for each byte of the files. A run that takes more
+file to a session, by `jclink session`, which then gives its report. How texts are written is not asked here, and they may be
+long: one of 364 gigabytes is among them. So `check` writes to a device that takes nothing, and of what a session writes a
+gigabyte is read; one that has more to say ends with status 3. The limits are 30 seconds of a processor, and 50 MB with 40 bytes for each byte of the files. A run that takes more
 than N seconds, 120 where no number is given, is broken off. The status is 1 where a limit is not kept.
 """
 import argparse
@@ -22,28 +23,41 @@ import classes
 import common
 
 SECONDS, BASE, EACH = 30, 50_000_000, 40
+# So many bytes are read of what a session writes.
+READ = 1 << 30
 # So much memory a run may ask for at most, lest the machine ends it.
 ROOM = 12 << 30
 # A session keeps the reach of each class, of a chain half the square of its length. A shorter one is a kind of its own.
 NO_SESSION = {"references_below_a_chain"}
 
 
-def measured(words, lines, out, folder, most):
+def read_from(pipe):
+    """Reads to the end, or so much as is read of a session, and closes."""
+    left = READ
+    while left > 0 and (read := os.read(pipe.fileno(), 1 << 20)):
+        left -= len(read)
+    pipe.close()
+
+
+def measured(words, lines, folder, most):
     """Seconds of a processor, bytes, and how it ended."""
     def limited():
         resource.setrlimit(resource.RLIMIT_CPU, (most, most))
         resource.setrlimit(resource.RLIMIT_AS, (ROOM, ROOM))
-    with tempfile.TemporaryFile() as source, open(out, "wb") as sink:
+    with tempfile.TemporaryFile() as source, open("/dev/full", "wb") as full:
         source.write(lines)
         source.seek(0)
+        sink = subprocess.PIPE if lines else full
         ran = subprocess.Popen([common.JCLINK, *words], cwd=folder, stdin=source, stdout=sink, stderr=subprocess.DEVNULL, preexec_fn=limited)
+        if lines:
+            read_from(ran.stdout)
         _, status, used = os.wait4(ran.pid, 0)
         ran.returncode = os.waitstatus_to_exitcode(status)
     return used.ru_utime + used.ru_stime, used.ru_maxrss * 1024, ran.returncode
 
 
-def told(name, files, size, words, lines, out, wanted, folder, most):
-    seconds, room, status = measured(words, lines, out, folder, most)
+def told(name, files, size, words, lines, wanted, folder, most):
+    seconds, room, status = measured(words, lines, folder, most)
     limit = BASE + EACH * size
     right = status in wanted and seconds <= SECONDS and room <= limit
     how = "" if right else f" status {status}," if status not in wanted else ""
@@ -58,9 +72,9 @@ def tried(kind, most):
         for path, data in files.items():
             pathlib.Path(room, path).write_bytes(data)
         lines = b"".join(b"add %s\n" % path.encode() for path in sorted(files)) + b"report\nend\n"
-        right = told(kind.__name__, len(files), size, ["check", "."], b"", "/dev/full", (3,), room, most)
+        right = told(kind.__name__, len(files), size, ["check", "."], b"", (3,), room, most)
         if kind.__name__ not in NO_SESSION:
-            right &= told(kind.__name__, len(files), size, ["session"], lines, "/dev/null", (0, 1), room, most)
+            right &= told(kind.__name__, len(files), size, ["session"], lines, (0, 1, 3), room, most)
     return right
 
 
