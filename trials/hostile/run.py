@@ -6,7 +6,8 @@
 A KIND is a function of classes.py, all of them where none is named. Each kind is checked by `jclink check`, and added file by
 file to a session, by `jclink session`, which then gives its report. How texts are written is not asked here, and they may be
 long: one of 364 gigabytes is among them. So `check` writes to a device that takes nothing, and of what a session writes a
-gigabyte is read; one that has more to say ends with status 3. The limits are 30 seconds of a processor, and 50 MB with 40 bytes for each byte of the files. A run that takes more
+gigabyte is read; one that has more to say, and no other, ends with status 3. The limits are 30 seconds of a processor, and
+50 MB with 40 bytes for each byte of the files. A run that takes more
 than N seconds, 120 where no number is given, is broken off. The status is 1 where a limit is not kept.
 """
 import argparse
@@ -32,15 +33,16 @@ NO_SESSION = {"references_below_a_chain"}
 
 
 def read_from(pipe):
-    """Reads to the end, or so much as is read of a session, and closes."""
+    """Reads to the end, or so much as is read of a session, and closes. Whether more was to come."""
     left = READ
     while left > 0 and (read := os.read(pipe.fileno(), 1 << 20)):
         left -= len(read)
     pipe.close()
+    return left <= 0
 
 
 def measured(words, lines, folder, most):
-    """Seconds of a processor, bytes, and how it ended."""
+    """Seconds of a processor, bytes, how it ended, and whether it had more to say."""
     def limited():
         resource.setrlimit(resource.RLIMIT_CPU, (most, most))
         resource.setrlimit(resource.RLIMIT_AS, (ROOM, ROOM))
@@ -49,15 +51,15 @@ def measured(words, lines, folder, most):
         source.seek(0)
         sink = subprocess.PIPE if lines else full
         ran = subprocess.Popen([common.JCLINK, *words], cwd=folder, stdin=source, stdout=sink, stderr=subprocess.DEVNULL, preexec_fn=limited)
-        if lines:
-            read_from(ran.stdout)
+        is_cut = bool(lines) and read_from(ran.stdout)
         _, status, used = os.wait4(ran.pid, 0)
         ran.returncode = os.waitstatus_to_exitcode(status)
-    return used.ru_utime + used.ru_stime, used.ru_maxrss * 1024, ran.returncode
+    return used.ru_utime + used.ru_stime, used.ru_maxrss * 1024, ran.returncode, is_cut
 
 
 def told(name, files, size, words, lines, wanted, folder, most):
-    seconds, room, status = measured(words, lines, folder, most)
+    seconds, room, status, is_cut = measured(words, lines, folder, most)
+    wanted = (3,) if is_cut else wanted
     limit = BASE + EACH * size
     right = status in wanted and seconds <= SECONDS and room <= limit
     how = "" if right else f" status {status}," if status not in wanted else ""
@@ -74,7 +76,7 @@ def tried(kind, most):
         lines = b"".join(b"add %s\n" % path.encode() for path in sorted(files)) + b"report\nend\n"
         right = told(kind.__name__, len(files), size, ["check", "."], b"", (3,), room, most)
         if kind.__name__ not in NO_SESSION:
-            right &= told(kind.__name__, len(files), size, ["session"], lines, (0, 1, 3), room, most)
+            right &= told(kind.__name__, len(files), size, ["session"], lines, (0, 1), room, most)
     return right
 
 
