@@ -1,34 +1,18 @@
--- Which constants of a class file an instruction, an exception handler, a method handle or a bootstrap method names
--- (JVMS 4.4.8, 4.7.3, 4.7.23, 6.5): what nothing names is never resolved.
+-- Which constants of a class file the code of a method, a method handle or a bootstrap method names
+-- (JVMS 4.4.8, 4.7.23): what nothing names is never resolved.
 use Rattle.std.specs.Prelude.{ℕ, ◌+◌, ◌==◌, Bool, List, [], ◌++◌, map, Option, Some, None, option_and_then, if◌then◌else◌}
 use Rattle.std.specs.List.{flat_map, list_any, range_with_len}
 use Rattle.std.specs.Option.{option_map_or, option_to_list}
 use Rattle.jc_view.specs.declared.constant_pool.ConstantIndex.{ConstantIndex}
 use Rattle.jc_view.specs.ConstantPool as pool
 use Rattle.jc_view.specs.AttributeReading.{bootstraps_in}
-use Rattle.jc_view.specs.Attributes.{Code, bootstrap_attributes}
-use Rattle.jc_view.specs.ClassFile.{ClassFile, Member, all_slots, constant_at}
-use Rattle.jc_code.specs.declared.insn.Insn.{Insn}
-use Rattle.jc_code.specs.declared.insn.Insn.TheVariants as insns
-use Rattle.jc_code.specs.CodeFaults.{code_of_member}
-use Rattle.jc_code.specs.InsnReading.{insns_of}
+use Rattle.jc_view.specs.Attributes.{bootstrap_attributes}
+use Rattle.jc_view.specs.ClassFile.{ClassFile, all_slots, constant_at}
+use Rattle.jc_code.specs.NamedConstants.{named_by_method}
 
-abbrev pub named_by_insn : Insn → Option ConstantIndex
-named_by_insn (insns.Load opcode index) = Some index
-named_by_insn (insns.Field opcode index) = Some index
-named_by_insn (insns.Invoke opcode index) = Some index
-named_by_insn (insns.InvokeInterface index count last) = Some index
-named_by_insn (insns.InvokeDynamic index last) = Some index
-named_by_insn (insns.Type opcode index) = Some index
-named_by_insn (insns.MultiNewArray index dimensions) = Some index
-named_by_insn insn = None
-
--- by its instructions, and by its handlers
-abbrev pub named_by_code : Code → List ConstantIndex
-named_by_code k = flat_map (λ item. option_to_list (named_by_insn item.1)) (insns_of k.code) ++ map (λ h. h.catch_type) k.handlers
-
-abbrev pub named_by_method : ClassFile → Member → List ConstantIndex
-named_by_method c m = option_map_or named_by_code (code_of_member c m) []
+-- by the code of its methods
+abbrev pub named_by_methods : ClassFile → List ConstantIndex
+named_by_methods c = flat_map (named_by_method c) c.methods
 
 abbrev pub named_by_handle : pool.Constant → Option ConstantIndex
 named_by_handle (pool.MethodHandle kind reference) = Some reference
@@ -44,7 +28,7 @@ by_constants f c = flat_map (λ index. option_to_list (option_and_then f (consta
 
 unfoldable pub named : ClassFile → List ConstantIndex
 named c =
-    flat_map (named_by_method c) c.methods
+    named_by_methods c
     ++ by_constants named_by_handle c
     ++ flat_map (λ a. named_by_table a.bytes) (bootstrap_attributes c)
 

@@ -9,8 +9,10 @@ ghost use Rattle.jc_view.specs.Lookups.{utf8_at};
 ghost use Rattle.jc_rules.specs.Faults.{faults};
 ghost use Rattle.jc_code.specs.MethodFaults.{code_faults, numbered_faults};
 ghost use Rattle.jc_code.specs.MethodUses.{method_uses, uses};
+ghost use Rattle.jc_code.specs.NamedConstants.{named_by_method};
 ghost use Rattle.jc_classes.specs.FactsOf.{class_name, class_reference, facts_of, faulty_facts, interfaces_in};
 ghost use Rattle.jc_classes.specs.FactsOf.{member_of, member_reference, reference_at, references_in, sound_facts};
+ghost use Rattle.jc_classes.specs.UsedConstants.{named_by_methods};
 ghost use Rattle.jc_classes.specs.inside.ClassTexts.{Tells};
 ghost use Rattle.jc_classes.specs.inside.Entries.{AreEntries};
 ghost use Rattle.jc_classes.specs.inside.FactsShown.{member_shown, reference_shown, text_at};
@@ -66,7 +68,7 @@ fn sound_facts(alloc: Global, class: &ClassView, path: &[u8]) -> Result<Facts, N
     let mut texts = ClassTexts::new(alloc, class)?;
     let entries = read_entries(&mut texts, class)?;
     let codes = read_codes(alloc, class)?;
-    let used = used(alloc, class)?;
+    let used = used(alloc, class, codes.names)?;
     let texts_shared = Rc::new(alloc, texts.into_list())?;
     let references = Rc::new(alloc, entries.references)?;
     let faults = Faults::shared(alloc, Vec::new(alloc), codes.faults)?;
@@ -289,12 +291,15 @@ struct Codes {
     faults: Vec<(usize, CodeFault)>,
     /// What the instructions of methods without one do with the references that they name.
     uses: Vec<MethodUse>,
+    /// The constants that are named, some perhaps several times.
+    names: Vec<ConstantIndex>,
 }
 
 /// Looks at the code of all methods.
 fn read_codes(alloc: Global, class: &ClassView) -> Result<Codes, NoMemory>
     ensures faults { IfOk result (λ codes. codes.faults.items ≡ code_faults class.now) }
     ensures uses { IfOk result (λ codes. codes.uses.items ≡ uses class.now) }
+    ensures names { IfOk result (λ codes. codes.names.items ≡ named_by_methods class.now) }
 {
     read_methods(alloc, &TextSizes::of(alloc, class)?)
 }
@@ -303,10 +308,12 @@ fn read_codes(alloc: Global, class: &ClassView) -> Result<Codes, NoMemory>
 fn read_methods(alloc: Global, sizes: &TextSizes) -> Result<Codes, NoMemory>
     ensures faults { IfOk result (λ codes. codes.faults.items ≡ code_faults sizes.now) }
     ensures uses { IfOk result (λ codes. codes.uses.items ≡ uses sizes.now) }
+    ensures names { IfOk result (λ codes. codes.names.items ≡ named_by_methods sizes.now) }
 {
     let mut codes = Codes {
         faults: Vec::new(alloc),
         uses: Vec::new(alloc),
+        names: Vec::new(alloc),
     };
     for (number, method) in sizes.class().methods().enumerate() {
         read_code(alloc, &mut codes, sizes, &method, number)?;
@@ -329,11 +336,13 @@ fn read_code(
     ensures faults { OnOk result (codes.new.faults.items
         ≡ codes.old.faults.items ++ numbered_faults sizes.now number method.now.member.member) }
     ensures uses { OnOk result (codes.new.uses.items ≡ codes.old.uses.items ++ method_uses sizes.now number method.now.member.member) }
+    ensures names { OnOk result (codes.new.names.items ≡ codes.old.names.items ++ named_by_method sizes.now method.now.member.member) }
 {
     let Some(code) = method_code(method) else {
         return Ok(());
     };
-    for fault in &faults_and_uses(alloc, sizes, &code, number as u16, &mut codes.uses)? {
+    let (uses, names) = (&mut codes.uses, &mut codes.names);
+    for fault in &faults_and_uses(alloc, sizes, &code, number as u16, uses, names)? {
         codes.faults.push((number, *fault))?;
     }
     Ok(())

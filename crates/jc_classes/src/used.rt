@@ -2,107 +2,39 @@
 
 ghost use Rattle.std.specs.Prelude.{◌≡◌, ◌++◌, ◌<◌, ◌==◌, ◌^◌, None, length, IfOk, OnOk, if◌then◌else◌, option_and_then};
 ghost use Rattle.std.specs.List.{flat_map};
-ghost use Rattle.jc_view.specs.declared.attribute_kind.Holder.TheVariants as holders;
-ghost use Rattle.jc_code.specs.InsnReading.{insns_of};
 ghost use Rattle.jc_view.specs.AttributeReading.{after_bootstrap, bootstrap_value};
 ghost use Rattle.jc_view.specs.Attributes.{bootstrap_attributes};
 ghost use Rattle.jc_view.specs.ClassFile.{constant_at};
 ghost use Rattle.jc_view.specs.Moves.{Lends};
 ghost use Rattle.jc_view.specs.Reading.{after_table};
-ghost use Rattle.jc_classes.specs.UsedConstants.{by_constants, named, named_by_code, named_by_handle, named_by_insn};
-ghost use Rattle.jc_classes.specs.UsedConstants.{named_by_method, named_by_table, owner, used};
-ghost use Rattle.jc_classes.specs.inside.Using.{Marks, are_marks, arguments_at, mark_at, named_by_attribute, named_by_insns, owners};
+ghost use Rattle.jc_classes.specs.UsedConstants.{by_constants, named_by_handle, named_by_methods, named_by_table, owner, used};
+ghost use Rattle.jc_classes.specs.inside.Using.{Marks, are_marks, arguments_at, mark_at, named_by_attribute, owners};
 
 use crate::read_facts::push_some;
 use jc_base::{Cursor, NoMemory};
-use jc_code::{Insn, Insns, method_code};
 use jc_view::{
-    Attribute, AttributeKind, ClassView, Code, Constant, ConstantIndex, Indexes, Member,
-    read_index, read_indexes,
+    Attribute, AttributeKind, ClassView, Constant, ConstantIndex, Indexes, read_index, read_indexes,
 };
 use std::alloc::Global;
 
 /// Whether each constant of a class file is used, by its index: an instruction, an exception handler, a method
 /// handle or an argument of a bootstrap method names it, or a reference to a member that is named so is of this
-/// class.
+/// class. The code of methods names these.
 ///
 /// Answers `NoMemory` only where memory was refused.
-pub(crate) fn used(alloc: Global, class: &ClassView) -> Result<Vec<bool>, NoMemory>
+pub(crate) fn used(
+    alloc: Global,
+    class: &ClassView,
+    mut names: Vec<ConstantIndex>,
+) -> Result<Vec<bool>, NoMemory>
+    requires { names.items ≡ named_by_methods class.now }
     ensures { IfOk result (λ marks. marks.items ≡ used class.now) }
 {
-    let mut names = named(alloc, class)?;
+    add_by_handles(&mut names, class)?;
+    add_by_bootstraps(alloc, &mut names, class)?;
     let marks = marked(alloc, class, &names)?;
     add_owners(&mut names, class, &marks)?;
     marked(alloc, class, &names)
-}
-
-/// The constants that are named, some perhaps several times.
-fn named(alloc: Global, class: &ClassView) -> Result<Vec<ConstantIndex>, NoMemory>
-    ensures { IfOk result (λ names. names.items ≡ named class.now) }
-{
-    let mut names = Vec::new(alloc);
-    add_by_methods(&mut names, class)?;
-    add_by_handles(&mut names, class)?;
-    add_by_bootstraps(alloc, &mut names, class)?;
-    Ok(names)
-}
-
-/// Adds what the code of methods names.
-fn add_by_methods(names: &mut Vec<ConstantIndex>, class: &ClassView) -> Result<(), NoMemory>
-    ensures { OnOk result (names.new.items ≡ names.old.items ++ flat_map (named_by_method class.now) class.now.methods) }
-{
-    for method in class.methods() {
-        add_by_method(names, &method)?;
-    }
-    Ok(())
-}
-
-/// Adds what the code of a method names.
-fn add_by_method(names: &mut Vec<ConstantIndex>, method: &Member) -> Result<(), NoMemory>
-    requires { method.now.member.holder ≡ holders.Method }
-    ensures { OnOk result (names.new.items ≡ names.old.items ++ named_by_method method.now.class method.now.member.member) }
-{
-    match method_code(method) {
-        Some(code) => add_by_code(names, &code),
-        None => Ok(()),
-    }
-}
-
-/// Adds what the instructions and the handlers of a code name.
-fn add_by_code(names: &mut Vec<ConstantIndex>, code: &Code) -> Result<(), NoMemory>
-    ensures { OnOk result (names.new.items ≡ names.old.items ++ named_by_code code.now.code) }
-{
-    add_by_insns(names, code.bytes())?;
-    for handler in code.handlers() {
-        names.push(handler.catch_type)?;
-    }
-    Ok(())
-}
-
-fn add_by_insns(names: &mut Vec<ConstantIndex>, bytes: &[u8]) -> Result<(), NoMemory>
-    requires { length bytes.now < 2 ^ 16 }
-    ensures { OnOk result (names.new.items ≡ names.old.items ++ named_by_insns (insns_of bytes.now)) }
-{
-    for (_, insn) in Insns::new(bytes) {
-        push_some(names, named_by_insn(&insn))?;
-    }
-    Ok(())
-}
-
-/// The constant that an instruction names.
-fn named_by_insn(insn: &Insn) -> Option<ConstantIndex>
-    ensures { result ≡ named_by_insn insn.now }
-{
-    match insn {
-        Insn::Load { index, .. }
-        | Insn::Field { index, .. }
-        | Insn::Invoke { index, .. }
-        | Insn::InvokeInterface { index, .. }
-        | Insn::InvokeDynamic { index, .. }
-        | Insn::Type { index, .. }
-        | Insn::MultiNewArray { index, .. } => Some(*index),
-        _ => None,
-    }
 }
 
 /// Adds what method handles name.

@@ -9,6 +9,7 @@ pub mod CodeFaultOrder
 pub mod CodeViolations
 pub mod MethodFaults
 pub mod MethodUses
+pub mod NamedConstants
 pub mod Examples
 pub mod inside
 pub use Rattle.jc_base.specs.Cursor

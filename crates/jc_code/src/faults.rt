@@ -13,6 +13,7 @@ ghost use Rattle.jc_code.specs.CodeFaultOrder.{fault_cmp};
 ghost use Rattle.jc_code.specs.CodeViolations.{BreaksCode, ViolatesCode};
 ghost use Rattle.jc_code.specs.InsnReading.{insns_of};
 ghost use Rattle.jc_code.specs.MethodUses.{code_uses, uses_among};
+ghost use Rattle.jc_code.specs.NamedConstants.{named_by_code, named_by_insns};
 
 use crate::clean::is_clean;
 use crate::code_fault::{CodeFault, CodeRule};
@@ -21,6 +22,7 @@ use crate::insn::Insn;
 use crate::insns::Insns;
 use crate::laws::{codes_are_read, instructions_are_apart};
 use crate::method_use::MethodUse;
+use crate::named_constants::push_catch_types;
 use crate::numbers::as_bytes;
 use crate::rules::constants::{
     breaks_s6, breaks_s7, breaks_s8, breaks_s9, breaks_s10, breaks_s11, breaks_s12, breaks_s13,
@@ -33,7 +35,7 @@ use crate::scope::Scope;
 use crate::starts::Starts;
 use crate::text_sizes::TextSizes;
 use jc_base::NoMemory;
-use jc_view::{ClassView, Code, ExceptionHandler, Member};
+use jc_view::{ClassView, Code, ConstantIndex, ExceptionHandler, Member};
 use std::alloc::Global;
 
 /// All places of a method's code where a static constraint is broken, by rule and then by place: only
@@ -119,8 +121,8 @@ pub fn faults_in(alloc: Global, sizes: &TextSizes, code: &Code) -> Result<Vec<Co
     faults_alone(alloc, sizes, code)
 }
 
-/// The faults of the code of a method, as [`faults_in`], and what its instructions do with the references that
-/// they name, put behind others: nothing where it has a fault.
+/// The faults of the code of a method, as [`faults_in`]; what its instructions do with the references that they
+/// name, put behind others: nothing where it has a fault; and the constants that it names, put behind others.
 ///
 /// Answers `NoMemory` only where memory was refused.
 pub fn faults_and_uses(
@@ -129,15 +131,18 @@ pub fn faults_and_uses(
     code: &Code,
     method: u16,
     uses: &mut Vec<MethodUse>,
+    names: &mut Vec<ConstantIndex>,
 ) -> Result<Vec<CodeFault>, NoMemory>
     ensures faults { IfOk result (λ found. found.items ≡ faults_of sizes.now code.now.code) }
     ensures uses { OnOk result (uses.new.items ≡ uses.old.items ++ code_uses sizes.now method code.now.code) }
+    ensures names { OnOk result (names.new.items ≡ names.old.items ++ named_by_code code.now.code) }
 {
     let _bytes = as_bytes(code.bytes());
     codes_are_read();
     instructions_are_apart();
     let before = uses.len();
-    let faults = list_faults(alloc, sizes, code, method, uses)?;
+    let faults = list_faults(alloc, sizes, code, method, uses, names)?;
+    push_catch_types(names, code)?;
     if !faults.is_empty() {
         uses.truncate(before);
     }
@@ -149,24 +154,28 @@ fn faults_alone(alloc: Global, sizes: &TextSizes, code: &Code) -> Result<Vec<Cod
     ensures { IfOk result (λ found. AreFaultsOf sizes.now code.now.code found.items) }
 {
     let mut uses = Vec::new(alloc);
-    list_faults(alloc, sizes, code, 0, &mut uses)
+    let mut names = Vec::new(alloc);
+    list_faults(alloc, sizes, code, 0, &mut uses, &mut names)
 }
 
-/// The faults of the code of a method, in their order. All uses are put behind others.
+/// The faults of the code of a method, in their order. All uses, and the constants that instructions name, are put
+/// behind others.
 fn list_faults(
     alloc: Global,
     sizes: &TextSizes,
     code: &Code,
     method: u16,
     uses: &mut Vec<MethodUse>,
+    names: &mut Vec<ConstantIndex>,
 ) -> Result<Vec<CodeFault>, NoMemory>
     ensures faults { IfOk result (λ found. AreFaultsOf sizes.now code.now.code found.items) }
     ensures uses { OnOk result (uses.new.items ≡ uses.old.items ++ uses_among method (insns_of code.now.code.code)) }
+    ensures names { OnOk result (names.new.items ≡ names.old.items ++ named_by_insns (insns_of code.now.code.code)) }
 {
     let bytes = code.bytes();
     let size = bytes.len();
     let bare = scope_with(sizes, code, Starts::none(alloc));
-    let found = first_pass(alloc, &bare, bytes, method, uses)?;
+    let found = first_pass(alloc, &bare, bytes, method, uses, names)?;
     let FirstPass {
         starts,
         end,

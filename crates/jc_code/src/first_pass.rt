@@ -4,15 +4,18 @@ ghost use Rattle.std.specs.Prelude.{◌≡◌, ◌<◌, ◌^◌, ◌++◌, ◌�
 ghost use Rattle.jc_code.specs.inside.Clean.{has_targets, keeps_rules};
 ghost use Rattle.jc_code.specs.InsnReading.{insns_of};
 ghost use Rattle.jc_code.specs.MethodUses.{uses_among};
+ghost use Rattle.jc_code.specs.NamedConstants.{named_by_insns};
 ghost use Rattle.jc_code.specs.inside.FirstPass.{IsFirstPass};
 
 use crate::clean::keeps_rules;
 use crate::insn::Insn;
 use crate::insns::Insns;
 use crate::method_use::{MethodUse, push_use};
+use crate::named_constants::push_named;
 use crate::scope::Scope;
 use crate::starts::Starts;
 use jc_base::NoMemory;
+use jc_view::ConstantIndex;
 use std::alloc::Global;
 
 /// What one look finds: where instructions start and where they end, those whose targets are still to be
@@ -25,18 +28,20 @@ pub(crate) struct FirstPass<'a> {
     pub(crate) is_kept: bool,
 }
 
-/// The instructions of the code of a method, looked at once. No start is known to the scope. Uses are put behind
-/// others.
+/// The instructions of the code of a method, looked at once. No start is known to the scope. Uses, and the
+/// constants that are named, are put behind others.
 pub(crate) fn first_pass<'a>(
     alloc: Global,
     scope: &Scope,
     code: &'a [u8],
     method: u16,
     uses: &mut Vec<MethodUse>,
+    names: &mut Vec<ConstantIndex>,
 ) -> Result<FirstPass<'a>, NoMemory>
     requires { length code.now < 2 ^ 16 }
     ensures found { IfOk result (λ found. IsFirstPass scope.now code.now found) }
     ensures uses { OnOk result (uses.new.items ≡ uses.old.items ++ uses_among method (insns_of code.now)) }
+    ensures names { OnOk result (names.new.items ≡ names.old.items ++ named_by_insns (insns_of code.now)) }
 {
     let mut marks = Vec::with_capacity(alloc, code.len())?;
     let mut jumps = Vec::new(alloc);
@@ -46,6 +51,7 @@ pub(crate) fn first_pass<'a>(
         marks.resize(place as usize, false)?;
         marks.push(true)?;
         push_use(uses, method, place as u16, &insn)?;
+        push_named(names, &insn)?;
         let keeps = look(scope, insn, &mut jumps)?;
         is_kept &= keeps;
     }

@@ -13,6 +13,7 @@ mod insns;
 mod known_slots;
 mod laws;
 mod method_use;
+mod named_constants;
 mod numbers;
 mod opcode;
 mod rules;

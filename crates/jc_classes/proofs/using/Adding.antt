@@ -7,7 +7,7 @@ use Rattle.jc_view.specs.declared.attribute_kind.Holder.TheVariants as holders
 use Rattle.jc_view.specs.ClassFile.{Attribute, ClassFile, attribute_bytes}
 use Rattle.jc_view.specs.Places.{attributes_from, attributes_in, attributes_place}
 use Rattle.jc_view.specs.Attributes.{bootstrap_attributes, is_recognised}
-use Rattle.jc_classes.specs.UsedConstants.{by_constants, named, named_by_handle, named_by_method, named_by_table, used, used_constants}
+use Rattle.jc_classes.specs.UsedConstants.{by_constants, named, named_by_handle, named_by_methods, named_by_table, used, used_constants}
 use Rattle.jc_classes.specs.inside.Using.{are_marks, named_by_attribute, owners}
 use Rattle.jc_classes.proofs.texts.ConstantTexts.{found_more}
 
@@ -50,7 +50,7 @@ named_in c = named_from c (attributes_place c + 2) c.attributes
 -- ---- the whole
 
 pub named_whole : (c : ClassFile)
-    → flat_map (named_by_method c) c.methods ++ by_constants named_by_handle c ++ flat_map (λ (a : Attribute). named_by_table a.bytes) (bootstrap_attributes c) ≡ named c
+    → named_by_methods c ++ by_constants named_by_handle c ++ flat_map (λ (a : Attribute). named_by_table a.bytes) (bootstrap_attributes c) ≡ named c
 unfolding named
 named_whole c = refl
 

@@ -9,11 +9,7 @@ use Rattle.jc_view.specs.Places.{PlacedAttribute}
 use Rattle.jc_view.specs.AttributeReading.{after_bootstrap, bootstrap_value}
 use Rattle.jc_view.specs.ClassFile.{ClassFile, all_slots, constant_at}
 use Rattle.jc_view.specs.Reading.{table_value}
-use Rattle.jc_code.specs.declared.insn.Insn.{Insn}
-use Rattle.jc_classes.specs.UsedConstants.{is_among, named_by_insn, named_by_table, owner}
-
-abbrev pub named_by_insns : List (ℕ × Insn) → List ConstantIndex
-named_by_insns items = flat_map (λ item. option_to_list (named_by_insn item.1)) items
+use Rattle.jc_classes.specs.UsedConstants.{is_among, named_by_table, owner}
 
 -- what an attribute of the class names, if it tells bootstrap methods
 abbrev pub named_by_attribute : ClassFile → PlacedAttribute → List ConstantIndex

@@ -1,10 +1,14 @@
 use Rattle.std.proofs.Common.{◌≡◌, ◌∙◌, ◌∷◌, ◌++◌, map, ap, subst, ◌+◌, sym, arith, length}
+use Rattle.std.specs.List.{flat_map}
 use Rattle.std.specs.Iterator.Adapters.{enumerate_source, enumerate_count}
 use Rattle.jc_view.specs.declared.attribute_kind.Holder.TheVariants as holders
 use Rattle.jc_view.specs.Places.{methods_in, methods_place}
 use Rattle.jc_rules.proofs.kinds.PlacedMembers.{AreOf, are_of_all, members_of, members_of_all}
 use Rattle.jc_code.specs.MethodFaults.{code_faults, code_faults_from, method_faults}
 use Rattle.jc_code.specs.MethodUses.{method_uses, uses, uses_from}
+use Rattle.jc_code.specs.NamedConstants.{named_by_method}
+use Rattle.jc_classes.specs.UsedConstants.{named_by_methods}
+use Rattle.jc_classes.proofs.using.Adding.{next_added}
 use Rattle.jc_classes.proofs.texts.FaultsOfMethods.{next_method, next_uses}
 use Rattle.std.proofs.lemmas.List.{append_assoc}
 use Rattle.jc_classes.proofs.read_facts.read_methods.Goals as goal
@@ -23,12 +27,16 @@ loop-number-init c =
     let used : uses_from class (enumerate_count it) (members_of (enumerate_source it).left) ≡ uses class =
     ap (λ n. uses_from class n (members_of (enumerate_source it).left)) first ∙ ap (λ i. uses_from class 0 (members_of i.left)) all
     ∙ ap (uses_from class 0) (members_of_all holders.Method (methods_place class + 2) class.methods) in
+    let named : flat_map (named_by_method class) (members_of (enumerate_source it).left) ≡ named_by_methods class =
+    ap (λ i. flat_map (named_by_method class) (members_of i.left)) all
+    ∙ ap (flat_map (named_by_method class)) (members_of_all holders.Method (methods_place class + 2) class.methods) in
     record {
       class = ap (λ i. i.class) all;
       holders = subst (λ i. AreOf holders.Method i.left) (sym all) (are_of_all holders.Method (methods_place class + 2) class.methods);
       few = omega (arith, first, ap (λ i. length i.left) same, c.methods.ensures.all, c.methods.ensures.few);
       faults = ap (λ xs. xs ++ code_faults_from class (enumerate_count it) (members_of (enumerate_source it).left)) c.new.ensures.items ∙ faults;
       uses = ap (λ xs. xs ++ uses_from class (enumerate_count it) (members_of (enumerate_source it).left)) c.new-2.ensures.items ∙ used;
+      names = ap (λ xs. xs ++ flat_map (named_by_method class) (members_of (enumerate_source it).left)) c.new-3.ensures.items ∙ named;
     }
 
 pub read_code-requires-clause-few : goal.read_code-requires-clause-few
@@ -59,4 +67,6 @@ loop-number-preserved c =
       few = omega (arith, c.loop-number.invariant.few, ap length steps.0.1.0, steps.2);
       faults = ap (λ xs. xs ++ rest) c.in_ok-read_code.ensures.faults ∙ append_assoc codes.faults.items mine rest ∙ ap (λ xs. codes.faults.items ++ xs) (sym next) ∙ c.loop-number.invariant.faults;
       uses = ap (λ xs. xs ++ more_uses) c.in_ok-read_code.ensures.uses ∙ append_assoc codes.uses.items my_uses more_uses ∙ ap (λ xs. codes.uses.items ++ xs) (sym used) ∙ c.loop-number.invariant.uses;
+      names = next_added (named_by_method class) codes.names.items c.read_code.new.codes.names.items (named_by_methods class) (members_of old.iter.left) (members_of new.iter.left) m.member (ap members_of steps.0.1.0)
+          c.in_ok-read_code.ensures.names c.loop-number.invariant.names;
     }

@@ -1,9 +1,12 @@
 use Rattle.std.proofs.Common.{◌≡◌, ◌+◌, ◌<◌, ◌^◌, ◌++◌, length}
+use Rattle.std.specs.List.{flat_map}
 use Rattle.std.specs.Iterator.Adapters.{enumerate_source, enumerate_count}
 use Rattle.jc_view.specs.declared.attribute_kind.Holder.TheVariants as holders
 use Rattle.jc_rules.proofs.kinds.PlacedMembers.{members_of, AreOf}
 use Rattle.jc_code.specs.MethodFaults.{code_faults, code_faults_from}
 use Rattle.jc_code.specs.MethodUses.{uses, uses_from}
+use Rattle.jc_code.specs.NamedConstants.{named_by_method}
+use Rattle.jc_classes.specs.UsedConstants.{named_by_methods}
 use Rattle.jc_classes.proofs.read_facts.read_methods.Given as goal
 
 abbrev pub invariant-loop-number : goal.invariant-loop-number
@@ -13,4 +16,5 @@ invariant-loop-number l = record {
   few : enumerate_count l.number-iterator + length (enumerate_source l.number-iterator).left < 2 ^ 16;
   faults : l.codes.faults.items ++ code_faults_from l.sizes (enumerate_count l.number-iterator) (members_of (enumerate_source l.number-iterator).left) ≡ code_faults l.sizes;
   uses : l.codes.uses.items ++ uses_from l.sizes (enumerate_count l.number-iterator) (members_of (enumerate_source l.number-iterator).left) ≡ uses l.sizes;
+  names : l.codes.names.items ++ flat_map (named_by_method l.sizes) (members_of (enumerate_source l.number-iterator).left) ≡ named_by_methods l.sizes;
 }

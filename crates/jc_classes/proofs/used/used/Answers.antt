@@ -1,8 +1,11 @@
 use Rattle.std.proofs.Common.{◌≡◌, ◌∙◌, ◌++◌, ap, subst}
+use Rattle.std.specs.List.{flat_map}
 use Rattle.std.specs.Prelude.{IfOk}
-use Rattle.jc_classes.specs.UsedConstants.{used_constants}
+use Rattle.jc_view.specs.Attributes.{bootstrap_attributes}
+use Rattle.jc_view.specs.ClassFile.{Attribute}
+use Rattle.jc_classes.specs.UsedConstants.{by_constants, named, named_by_handle, named_by_table, used_constants}
 use Rattle.jc_classes.specs.inside.Using.{are_marks, owners}
-use Rattle.jc_classes.proofs.using.Adding.{marks_whole, used_whole}
+use Rattle.jc_classes.proofs.using.Adding.{marks_whole, named_whole, used_whole}
 use Rattle.jc_classes.proofs.used.used.Goals as goal
 
 pub add_owners-requires : goal.add_owners-requires
@@ -11,6 +14,10 @@ add_owners-requires c = c.deref-2.ensures.value ∙ c.in_ok-marks.ensures ∙ ap
 pub returns : goal.returns
 returns c =
     let class = c.args.class.now in
+    let handles = by_constants named_by_handle class in
+    let tables = flat_map (λ (a : Attribute). named_by_table a.bytes) (bootstrap_attributes class) in
+    let first : c.add_by_bootstraps.new.names.items ≡ named class =
+    c.in_ok-add_by_bootstraps.ensures ∙ ap (λ v. v ++ tables) (c.in_ok-add_by_handles.ensures ∙ ap (λ v. v ++ handles) c.requires) ∙ named_whole class in
     let all : c.add_owners.new.names.items ≡ used_constants class =
-    c.in_ok-add_owners.ensures ∙ ap (λ names. names ++ owners class names) c.in_ok-names.ensures ∙ used_whole class in
+    c.in_ok-add_owners.ensures ∙ ap (λ names. names ++ owners class names) first ∙ used_whole class in
     subst (λ v. IfOk c.marked-2.result (λ marks. marks.items ≡ v)) (ap (are_marks class) (c.deref-3.ensures.value ∙ all) ∙ marks_whole class) c.marked-2.ensures

@@ -1,10 +1,12 @@
-use Rattle.std.proofs.Common.{◌≡◌, ◌∙◌, ◌++◌, ◌==◌, [], length, take, ap, sym, subst, true, false, append-nil, arith}
+use Rattle.std.proofs.Common.{◌≡◌, ◌∙◌, ◌++◌, ◌==◌, [], length, map, take, ap, sym, subst, true, false, append-nil, append_assoc, arith}
 use Rattle.std.specs.Prelude.{if◌then◌else◌, vec_len}
 use Rattle.std.proofs.Math.Seq.{take-append_seam}
+use Rattle.jc_view.specs.Attributes.{Handler}
 use Rattle.jc_code.specs.CodeFaults.{faults_of}
 use Rattle.jc_code.specs.Insns.{IsCode}
 use Rattle.jc_code.specs.InsnReading.{insns_of, end_of}
 use Rattle.jc_code.specs.MethodUses.{uses_among}
+use Rattle.jc_code.specs.NamedConstants.{named_by_insns}
 use Rattle.jc_code.proofs.orders.FaultsOfCode.{OneWay, found_computed}
 use Rattle.jc_code.proofs.faults.faults_and_uses.Goals as goal
 use Rattle.jc_code.proofs.faults.faults_and_uses.Goals.{then-not-is_empty, else-not-is_empty}
@@ -45,3 +47,11 @@ returns-clause-uses c =
           let none : (length (faults_of class k) == 0) ≡ true = ap (λ fs. length fs == 0) (sym computed) ∙ ap (λ n. n == 0) sized ∙ sym w.if-not-is_empty.ensures in
           ap (λ v. v.items) w.uses-is ∙ added ∙ ap (λ b. c.args.uses.now.items ++ (if b then among else [])) (sym none)
     ]
+
+pub returns-clause-names : goal.returns-clause-names
+returns-clause-names c =
+    let k = c.args.code.now.code in
+    let caught = map (λ (h : Handler). h.catch_type) k.handlers in
+    c.in_ok-push_catch_types.ensures
+    ∙ ap (λ names. names ++ caught) c.in_ok-faults.ensures.names
+    ∙ append_assoc c.args.names.now.items (named_by_insns (insns_of k.code)) caught

@@ -5,6 +5,7 @@ use Rattle.jc_view.specs.ClassFile.{ClassFile}
 use Rattle.jc_view.specs.Attributes.{Code}
 use Rattle.jc_code.specs.InsnReading.{insns_of}
 use Rattle.jc_code.specs.MethodUses.{uses_among}
+use Rattle.jc_code.specs.NamedConstants.{named_by_insns}
 use Rattle.jc_code.specs.Insns.{IsCode}
 use Rattle.jc_code.specs.declared.code_fault.CodeRule.TheVariants as rules
 use Rattle.jc_code.specs.declared.code_fault.TheConstants.CodeRule.{ALL}
@@ -53,3 +54,7 @@ returns-clause-faults c =
 
 pub returns-clause-uses : goal.returns-clause-uses
 returns-clause-uses c = c.in_ok-found.ensures.uses ∙ ap (λ code. c.args.uses.now.items ++ uses_among c.args.method (insns_of code)) c.bytes-bytes.ensures.part
+
+pub returns-clause-names : goal.returns-clause-names
+returns-clause-names c =
+    c.in_ok-found.ensures.names ∙ ap (λ code. c.args.names.now.items ++ named_by_insns (insns_of code)) c.bytes-bytes.ensures.part

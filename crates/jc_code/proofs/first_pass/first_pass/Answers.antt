@@ -10,6 +10,7 @@ use Rattle.jc_code.proofs.clean_code.Passed.{and_true, jumps_more, keep_more}
 use Rattle.jc_code.proofs.marks.Marked.{has_marked}
 use Rattle.jc_code.specs.InsnsLeft.{InsnsLeft}
 use Rattle.jc_code.specs.MethodUses.{use_at, uses_among}
+use Rattle.jc_code.specs.NamedConstants.{named_by_insn, named_by_insns}
 use Rattle.jc_code.proofs.orders.InsnPlaces.{items_end, items_rise}
 use Rattle.jc_code.proofs.first_pass.first_pass.Goals as goal
 
@@ -25,6 +26,7 @@ loop-place-init c =
       jumps = refl;
       keep = refl;
       uses = refl;
+      names = refl;
     })
 
 pub overflow_cast-place-in-Some : goal.overflow_cast-place-in-Some
@@ -71,6 +73,11 @@ loop-place-preserved c =
           ∙ append_assoc c.loop-place.uses.items (option_to_list (use_at c.args.method (place, insn))) (uses_among c.args.method left)
           ∙ ap (λ items. c.loop-place.uses.items ++ uses_among c.args.method items) (sym c.in-Some.ensures.steps.1.0)
           ∙ c.loop-place.invariant.uses;
+      names =
+          ap (λ names. names ++ named_by_insns left) c.in_ok-push_named.ensures
+          ∙ append_assoc c.loop-place.names.items (option_to_list (named_by_insn insn)) (named_by_insns left)
+          ∙ ap (λ items. c.loop-place.names.items ++ named_by_insns items) (sym c.in-Some.ensures.steps.1.0)
+          ∙ c.loop-place.invariant.names;
     }
 
 pub returns-clause-found : goal.returns-clause-found
@@ -97,3 +104,10 @@ returns-clause-uses c =
     ∙ ap (λ items. c.loop-place.uses.items ++ uses_among method items) (sym c.in_default.ensures.steps.1.0)
     ∙ c.loop-place.invariant.uses
     ∙ ap (λ (read : InsnsLeft). c.args.uses.now.items ++ uses_among method read.left) c.new-insns.ensures.read
+
+pub returns-clause-names : goal.returns-clause-names
+returns-clause-names c =
+    sym (append-nil c.loop-place.names.items)
+    ∙ ap (λ items. c.loop-place.names.items ++ named_by_insns items) (sym c.in_default.ensures.steps.1.0)
+    ∙ c.loop-place.invariant.names
+    ∙ ap (λ (read : InsnsLeft). c.args.names.now.items ++ named_by_insns read.left) c.new-insns.ensures.read

@@ -2,6 +2,7 @@ use Rattle.std.proofs.Common.{◌≡◌, ◌++◌, ◌&&◌, length, map}
 use Rattle.jc_view.proofs.places.RisingLists.{RisesBy}
 use Rattle.jc_code.specs.inside.Clean.{jumps_of, others_keep}
 use Rattle.jc_code.specs.MethodUses.{uses_among}
+use Rattle.jc_code.specs.NamedConstants.{named_by_insns}
 use Rattle.jc_code.specs.inside.Marks.{marked}
 use Rattle.jc_code.proofs.first_pass.first_pass.Given as goal
 
@@ -14,4 +15,5 @@ invariant-loop-place l = record {
   jumps : l.jumps.items ++ jumps_of l.insns.left ≡ jumps_of l.initial.insns.left;
   keep : l.is_kept && others_keep l.fn.scope l.insns.left ≡ others_keep l.fn.scope l.initial.insns.left;
   uses : l.uses.items ++ uses_among l.fn.method l.insns.left ≡ l.fn.uses.items ++ uses_among l.fn.method l.initial.insns.left;
+  names : l.names.items ++ named_by_insns l.insns.left ≡ l.fn.names.items ++ named_by_insns l.initial.insns.left;
 }
