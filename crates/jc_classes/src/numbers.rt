@@ -56,6 +56,13 @@ impl Numbers {
         self.names[node].as_slice()
     }
 
+    /// The names in the order of their numbers.
+    pub fn names(&self) -> &[Vec<u8>]
+        ensures { names_of result.now ≡ self.now }
+    {
+        self.names.as_slice()
+    }
+
     /// The number of a name, if it has one.
     pub fn find(&self, name: &[u8]) -> Option<usize>
         ensures some { IfSome result (λ i. (i < length self.now) × (name_at self.now i ≡ name.now)) }

@@ -1,6 +1,7 @@
 pub mod ClosureShown
-pub mod FirstPart
+pub mod TheClass
 pub mod Gathering
 pub mod HeldPrefixes
+pub mod NetShown
 pub mod PartShown
 pub mod Reached

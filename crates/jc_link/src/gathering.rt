@@ -93,14 +93,14 @@ fn number_reach<'t>(
 
 /// What stands at the first of the names, and the numbers of their supertypes.
 #[derive(Drop)]
-struct Reached<'t> {
-    standing: Vec<Standing<'t>>,
-    supertypes: Vec<Vec<usize>>,
+pub(crate) struct Reached<'t> {
+    pub(crate) standing: Vec<Standing<'t>>,
+    pub(crate) supertypes: Vec<Vec<usize>>,
 }
 
 impl<'t> Reached<'t> {
     /// Nothing yet, with room for so many names.
-    fn with_room(alloc: Global, room: usize) -> Result<Self, NoMemory>
+    pub(crate) fn with_room(alloc: Global, room: usize) -> Result<Self, NoMemory>
         ensures standing { IfOk result (λ r. stands_in r.standing.items ≡ []) }
         ensures supertypes { IfOk result (λ r. rows_in r.supertypes.items ≡ []) }
     {
@@ -111,7 +111,7 @@ impl<'t> Reached<'t> {
     }
 
     /// Adds what stands at the next name, and numbers its supertypes.
-    fn push(
+    pub(crate) fn push(
         &mut self,
         alloc: Global,
         numbers: &mut Numbers,
@@ -128,7 +128,12 @@ impl<'t> Reached<'t> {
 }
 
 /// What stands at a name.
-fn stand_at<'t>(table: &'t Table, outside: &Outside, name: &[u8], meter: &mut Meter) -> Standing<'t>
+pub(crate) fn stand_at<'t>(
+    table: &'t Table,
+    outside: &Outside,
+    name: &[u8],
+    meter: &mut Meter,
+) -> Standing<'t>
     ensures stands { stands_of result ≡ world table.now outside.now name.now }
     ensures asks { meter.new.asks ≡ counted meter.old.asks 1 }
     ensures made { meter.new.made ≡ meter.old.made }

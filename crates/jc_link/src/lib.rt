@@ -6,6 +6,7 @@ mod closure;
 mod gathering;
 mod laws;
 mod meter;
+mod net;
 mod numbering;
 mod outside;
 mod part;
@@ -19,6 +20,7 @@ pub use jc_classes::{
 pub use jc_resolve::{Answer, Answers, Loading};
 pub use laws::{places_change, prefixes_differ, reach_stays, worlds_differ};
 pub use meter::Meter;
+pub use net::{Net, PartMaker};
 pub use outside::{MOST_PREFIXES, Outside, OutsideError, is_bad_prefix};
 pub use part::{Part, make_part};
 pub use table::{Table, TableClasses};

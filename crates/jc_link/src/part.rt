@@ -14,7 +14,7 @@ ghost use Rattle.jc_resolve.specs.Answers.{loading_of};
 ghost use Rattle.jc_resolve.specs.Numbered.{Agrees, TellsAnswers, standing_at};
 ghost use Rattle.jc_link.specs.Closures.{IsClosure};
 ghost use Rattle.jc_link.specs.Meters.{counted};
-ghost use Rattle.jc_link.specs.inside.FirstPart.{TellsCircular};
+ghost use Rattle.jc_link.specs.inside.TheClass.{TellsCircular};
 ghost use Rattle.jc_link.specs.inside.Gathering.{NumberReferences};
 ghost use Rattle.std.specs.Option.{option_map_or};
 
@@ -108,16 +108,17 @@ pub fn make_part(alloc: Global, closure: &Closure, meter: &mut Meter) -> Result<
     ensures made_rise { meter.old.made ≤ meter.new.made }
     ensures asks { meter.new.asks ≡ meter.old.asks }
 {
-    let hierarchy = Hierarchy::new(
+    let mut hierarchy = Hierarchy::new(
         alloc,
         closure.found.as_slice(),
         closure.standing.as_slice(),
         closure.supertypes.as_slice(),
         closure.object,
     )?;
-    let part = first_part(
+    let part = part_of(
         alloc,
-        &hierarchy,
+        &mut hierarchy,
+        0,
         closure.own(),
         closure.references.as_slice(),
     )?;
@@ -125,29 +126,32 @@ pub fn make_part(alloc: Global, closure: &Closure, meter: &mut Meter) -> Result<
     Ok(part)
 }
 
-/// The part of the first class of a hierarchy, at whose name this stands and whose references name the
-/// classes of these numbers.
-fn first_part(
+/// The part of a class of a hierarchy, at whose name this stands and whose references name the classes of these
+/// numbers.
+pub(crate) fn part_of(
     alloc: Global,
-    hierarchy: &Hierarchy,
+    hierarchy: &mut Hierarchy,
+    class: usize,
     own: Standing<'_>,
     references: &[Option<usize>],
 ) -> Result<Part, NoMemory>
-    requires some { 0 < length hierarchy.now.names }
-    requires nodes { NumberReferences hierarchy.now.names references.now (references_of (standing_at hierarchy.now 0)) }
-    requires within { (v : ℕ) → Contains references.now (Some v) → v < length hierarchy.now.names }
-    ensures circular { IfOk result (λ p. TellsCircular hierarchy.now p.circular) }
-    ensures load { IfOk result (λ p. (m : World) → Agrees m hierarchy.now → Loads m (name_at hierarchy.now.names 0) p.load) }
-    ensures answers { IfOk result (λ p. TellsAnswers hierarchy.now 0 p.answers) }
-    ensures links { IfOk result (λ p. p.links ≡ links_of (name_at hierarchy.now.names 0) (standing_at hierarchy.now 0) p.answers) }
+    requires class { class < length hierarchy.old.names }
+    requires nodes { NumberReferences hierarchy.old.names references.now (references_of (standing_at hierarchy.old class)) }
+    requires within { (v : ℕ) → Contains references.now (Some v) → v < length hierarchy.old.names }
+    ensures same { hierarchy.new ≡ hierarchy.old }
+    ensures circular { IfOk result (λ p. TellsCircular hierarchy.old class p.circular) }
+    ensures load { IfOk result (λ p. (m : World) → Agrees m hierarchy.old → Loads m (name_at hierarchy.old.names class) p.load) }
+    ensures answers { IfOk result (λ p. TellsAnswers hierarchy.old class p.answers) }
+    ensures links { IfOk result (λ p. p.links ≡ links_of (name_at hierarchy.old.names class) (standing_at hierarchy.old class) p.answers) }
     ensures format_faults { IfOk result (λ p. p.format_faults ≡ format_faults_of (stands_of own.entry)) }
     ensures code_faults { IfOk result (λ p. p.code_faults ≡ code_faults_of (stands_of own.entry)) }
 {
     let faults = share_faults(own)?;
-    let load = hierarchy.loading(alloc, 0)?;
-    let linked = hierarchy.linked(alloc, 0, references)?;
+    let load = hierarchy.loading(alloc, class)?;
+    let circular = hierarchy.is_circular(class);
+    let linked = hierarchy.linked(alloc, class, references)?;
     Ok(Part {
-        circular: hierarchy.is_circular(0),
+        circular,
         load,
         faults,
         linked,

@@ -1,6 +1,7 @@
 pub mod FileStates
 pub mod Given
 pub mod Kept
+pub mod Made
 pub mod MemberRows
 pub mod Members
 pub mod Naming

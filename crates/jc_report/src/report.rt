@@ -1,11 +1,12 @@
 //! The report of a tree of class files.
 
-ghost use Rattle.std.specs.Prelude.{◌≡◌, ◌≤◌, ◌++◌, ◌==◌, [], not, IfOk, OnOk, length, map};
+ghost use Rattle.std.specs.Prelude.{◌≡◌, ◌≤◌, List, ◌++◌, ◌==◌, [], not, IfOk, OnOk, length, map};
 ghost use Rattle.std.specs.Iterator.{IsFinite};
 ghost use Rattle.std.specs.List.{list_any};
-ghost use Rattle.jc_classes.specs.Parts.{IsPart};
+ghost use Rattle.jc_classes.specs.Names.{Name};
 ghost use Rattle.jc_link.specs.Meters.{counted};
-ghost use Rattle.jc_link.specs.Tables.{world};
+ghost use Rattle.jc_link.specs.Nets.{IsIn};
+ghost use Rattle.jc_link.specs.Tables.{classes_of, world};
 ghost use Rattle.jc_resolve.specs.Answers.{loading_of};
 ghost use Rattle.jc_report.specs.ClassLent.{class_lent};
 ghost use Rattle.jc_report.specs.ClassRows.{provided_rows, required_rows};
@@ -20,6 +21,7 @@ ghost use Rattle.jc_report.specs.Rows.{AreRows};
 ghost use Rattle.jc_report.specs.RowView.{row_lent};
 ghost use Rattle.jc_report.specs.Trees.{IsTree};
 ghost use Rattle.jc_report.specs.inside.Given.{ForGiven};
+ghost use Rattle.jc_report.specs.inside.Made.{AreMadeOf, HasNamesOf};
 ghost use Rattle.jc_report.specs.inside.ReportShown.{AreByName, AreClasses};
 
 use crate::class_rows::push_required;
@@ -32,7 +34,7 @@ use crate::row_set::put_in_order;
 use crate::tree::Tree;
 use jc_base::NoMemory;
 use jc_classes::Facts;
-use jc_link::{Meter, Outside, Part, Table, gather, make_part};
+use jc_link::{Meter, Net, Outside, Part, PartMaker, Table};
 use jc_resolve::{AnswerKind, Answers, Links, Loading};
 use std::alloc::Global;
 use std::marker::Model;
@@ -241,28 +243,32 @@ fn fill_classes<'t>(
     ensures made_rise { meter.old.made ≤ meter.new.made }
     ensures asks_rise { meter.old.asks ≤ meter.new.asks }
 {
-    for facts in tree.table.classes() {
-        let part = part_of(alloc, &tree.table, outside, facts.name(), meter)?;
+    let net = Net::of(alloc, &tree.table, outside, meter)?;
+    let mut maker = PartMaker::new(alloc, &net)?;
+    push_classes(classes, alloc, &tree.table, &mut maker, meter)
+}
+
+/// The classes of a table, each with its part, which a maker makes.
+fn push_classes<'t>(
+    classes: &mut Vec<Class<'t>>,
+    alloc: Global,
+    table: &'t Table,
+    maker: &mut PartMaker,
+    meter: &mut Meter,
+) -> Result<(), NoMemory>
+    requires none { classes.old.items ≡ [] }
+    requires names { HasNamesOf (classes_of table.now) maker.old }
+    ensures classes { (prefixes : List Name) → IsIn (world table.now prefixes) maker.old
+        → OnOk result (AreMadeOf table.now prefixes classes.new.items) }
+    ensures made { OnOk result (meter.new.made ≡ counted meter.old.made (length classes.new.items)) }
+    ensures made_rise { meter.old.made ≤ meter.new.made }
+    ensures asks { meter.new.asks ≡ meter.old.asks }
+{
+    for facts in table.classes() {
+        let part = maker.part(alloc, facts.name(), meter)?;
         classes.push(Class { facts, part })?;
     }
     Ok(())
-}
-
-/// The part of the class of a name.
-fn part_of(
-    alloc: Global,
-    table: &Table,
-    outside: &Outside,
-    name: &[u8],
-    meter: &mut Meter,
-) -> Result<Part, NoMemory>
-    ensures part { IfOk result (λ part. IsPart (world table.now outside.now) name.now part) }
-    ensures made { OnOk result (meter.new.made ≡ counted meter.old.made 1) }
-    ensures made_rise { meter.old.made ≤ meter.new.made }
-    ensures asks_rise { meter.old.asks ≤ meter.new.asks }
-{
-    let closure = gather(alloc, table, outside, name, meter)?;
-    make_part(alloc, &closure, meter)
 }
 
 /// What the classes provide, which rise by name.

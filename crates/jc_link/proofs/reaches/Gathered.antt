@@ -5,16 +5,22 @@ use Rattle.std.proofs.lemmas.List.Elements.{Contains-append_right, Contains-appe
 use Rattle.std.specs.List.{Contains, All}
 use Rattle.std.specs.Option.{option_to_list}
 use Rattle.jc_classes.specs.Facts.{Reference}
+use Rattle.jc_classes.specs.Facts.Named.{Class}
+use Rattle.jc_classes.specs.declared.reference_kind.ReferenceKind.TheVariants as kind
 use Rattle.jc_classes.specs.Names.{Name, object}
 use Rattle.jc_classes.specs.Worlds.{Stands, World, supers_of, references_of}
 use Rattle.jc_classes.specs.Worlds.Stands.{Nothing}
 use Rattle.jc_classes.specs.Parts.{Reach, class_of, class_in, names_in}
 use Rattle.jc_classes.specs.Parts.Reach.{itself, always, reference, upward}
 use Rattle.jc_classes.specs.Numbers.{name_at, IsOnce, Grows, Rows}
-use Rattle.jc_link.specs.inside.Gathering.{stand_at, row_at, Nodes, Gathering}
+use Rattle.jc_link.specs.inside.Gathering.{stand_at, row_at, IsAsked, Nodes, Gathering}
 use Rattle.jc_classes.proofs.numbering.NumberLemmas.{grows_same, grows_more, row_same}
 
 -- ---- references
+
+-- what would stand past the last
+abbrev pub no_reference : Reference
+no_reference = record { index = 0; kind = kind.Class; named = Class []; key = record { name = []; descriptor = [] } }
 
 names_in-append : (xs ys : List Reference) → names_in (xs ++ ys) ≡ names_in xs ++ names_in ys
 names_in-append [] ys = refl
@@ -86,24 +92,17 @@ all_of row n all b c = let q = all c.0 b c.1 in subst (λ v. v < n) c.2 q
 -- ---- the loop
 
 -- the name that is next is asked for
-pub gathering_add : (m : World) (d : Name) (ns ns2 : List Name) (st : List Stands) (rs : List (List ℕ)) (nodes : List (Option ℕ)) (o : Stands) (row : List ℕ)
-    → Gathering m d ns st rs nodes → length st < length ns → o ≡ m (name_at ns (length st)) → Rows ns [] ns2 row (supers_of o) → Gathering m d ns2 (st ++ o ∷ []) (rs ++ row ∷ []) nodes
-gathering_add m d ns ns2 st rs nodes o row g l is more =
+pub asked_add : (m : World) (ns ns2 : List Name) (st : List Stands) (rs : List (List ℕ)) (o : Stands) (row : List ℕ)
+    → IsAsked m ns st rs → length st < length ns → o ≡ m (name_at ns (length st)) → Rows ns [] ns2 row (supers_of o) → IsAsked m ns2 (st ++ o ∷ []) (rs ++ row ∷ [])
+asked_add m ns ns2 st rs o row g l is more =
     let grows = more.grows in
     let longer = grows.longer in
     let at = length st in
     let sizes = length-append st (o ∷ []) in
     let size2 = length-append rs (row ∷ []) in
     let size = g.size in
-    let first = g.first.0 in
     record {
       once = grows.once;
-      first = (omega arith, grows.same 0 g.first.0 ∙ g.first.1);
-      object = (g.object.0, omega (arith, g.object.1), get_or_default ns2 g.object.0 object [] (omega (arith, g.object.1)) ∙ grows.same g.object.0 g.object.1 ∙ get_or_default ns g.object.0 [] object g.object.1 ∙ g.object.2);
-      reached = λ i k. ⊎_elim
-          (λ (p : i < length ns). subst (Reach m d) (sym (grows.same i p)) (g.reached i p))
-          (λ (p : length ns ≤ i). upward (g.reached at l) (subst (λ s. Contains (supers_of s) (name_at ns2 i)) is (grows.only i p k)))
-          (under i (length ns));
       size = omega arith;
       records = λ i k. ⊎_elim
           (λ (p : i < at). let q = g.records i p in (omega (arith, q.0), stand_left st o i p ∙ q.1 ∙ ap m (sym (grows.same i q.0))))
@@ -119,6 +118,34 @@ gathering_add m d ns ns2 st rs nodes o row g l is more =
           ∙ g.above i p ∙ ap (λ n. supers_of (m n)) (sym (grows.same i q.0)))
           (λ (p : at ≡ i). ap (map (name_at ns2)) (get_or_push rs row [] i (omega arith)) ∙ more.named ∙ ap supers_of (is ∙ ap m (ap (name_at ns) p ∙ sym (grows.same i (omega arith)))))
           (place_cases at i (omega arith));
+    }
+
+-- nothing was asked for yet
+pub asked_none : (m : World) (ns : List Name) → IsOnce ns → IsAsked m ns [] []
+asked_none m ns once = record {
+  once = once;
+  size = refl;
+  records = λ k l. absurd (omega arith);
+  within = λ a b c. no_row c;
+  above = λ k l. absurd (omega arith);
+}
+
+-- so of a reach
+pub gathering_add : (m : World) (d : Name) (ns ns2 : List Name) (st : List Stands) (rs : List (List ℕ)) (nodes : List (Option ℕ)) (o : Stands) (row : List ℕ)
+    → Gathering m d ns st rs nodes → length st < length ns → o ≡ m (name_at ns (length st)) → Rows ns [] ns2 row (supers_of o) → Gathering m d ns2 (st ++ o ∷ []) (rs ++ row ∷ []) nodes
+gathering_add m d ns ns2 st rs nodes o row g l is more =
+    let grows = more.grows in
+    let longer = grows.longer in
+    let at = length st in
+    let first = g.first.0 in
+    record {
+      asked = asked_add m ns ns2 st rs o row g.asked l is more;
+      first = (omega arith, grows.same 0 g.first.0 ∙ g.first.1);
+      object = (g.object.0, omega (arith, g.object.1), get_or_default ns2 g.object.0 object [] (omega (arith, g.object.1)) ∙ grows.same g.object.0 g.object.1 ∙ get_or_default ns g.object.0 [] object g.object.1 ∙ g.object.2);
+      reached = λ i k. ⊎_elim
+          (λ (p : i < length ns). subst (Reach m d) (sym (grows.same i p)) (g.reached i p))
+          (λ (p : length ns ≤ i). upward (g.reached at l) (subst (λ s. Contains (supers_of s) (name_at ns2 i)) is (grows.only i p k)))
+          (under i (length ns));
       references = nodes_same ns ns2 nodes grows.same g.references_in ∙ g.references;
       references_in = λ v c. let q = g.references_in v c in omega arith;
     }
@@ -137,14 +164,10 @@ gathering_first m d n1 n2 n3 i j nodes g1 i1 e1 g2 j2 e2 more =
     let l1 = g1.few in let l2 = g2.longer in let l3 = g3.longer in
     let zero1 : i ≡ 0 = omega arith in
     record {
-      once = g3.once;
+      asked = asked_none m n3 g3.once;
       first = (omega arith, g3.same 0 (omega arith) ∙ g2.same 0 (omega arith) ∙ ap (name_at n1) (sym zero1) ∙ e1);
       object = (j, omega arith, get_or_default n3 j object [] (omega arith) ∙ g3.same j j2 ∙ e2);
       reached = λ k l. by k l;
-      size = refl;
-      records = λ k l. absurd (omega arith);
-      within = λ a b c. no_row c;
-      above = λ k l. absurd (omega arith);
       references = more.named;
       references_in = more.within;
     }
@@ -169,7 +192,7 @@ gathering_first m d n1 n2 n3 i j nodes g1 i1 e1 g2 j2 e2 more =
 
 -- ---- all was asked for
 
-named_in : (names : List Name) (nodes : List (Option ℕ)) (rs : List Reference) (n : Name) → map (option_map (name_at names)) nodes ≡ map (λ (r : Reference). class_of r.named) rs → Contains (names_in rs) n → (v : ℕ) × Contains nodes (Some v) × (name_at names v ≡ n)
+pub named_in : (names : List Name) (nodes : List (Option ℕ)) (rs : List Reference) (n : Name) → map (option_map (name_at names)) nodes ≡ map (λ (r : Reference). class_of r.named) rs → Contains (names_in rs) n → (v : ℕ) × Contains nodes (Some v) × (name_at names v ≡ n)
 named_in names [] [] n e c = absurd (omega (arith, c.1))
 named_in names (x ∷ nodes) [] n e c = absurd cc
 named_in names [] (r ∷ rs) n e c = absurd cc
@@ -201,10 +224,13 @@ all_numbered m d ns st rs nodes g e {n} (reference h) = let q = named_in ns node
 all_numbered m d ns st rs nodes g e {n} (upward {mid} r h) =
     let p = all_numbered m d ns st rs nodes g e r in
     let k : p.0 < length st = omega (arith, p.1) in
-    let q = map_out (name_at ns) (row_at rs p.0) n (subst (λ z. Contains z n) (sym (g.above p.0 k)) (subst (λ z. Contains (supers_of (m z)) n) (sym p.2) h)) in
-    (q.0, g.within p.0 q.0 q.1, q.2)
+    let q = map_out (name_at ns) (row_at rs p.0) n (subst (λ z. Contains z n) (sym (g.asked.above p.0 k)) (subst (λ z. Contains (supers_of (m z)) n) (sym p.2) h)) in
+    (q.0, g.asked.within p.0 q.0 q.1, q.2)
 
 -- ---- as the code has it
+
+pub asked_as : (m : World) (ns : List Name) (st st2 : List Stands) (rs rs2 : List (List ℕ)) → st2 ≡ st → rs2 ≡ rs → IsAsked m ns st rs → IsAsked m ns st2 rs2
+asked_as m ns st st2 rs rs2 e f g = subst (λ z. IsAsked m ns z rs2) (sym e) (subst (λ z. IsAsked m ns st z) (sym f) g)
 
 pub gathering_as : (m : World) (d : Name) (ns : List Name) (st st2 : List Stands) (rs rs2 : List (List ℕ)) (nodes : List (Option ℕ)) → st2 ≡ st → rs2 ≡ rs → Gathering m d ns st rs nodes → Gathering m d ns st2 rs2 nodes
 gathering_as m d ns st st2 rs rs2 nodes e f g = subst (λ z. Gathering m d ns z rs2 nodes) (sym e) (subst (λ z. Gathering m d ns st z nodes) (sym f) g)

@@ -51,29 +51,29 @@ pub record IsReached (old : List Name) (stands : List Stands) (rows : List (List
   pub stands_more : stands2 ≡ stands ++ next ∷ []
   pub rows_more : rows2 ≡ rows ++ row ∷ []
 
--- what stands at the first names, the rows of their supertypes, and names of the reach that wait
-pub record Gathering (m : World) (d : Name) (names : List Name) (stands : List Stands) (rows : List (List ℕ))
-    (nodes : List (Option ℕ)) : Type 0 where
+-- what stands at the first names, and the rows of their supertypes; other names wait
+pub record IsAsked (m : World) (names : List Name) (stands : List Stands) (rows : List (List ℕ)) : Type 0 where
   pub once : IsOnce names
-  pub first : (0 < length names) × (name_at names 0 ≡ d)
-  pub object : Contains names object
-  pub reached : (i : ℕ) → i < length names → Reach m d (name_at names i)
   pub size : length rows ≡ length stands
   pub records : (i : ℕ) → i < length stands → (i < length names) × (stand_at stands i ≡ m (name_at names i))
   pub within : (a b : ℕ) → Contains (row_at rows a) b → b < length names
   pub above : (i : ℕ) → i < length stands → map (name_at names) (row_at rows i) ≡ supers_of (m (name_at names i))
+
+-- so of names of the reach of a class
+pub record Gathering (m : World) (d : Name) (names : List Name) (stands : List Stands) (rows : List (List ℕ))
+    (nodes : List (Option ℕ)) : Type 0 where
+  pub asked : IsAsked m names stands rows
+  pub first : (0 < length names) × (name_at names 0 ≡ d)
+  pub object : Contains names object
+  pub reached : (i : ℕ) → i < length names → Reach m d (name_at names i)
   pub references : NumberReferences names nodes (references_of (m d))
   pub references_in : (v : ℕ) → Contains nodes (Some v) → v < length names
 
--- what numbers, rows and nodes are to each other, whatever the world
-pub record IsNet (names : List Name) (stands : List Stands) (rows : List (List ℕ)) (nodes : List (Option ℕ))
-    (at_object : ℕ) : Type 0 where
+-- what numbers and rows are to each other, whatever the world
+pub record IsNet (names : List Name) (stands : List Stands) (rows : List (List ℕ)) (at_object : ℕ) : Type 0 where
   pub once : IsOnce names
-  pub some : 0 < length names
   pub all_stand : length stands ≡ length names
   pub all_rows : length rows ≡ length names
   pub within : (a b : ℕ) → Contains (row_at rows a) b → b < length names
   pub above : (i : ℕ) → i < length names → map (name_at names) (row_at rows i) ≡ supers_of (stand_at stands i)
-  pub references : NumberReferences names nodes (references_of (stand_at stands 0))
-  pub references_in : (v : ℕ) → Contains nodes (Some v) → v < length names
   pub object : (at_object < length names) × (name_at names at_object ≡ object)

@@ -1,13 +1,14 @@
 -- The classes that are made of a table are those of the files that the table is kept of.
-use Rattle.std.proofs.Common.{◌≡◌, ◌∙◌, ◌<◌, ◌++◌, ℕ, zero, suc, arith, get_or, length, inl, inr, List, [], ◌∷◌, map, Option, Some, None, refl, ap, sym, subst, append_assoc}
+use Rattle.std.proofs.Common.{◌≡◌, ◌∙◌, ◌<◌, ◌++◌, ⊎_elim, ℕ, zero, suc, arith, get_or, length, inl, inr, List, [], ◌∷◌, map, Option, Some, None, refl, ap, sym, subst, append_assoc}
 use Rattle.std.proofs.lemmas.List.{append-nil, map-append}
+use Rattle.std.proofs.lemmas.List.Elements.{Contains-append_right, Contains-push_cases}
 use Rattle.std.specs.declared.cmp.Ordering.TheVariants.{Less}
 use Rattle.std.specs.FinMap as fin
 use Rattle.std.specs.List.{AllByRecursion, Contains}
 use Rattle.std.specs.List.Sorted.{IsStrictlySortedBy}
 use Rattle.std.specs.Map.{keys_of}
 use Rattle.std.specs.Option.{option_to_list}
-use Rattle.jc_base.proofs.Membership.{Has, from_has, has_from, has-cases, has-flat_map, has-from_flat_map, has-from_map, has-map}
+use Rattle.jc_base.proofs.Membership.{Has, from_has, has_from, has-flat_map, has-from_flat_map, has-from_map, has-map}
 use Rattle.jc_base.proofs.maps.FiniteMaps.{entry_from_get, get_from_entry, keys_rise}
 use Rattle.jc_classes.specs.Facts.{Facts}
 use Rattle.jc_classes.specs.Names.{Name, name_cmp}
@@ -17,41 +18,41 @@ use Rattle.jc_link.specs.Tables.{Places, classes_in, classes_of, placed, world}
 use Rattle.jc_report.specs.Files.{Files}
 use Rattle.jc_report.specs.Reports.{Class, IsClassOf, facts_at, name_of, world_of}
 use Rattle.jc_report.specs.Trees.{IsTree, Tree}
+use Rattle.jc_report.specs.inside.Made.{HaveParts, IsSplit}
 use Rattle.jc_report.specs.inside.ReportShown.{AreClasses}
 use Rattle.jc_report.proofs.trees.FactsOfNames.{facts_named, worlds_meet}
 
 -- ---- one class after another
 
-abbrev pub facts_in : List Class → List Facts
-facts_in made = map (λ c. c.facts) made
+abbrev facts_in : List Class → List Facts
+facts_in made = map (λ (c : Class). c.facts) made
 
--- classes are made of the first of a table, each with its part; the others are left
-pub record AreMade (places : Places) (prefixes : List Name) (made : List Class) (left : List Facts) : Type 0 where
-  pub split : facts_in made ++ left ≡ classes_of places
-  pub parts : (c : Class) → Has made c → IsPart (world places prefixes) (name_of c) c.part
+pub one_split : (places : Places) (made new : List Class) (left rest : List Facts) (x : Facts) (c : Class)
+    → IsSplit places made left → left ≡ x ∷ rest → new ≡ made ++ c ∷ [] → c.facts ≡ x → IsSplit places new rest
+one_split places made new left rest x c a is pushed same =
+    ap (λ cs. facts_in cs ++ rest) pushed
+    ∙ ap (λ l. l ++ rest) (map-append (λ (d : Class). d.facts) made (c ∷ []))
+    ∙ append_assoc (facts_in made) (c.facts ∷ []) rest
+    ∙ ap (λ y. facts_in made ++ (y ∷ rest)) same
+    ∙ ap (λ l. facts_in made ++ l) (sym is)
+    ∙ a
 
-pub none_made : (places : Places) (prefixes : List Name) (left : List Facts) → left ≡ classes_of places → AreMade places prefixes [] left
-none_made places prefixes left e = record {
-  split = e;
-  parts = λ c h. absurd h;
-}
+pub one_part : (places : Places) (prefixes : List Name) (made new : List Class) (c : Class)
+    → HaveParts places prefixes made → new ≡ made ++ c ∷ [] → IsPart (world places prefixes) (name_of c) c.part → HaveParts places prefixes new
+one_part places prefixes made new c parts pushed part = λ d h.
+    ⊎_elim
+    (λ (l : Contains made d). parts d l)
+    (λ (e : c ≡ d). subst (λ (z : Class). IsPart (world places prefixes) (name_of z) z.part) e part)
+    (Contains-push_cases made c d (subst (λ (cs : List Class). Contains cs d) pushed h))
 
-pub one_made : (places : Places) (prefixes : List Name) (made new : List Class) (left rest : List Facts) (x : Facts) (c : Class)
-    → AreMade places prefixes made left → left ≡ x ∷ rest → new ≡ made ++ c ∷ [] → c.facts ≡ x → IsPart (world places prefixes) (name_of c) c.part → AreMade places prefixes new rest
-one_made places prefixes made new left rest x c a is pushed same part = record {
-  split =
-      ap (λ cs. facts_in cs ++ rest) pushed
-      ∙ ap (λ l. l ++ rest) (map-append (λ (d : Class). d.facts) made (c ∷ []))
-      ∙ append_assoc (facts_in made) (c.facts ∷ []) rest
-      ∙ ap (λ y. facts_in made ++ (y ∷ rest)) same
-      ∙ ap (λ l. facts_in made ++ l) (sym is)
-      ∙ a.split;
-  parts = λ d h.
-      elim (has-cases made (c ∷ []) d (subst (λ (cs : List Class). Has cs d) pushed h)) [
-        | inl l ↦ a.parts d l
-        | inr r ↦ elim r [ inl e ↦ subst (λ (z : Class). IsPart (world places prefixes) (name_of z) z.part) e part | inr n ↦ absurd n ]
-      ];
-}
+pub no_parts : (places : Places) (prefixes : List Name) → HaveParts places prefixes []
+no_parts places prefixes = λ c h. absurd (omega (arith, h.1))
+
+-- one that is left is of the table
+pub left_of_table : (places : Places) (made : List Class) (left rest : List Facts) (x : Facts) → IsSplit places made left → left ≡ x ∷ rest → Contains (classes_of places) x
+left_of_table places made left rest x a is =
+    subst (λ (cs : List Facts). Contains cs x) a
+    (Contains-append_right (facts_in made) left x (subst (λ (l : List Facts). Contains l x) (sym is) (zero, omega arith, refl)))
 
 -- ---- the classes of a table
 
@@ -119,14 +120,14 @@ module _ (f : Files) (t : Tree) (tree : IsTree f t) where
       let worlds : world t.classes prefixes ≡ world_of f prefixes = (λ i name. worlds_meet f t tree prefixes name i) in
       subst (λ (m : World). IsPart m (name_of c) c.part) worlds part
 
-  pub are_classes : (prefixes : List Name) (made : List Class) (left : List Facts) → AreMade t.classes prefixes made left → left ≡ [] → AreClasses f prefixes made
-  are_classes prefixes made left a none =
-      let whole : facts_in made ≡ classes_of t.classes = sym (append-nil (facts_in made)) ∙ ap (λ l. facts_in made ++ l) (sym none) ∙ a.split in
+  pub are_classes : (prefixes : List Name) (made : List Class) → IsSplit t.classes made [] → HaveParts t.classes prefixes made → AreClasses f prefixes made
+  are_classes prefixes made all parts =
+      let whole : facts_in made ≡ classes_of t.classes = sym (append-nil (facts_in made)) ∙ all in
       record {
         rises = subst (IsStrictlySortedBy name_cmp) (sym (names_of made ∙ ap (map (λ x. x.name)) whole)) (rises_in (fin.entries t.classes) named (keys_rise t.classes));
         sound = all_from_has (IsClassOf f prefixes) made (λ c h. record {
           facts = own c.facts (subst (λ (xs : List Facts). Has xs c.facts) whole (has-map (λ (d : Class). d.facts) made c h));
-          part = over_files prefixes c (a.parts c h);
+          part = over_files prefixes c (parts c (from_has made c h));
         });
         complete = λ name x e.
             let found = has-from_map (λ (d : Class). d.facts) made x (subst (λ (xs : List Facts). Has xs x) (sym whole) (there name x e)) in

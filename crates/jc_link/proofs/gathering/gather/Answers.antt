@@ -7,7 +7,7 @@ use Rattle.jc_link.specs.inside.Gathering.{Gathering, stands_in, rows_in}
 use Rattle.jc_classes.specs.NameLists.{IsRisingOf}
 use Rattle.jc_classes.specs.Names.{object as java_lang_object}
 use Rattle.jc_link.proofs.closures.Names.{rising_list}
-use Rattle.jc_link.proofs.reaches.Closing.{all_asked, net_of, closure_of}
+use Rattle.jc_link.proofs.reaches.Closing.{all_asked, net_of, closure_of, references_of_first}
 use Rattle.jc_link.proofs.gathering.gather.Goals as goal
 
 pub invariant_of-result : goal.invariant_of-result
@@ -24,7 +24,13 @@ invariant_of-result c =
     let over : length ns ≤ length st = subst (λ z. length z ≤ length st) (sym e) c.in_ok-reach.ensures.whole in
     let rising : IsRisingOf c.of.result ns = rising_list (names_of c.in_ok-found.names.items) c.of.result ns _ c.of.ensures.kept (sym e) c.in_ok-found.ensures.rising in
     let object = subst (λ z. (reach.object < length z) × (name_at z reach.object ≡ java_lang_object)) (sym e) c.in_ok-reach.ensures.object in
-    record { net = net_of m d ns st rs nodes g over reach.object object; rising = rising }
+    record {
+      net = net_of m ns st rs g.asked over reach.object object;
+      some = g.first.0;
+      references = references_of_first m d ns st rs nodes g over;
+      references_in = g.references_in;
+      rising = rising;
+    }
 
 pub returns-clause-closure : goal.returns-clause-closure
 returns-clause-closure c =
@@ -54,5 +60,5 @@ returns-clause-asks c =
     let g : Gathering m d ns st rs nodes = subst (λ z. Gathering m d z st rs nodes) (sym e) c.in_ok-reach.ensures.gathering in
     let over : length ns ≤ length st = subst (λ z. length z ≤ length st) (sym e) c.in_ok-reach.ensures.whole in
     let rising : IsRisingOf c.of.result ns = rising_list (names_of c.in_ok-found.names.items) c.of.result ns _ c.of.ensures.kept (sym e) c.in_ok-found.ensures.rising in
-    let size = all_asked m d ns st rs nodes g over in
+    let size = all_asked m ns st rs g.asked over in
     c.in_ok-reach.ensures.asks ∙ ap (counted c.args.meter.now.asks) (omega (arith, size, rising.count))

@@ -81,14 +81,14 @@ loop-alloc-smaller c =
     let next : length (stands_in c.push-in-loop-alloc.new.self.standing.items) ≡ length st + 1 = ap length e.stands_more ∙ length-append st (o ∷ []) in
     let grows = e.numbered.grows in
     let few : length ns2 ≤ length ns + length (supers_of (m (name_at ns (length st)))) = subst (λ z. length ns2 ≤ length ns + length (supers_of z)) is grows.few in
-    left_less t ps ns ns2 (length st) _ c.loop-alloc.invariant.gathering.once less next grows.longer grows.same few
+    left_less t ps ns ns2 (length st) _ c.loop-alloc.invariant.gathering.asked.once less next grows.longer grows.same few
 
 pub returns-clause-whole : goal.returns-clause-whole
 returns-clause-whole c =
     omega (arith, c.loop-alloc-test.false, c.len-in-loop-alloc.ensures, c.len-in-loop-alloc-2.ensures, c.loop-alloc.reached.standing.ok.0, length-map c.loop-alloc.reached.standing.items stands_of)
 
 pub push-requires-in-loop-alloc : goal.push-requires-in-loop-alloc
-push-requires-in-loop-alloc c = c.loop-alloc.invariant.gathering.once
+push-requires-in-loop-alloc c = c.loop-alloc.invariant.gathering.asked.once
 
 pub returns-clause-gathering : goal.returns-clause-gathering
 returns-clause-gathering c = c.loop-alloc.invariant.gathering

@@ -2,15 +2,8 @@ use Rattle.std.proofs.Common.{◌<◌, ◌+◌, ◌∷◌, ◌++◌, [], get_or,
 use Rattle.std.proofs.lemmas.List.{take_all, take_more}
 use Rattle.std.proofs.lemmas.Option.{slice_get-get_or}
 use Rattle.jc_link.specs.inside.Gathering.{Nodes}
-use Rattle.jc_classes.specs.Facts.{Reference}
-use Rattle.jc_classes.specs.Facts.Named.{Class}
-use Rattle.jc_classes.specs.declared.reference_kind.ReferenceKind.TheVariants as kind
 use Rattle.jc_link.proofs.numbering.number_references_of.Goals as goal
-use Rattle.jc_link.proofs.reaches.Gathered.{refs_start, refs_more}
-
--- what would stand past the last
-abbrev no_reference : Reference
-no_reference = record { index = 0; kind = kind.Class; named = Class []; key = record { name = []; descriptor = [] } }
+use Rattle.jc_link.proofs.reaches.Gathered.{no_reference, refs_start, refs_more}
 
 pub loop-number-init : goal.loop-number-init
 loop-number-init c = subst (λ z. Nodes c.args.numbers.now [] c.args.numbers.now z []) (sym c.in_ok-nodes.ensures.items) (refs_start c.args.numbers.now c.requires)

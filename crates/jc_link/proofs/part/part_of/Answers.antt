@@ -1,7 +1,7 @@
-use Rattle.jc_link.proofs.part.first_part.Goals as goal
+use Rattle.jc_link.proofs.part.part_of.Goals as goal
 
 pub returns-clause-circular : goal.returns-clause-circular
-returns-clause-circular c = c.is_circular.ensures
+returns-clause-circular c = c.is_circular-circular.ensures
 
 pub returns-clause-load : goal.returns-clause-load
 returns-clause-load c = c.in_ok-load.ensures

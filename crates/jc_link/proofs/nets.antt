@@ -1,0 +1,2 @@
+pub mod NamesFound
+pub mod ClassesNumbered

@@ -1,0 +1,25 @@
+-- Classes that are made of a table, one after another.
+use Rattle.std.specs.Prelude.{◌≡◌, List, [], ◌++◌, map}
+use Rattle.std.specs.List.{Contains}
+use Rattle.jc_classes.specs.Facts.{Facts}
+use Rattle.jc_classes.specs.Names.{Name}
+use Rattle.jc_classes.specs.Parts.{IsPart}
+use Rattle.jc_link.specs.Nets.{Net}
+use Rattle.jc_link.specs.Tables.{Places, classes_of, world}
+use Rattle.jc_report.specs.Reports.{Class, name_of}
+
+-- classes are made of the first of a table; the others are left
+abbrev pub IsSplit : Places → List Class → List Facts → Type 0
+IsSplit places made left = map (λ (c : Class). c.facts) made ++ left ≡ classes_of places
+
+-- each has its part
+abbrev pub HaveParts : Places → List Name → List Class → Type 0
+HaveParts places prefixes made = (c : Class) → Contains made c → IsPart (world places prefixes) (name_of c) c.part
+
+-- all of the table are made
+abbrev pub AreMadeOf : Places → List Name → List Class → Type 0
+AreMadeOf places prefixes made = IsSplit places made [] × HaveParts places prefixes made
+
+-- a net has the names of these classes
+abbrev pub HasNamesOf : List Facts → Net → Type 0
+HasNamesOf classes n = (f : Facts) → Contains classes f → Contains n.names f.name
