@@ -108,7 +108,7 @@ pub fn make_part(alloc: Global, closure: &Closure, meter: &mut Meter) -> Result<
     ensures made_rise { meter.old.made ≤ meter.new.made }
     ensures asks { meter.new.asks ≡ meter.old.asks }
 {
-    let hierarchy = Hierarchy::new(
+    let mut hierarchy = Hierarchy::new(
         alloc,
         closure.found.as_slice(),
         closure.standing.as_slice(),
@@ -117,7 +117,7 @@ pub fn make_part(alloc: Global, closure: &Closure, meter: &mut Meter) -> Result<
     )?;
     let part = first_part(
         alloc,
-        &hierarchy,
+        &mut hierarchy,
         closure.own(),
         closure.references.as_slice(),
     )?;
@@ -129,17 +129,17 @@ pub fn make_part(alloc: Global, closure: &Closure, meter: &mut Meter) -> Result<
 /// classes of these numbers.
 fn first_part(
     alloc: Global,
-    hierarchy: &Hierarchy,
+    hierarchy: &mut Hierarchy,
     own: Standing<'_>,
     references: &[Option<usize>],
 ) -> Result<Part, NoMemory>
-    requires some { 0 < length hierarchy.now.names }
-    requires nodes { NumberReferences hierarchy.now.names references.now (references_of (standing_at hierarchy.now 0)) }
-    requires within { (v : ℕ) → Contains references.now (Some v) → v < length hierarchy.now.names }
-    ensures circular { IfOk result (λ p. TellsCircular hierarchy.now p.circular) }
-    ensures load { IfOk result (λ p. (m : World) → Agrees m hierarchy.now → Loads m (name_at hierarchy.now.names 0) p.load) }
-    ensures answers { IfOk result (λ p. TellsAnswers hierarchy.now 0 p.answers) }
-    ensures links { IfOk result (λ p. p.links ≡ links_of (name_at hierarchy.now.names 0) (standing_at hierarchy.now 0) p.answers) }
+    requires some { 0 < length hierarchy.old.names }
+    requires nodes { NumberReferences hierarchy.old.names references.now (references_of (standing_at hierarchy.old 0)) }
+    requires within { (v : ℕ) → Contains references.now (Some v) → v < length hierarchy.old.names }
+    ensures circular { IfOk result (λ p. TellsCircular hierarchy.old p.circular) }
+    ensures load { IfOk result (λ p. (m : World) → Agrees m hierarchy.old → Loads m (name_at hierarchy.old.names 0) p.load) }
+    ensures answers { IfOk result (λ p. TellsAnswers hierarchy.old 0 p.answers) }
+    ensures links { IfOk result (λ p. p.links ≡ links_of (name_at hierarchy.old.names 0) (standing_at hierarchy.old 0) p.answers) }
     ensures format_faults { IfOk result (λ p. p.format_faults ≡ format_faults_of (stands_of own.entry)) }
     ensures code_faults { IfOk result (λ p. p.code_faults ≡ code_faults_of (stands_of own.entry)) }
 {
