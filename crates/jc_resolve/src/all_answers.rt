@@ -218,12 +218,13 @@ fn entries_of(
 }
 
 /// The answers to the references of a class, and the errors of its instructions. A class that does not load needs no
-/// room.
+/// room. `numbers` has a place for each class, with anything.
 pub(crate) fn linked(
     alloc: Global,
     classes: &Classes,
     loads: &[Load],
     kept: &mut Option<Room>,
+    numbers: &mut [usize],
     class: usize,
     nodes: &[Option<usize>],
 ) -> Result<Linked, NoMemory>
@@ -242,6 +243,6 @@ pub(crate) fn linked(
     };
     let entries = entries_of(alloc, classes, loads, kept, class, facts, nodes)?;
     let references = facts.shared_references()?;
-    let answers = Answers::of(alloc, classes, references, &entries)?;
+    let answers = Answers::of(alloc, classes, numbers, references, &entries)?;
     Linked::of(alloc, classes.name(class), facts, answers)
 }

@@ -41,6 +41,9 @@ pub struct Hierarchy<'c, 't> {
     circular: Vec<bool>,
     /// Room to look references up in, once a class needed it.
     room: Option<Room>,
+    /// A place for each class: the number of its name among those that answers tell. What other answers left there
+    /// is passed over.
+    numbers: Vec<usize>,
 }
 
 impl<'c, 't> Model for Hierarchy<'c, 't> {
@@ -92,6 +95,7 @@ impl<'c, 't> Hierarchy<'c, 't> {
             loads,
             circular,
             room: None,
+            numbers: vec![in alloc; 0usize; names.len()]?,
         })
     }
 
@@ -131,6 +135,7 @@ impl<'c, 't> Hierarchy<'c, 't> {
             &self.classes,
             self.loads.as_slice(),
             &mut self.room,
+            self.numbers.as_mut_slice(),
             class,
             nodes,
         )
