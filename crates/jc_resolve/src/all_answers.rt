@@ -32,13 +32,24 @@ struct Asked {
 /// are not brought together.
 const FEW: usize = 65_536;
 
+/// How many classes a walk over what is above each of these may see, for all of them together.
+fn most_walked(classes: &Classes, nodes: &[Option<usize>]) -> usize {
+    let mut walked = 0usize;
+    for node in nodes {
+        if let Some(node) = node {
+            walked = walked.saturating_add(classes.most_above(*node));
+        }
+    }
+    walked
+}
+
 /// The references; where it may cost more to walk over what is above them than to bring them together, those that name
 /// one class side by side, and of these those that ask for the same.
 fn by_class(
     alloc: Global,
+    classes: &Classes,
     facts: &Facts,
     nodes: &[Option<usize>],
-    classes: usize,
 ) -> Result<Vec<Asked>, NoMemory>
     requires { length nodes.now ≡ length facts.now.references }
     ensures { IfOk result (λ order. AreNumbered (length facts.now.references) order.items) }
@@ -53,7 +64,7 @@ fn by_class(
             number,
         })?;
     }
-    let walked = order.len().saturating_mul(classes);
+    let walked = most_walked(classes, nodes);
     if walked >= FEW {
         order.sort_unstable();
     }
@@ -133,7 +144,7 @@ fn answer_each(
     ensures size { OnOk result (length entries.new.items ≡ length facts.now.references) }
     ensures answered { OnOk result (AreAllAnswered look.now facts.now.references entries.new.items) }
 {
-    let order = by_class(alloc, facts, nodes, look.classes.len())?;
+    let order = by_class(alloc, look.classes, facts, nodes)?;
     let mut before = None;
     for asked in &order {
         let number = asked.number;

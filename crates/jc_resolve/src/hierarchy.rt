@@ -116,7 +116,8 @@ impl<'c, 't> Hierarchy<'c, 't> {
     }
 
     /// The answers to the references of a class, in their order, and the errors of its instructions. `nodes` are
-    /// the numbers of the classes that the references name.
+    /// the numbers of the classes that the references name. It takes as long as what is looked up, however many
+    /// classes there are, but for room that is made once.
     pub fn linked(
         &mut self,
         alloc: Global,
