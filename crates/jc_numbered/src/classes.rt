@@ -1,6 +1,6 @@
 //! The classes of a reach, by numbers.
 
-ghost use Rattle.std.specs.Prelude.{◌≡◌, ◌<◌, ◌++◌, length, map, OnOk, option_map, reverse};
+ghost use Rattle.std.specs.Prelude.{◌≡◌, ◌<◌, ◌++◌, length, map, OnOk, option_map, reverse, slice_index_or};
 ghost use Rattle.std.specs.List.{All};
 ghost use Rattle.jc_classes.specs.Lent.{key_lent, member_lent, stands_of};
 ghost use Rattle.jc_classes.specs.MethodLookup.{of_object};
@@ -37,6 +37,8 @@ pub struct Classes<'c, 't> {
     pub good: Vec<bool>,
     /// Where the package of each name ends.
     pub package_ends: Vec<usize>,
+    /// How many classes are above each at most, itself among them. One that is circular may have more.
+    pub most_above: Vec<usize>,
     pub ghost names_size: { length names.now ≡ length standing.now },
     pub ghost supertypes_size: { length supertypes.now ≡ length standing.now },
     pub ghost object_within: { object < length standing.now },
@@ -82,6 +84,16 @@ impl<'c, 't> Classes<'c, 't> {
         match self.names.get(node) {
             Some(name) => name.as_slice(),
             None => &[],
+        }
+    }
+
+    /// How many nodes are above a node at most, itself among them. It says how long a walk may be, and no more.
+    pub fn most_above(&self, node: usize) -> usize
+        ensures { result ≡ slice_index_or self.now.most_above.items node 1 }
+    {
+        match self.most_above.get(node) {
+            Some(most) => *most,
+            None => 1,
         }
     }
 

@@ -32,13 +32,24 @@ struct Asked {
 /// are not brought together.
 const FEW: usize = 65_536;
 
+/// How many classes a walk over what is above each of these may see, for all of them together.
+fn most_walked(classes: &Classes, nodes: &[Option<usize>]) -> usize {
+    let mut walked = 0usize;
+    for node in nodes {
+        if let Some(node) = node {
+            walked = walked.saturating_add(classes.most_above(*node));
+        }
+    }
+    walked
+}
+
 /// The references; where it may cost more to walk over what is above them than to bring them together, those that name
 /// one class side by side, and of these those that ask for the same.
 fn by_class(
     alloc: Global,
+    classes: &Classes,
     facts: &Facts,
     nodes: &[Option<usize>],
-    classes: usize,
 ) -> Result<Vec<Asked>, NoMemory>
     requires { length nodes.now ≡ length facts.now.references }
     ensures { IfOk result (λ order. AreNumbered (length facts.now.references) order.items) }
@@ -53,7 +64,7 @@ fn by_class(
             number,
         })?;
     }
-    let walked = order.len().saturating_mul(classes);
+    let walked = most_walked(classes, nodes);
     if walked >= FEW {
         order.sort_unstable();
     }
@@ -129,10 +140,11 @@ fn answer_each(
     requires nodes { AreNodesOf (size_of look.now) (reach_of look.now) facts.now.references nodes.now }
     requires room { IsRoom look.now.classes.now room.old }
     requires size { length entries.old.items ≡ length facts.now.references }
+    ensures room { OnOk result (IsRoom look.now.classes.now room.new) }
     ensures size { OnOk result (length entries.new.items ≡ length facts.now.references) }
     ensures answered { OnOk result (AreAllAnswered look.now facts.now.references entries.new.items) }
 {
-    let order = by_class(alloc, facts, nodes, look.classes.len())?;
+    let order = by_class(alloc, look.classes, facts, nodes)?;
     let mut before = None;
     for asked in &order {
         let number = asked.number;
@@ -146,15 +158,36 @@ fn answer_each(
 fn answer_all(
     alloc: Global,
     look: &Look,
+    room: &mut Room,
     facts: &Facts,
     nodes: &[Option<usize>],
 ) -> Result<Vec<Entry>, NoMemory>
-    requires { AreNodesOf (size_of look.now) (reach_of look.now) facts.now.references nodes.now }
-    ensures { IfOk result (λ es. AreAnswered (reach_of look.now) look.now.loads.now look.now.class facts.now.references es.items) }
+    requires nodes { AreNodesOf (size_of look.now) (reach_of look.now) facts.now.references nodes.now }
+    requires room { IsRoom look.now.classes.now room.old }
+    ensures room { OnOk result (IsRoom look.now.classes.now room.new) }
+    ensures answered { IfOk result (λ es. AreAnswered (reach_of look.now) look.now.loads.now look.now.class facts.now.references es.items) }
 {
-    let mut room = Room::new(alloc, look.classes)?;
     let mut entries = none_loaded(alloc, facts)?;
-    answer_each(alloc, look, &mut room, facts, nodes, &mut entries)?;
+    answer_each(alloc, look, room, facts, nodes, &mut entries)?;
+    Ok(entries)
+}
+
+/// The same in the room that is kept, which is made where there is none. At want of memory none is kept.
+fn answer_kept(
+    alloc: Global,
+    look: &Look,
+    kept: &mut Option<Room>,
+    facts: &Facts,
+    nodes: &[Option<usize>],
+) -> Result<Vec<Entry>, NoMemory>
+    requires nodes { AreNodesOf (size_of look.now) (reach_of look.now) facts.now.references nodes.now }
+    requires kept { IfSome kept.old (IsRoom look.now.classes.now) }
+    ensures kept { IfSome kept.new (IsRoom look.now.classes.now) }
+    ensures answered { IfOk result (λ es. AreAnswered (reach_of look.now) look.now.loads.now look.now.class facts.now.references es.items) }
+{
+    let mut room = Room::of(alloc, kept.take(), look.classes)?;
+    let entries = answer_all(alloc, look, &mut room, facts, nodes)?;
+    *kept = Some(room);
     Ok(entries)
 }
 
@@ -170,15 +203,18 @@ fn entries_of(
     alloc: Global,
     classes: &Classes,
     loads: &[Load],
+    kept: &mut Option<Room>,
     class: usize,
     facts: &Facts,
     nodes: &[Option<usize>],
 ) -> Result<Vec<Entry>, NoMemory>
     requires loads { length loads.now ≡ length classes.now.standing.now }
     requires good { TellsGood (indexed_of classes.now) loads.now }
+    requires kept { IfSome kept.old (IsRoom classes.now) }
     requires class { class < length classes.now.standing.now }
     requires nodes { AreNodesOf (length classes.now.standing.now) (indexed_of classes.now) facts.now.references nodes.now }
-    ensures { IfOk result (λ entries. AreAnswered (indexed_of classes.now) loads.now class facts.now.references entries.items) }
+    ensures kept { IfSome kept.new (IsRoom classes.now) }
+    ensures answered { IfOk result (λ entries. AreAnswered (indexed_of classes.now) loads.now class facts.now.references entries.items) }
 {
     if let Load::Loaded = loads[class] {
         let look = Look {
@@ -186,24 +222,29 @@ fn entries_of(
             loads,
             class,
         };
-        answer_all(alloc, &look, facts, nodes)
+        answer_kept(alloc, &look, kept, facts, nodes)
     } else {
         none_loaded(alloc, facts)
     }
 }
 
-/// The answers to the references of a class, and the errors of its instructions.
+/// The answers to the references of a class, and the errors of its instructions. A class that does not load needs no
+/// room. `numbers` has a place for each class, with anything.
 pub(crate) fn linked(
     alloc: Global,
     classes: &Classes,
     loads: &[Load],
+    kept: &mut Option<Room>,
+    numbers: &mut [usize],
     class: usize,
     nodes: &[Option<usize>],
 ) -> Result<Linked, NoMemory>
     requires loads { length loads.now ≡ length classes.now.standing.now }
     requires good { TellsGood (indexed_of classes.now) loads.now }
+    requires kept { IfSome kept.old (IsRoom classes.now) }
     requires class { class < length classes.now.standing.now }
     requires nodes { AreNodesOf (length classes.now.standing.now) (indexed_of classes.now) (node_references classes.now class) nodes.now }
+    ensures kept { IfSome kept.new (IsRoom classes.now) }
     ensures answers { IfOk result (λ linked. TellsNodeAnswers classes.now loads.now class linked.answers) }
     ensures links { IfOk result (λ linked. linked.links ≡ node_links classes.now class linked.answers) }
 {
@@ -211,8 +252,8 @@ pub(crate) fn linked(
         Standing::Class(facts) => facts,
         _ => return Ok(Linked::none(alloc)),
     };
-    let entries = entries_of(alloc, classes, loads, class, facts, nodes)?;
+    let entries = entries_of(alloc, classes, loads, kept, class, facts, nodes)?;
     let references = facts.shared_references()?;
-    let answers = Answers::of(alloc, classes, references, &entries)?;
+    let answers = Answers::of(alloc, classes, numbers, references, &entries)?;
     Linked::of(alloc, classes.name(class), facts, answers)
 }

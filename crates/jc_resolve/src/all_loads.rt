@@ -76,6 +76,35 @@ pub(crate) fn rank_all(alloc: Global, order: &[usize], count: usize) -> Result<V
     Ok(ranks)
 }
 
+/// One more than the supertypes of a node have together.
+fn most_with(most: &[usize], supertypes: &[usize]) -> usize {
+    let mut sum = 1usize;
+    for node in supertypes {
+        let one = match most.get(*node) {
+            Some(one) => *one,
+            None => 1,
+        };
+        sum = sum.saturating_add(one);
+    }
+    sum
+}
+
+/// How many nodes are above each at most, itself among them, by an order in which those stand before it.
+pub(crate) fn most_above_all(
+    alloc: Global,
+    supertypes: &[Vec<usize>],
+    order: &[usize],
+) -> Result<Vec<usize>, NoMemory>
+    requires { All (λ v. v < length supertypes.now) order.now }
+    ensures { IfOk result (λ most. length most.items ≡ length supertypes.now) }
+{
+    let mut most = vec![in alloc; 1usize; supertypes.len()]?;
+    for node in order {
+        most[*node] = most_with(most.as_slice(), supertypes[*node].as_slice());
+    }
+    Ok(most)
+}
+
 /// Whether it is no error.
 fn is_good(load: Load) -> bool
     ensures { result ≡ is_good load }

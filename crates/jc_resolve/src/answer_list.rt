@@ -1,6 +1,6 @@
 //! Answers in the order of their references.
 
-ghost use Rattle.std.specs.Prelude.{◌≡◌, ◌<◌, ℕ, [], Some, length, option_map, slice_get, IfOk, OnOk};
+ghost use Rattle.std.specs.Prelude.{◌≡◌, ◌<◌, ℕ, [], Some, length, option_map, slice_get, slice_set, IfOk, IfSome, OnOk};
 ghost use Rattle.jc_classes.specs.Facts.{Reference as Refers};
 ghost use Rattle.jc_classes.specs.Lent.{reference_lent};
 ghost use Rattle.jc_classes.specs.Names.{Name};
@@ -53,36 +53,67 @@ const FEW_BYTES: usize = 1024;
 #[derive(Drop)]
 struct Naming {
     texts: TextList,
-    /// The number of the name of each class, by the number of the class, once it was asked for.
-    numbers: Vec<Option<usize>>,
+    /// The class of each name.
+    nodes: Vec<usize>,
+}
+
+/// The number that the name of a class has, if it has one. `numbers` has it at such a class, and anything at others.
+fn known(numbers: &[usize], nodes: &[usize], node: usize) -> Option<usize>
+    ensures { IfSome result (λ number. slice_get nodes.now number ≡ Some node) }
+{
+    let number = *numbers.get(node)?;
+    if *nodes.get(number)? == node {
+        Some(number)
+    } else {
+        None
+    }
+}
+
+/// Notes the number of the name of a class.
+fn note(numbers: &mut [usize], node: usize, number: usize)
+    ensures { numbers.new ≡ slice_set numbers.old node number }
+{
+    if node < numbers.len() {
+        numbers[node] = number;
+    }
 }
 
 impl Naming {
-    /// None yet, of so many classes.
-    fn new(alloc: Global, count: usize) -> Result<Naming, NoMemory>
+    /// None yet.
+    fn new(alloc: Global) -> Result<Naming, NoMemory>
         ensures { (name : ℕ → Name) → IfOk result (AreNames name) }
     {
         Ok(Naming {
             texts: TextList::with_room(alloc, FEW_NAMES, FEW_BYTES)?,
-            numbers: vec![in alloc; None; count]?,
+            nodes: Vec::with_capacity(alloc, FEW_NAMES)?,
         })
     }
 
     /// The number of the name of a class.
-    fn number(&mut self, classes: &Classes, node: usize) -> Result<usize, NoMemory>
+    fn number(
+        &mut self,
+        classes: &Classes,
+        numbers: &mut [usize],
+        node: usize,
+    ) -> Result<usize, NoMemory>
         requires { AreNames (indexed_name (indexed_of classes.now)) self.old }
         ensures names { OnOk result (AreNames (indexed_name (indexed_of classes.now)) self.new) }
         ensures front { OnOk result (IsFront self.old.texts self.new.texts) }
         ensures number { IfOk result (IsNumberOf self.new.texts (indexed_name (indexed_of classes.now) node)) }
     {
-        match known(&self.numbers, node) {
+        match known(numbers, self.nodes.as_slice(), node) {
             Some(number) => Ok(number),
-            None => self.add(classes, node),
+            None => self.add(classes, numbers, node),
         }
     }
 
     /// The same of a class whose name has none.
-    fn add(&mut self, classes: &Classes, node: usize) -> Result<usize, NoMemory>
+    fn add(
+        &mut self,
+        classes: &Classes,
+        numbers: &mut [usize],
+        node: usize,
+    ) -> Result<usize, NoMemory>
         requires { AreNames (indexed_name (indexed_of classes.now)) self.old }
         ensures names { OnOk result (AreNames (indexed_name (indexed_of classes.now)) self.new) }
         ensures front { OnOk result (IsFront self.old.texts self.new.texts) }
@@ -90,14 +121,18 @@ impl Naming {
     {
         let number = self.texts.len();
         self.texts.push(classes.name(node))?;
-        if node < self.numbers.len() {
-            self.numbers[node] = Some(number);
-        }
+        self.nodes.push(node)?;
+        note(numbers, node, number);
         Ok(number)
     }
 
     /// An answer by the numbers of names.
-    fn entry(&mut self, classes: &Classes, entry: Entry) -> Result<Entry, NoMemory>
+    fn entry(
+        &mut self,
+        classes: &Classes,
+        numbers: &mut [usize],
+        entry: Entry,
+    ) -> Result<Entry, NoMemory>
         requires { AreNames (indexed_name (indexed_of classes.now)) self.old }
         ensures names { OnOk result (AreNames (indexed_name (indexed_of classes.now)) self.new) }
         ensures front { OnOk result (IsFront self.old.texts self.new.texts) }
@@ -106,13 +141,16 @@ impl Naming {
     {
         match entry {
             Entry::ToMember(flags, node) => {
-                Ok(Entry::ToMember(flags, self.number(classes, node)?))
+                Ok(Entry::ToMember(flags, self.number(classes, numbers, node)?))
             }
             Entry::ToPolymorphic(flags, node) => {
-                Ok(Entry::ToPolymorphic(flags, self.number(classes, node)?))
+                Ok(Entry::ToPolymorphic(flags, self.number(classes, numbers, node)?))
             }
-            Entry::Outside(node) => Ok(Entry::Outside(self.number(classes, node)?)),
-            Entry::Error(error, node) => Ok(Entry::Error(error, self.number(classes, node)?)),
+            Entry::Outside(node) => Ok(Entry::Outside(self.number(classes, numbers, node)?)),
+            Entry::Error(error, node) => Ok(Entry::Error(
+                error,
+                self.number(classes, numbers, node)?,
+            )),
             Entry::ToClass(_) | Entry::NotLoaded | Entry::OwnError(_) => Ok(entry),
         }
     }
@@ -130,17 +168,19 @@ impl Answers {
         }
     }
 
-    /// The answers to these references, of which each stands by the numbers of classes.
+    /// The answers to these references, of which each stands by the numbers of classes. `numbers` has a place for each
+    /// class, with anything.
     pub(crate) fn of(
         alloc: Global,
         classes: &Classes,
+        numbers: &mut [usize],
         references: References,
         entries: &[Entry],
     ) -> Result<Answers, NoMemory>
         requires { length entries.now ≡ length references }
         ensures { IfOk result (λ answers. answers ≡ entries_shown (indexed_name (indexed_of classes.now)) references entries.now) }
     {
-        let named = name_entries(alloc, classes, entries)?;
+        let named = name_entries(alloc, classes, numbers, entries)?;
         Ok(Answers {
             references: Some(references),
             names: named.texts.fitted(),
@@ -187,13 +227,6 @@ fn kind_of(entry: Entry) -> AnswerKind
     }
 }
 
-/// The number that a class has.
-fn known(numbers: &[Option<usize>], node: usize) -> Option<usize>
-    ensures { (number : ℕ) → result ≡ Some number → slice_get numbers.now node ≡ Some (Some number) }
-{
-    *numbers.get(node)?
-}
-
 /// Answers by the numbers of names, and these.
 #[derive(Drop)]
 struct Named {
@@ -202,13 +235,18 @@ struct Named {
 }
 
 /// Numbers the names that answers tell.
-fn name_entries(alloc: Global, classes: &Classes, entries: &[Entry]) -> Result<Named, NoMemory>
+fn name_entries(
+    alloc: Global,
+    classes: &Classes,
+    numbers: &mut [usize],
+    entries: &[Entry],
+) -> Result<Named, NoMemory>
     ensures { IfOk result (λ named. AreSame (text_at named.texts) (indexed_name (indexed_of classes.now)) named.entries.items entries.now) }
 {
-    let mut names = Naming::new(alloc, classes.len())?;
+    let mut names = Naming::new(alloc)?;
     let mut named = Vec::with_capacity(alloc, entries.len())?;
     for entry in entries {
-        let answer = names.entry(classes, *entry)?;
+        let answer = names.entry(classes, numbers, *entry)?;
         named.push(answer)?;
     }
     Ok(Named {

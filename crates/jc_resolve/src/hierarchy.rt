@@ -17,6 +17,7 @@ ghost use Rattle.jc_resolve.specs.inside.Resolved.{loading_of as loading_at};
 use crate::all_answers::linked;
 use crate::linked::Linked;
 use crate::loaded::{Loaded, load_classes};
+use crate::room::Room;
 use jc_base::NoMemory;
 use jc_classes::{LinkageError, Standing};
 use jc_numbered::{Classes, Load};
@@ -38,19 +39,22 @@ pub struct Hierarchy<'c, 't> {
     classes: Classes<'c, 't>,
     loads: Vec<Load>,
     circular: Vec<bool>,
+    /// Room to look references up in, once a class needed it.
+    room: Option<Room>,
+    /// A place for each class: the number of its name among those that answers tell. What other answers left there
+    /// is passed over.
+    numbers: Vec<usize>,
 }
 
 impl<'c, 't> Model for Hierarchy<'c, 't> {
-    ghost use Rattle.std.specs.Prelude.{length};
-    ghost use Rattle.jc_numbered.specs.inside.Shown.{indexed_of};
     ghost use Rattle.jc_resolve.specs.Numbered.{Numbered, numbered};
-    ghost use Rattle.jc_resolve.specs.inside.Loaded.{IsLoaded};
+    ghost use Rattle.jc_resolve.specs.inside.Rooms.{IsHeld};
 
     ghost Value = { Numbered };
 
     ghost view = { λ a. numbered a.classes.names.now a.classes.standing.now a.classes.supertypes.now };
 
-    ghost invariant = { λ a. IsLoaded (length a.classes.standing.now) (indexed_of a.classes) a.loads.items a.circular.items };
+    ghost invariant = { λ a. IsHeld a.classes a.loads.items a.circular.items a.room };
 }
 
 /// How a class loads, by name.
@@ -90,6 +94,8 @@ impl<'c, 't> Hierarchy<'c, 't> {
             classes,
             loads,
             circular,
+            room: None,
+            numbers: vec![in alloc; 0usize; names.len()]?,
         })
     }
 
@@ -110,19 +116,29 @@ impl<'c, 't> Hierarchy<'c, 't> {
     }
 
     /// The answers to the references of a class, in their order, and the errors of its instructions. `nodes` are
-    /// the numbers of the classes that the references name.
+    /// the numbers of the classes that the references name. It takes as long as what is looked up, however many
+    /// classes there are, but for room that is made once.
     pub fn linked(
-        &self,
+        &mut self,
         alloc: Global,
         class: usize,
         nodes: &[Option<usize>],
     ) -> Result<Linked, NoMemory>
-        requires class { class < length self.now.names }
-        requires nodes { AreClassesOf self.now (references_at self.now class) nodes.now }
-        requires within { (v : ℕ) → Contains nodes.now (Some v) → v < length self.now.names }
-        ensures answers { IfOk result (λ linked. TellsAnswers self.now class linked.answers) }
-        ensures links { IfOk result (λ linked. linked.links ≡ links_at self.now class linked.answers) }
+        requires class { class < length self.old.names }
+        requires nodes { AreClassesOf self.old (references_at self.old class) nodes.now }
+        requires within { (v : ℕ) → Contains nodes.now (Some v) → v < length self.old.names }
+        ensures answers { IfOk result (λ linked. TellsAnswers self.old class linked.answers) }
+        ensures links { IfOk result (λ linked. linked.links ≡ links_at self.old class linked.answers) }
+        ensures same { self.new ≡ self.old }
     {
-        linked(alloc, &self.classes, self.loads.as_slice(), class, nodes)
+        linked(
+            alloc,
+            &self.classes,
+            self.loads.as_slice(),
+            &mut self.room,
+            self.numbers.as_mut_slice(),
+            class,
+            nodes,
+        )
     }
 }

@@ -8,7 +8,7 @@ ghost use Rattle.jc_numbered.specs.inside.Indexed.{indexed_name};
 ghost use Rattle.jc_resolve.specs.inside.Gathered.{IsGathered, bare};
 ghost use Rattle.jc_resolve.specs.inside.Loaded.{IsLoaded};
 
-use crate::all_loads::{good_all, load_all, rank_all};
+use crate::all_loads::{good_all, load_all, most_above_all, rank_all};
 use jc_base::NoMemory;
 use jc_classes::Standing;
 use jc_graph::sort_nodes;
@@ -56,11 +56,13 @@ pub(crate) fn load_classes<'c, 't>(
         rank: Vec::new(alloc),
         good: unset(alloc, standing.len())?,
         package_ends: package_ends(alloc, names)?,
+        most_above: Vec::new(alloc),
     };
     let sorted = sort_nodes(alloc, supertypes)?;
     let loads = load_all(alloc, &unloaded, &sorted)?;
     let rank = rank_all(alloc, sorted.order.as_slice(), standing.len())?;
     let good = good_all(alloc, loads.as_slice())?;
+    let most_above = most_above_all(alloc, supertypes, sorted.order.as_slice())?;
     let Classes { package_ends, .. } = unloaded;
     let classes = Classes {
         names,
@@ -70,6 +72,7 @@ pub(crate) fn load_classes<'c, 't>(
         rank,
         good,
         package_ends,
+        most_above,
     };
     Ok(Loaded {
         classes,

@@ -1,6 +1,6 @@
 //! Room to look in.
 
-ghost use Rattle.std.specs.Prelude.{IfOk};
+ghost use Rattle.std.specs.Prelude.{IfOk, IfSome};
 ghost use Rattle.jc_resolve.specs.inside.Rooms.{IsRoom};
 
 use jc_base::NoMemory;
@@ -8,7 +8,7 @@ use jc_graph::Seen;
 use jc_numbered::{Above, Classes};
 use std::alloc::Global;
 
-/// Room to look in, which the references of a class share.
+/// Room to look in, which the references of all classes share.
 #[derive(Drop)]
 pub(crate) struct Room {
     /// What is above the class that was asked for last.
@@ -26,5 +26,16 @@ impl Room {
             above: Above::new(alloc, classes.len())?,
             covered: Seen::new(alloc, classes.len())?,
         })
+    }
+
+    /// The room that was kept for these classes, or new room.
+    pub(crate) fn of(alloc: Global, kept: Option<Room>, classes: &Classes) -> Result<Room, NoMemory>
+        requires { IfSome kept (IsRoom classes.now) }
+        ensures { IfOk result (IsRoom classes.now) }
+    {
+        match kept {
+            Some(room) => Ok(room),
+            None => Room::new(alloc, classes),
+        }
     }
 }

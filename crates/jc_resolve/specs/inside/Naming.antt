@@ -1,5 +1,5 @@
 -- Names of classes by numbers of their own.
-use Rattle.std.specs.Prelude.{◌≡◌, ℕ, ◌<◌, List, [], ◌∷◌, length, None, Some, Option, slice_get}
+use Rattle.std.specs.Prelude.{◌≡◌, ℕ, ◌<◌, List, [], ◌∷◌, length, map, None, Some, Option}
 use Rattle.jc_classes.specs.Facts.{Reference}
 use Rattle.jc_classes.specs.Names.{Name}
 use Rattle.jc_resolve.specs.declared.answer_list.Naming.{Naming}
@@ -14,9 +14,9 @@ references_in (Some references) = references
 abbrev pub IsNumberOf : List Name → Name → ℕ → Type 0
 IsNumberOf texts name number = (number < length texts) × (text_at texts number ≡ name)
 
--- the number that is kept of a class is that of its name
+-- the texts are the names of the classes
 abbrev pub AreNames : (ℕ → Name) → Naming → Type 0
-AreNames name a = (node number : ℕ) → slice_get a.numbers.items node ≡ Some (Some number) → IsNumberOf a.texts (name node) number
+AreNames name a = a.texts ≡ map name a.nodes.items
 
 -- answers that tell the same of any references, by the numbers of these texts and of those classes
 abbrev pub AreSame : (ℕ → Name) → (ℕ → Name) → List Entry → List Entry → Type 0

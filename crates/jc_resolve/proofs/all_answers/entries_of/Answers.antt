@@ -20,8 +20,8 @@ use Rattle.jc_resolve.proofs.lookups.IfOks.{if_ok_map}
 use Rattle.jc_resolve.proofs.loading.Nets.{none_answers}
 use Rattle.jc_resolve.proofs.all_answers.entries_of.Goals as goal
 
-pub returns-in_default : goal.returns-in_default
-returns-in_default c =
+pub returns-in_default-clause-answered : goal.returns-in_default-clause-answered
+returns-in_default-clause-answered c =
     let x = indexed_of c.args.classes.now in
     let l : Load = load_at c.args.loads.now c.args.class in
     let d = indexed_name x c.args.class in

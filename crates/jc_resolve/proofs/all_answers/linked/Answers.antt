@@ -26,7 +26,7 @@ of-requires-2 c =
     let x = indexed_of c.args.classes.now in
     let refs = c.in-Class.facts.now.references in
     let entries = c.in_ok-entries.entries.items in
-    let size = c.in_ok-entries.ensures.0 in
+    let size = c.in_ok-entries.ensures.answered.0 in
     let is = c.in_ok-answers.ensures ∙ ap (λ rs. entries_shown (indexed_name x) rs c.deref.result.now) c.in_ok-references.ensures ∙ ap (entries_shown (indexed_name x) refs) c.deref.ensures.value in
     ap length is ∙ shown_size (indexed_name x) refs entries size ∙ size
 
@@ -40,7 +40,7 @@ returns-clause-answers c =
     let own : refs ≡ references_of (record_at x c.args.class) = ap (λ s. references_of (stands_of s)) (sym c.in-Class.is) ∙ ap references_of c.at.ensures in
     let size : length x.names ≡ count = c.args.classes.now.graph.names in
     let shared : c.in_ok-references.references ≡ refs = c.in_ok-references.ensures in
-    let made = c.in_ok-entries.ensures in
+    let made = c.in_ok-entries.ensures.answered in
     let list = c.in_ok-answers.answers in
     let is : list ≡ entries_shown (indexed_name x) refs c.in_ok-entries.entries.items = c.in_ok-answers.ensures ∙ ap (λ rs. entries_shown (indexed_name x) rs c.deref.result.now) shared ∙ ap (entries_shown (indexed_name x) refs) c.deref.ensures.value in
     let f = λ (linked : Linked) (e : linked ≡ record { answers = list; links = links_in c.name.result.now c.in-Class.facts.now list })

@@ -24,7 +24,7 @@ linked-requires-clause-nodes c =
       named = subst (λ (z : Numbered). AreClassesOf z (references_at z class) c.args.nodes.now) (sym c.self.view_is) c.requires.nodes;
       within = λ n h.
           let l : n < length v.names = subst (λ (z : Numbered). n < length z.names) (sym c.self.view_is) (c.requires.within n h) in
-          omega (arith, l, c.self.invariant.net.names);
+          omega (arith, l, c.self.invariant.loaded.net.names);
     }
 
 pub returns-clause-answers : goal.returns-clause-answers
@@ -35,7 +35,7 @@ returns-clause-answers c =
     let count = length i.standing.now in
     let class = c.args.class in
     let loads = c.self.inside.loads.items in
-    let held = c.self.invariant in
+    let held = c.self.invariant.loaded in
     let within : class < length v.names = subst (λ (z : Numbered). class < length z.names) (sym c.self.view_is) c.requires.class in
     let f = λ (linked : Linked) (e : (m : World) → TellsLoads m x count c.as_slice.result.now → IsIndexed m x
     → AreAnswers m (name_at v.names class) (loading_of x (load_at c.as_slice.result.now class)) (references_of (standing_at v class)) linked.answers)
