@@ -2,6 +2,8 @@ pub mod RowOrder
 pub mod RowsAreOne
 pub mod DerivedRowOrder
 pub mod SortedRows
+pub mod SameRows
+pub mod InsertedRows
 pub mod ReferenceRows
 pub mod RisingLists
 pub mod KeysInOrder

@@ -7,4 +7,5 @@ pub mod Members
 pub mod Naming
 pub mod Outcomes
 pub mod ReportShown
+pub mod RowSets
 pub mod TreeCode

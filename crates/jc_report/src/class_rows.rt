@@ -1,6 +1,6 @@
 //! The rows that a class gives.
 
-ghost use Rattle.std.specs.Prelude.{◌≡◌, ◌&&◌, ◌++◌, OnOk, map};
+ghost use Rattle.std.specs.Prelude.{◌≡◌, ◌&&◌, ◌++◌, OnOk};
 ghost use Rattle.jc_rules.specs.AccessFlags.{has, public};
 ghost use Rattle.jc_classes.specs.Lent.{member_lent, reference_lent};
 ghost use Rattle.jc_classes.specs.Resolution.{Answer};
@@ -8,8 +8,10 @@ ghost use Rattle.jc_resolve.specs.Answers.{kind_of, loading_of};
 ghost use Rattle.jc_report.specs.ClassRows as class_rows;
 ghost use Rattle.jc_report.specs.ClassRows.{is_loaded, is_missing, is_open, is_open_method, reference_row, required_rows};
 ghost use Rattle.jc_report.specs.RowView.{row_lent};
+ghost use Rattle.jc_report.specs.inside.RowSets.{HoldSameRows};
 
 use crate::row::Row;
+use crate::row_set::RowSet;
 use jc_base::NoMemory;
 use jc_classes::{Facts, LinkageError, Member, Reference, ReferenceKind, same};
 use jc_file::AccessFlag;
@@ -59,17 +61,17 @@ pub(crate) fn is_open_method(method: Member<'_>) -> bool
 
 /// Adds what a class requires, by its references.
 pub(crate) fn push_required<'t>(
-    rows: &mut Vec<Row<'t>>,
+    rows: &mut RowSet<'t>,
     facts: &'t Facts,
     part: &Part,
 ) -> Result<(), NoMemory>
-    ensures { OnOk result (map row_lent rows.new.items ≡ map row_lent rows.old.items ++ required_rows facts.now part.now) }
+    ensures { OnOk result (HoldSameRows rows.new (rows.old ++ required_rows facts.now part.now)) }
 {
     let answers = part.answers();
     for number in 0..answers.len() {
         if is_required(answers.kind(number)) {
             match facts.reference(number) {
-                Some(reference) => rows.push(reference_row(reference))?,
+                Some(reference) => rows.insert(reference_row(reference))?,
                 None => return Ok(()),
             }
         }

@@ -30,7 +30,7 @@ use crate::file_row::FileRow;
 use crate::lent_class::{LentClass, LentClasses};
 use crate::provided_rows::{ProvidedRows, provided_in_order};
 use crate::row::Row;
-use crate::row_set::put_in_order;
+use crate::row_set::RowSet;
 use crate::tree::Tree;
 use jc_base::NoMemory;
 use jc_classes::Facts;
@@ -153,7 +153,7 @@ impl<'t> TreeReport<'t> {
         fill_files(&mut self.files, tree, meter)?;
         fill_classes(&mut self.classes, alloc, tree, outside, meter)?;
         fill_provided(&mut self.provided, &self.classes)?;
-        fill_required(&mut self.required, &self.classes)
+        fill_required(&mut self.required, alloc, &self.classes)
     }
 
     /// Whether a file is unreadable, a class has a fault or does not load, an instruction does not link, or a
@@ -293,15 +293,19 @@ fn push_all<'t>(rows: &mut Vec<Row<'t>>, own: ProvidedRows<'t>) -> Result<(), No
 }
 
 /// What the classes require.
-fn fill_required<'t>(rows: &mut Vec<Row<'t>>, classes: &[Class<'t>]) -> Result<(), NoMemory>
+fn fill_required<'t>(
+    rows: &mut Vec<Row<'t>>,
+    alloc: Global,
+    classes: &[Class<'t>],
+) -> Result<(), NoMemory>
     requires { map row_lent rows.old.items ≡ [] }
     ensures { OnOk result (AreRows (map row_lent rows.new.items) (GivesRow required_rows classes.now)) }
 {
+    let mut apart = RowSet::new(alloc);
     for class in classes {
-        push_required(rows, class.facts, &class.part)?;
+        push_required(&mut apart, class.facts, &class.part)?;
     }
-    put_in_order(rows);
-    Ok(())
+    apart.copy_into(rows)
 }
 
 /// Whether one of these files and classes is unreadable or wrong, among those whose paths and names begin with one

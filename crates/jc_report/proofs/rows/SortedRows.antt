@@ -1,20 +1,15 @@
--- Borrowed rows that are sorted, each once, are rows in their order.
-use Rattle.std.proofs.Common.{◌≡◌, ◌∙◌, List, [], ◌∷◌, map, sym, subst}
+-- Borrowed rows that are apart and sorted are rows in their order.
+use Rattle.std.proofs.Common.{◌≡◌, ◌∙◌, List, [], ◌∷◌, ◌++◌, map, sym, subst}
 use Rattle.std.specs.declared.cmp.Ordering.TheVariants.{Less}
-use Rattle.std.specs.List.{Contains, dedup, AllByRecursion}
-use Rattle.std.specs.List.Sorted.{IsPermutation, IsSorted, IsStrictlySortedBy}
-use Rattle.std.proofs.lemmas.List.Kept.{Any-dedup, Contains-from_dedup, IsStrictlySortedBy-dedup}
-use Rattle.std.proofs.lemmas.List.Sorted.{Contains-permutation, IsPermutation-sym}
+use Rattle.std.specs.List.{Contains, AllByRecursion}
+use Rattle.std.specs.List.Sorted.{IsStrictlySortedBy}
 use Rattle.jc_base.proofs.Membership.{from_has, has-from_map, has-map, has_from}
 use Rattle.jc_report.specs.declared.row.Row.{Row}
-use Rattle.jc_report.specs.contracts.row.RowEq.TheImpl.Laws as eq_laws
 use Rattle.jc_report.specs.contracts.row.RowOrd.TheImpl as row_order
-use Rattle.jc_report.specs.contracts.row.RowOrd.TheImpl.Laws as laws
-use Rattle.jc_report.specs.contracts.row.RowPartialEq.TheImpl as row_test
 use Rattle.jc_report.specs.RowView.{row_lent}
 use Rattle.jc_report.specs.Rows as rows
 use Rattle.jc_report.specs.Rows.{AreRows, row_cmp}
-use Rattle.jc_report.proofs.rows.DerivedRowOrder.{derived_row_order, derived_row_test}
+use Rattle.jc_report.proofs.rows.DerivedRowOrder.{derived_row_order}
 
 contains-map : (xs : List Row) (x : Row) → Contains xs x → Contains (map row_lent xs) (row_lent x)
 contains-map xs x h = from_has (map row_lent xs) (row_lent x) (has-map row_lent xs x (has_from xs x h))
@@ -31,23 +26,12 @@ unfolding IsStrictlySortedBy
 rises [] h = tt
 rises (x ∷ xs) h = (above x xs h.0, rises xs h.1)
 
-kept : (xs : List Row) (r : rows.Row) → Contains (map row_lent xs) r → Contains (map row_lent (dedup row_test.ghosts.eq xs)) r
-kept xs r h =
-    let from = contains-from_map xs r h in
-    let like = Any-dedup eq_laws.laws-law xs from.0 from.1 in
-    let there = contains-map (dedup row_test.ghosts.eq xs) like.1 (like.0, like.2, like.3) in
-    subst (Contains (map row_lent (dedup row_test.ghosts.eq xs))) (sym (derived_row_test from.0 like.1 like.4) ∙ from.2) there
-
--- ys are xs sorted
-pub sorted_rows : (xs ys : List Row) → IsPermutation xs ys → IsSorted row_order.ghosts.cmp ys
-    → AreRows (map row_lent (dedup row_test.ghosts.eq ys)) (Contains (map row_lent xs))
-sorted_rows xs ys moved up = record {
-  rises = rises _ (IsStrictlySortedBy-dedup laws.total-law laws.matches_eq-law ys up);
-  sound = λ r h.
-      let from = contains-from_map _ r h in
-      let there = Contains-permutation ys xs from.0 (IsPermutation-sym xs ys moved) (Contains-from_dedup row_test.ghosts.eq ys from.0 from.1) in
-      subst (Contains (map row_lent xs)) from.2 (contains-map xs from.0 there);
-  complete = λ r h.
-      let from = contains-from_map xs r h in
-      kept ys r (subst (Contains (map row_lent ys)) from.2 (contains-map ys from.0 (Contains-permutation xs ys from.0 moved from.1)));
-}
+-- rows in their order, copied into an empty list
+pub copied_rows : (held before copied : List Row) → IsStrictlySortedBy row_order.ghosts.cmp held → map row_lent before ≡ [] → copied ≡ before ++ held
+    → AreRows (map row_lent copied) (Contains (map row_lent held))
+copied_rows held [] copied up none is = subst (λ (rows : List Row). AreRows (map row_lent rows) (Contains (map row_lent held))) (sym is) (record {
+  rises = rises held up;
+  sound = λ r h. h;
+  complete = λ r h. h;
+})
+copied_rows held (x ∷ xs) copied up none is = absurd cc

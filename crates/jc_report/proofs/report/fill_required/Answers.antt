@@ -1,3 +1,4 @@
+use Rattle.std.proofs.lemmas.Result.{on_ok_weaker}
 use Rattle.jc_report.specs.ClassRows.{required_rows}
 use Rattle.jc_report.proofs.reports.GivenRows.{rows_more, rows_of_all}
 use Rattle.jc_report.proofs.report.fill_required.Goals as goal
@@ -8,4 +9,7 @@ loop-class-preserved c =
     c.loop-class.invariant c.in_ok-push_required.ensures
 
 pub returns : goal.returns
-returns c = rows_of_all required_rows c.args.classes.now c.loop-class.class-index _ _ c.loop-class-test.false c.loop-class.invariant c.put_in_order.ensures
+returns c =
+    on_ok_weaker c.copy_into.result
+    (rows_of_all required_rows c.args.classes.now c.loop-class.class-index c.loop-class.apart _ c.loop-class-test.false c.loop-class.invariant)
+    c.copy_into.ensures

@@ -1,0 +1,7 @@
+-- Lists that hold the same rows, however often and in whatever order.
+use Rattle.std.specs.Prelude.{◌↔◌, List}
+use Rattle.std.specs.List.{Contains}
+use Rattle.jc_report.specs.Rows.{Row}
+
+abbrev pub HoldSameRows : List Row → List Row → Type 0
+HoldSameRows xs ys = (row : Row) → Contains xs row ↔ Contains ys row
