@@ -1,2 +1,2 @@
-pub mod NamesFound
 pub mod ClassesNumbered
+pub mod Referred

@@ -9,12 +9,12 @@ ghost use Rattle.jc_classes.specs.Worlds.{World};
 ghost use Rattle.jc_link.specs.Meters.{counted};
 ghost use Rattle.jc_link.specs.Nets.{IsIn, IsNetOf};
 ghost use Rattle.jc_link.specs.Tables.{classes_of, world};
-ghost use Rattle.jc_link.specs.inside.Gathering.{IsAsked, rows_in, stands_in};
+ghost use Rattle.jc_link.specs.inside.NetAsked.{AreAsked, asked_count};
 ghost use Rattle.jc_link.specs.inside.NetShown.{AreKept, AreNumbered, IsHierarchyOf};
 
 use crate::gathering::{Reached, stand_at};
 use crate::meter::Meter;
-use crate::numbering::{find_references, number_references};
+use crate::numbering::number_references;
 use crate::outside::Outside;
 use crate::part::{Part, part_of};
 use crate::table::Table;
@@ -33,6 +33,8 @@ pub struct Net<'t> {
     standing: Vec<Standing<'t>>,
     /// The numbers of the supertypes of each number.
     supertypes: Vec<Vec<usize>>,
+    /// The numbers of the classes that the references of each number name.
+    references: Vec<Vec<Option<usize>>>,
     /// The number of `java/lang/Object`.
     object: usize,
 }
@@ -84,21 +86,30 @@ impl<'t> Net<'t> {
         let mut numbers = Numbers::new(alloc);
         let object = numbers.number(alloc, b"java/lang/Object")?;
         number_classes(alloc, table, &mut numbers)?;
-        let reached = ask_all(alloc, table, outside, &mut numbers, meter)?;
-        let Reached {
-            standing,
-            supertypes,
-        } = reached;
+        let asked = ask_all(alloc, table, outside, &mut numbers, meter)?;
+        let Asked {
+            reached,
+            references,
+        } = asked;
         Ok(Net {
             numbers,
-            standing,
-            supertypes,
+            standing: reached.standing,
+            supertypes: reached.supertypes,
+            references,
             object,
         })
     }
 }
 
-/// Numbers the classes of a table, and those that their references name.
+/// What stands at the first of the names, with the numbers of what it tells.
+#[derive(Drop)]
+struct Asked<'t> {
+    reached: Reached<'t>,
+    /// The numbers of the classes that the references of each name.
+    references: Vec<Vec<Option<usize>>>,
+}
+
+/// Numbers the classes of a table.
 fn number_classes(alloc: Global, table: &Table, numbers: &mut Numbers) -> Result<(), NoMemory>
     requires { IsOnce numbers.old }
     ensures once { OnOk result (IsOnce numbers.new) }
@@ -107,33 +118,37 @@ fn number_classes(alloc: Global, table: &Table, numbers: &mut Numbers) -> Result
 {
     for facts in table.classes() {
         numbers.number(alloc, facts.name())?;
-        number_references(alloc, numbers, Standing::Class(facts))?;
     }
     Ok(())
 }
 
-/// Asks a table for what stands at each name, and numbers all that stands above.
+/// Asks a table for what stands at each name, and numbers all that this tells.
 fn ask_all<'t>(
     alloc: Global,
     table: &'t Table,
     outside: &Outside,
     numbers: &mut Numbers,
     meter: &mut Meter,
-) -> Result<Reached<'t>, NoMemory>
+) -> Result<Asked<'t>, NoMemory>
     requires { IsOnce numbers.old }
-    ensures asked { IfOk result (λ r. IsAsked (world table.now outside.now) numbers.new (stands_in r.standing.items) (rows_in r.supertypes.items)) }
-    ensures whole { IfOk result (λ r. length numbers.new ≤ length (stands_in r.standing.items)) }
+    ensures asked { IfOk result (AreAsked (world table.now outside.now) numbers.new) }
+    ensures whole { IfOk result (λ a. length numbers.new ≤ asked_count a) }
     ensures kept { OnOk result (AreKept numbers.old numbers.new) }
-    ensures asks { IfOk result (λ r. meter.new.asks ≡ counted meter.old.asks (length (stands_in r.standing.items))) }
+    ensures asks { IfOk result (λ a. meter.new.asks ≡ counted meter.old.asks (asked_count a)) }
     ensures asks_rise { meter.old.asks ≤ meter.new.asks }
     ensures made { meter.new.made ≡ meter.old.made }
 {
     let mut reached = Reached::with_room(alloc, numbers.len())?;
+    let mut references = Vec::with_capacity(alloc, numbers.len())?;
     while reached.standing.len() < numbers.len() {
         let next = stand_at(table, outside, numbers.name(reached.standing.len()), meter);
         reached.push(alloc, numbers, next)?;
+        references.push(number_references(alloc, numbers, next)?)?;
     }
-    Ok(reached)
+    Ok(Asked {
+        reached,
+        references,
+    })
 }
 
 impl<'n, 't> PartMaker<'n, 't> {
@@ -184,8 +199,8 @@ fn part_at(
         unreachable!()
     };
     let own = net.standing[class];
-    let references = find_references(alloc, &net.numbers, own)?;
-    let part = part_of(alloc, hierarchy, class, own, references.as_slice())?;
+    let references = net.references[class].as_slice();
+    let part = part_of(alloc, hierarchy, class, own, references)?;
     meter.count_part();
     Ok(part)
 }

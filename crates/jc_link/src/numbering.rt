@@ -1,14 +1,13 @@
 //! Numbers for the classes that a class names.
 
 ghost use Rattle.jc_classes.specs.Worlds.{Stands as stands};
-ghost use Rattle.std.specs.Prelude.{◌≡◌, ◌<◌, ℕ, [], IfOk, OnOk, None, length};
+ghost use Rattle.std.specs.Prelude.{◌≡◌, ◌<◌, [], IfOk, OnOk, length};
 ghost use Rattle.std.specs.List.{All};
-ghost use Rattle.std.specs.Option.{IfSome, option_copied, option_to_list};
+ghost use Rattle.std.specs.Option.{option_copied, option_to_list};
 ghost use Rattle.jc_classes.specs.Lent.{stands_of};
 ghost use Rattle.jc_classes.specs.Numbers.{IsOnce, Rows, name_at};
 ghost use Rattle.jc_classes.specs.Worlds.{references_of, supers_of};
 ghost use Rattle.jc_link.specs.inside.Gathering.{Nodes, NumbersAt};
-ghost use Rattle.jc_link.specs.inside.NetShown.{HasNames};
 
 use jc_base::NoMemory;
 use jc_classes::{Facts, Numbers, Standing};
@@ -146,72 +145,4 @@ fn number_reference(
         }
         None => Ok(None),
     }
-}
-
-/// For each reference of what stands at a name, the number of the class that it names, where all of these have one.
-pub(crate) fn find_references(
-    alloc: Global,
-    numbers: &Numbers,
-    standing: Standing<'_>,
-) -> Result<Vec<Option<usize>>, NoMemory>
-    requires once { IsOnce numbers.now }
-    requires there { HasNames numbers.now (references_of (stands_of standing)) }
-    ensures { IfOk result (λ nodes. Nodes numbers.now [] numbers.now nodes.items (references_of (stands_of standing.entry))) }
-{
-    match standing {
-        Standing::Class(facts) => find_references_of(alloc, numbers, facts),
-        _ => Ok(Vec::new(alloc)),
-    }
-}
-
-fn find_references_of(
-    alloc: Global,
-    numbers: &Numbers,
-    facts: &Facts,
-) -> Result<Vec<Option<usize>>, NoMemory>
-    requires once { IsOnce numbers.now }
-    requires there { HasNames numbers.now facts.now.references }
-    ensures { IfOk result (λ nodes. Nodes numbers.now [] numbers.now nodes.items facts.now.references) }
-{
-    let count = facts.reference_count();
-    let mut nodes = Vec::with_capacity(alloc, count)?;
-    let mut last = None;
-    for number in 0..count {
-        last = find_reference(numbers, facts, number, last);
-        nodes.push(last)?;
-    }
-    Ok(nodes)
-}
-
-/// The number of the class that a reference names, as `number_reference` gives it.
-fn find_reference(
-    numbers: &Numbers,
-    facts: &Facts,
-    number: usize,
-    last: Option<usize>,
-) -> Option<usize>
-    requires once { IsOnce numbers.now }
-    requires there { HasNames numbers.now facts.now.references }
-    ensures { NumbersAt numbers.now numbers.now facts.now.references number result }
-{
-    let Some(reference) = facts.reference(number) else {
-        return None;
-    };
-    match reference.class_name() {
-        Some(name) => find_near(numbers, last, name),
-        None => None,
-    }
-}
-
-/// The number of a name, if it has one. `near` is a number that the name is likely to have: it is looked at first.
-fn find_near(numbers: &Numbers, near: Option<usize>, name: &[u8]) -> Option<usize>
-    ensures some { IfSome result (λ i. (i < length numbers.now) × (name_at numbers.now i ≡ name.now)) }
-    ensures none { result ≡ None → (i : ℕ) → i < length numbers.now → name_at numbers.now i ≡ name.now → ⊥ }
-{
-    if let Some(node) = near {
-        if node < numbers.len() && numbers.name(node) == name {
-            return Some(node);
-        }
-    }
-    numbers.find(name)
 }

@@ -8,7 +8,8 @@ use Rattle.std.specs.FinMap as fin
 use Rattle.std.specs.FinMap.Entries.{find}
 use Rattle.jc_classes.specs.Facts.{Facts}
 use Rattle.jc_classes.specs.Names.{Name, name_cmp, same_name, object}
-use Rattle.jc_classes.specs.Worlds.{supers_of}
+use Rattle.jc_classes.specs.Parts.{names_in}
+use Rattle.jc_classes.specs.Worlds.{Stands, references_of, supers_of}
 use Rattle.jc_classes.specs.BuiltIn.{object_facts}
 use Rattle.jc_link.specs.Prefixes.{is_covered}
 use Rattle.jc_link.specs.Tables.{Places, placed, or_built_in, stands_by, world}
@@ -24,15 +25,19 @@ abbrev pub asked : List Name → ℕ → Name → Bool
 asked names zero n = false
 asked names (suc k) n = same_name n (name_at names k) || asked names k n
 
--- how many supertypes the class at a place has
-abbrev supers_count : Option Facts → ℕ
-supers_count None = 0
-supers_count (Some r) = length (supers_of (stands.Class r))
+-- how many names what stands somewhere tells: its supertypes, and the classes that its references name
+abbrev pub told_by : Stands → ℕ
+told_by s = length (supers_of s) + length (names_in (references_of s))
 
--- the supertypes of the classes that were not asked for
+-- how many the class at a place tells
+abbrev pub told_count : Option Facts → ℕ
+told_count None = 0
+told_count (Some r) = told_by (stands.Class r)
+
+-- what the classes tell that were not asked for
 pub weight : (Name → Bool) → List (Name × Option Facts) → ℕ
 weight seen [] = 0
-weight seen (e ∷ es) = cond (seen e.0) 0 (supers_count e.1) + weight seen es
+weight seen (e ∷ es) = cond (seen e.0) 0 (told_count e.1) + weight seen es
 
 abbrev pub left : Places → List Name → ℕ → ℕ
 left t names at = weight (asked names at) (fin.entries t) + (length names - at)
@@ -47,15 +52,15 @@ weight_less : (seen more : Name → Bool) → ((n : Name) → seen n ≡ true �
 unfolding weight
 weight_less seen more f [] = omega arith
 weight_less seen more f (e ∷ es) =
-    let a = cond_less (seen e.0) (more e.0) (supers_count e.1) (f e.0) in
+    let a = cond_less (seen e.0) (more e.0) (told_count e.1) (f e.0) in
     let b = weight_less seen more f es in
     omega arith
 
-abbrev found_supers : Option (Option Facts) → ℕ
-found_supers None = 0
-found_supers (Some o) = supers_count o
+abbrev found_told : Option (Option Facts) → ℕ
+found_told None = 0
+found_told (Some o) = told_count o
 
-weight_found : (seen more : Name → Bool) (x : Name) → ((n : Name) → more n ≡ (same_name n x || seen n)) → seen x ≡ false → (es : List (Name × Option Facts)) → weight more es + found_supers (find name_cmp x es) ≤ weight seen es
+weight_found : (seen more : Name → Bool) (x : Name) → ((n : Name) → more n ≡ (same_name n x || seen n)) → seen x ≡ false → (es : List (Name × Option Facts)) → weight more es + found_told (find name_cmp x es) ≤ weight seen es
 unfolding weight
 weight_found seen more x f none [] = omega arith
 weight_found seen more x f none (e ∷ es) =
@@ -63,29 +68,29 @@ weight_found seen more x f none (e ∷ es) =
     let grows : (n : Name) → seen n ≡ true → more n ≡ true = λ n h. f n ∙ ap (λ b. same_name n x || b) h ∙ or_true (same_name n x) in
     let rest = weight_found seen more x f none es in
     let less = weight_less seen more grows es in
-    elim (same_name x e.0) as (λ b. same_name x e.0 ≡ b → cond (more e.0) 0 (supers_count e.1) + weight more es + found_supers (cond b (Some e.1) (find name_cmp x es)) ≤ cond (seen e.0) 0 (supers_count e.1) + weight seen es) [
+    elim (same_name x e.0) as (λ b. same_name x e.0 ≡ b → cond (more e.0) 0 (told_count e.1) + weight more es + found_told (cond b (Some e.1) (find name_cmp x es)) ≤ cond (seen e.0) 0 (told_count e.1) + weight seen es) [
       | true ↦ λ t.
           let now_seen : more e.0 ≡ true = f e.0 ∙ ap (λ b. b || seen e.0) (laws.symm e.0 x ∙ t) in
           let not_seen : seen e.0 ≡ false = ap seen (sym (same_is x e.0 t)) ∙ none in
-          let p = ap (λ b. cond b 0 (supers_count e.1)) now_seen in
-          let q = ap (λ b. cond b 0 (supers_count e.1)) not_seen in
+          let p = ap (λ b. cond b 0 (told_count e.1)) now_seen in
+          let q = ap (λ b. cond b 0 (told_count e.1)) not_seen in
           omega arith
       | false ↦ λ t.
           let same : more e.0 ≡ seen e.0 = f e.0 ∙ ap (λ b. b || seen e.0) (laws.symm e.0 x ∙ t) in
-          let p = ap (λ b. cond b 0 (supers_count e.1)) same in
+          let p = ap (λ b. cond b 0 (told_count e.1)) same in
           omega arith
     ] refl
 
--- the built-in class has none
-built_in_supers : (s b : Bool) → length (supers_of (stands_by (cond s (Some object_facts) None) b)) ≡ 0
-built_in_supers true b = refl
-built_in_supers false true = refl
-built_in_supers false false = refl
+-- the built-in class tells none
+built_in_tells : (s b : Bool) → told_by (stands_by (cond s (Some object_facts) None) b) ≡ 0
+built_in_tells true b = refl
+built_in_tells false true = refl
+built_in_tells false false = refl
 
-supers_by : (o : Option (Option Facts)) (n : Name) (b : Bool) → length (supers_of (stands_by (or_built_in (placed o) n) b)) ≡ found_supers o
-supers_by (Some (Some r)) n b = refl
-supers_by (Some None) n b = built_in_supers (same_name n object) b
-supers_by None n b = built_in_supers (same_name n object) b
+tells_by : (o : Option (Option Facts)) (n : Name) (b : Bool) → told_by (stands_by (or_built_in (placed o) n) b) ≡ found_told o
+tells_by (Some (Some r)) n b = refl
+tells_by (Some None) n b = built_in_tells (same_name n object) b
+tells_by None n b = built_in_tells (same_name n object) b
 
 -- the name at a place is none of those before it
 not_asked : (names : List Name) (at k : ℕ) → IsOnce names → at < length names → k ≤ at → asked names k (name_at names at) ≡ false
@@ -105,14 +110,14 @@ same_asked old new (suc k) h l n =
 
 -- a name that is asked for adds no more than it takes away
 pub left_less : (t : Places) (ps old new : List Name) (at next : ℕ) → IsOnce old → at < length old → next ≡ at + 1 → length old ≤ length new → ((i : ℕ) → i < length old → name_at new i ≡ name_at old i)
-    → length new ≤ length old + length (supers_of (world t ps (name_at old at))) → left t new next < left t old at
+    → length new ≤ length old + told_by (world t ps (name_at old at)) → left t new next < left t old at
 left_less t ps old new at next once l e longer same few =
     let x = name_at old at in
     let f : (n : Name) → asked new (suc at) n ≡ (same_name n x || asked old at n) =
     λ n. ap (λ z. same_name n z || asked new at n) (same at l) ∙ ap (λ b. same_name n x || b) (same_asked old new at same (omega arith) n) in
     let w = weight_found (asked old at) (asked new (suc at)) x f (not_asked old at at once l (omega arith)) (fin.entries t) in
-    let s = supers_by (fin.get t x) x (is_covered ps x) in
-    let g = ap found_supers (fin.get-entries t x) in
+    let s = tells_by (fin.get t x) x (is_covered ps x) in
+    let g = ap found_told (fin.get-entries t x) in
     let q : next ≡ suc at = omega arith in
     let v = ap (λ k. weight (asked new k) (fin.entries t)) q in
     omega arith

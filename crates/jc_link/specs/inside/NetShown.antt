@@ -1,37 +1,39 @@
 -- A net by its fields.
-use Rattle.std.specs.Prelude.{◌≡◌, ◌<◌, ◌≤◌, ℕ, List, length}
+use Rattle.std.specs.Prelude.{◌≡◌, ◌<◌, ◌≤◌, ℕ, List, [], length, map, Option, Some, slice_index_or}
 use Rattle.std.specs.List.{Contains}
-use Rattle.jc_classes.specs.Facts.{Facts, Reference}
+use Rattle.std.specs.declared.vec.Vec.{Vec}
+use Rattle.std.specs.declared.alloc.Global.{Global}
+use Rattle.jc_classes.specs.Facts.{Facts}
 use Rattle.jc_classes.specs.Names.{Name}
 use Rattle.jc_classes.specs.Numbers.{name_at}
-use Rattle.jc_classes.specs.Parts.{names_in}
-use Rattle.jc_classes.specs.Worlds.{references_of}
+use Rattle.jc_classes.specs.Worlds.{Stands, references_of}
 use Rattle.jc_resolve.specs.Numbered.{Numbered}
 use Rattle.jc_link.specs.Nets.{Net}
-use Rattle.jc_link.specs.inside.Gathering.{IsNet, rows_in, stand_at, stands_in}
-use Rattle.jc_link.specs.declared.net.Net.TheInside as inside
+use Rattle.jc_link.specs.inside.Gathering.{IsNet, NumberReferences, rows_in, stand_at, stands_in}
+use Rattle.jc_link.specs.declared.net.Net.TheInside.{Inside}
 
-abbrev pub net_shown : inside.Inside → Net
+abbrev pub net_shown : Inside → Net
 net_shown a = record { names = a.numbers; stands = stands_in a.standing.items }
 
--- the classes that these references name have numbers
-abbrev pub HasNames : List Name → List Reference → Type 0
-HasNames names references = (n : Name) → Contains (names_in references) n → Contains names n
+abbrev pub nodes_in : List (Vec (Option ℕ) Global) → List (List (Option ℕ))
+nodes_in rows = map (λ (v : Vec (Option ℕ) Global). v.items) rows
 
--- so of what stands at each name
-abbrev pub HasAllNames : Net → Type 0
-HasAllNames n = (i : ℕ) → i < length n.names → HasNames n.names (references_of (stand_at n.stands i))
+abbrev pub nodes_at : List (List (Option ℕ)) → ℕ → List (Option ℕ)
+nodes_at rows i = slice_index_or rows i []
 
-pub record IsWhole (a : inside.Inside) : Type 0 where
+-- of what stands at each of the first names, the numbers of the classes that its references name
+pub record AreReferred (names : List Name) (stands : List Stands) (rows : List (List (Option ℕ))) : Type 0 where
+  pub size : length rows ≡ length stands
+  pub named : (i : ℕ) → i < length stands → NumberReferences names (nodes_at rows i) (references_of (stand_at stands i))
+  pub within : (i v : ℕ) → i < length stands → Contains (nodes_at rows i) (Some v) → v < length names
+
+pub record IsWhole (a : Inside) : Type 0 where
   pub net : IsNet a.numbers (stands_in a.standing.items) (rows_in a.supertypes.items) a.object
-  pub references : HasAllNames (net_shown a)
+  pub referred : AreReferred a.numbers (stands_in a.standing.items) (nodes_in a.references.items)
 
--- the names of a class, and of those that it refers to, have numbers
-abbrev pub IsNumbered : List Name → Facts → Type 0
-IsNumbered names f = Contains names f.name × HasNames names f.references
-
+-- the names of these classes have numbers
 abbrev pub AreNumbered : List Name → List Facts → Type 0
-AreNumbered names classes = (f : Facts) → Contains classes f → IsNumbered names f
+AreNumbered names classes = (f : Facts) → Contains classes f → Contains names f.name
 
 -- names were added behind those that were there
 pub record AreKept (old new : List Name) : Type 0 where

@@ -1,6 +1,6 @@
 use Rattle.std.proofs.Common.{◌≡◌, ◌<◌, ◌≤◌, ◌+◌, ◌++◌, ◌∷◌, [], length, sym, ap, subst, ◌∙◌, arith, length-append}
 use Rattle.std.proofs.lemmas.List.{length-map}
-use Rattle.jc_classes.specs.Worlds.{supers_of, references_of}
+use Rattle.jc_classes.specs.Worlds.{references_of}
 use Rattle.jc_classes.specs.Lent.{stands_of}
 use Rattle.jc_link.specs.Meters.{counted}
 use Rattle.jc_link.specs.Tables.{world}
@@ -8,7 +8,7 @@ use Rattle.jc_classes.specs.Numbers.{name_at, Grows}
 use Rattle.jc_link.specs.inside.Gathering.{stands_in, rows_in, Nodes}
 use Rattle.jc_link.proofs.meters.Counting.{counted_add}
 use Rattle.jc_link.proofs.reaches.Gathered.{gathering_add, gathering_first, gathering_as}
-use Rattle.jc_link.proofs.reaches.Weights.{left_less}
+use Rattle.jc_link.proofs.reaches.Weights.{left_less, told_by}
 use Rattle.jc_link.proofs.gathering.number_reach.Goals as goal
 
 pub loop-alloc-init : goal.loop-alloc-init
@@ -80,7 +80,7 @@ loop-alloc-smaller c =
     let e = c.in_ok-push-2.ensures in
     let next : length (stands_in c.push-in-loop-alloc.new.self.standing.items) ≡ length st + 1 = ap length e.stands_more ∙ length-append st (o ∷ []) in
     let grows = e.numbered.grows in
-    let few : length ns2 ≤ length ns + length (supers_of (m (name_at ns (length st)))) = subst (λ z. length ns2 ≤ length ns + length (supers_of z)) is grows.few in
+    let few : length ns2 ≤ length ns + told_by (m (name_at ns (length st))) = subst (λ z. length ns2 ≤ length ns + told_by z) is (omega (arith, grows.few)) in
     left_less t ps ns ns2 (length st) _ c.loop-alloc.invariant.gathering.asked.once less next grows.longer grows.same few
 
 pub returns-clause-whole : goal.returns-clause-whole

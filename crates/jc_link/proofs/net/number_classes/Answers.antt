@@ -1,10 +1,8 @@
-use Rattle.std.proofs.Common.{◌∙◌, [], inl, sym, subst}
+use Rattle.std.proofs.Common.{◌∙◌, ◌∷◌, [], List, inl, sym, subst}
 use Rattle.std.specs.List.{Contains}
 use Rattle.jc_classes.specs.Facts.{Facts}
 use Rattle.jc_classes.specs.Names.{Name}
 use Rattle.jc_classes.specs.Numbers.{Grows}
-use Rattle.jc_classes.specs.Parts.{names_in}
-use Rattle.std.proofs.Common.{List, ◌∷◌}
 use Rattle.jc_link.specs.Tables.{classes_of}
 use Rattle.jc_link.proofs.nets.ClassesNumbered.{all_numbered, kept_all, kept_by_growth, one_numbered}
 use Rattle.jc_link.proofs.net.number_classes.Goals as goal
@@ -22,14 +20,13 @@ pub loop-facts-preserved : goal.loop-facts-preserved
 loop-facts-preserved c =
     let a = c.loop-facts.numbers in
     let b = c.number.new.self in
-    let d = c.number_references.new.numbers in
     let x = c.in-Some.facts.now in
     let first = c.in_ok-number.ensures in
-    let more = c.in_ok-number_references.ensures in
+    let grows = subst (λ (n : Name). Grows a b (n ∷ [])) c.name.ensures first.grows in
     record {
-      once = more.grows.once;
-      kept = kept_by_growth c.args.numbers.now b d (names_in x.references) (kept_by_growth c.args.numbers.now a b _ c.loop-facts.invariant.kept first.grows) more.grows;
-      numbered = one_numbered (classes_of c.args.table.now) c.loop-facts.facts-iterator c.next.new.self x a b d _ _ c.loop-facts.invariant.numbered c.in-Some.ensures.steps (subst (λ (n : Name). Grows a b (n ∷ [])) c.name.ensures first.grows) (first.node.0, first.node.1 ∙ c.name.ensures) more;
+      once = grows.once;
+      kept = kept_by_growth c.args.numbers.now a b (x.name ∷ []) c.loop-facts.invariant.kept grows;
+      numbered = one_numbered (classes_of c.args.table.now) c.loop-facts.facts-iterator c.next.new.self x a b _ c.loop-facts.invariant.numbered c.in-Some.ensures.steps grows (first.node.0, first.node.1 ∙ c.name.ensures);
     }
 
 pub returns-clause-numbered : goal.returns-clause-numbered

@@ -1,27 +1,17 @@
-use Rattle.std.proofs.Common.{◌≡◌, ◌∙◌, ◌<◌, Some, length, arith, refl, sym, ap, subst}
+use Rattle.std.proofs.Common.{◌≡◌, ◌∙◌, ◌<◌, ℕ, Option, [], Some, length, arith, refl, sym, ap, subst}
 use Rattle.std.proofs.lemmas.List.{get_or-map, length-map}
 use Rattle.std.specs.List.{Contains}
+use Rattle.std.specs.declared.vec.Vec.{Vec}
+use Rattle.std.specs.declared.alloc.Global.{Global}
 use Rattle.jc_classes.specs.Lent.{stands_of}
-use Rattle.jc_classes.specs.Worlds.{Stands, format_faults_of, code_faults_of, references_of}
+use Rattle.jc_classes.specs.Worlds.{format_faults_of, code_faults_of, references_of}
 use Rattle.jc_classes.specs.Worlds.Stands.{Nothing}
 use Rattle.jc_resolve.specs.Numbered.{Numbered}
 use Rattle.jc_link.specs.Nets.{IsIn, Net}
 use Rattle.jc_link.specs.inside.Gathering.{NumberReferences, stand_at, stands_in}
-use Rattle.jc_link.specs.inside.NetShown.{HasNames}
+use Rattle.jc_link.specs.inside.NetShown.{nodes_at, nodes_in}
 use Rattle.jc_link.proofs.parted.Making.{part_made}
 use Rattle.jc_link.proofs.net.part_at.Goals as goal
-
-pub find_references-requires-clause-there : goal.find_references-requires-clause-there
-find_references-requires-clause-there c =
-    let a = c.net.inside in
-    let class = c.in-Some.class in
-    let some = c.in-Some.ensures.some in
-    let within : class < length a.standing.items = omega (arith, some.0, c.net.invariant.net.all_stand, length-map a.standing.items stands_of) in
-    let own : stands_of c.index-own.result.now ≡ stand_at (stands_in a.standing.items) class = ap stands_of c.index-own.ensures ∙ sym (get_or-map stands_of a.standing.items class _ Nothing within) in
-    subst (λ (s : Stands). HasNames a.numbers (references_of s)) (sym own) (c.net.invariant.references class some.0)
-
-pub find_references-requires-clause-once : goal.find_references-requires-clause-once
-find_references-requires-clause-once c = c.net.invariant.net.once
 
 pub part_of-requires-clause-class : goal.part_of-requires-clause-class
 part_of-requires-clause-class c =
@@ -36,14 +26,24 @@ part_of-requires-clause-nodes c =
     let within : class < length a.standing.items = omega (arith, some.0, c.net.invariant.net.all_stand, length-map a.standing.items stands_of) in
     let own : stands_of c.index-own.result.now ≡ stand_at (stands_in a.standing.items) class = ap stands_of c.index-own.ensures ∙ sym (get_or-map stands_of a.standing.items class _ Nothing within) in
     let is = c.requires.hierarchy.is ∙ ap (λ (n : Net). record { names = n.names; records = n.stands; supertypes = c.requires.hierarchy.rows }) (sym c.net.view_is) in
-    let nodes = subst (λ z. NumberReferences a.numbers z (references_of (stands_of c.index-own.result.now))) (sym c.as_slice.ensures.value) c.in_ok-references.ensures.named in
-    let here = subst (λ (s : Stands). NumberReferences a.numbers c.as_slice.result.now (references_of s)) own nodes in
-    subst (λ (h : Numbered). NumberReferences h.names c.as_slice.result.now (references_of (stand_at h.records class))) (sym is) here
+    let rows = a.references.items in
+    let held : class < length rows = omega (arith, some.0, c.net.invariant.net.all_stand, c.net.invariant.referred.size, length-map rows (λ (v : Vec (Option ℕ) Global). v.items)) in
+    let at : c.as_slice-references.result.now ≡ nodes_at (nodes_in rows) class =
+    c.as_slice-references.ensures.value ∙ ap (λ (v : Vec (Option ℕ) Global). v.items) c.index.ensures ∙ sym (get_or-map (λ (v : Vec (Option ℕ) Global). v.items) rows class _ [] held) in
+    let here = subst (λ z. NumberReferences a.numbers z (references_of (stand_at (stands_in a.standing.items) class))) (sym at) (c.net.invariant.referred.named class (omega (arith, some.0, c.net.invariant.net.all_stand))) in
+    subst (λ (h : Numbered). NumberReferences h.names c.as_slice-references.result.now (references_of (stand_at h.records class))) (sym is) here
 
 pub part_of-requires-clause-within : goal.part_of-requires-clause-within
 part_of-requires-clause-within c = λ v h.
     let names : length c.args.hierarchy.now.names ≡ length c.net.inside.numbers = ap (λ (z : Numbered). length z.names) c.requires.hierarchy.is ∙ ap (λ (n : Net). length n.names) (sym c.net.view_is) in
-    let l = c.in_ok-references.ensures.within v (subst (λ z. Contains z (Some v)) c.as_slice.ensures.value h) in
+    let a = c.net.inside in
+    let class = c.in-Some.class in
+    let some = c.in-Some.ensures.some in
+    let rows = a.references.items in
+    let held : class < length rows = omega (arith, some.0, c.net.invariant.net.all_stand, c.net.invariant.referred.size, length-map rows (λ (v : Vec (Option ℕ) Global). v.items)) in
+    let at : c.as_slice-references.result.now ≡ nodes_at (nodes_in rows) class =
+    c.as_slice-references.ensures.value ∙ ap (λ (v : Vec (Option ℕ) Global). v.items) c.index.ensures ∙ sym (get_or-map (λ (v : Vec (Option ℕ) Global). v.items) rows class _ [] held) in
+    let l = c.net.invariant.referred.within c.in-Some.class v (omega (arith, c.in-Some.ensures.some.0, c.net.invariant.net.all_stand)) (subst (λ z. Contains z (Some v)) at h) in
     omega (arith, l, names)
 
 pub returns-clause-part : goal.returns-clause-part
