@@ -191,13 +191,33 @@ def below_a_chain(length):
 
 
 def references_below_a_chain():
-    """The chain is no longer, since each of its classes reaches all above it, which costs the square of its length."""
-    return below_a_chain(4000)
+    return below_a_chain(60000)
 
 
 def references_below_a_shorter_chain():
     """As long as a session may hold it: that keeps what each class reaches, and makes anew what is below a class that comes."""
     return below_a_chain(1000)
+
+
+def references_to_the_first_of_a_chain():
+    """Each class of a chain reaches all above it."""
+    files = {}
+    for number in range(65535):
+        pool = Pool()
+        pool.reference(10, b"C0", b"m", b"()V")
+        files[f"{number}.class"] = class_file(pool, b"C%d" % number, parent=b"C%d" % (number - 1) if number else OBJECT)
+    return files
+
+
+def members_below_a_chain():
+    """Each reference of a class is to a method of its own, and is looked for in all of a chain of superclasses."""
+    pool = Pool()
+    pool.of_class(b"U"), pool.of_class(OBJECT)
+    number = 0
+    while pool.room() > 8:
+        pool.reference(10, b"C9999", b"m%d" % number, b"()V")
+        number += 1
+    return {**below_a_chain(10000), "U.class": class_file(pool, b"U")}
 
 
 def few_references_each_below_a_chain():
@@ -352,7 +372,8 @@ def format_faults():
 
 KINDS = [methods_of_one_name, few_methods_of_one_name, fields_and_references, references_to_one_member, constants_of_one_missing_class, calls_of_method_handles,
          provided_by_a_long_name, an_interface_many_times, an_interface_by_many_constants, references_below_a_chain,
-         references_below_a_shorter_chain, few_references_each_below_a_chain, references_below_interfaces,
+         references_below_a_shorter_chain, references_to_the_first_of_a_chain, members_below_a_chain,
+         few_references_each_below_a_chain, references_below_interfaces,
          interfaces_that_give_one_method, packages_of_long_names, members_of_a_long_missing_name, one_signature, one_descriptor, one_array_type,
          one_array_type_and_a_fault, one_interface_method, instructions_that_do_not_link,
          many_methods_of_few_instructions, code_faults, handlers, format_faults]

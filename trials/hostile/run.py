@@ -29,7 +29,7 @@ READ = 1 << 30
 # So much memory a run may ask for at most, lest the machine ends it.
 ROOM = 12 << 30
 # A session keeps the reach of each class, of a chain half the square of its length. A shorter one is a kind of its own.
-NO_SESSION = {"references_below_a_chain"}
+NO_SESSION = {"references_below_a_chain", "references_to_the_first_of_a_chain", "members_below_a_chain"}
 
 
 def read_from(pipe):
