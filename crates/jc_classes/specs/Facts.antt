@@ -36,6 +36,11 @@ AreAlike rs a b =
     (r s : Reference) → slice_get rs a ≡ Some r → slice_get rs b ≡ Some s
     → (r.kind ≡ s.kind) × (r.named ≡ s.named) × (r.key ≡ s.key)
 
+-- of two references, by their numbers, the one is before the other and names the same class
+abbrev pub IsNamedBefore : List Reference → ℕ → ℕ → Type 0
+IsNamedBefore rs number k =
+    (k < number) × ((r s : Reference) → slice_get rs k ≡ Some r → slice_get rs number ≡ Some s → r.named ≡ s.named)
+
 -- all numbers below a count and no others, in some order; one may stand several times
 pub record AreNumbers (count : ℕ) (numbers : List ℕ) : Type 0 where
   pub within : All (λ n. n < count) numbers

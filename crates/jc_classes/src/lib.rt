@@ -11,6 +11,7 @@ mod linkage_error;
 mod member;
 mod member_lookup;
 mod member_order;
+mod named_before;
 mod names;
 mod numbers;
 mod once;

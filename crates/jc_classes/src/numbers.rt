@@ -96,25 +96,6 @@ impl Numbers {
         Err(NoMemory)
     }
 
-    /// The number of a name, as `number` gives it. `near` is a number that the name is likely to have: it is
-    /// looked at first.
-    pub fn number_near(
-        &mut self,
-        alloc: Global,
-        near: Option<usize>,
-        name: &[u8],
-    ) -> Result<usize, NoMemory>
-        ensures node { IfOk result (λ i. (i < length self.new) × (name_at self.new i ≡ name.now)) }
-        ensures grows { OnOk result (Grows self.old self.new (name.now ∷ [])) }
-    {
-        if let Some(node) = near {
-            if node < self.names.len() && self.name(node) == name {
-                return Ok(node);
-            }
-        }
-        self.number(alloc, name)
-    }
-
     /// Adds the number of a name to a row.
     pub fn number_into(
         &mut self,

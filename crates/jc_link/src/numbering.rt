@@ -114,23 +114,24 @@ fn number_references_of(
     ensures { IfOk result (λ nodes. Nodes numbers.old [] numbers.new nodes.items facts.now.references) }
 {
     let count = facts.reference_count();
+    let before = facts.named_before(alloc)?;
     let mut nodes = Vec::with_capacity(alloc, count)?;
-    let mut last = None;
     for number in 0..count {
-        last = number_reference(alloc, numbers, facts, number, last)?;
-        nodes.push(last)?;
+        let node = match before[number] {
+            Some(earlier) => nodes[earlier],
+            None => number_reference(alloc, numbers, facts, number)?,
+        };
+        nodes.push(node)?;
     }
     Ok(nodes)
 }
 
-/// The number of the class that a reference names, or of an array the innermost one, if there is one. It
-/// is often that of the reference before.
+/// The number of the class that a reference names, or of an array the innermost one, if there is one.
 fn number_reference(
     alloc: Global,
     numbers: &mut Numbers,
     facts: &Facts,
     number: usize,
-    last: Option<usize>,
 ) -> Result<Option<usize>, NoMemory>
     requires { IsOnce numbers.old }
     ensures { IfOk result (NumbersAt numbers.old numbers.new facts.now.references number) }
@@ -140,7 +141,7 @@ fn number_reference(
     };
     match reference.class_name() {
         Some(name) => {
-            let node = numbers.number_near(alloc, last, name)?;
+            let node = numbers.number(alloc, name)?;
             Ok(Some(node))
         }
         None => Ok(None),

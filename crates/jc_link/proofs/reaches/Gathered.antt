@@ -1,10 +1,11 @@
 -- The loop that gathers a reach.
-use Rattle.std.proofs.Common.{◌≡◌, ℕ, ◌+◌, ◌<◌, ◌≤◌, List, [], ◌∷◌, ◌++◌, map, length, option_map, Option, Some, None, refl, sym, ap, subst, ◌∙◌, arith, ◌⊎◌, inl, inr, ⊎_elim, zero, append_assoc, length-append}
-use Rattle.std.proofs.lemmas.List.{map-append, get_or_push, get_or_append_left, get_or_past, get_or_default}
-use Rattle.std.proofs.lemmas.List.Elements.{Contains-append_right, Contains-append_cases, Contains-get_or}
+use Rattle.std.proofs.Common.{get_or, slice_get, suc, take, ◌≡◌, ℕ, ◌+◌, ◌<◌, ◌≤◌, List, [], ◌∷◌, ◌++◌, map, length, option_map, Option, Some, None, refl, sym, ap, subst, ◌∙◌, arith, ◌⊎◌, inl, inr, ⊎_elim, zero, append_assoc, length-append}
+use Rattle.std.proofs.lemmas.Option.{slice_get_within, slice_get-get_or}
+use Rattle.std.proofs.lemmas.List.{get_or-map, get_or-take, length-map, length-take-le, map-append, get_or_push, get_or_append_left, get_or_past, get_or_default}
+use Rattle.std.proofs.lemmas.List.Elements.{Contains-append_left, Contains-append_right, Contains-append_cases, Contains-get_or}
 use Rattle.std.specs.List.{Contains, All}
 use Rattle.std.specs.Option.{option_to_list}
-use Rattle.jc_classes.specs.Facts.{Reference}
+use Rattle.jc_classes.specs.Facts.{IsNamedBefore, Reference}
 use Rattle.jc_classes.specs.Facts.Named.{Class}
 use Rattle.jc_classes.specs.declared.reference_kind.ReferenceKind.TheVariants as kind
 use Rattle.jc_classes.specs.Names.{Name, object}
@@ -51,6 +52,53 @@ refs_more a b c r s node xs y g h =
           ∙ ap (λ z. (map (option_map (name_at a)) r ++ map (λ (q : Reference). class_of q.named) xs) ++ z) h.named
           ∙ append_assoc (map (option_map (name_at a)) r) (map (λ (q : Reference). class_of q.named) xs) (class_of y.named ∷ [])
           ∙ ap (λ z. map (option_map (name_at a)) r ++ z) (sym (map-append (λ (q : Reference). class_of q.named) xs (y ∷ [])));
+    }
+
+grows_wider : (a b xs ys : List Name) → Grows a b xs → Grows a b (xs ++ ys)
+grows_wider a b xs ys g = record {
+  once = g.once;
+  longer = g.longer;
+  few = omega (arith, g.few, length-append xs ys);
+  same = g.same;
+  only = λ i l m. Contains-append_left xs ys (name_at b i) (g.only i l m);
+}
+
+one_of : (x y : Option ℕ) → Contains (x ∷ []) y → x ≡ y
+one_of x y (zero, l, e) = e
+one_of x y (suc i, l, e) = absurd (omega (arith, l))
+
+-- there is a node for each
+pub nodes_count : (a b : List Name) (s : List (Option ℕ)) (xs : List Reference) → Nodes a [] b s xs → length s ≡ length xs
+nodes_count a b s xs g =
+    sym (length-map s (option_map (name_at b))) ∙ ap length g.named ∙ length-map xs (λ (q : Reference). class_of q.named)
+
+-- one that names the class of an earlier one has its node
+pub refs_again : (a b : List Name) (s : List (Option ℕ)) (rs : List Reference) (number k : ℕ) (node : Option ℕ) (x : Reference)
+    → Nodes a [] b s (take number rs) → length s ≡ number → IsNamedBefore rs number k → slice_get rs number ≡ Some x → node ≡ get_or s k node
+    → Nodes a [] b (s ++ node ∷ []) (take number rs ++ x ∷ [])
+refs_again a b s rs number k node x g size before at is =
+    let less : k < length s = omega (arith, before.0, size) in
+    let within : number < length rs = slice_get_within rs number x at in
+    let there : k < length rs = omega (arith, before.0, within) in
+    let y = get_or rs k x in
+    let at_k : slice_get rs k ≡ Some y = slice_get-get_or rs k x there in
+    let named : class_of y.named ≡ class_of x.named = ap class_of (before.1 y x at_k at) in
+    let first : get_or (take number rs) k x ≡ y = get_or-take number rs k x before.0 in
+    let size_of : length (take number rs) ≡ number = length-take-le number rs (omega (arith, within)) in
+    let same : option_map (name_at b) node ≡ class_of x.named =
+    ap (option_map (name_at b)) is
+    ∙ sym (get_or-map (option_map (name_at b)) s k node (option_map (name_at b) node) less)
+    ∙ ap (λ l. get_or l k (option_map (name_at b) node)) g.named
+    ∙ get_or-map (λ (q : Reference). class_of q.named) (take number rs) k x (option_map (name_at b) node) (omega (arith, before.0, size_of))
+    ∙ ap (λ (q : Reference). class_of q.named) first
+    ∙ named in
+    record {
+      grows = subst (Grows a b) (sym (names_in-append (take number rs) (x ∷ []))) (grows_wider a b (names_in (take number rs)) (names_in (x ∷ [])) g.grows);
+      within = λ v i. ⊎_elim (λ j. g.within v j) (λ j. g.within v (subst (Contains s) (one_of node (Some v) j) (k, less, sym is))) (Contains-append_cases s (node ∷ []) (Some v) i);
+      named = map-append (option_map (name_at b)) s (node ∷ [])
+          ∙ ap (λ z. z ++ option_map (name_at b) node ∷ []) g.named
+          ∙ ap (λ z. map (λ (q : Reference). class_of q.named) (take number rs) ++ z ∷ []) same
+          ∙ sym (map-append (λ (q : Reference). class_of q.named) (take number rs) (x ∷ []));
     }
 
 -- ---- places
