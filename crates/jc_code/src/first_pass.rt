@@ -43,13 +43,12 @@ pub(crate) fn first_pass<'a>(
     ensures uses { OnOk result (uses.new.items ≡ uses.old.items ++ uses_among method (insns_of code.now)) }
     ensures names { OnOk result (names.new.items ≡ names.old.items ++ named_by_insns (insns_of code.now)) }
 {
-    let mut marks = Vec::with_capacity(alloc, code.len())?;
+    let mut marks = vec![in alloc; false; code.len()]?;
     let mut jumps = Vec::new(alloc);
     let mut is_kept = true;
     let mut insns = Insns::new(code);
     while let Some((place, insn)) = insns.next() {
-        marks.resize(place as usize, false)?;
-        marks.push(true)?;
+        marks[place as usize] = true;
         push_use(uses, method, place as u16, &insn)?;
         push_named(names, &insn)?;
         let keeps = look(scope, insn, &mut jumps)?;

@@ -1,28 +1,25 @@
-use Rattle.std.proofs.Common.{◌≡◌, ◌+◌, ◌++◌, ◌∷◌, ◌-◌, [], ◌∙◌, ◌&&◌, ap, sym, subst, refl, false, length, map, append-nil, append_assoc, replicate, arith, take}
+use Rattle.std.proofs.Common.{◌≡◌, ◌++◌, ◌∷◌, [], ◌∙◌, ◌&&◌, ap, sym, subst, refl, false, length, map, append-nil, append_assoc, replicate, arith}
 use Rattle.std.specs.Option.{option_to_list}
-use Rattle.std.specs.Prelude.{if◌then◌else◌, is_ok, vec_len}
-use Rattle.std.proofs.lemmas.List.{take_all}
-use Rattle.jc_view.proofs.places.RisingLists.{RisesBy, rises_bounds}
 use Rattle.jc_code.specs.Insns.{IsCode}
 use Rattle.jc_code.specs.inside.Clean.{has_targets, jumps_of, others_keep}
 use Rattle.jc_code.specs.inside.Marks.{marked}
 use Rattle.jc_code.proofs.clean_code.Passed.{and_true, jumps_more, keep_more}
-use Rattle.jc_code.proofs.marks.Marked.{has_marked}
+use Rattle.jc_code.proofs.marks.Marked.{has_marked, marked_none, marks_long, none_marked, place_within}
 use Rattle.jc_code.specs.InsnsLeft.{InsnsLeft}
 use Rattle.jc_code.specs.MethodUses.{use_at, uses_among}
 use Rattle.jc_code.specs.NamedConstants.{named_by_insn, named_by_insns}
-use Rattle.jc_code.proofs.orders.InsnPlaces.{items_end, items_rise}
 use Rattle.jc_code.proofs.first_pass.first_pass.Goals as goal
 
 pub loop-place-init : goal.loop-place-init
 loop-place-init c =
-    let none = c.in_ok-marks.ensures.items in
+    let code = c.args.code.now in
+    let none : c.in_ok-marks.marks.items ≡ replicate (length code) false = c.in_ok-marks.ensures.items_if_clones_equal (λ y e. e) in
     let no_jumps = c.new-jumps.ensures.items in
-    rw (none, no_jumps)
+    rw no_jumps
     (record {
       end = refl;
-      all = refl;
-      rises = items_rise c.args.code.now 0 c.new-insns.result.end c.new-insns.result.left c.new-insns.ensures.code;
+      all = ap (λ starts. starts ++ map (λ item. item.0) c.new-insns.result.left) (marked_none (length code) none);
+      marks = none_marked code c.new-insns.result.left c.new-insns.ensures.code none;
       jumps = refl;
       keep = refl;
       uses = refl;
@@ -31,23 +28,19 @@ loop-place-init c =
 
 pub overflow_cast-place-in-Some : goal.overflow_cast-place-in-Some
 overflow_cast-place-in-Some c =
-    let rises = subst (λ items. RisesBy (λ item. item.0) (length c.loop-place.marks.items) c.new-insns.result.end items) c.in-Some.ensures.steps.1.0 c.loop-place.invariant.rises in
-    let last = rises_bounds (λ item. item.0) (c.in-Some.place + 1) c.new-insns.result.end c.next.new.self.left rises.1 in
-    let end = items_end c.args.code.now 0 c.new-insns.result.end c.new-insns.result.left (omega arith) c.new-insns.ensures.code in
-    omega (arith, last, end, c.requires)
+    let l = place_within c.args.code.now c.new-insns.result.left _ c.in-Some.place c.in-Some.insn c.next.new.self.left c.new-insns.ensures.code c.in-Some.ensures.steps.1.0 c.loop-place.invariant.marks in
+    omega (arith, l, c.requires)
+
+pub index_mut-requires : goal.index_mut-requires
+index_mut-requires c =
+    let l = place_within c.args.code.now c.new-insns.result.left _ c.in-Some.place c.in-Some.insn c.next.new.self.left c.new-insns.ensures.code c.in-Some.ensures.steps.1.0 c.loop-place.invariant.marks in
+    let long = marks_long c.loop-place.invariant.marks in
+    omega (arith, l, long)
 
 pub loop-place-preserved : goal.loop-place-preserved
 loop-place-preserved c =
-    let rises = subst (λ items. RisesBy (λ item. item.0) (length c.loop-place.marks.items) c.new-insns.result.end items) c.in-Some.ensures.steps.1.0 c.loop-place.invariant.rises in
-    let marks = c.loop-place.marks in
     let place = c.in-Some.place in
-    let sized : vec_len marks ≡ length marks.items = omega (arith, marks.ok.0) in
-    let filled : c.resize.new.self.items ≡ marks.items ++ replicate (place - length marks.items) false =
-    c.resize.ensures.items
-    ∙ ap (λ r. if is_ok r then take place marks.items ++ replicate (place - vec_len marks) false else marks.items) c.in_ok-resize.was
-    ∙ ap (λ front. front ++ replicate (place - vec_len marks) false) (take_all place marks.items rises.0)
-    ∙ ap (λ n. marks.items ++ replicate (place - n) false) sized in
-    let more = has_marked c.loop-place.marks.items c.resize.new.self.items c.push.new.self.items c.in-Some.place rises.0 filled c.in_ok-push.ensures.items in
+    let more = has_marked c.args.code.now c.new-insns.result.left _ place c.in-Some.insn c.next.new.self.left c.new-insns.ensures.code c.in-Some.ensures.steps.1.0 c.loop-place.invariant.marks refl in
     let left = c.next.new.self.left in
     let insn = c.in-Some.insn in
     record {
@@ -57,7 +50,7 @@ loop-place-preserved c =
           ∙ append_assoc (marked c.loop-place.marks.items) (c.in-Some.place ∷ []) (map (λ item. item.0) left)
           ∙ ap (λ items. marked c.loop-place.marks.items ++ map (λ item. item.0) items) (sym c.in-Some.ensures.steps.1.0)
           ∙ c.loop-place.invariant.all;
-      rises = subst (λ n. RisesBy (λ item. item.0) n c.new-insns.result.end left) (sym more.long) rises.1;
+      marks = more.marks;
       jumps =
           ap (λ jumps. jumps ++ jumps_of left) c.in_ok-keeps.ensures.jumps
           ∙ jumps_more c.loop-place.jumps.items (jumps_of left) insn (has_targets insn)
