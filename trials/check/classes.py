@@ -70,14 +70,14 @@ def dense_class(rng):
 def dense_shapes(rng, names, interfaces):
     """Interfaces below interfaces and classes below both, in the order in which they may extend one another."""
     for at, name in enumerate(names):
-        ups = [one for one in names[:at] if one in interfaces]
-        ups = rng.sample(ups, min(len(ups), rng.randrange(4))) + [b"java/util/List"] * (rng.random() < 0.05)
+        supertypes = [one for one in names[:at] if one in interfaces]
+        supertypes = rng.sample(supertypes, min(len(supertypes), rng.randrange(4))) + [b"java/util/List"] * (rng.random() < 0.05)
         public = rng.random() < 0.9
         if name in interfaces:
-            yield name, (0x600 + public, links.OBJECT, ups, *dense_interface(rng))
+            yield name, (0x600 + public, links.OBJECT, supertypes, *dense_interface(rng))
         else:
             parent = rng.choice([links.OBJECT, b"java/Top", *names[len(interfaces):at] * 3])
-            yield name, (rng.choice([0x20, 0x20, 0x420]) + public, parent, ups, *dense_class(rng))
+            yield name, (rng.choice([0x20, 0x20, 0x420]) + public, parent, supertypes, *dense_class(rng))
 
 
 def dense_codes(rng, name, methods, members, names, interfaces):

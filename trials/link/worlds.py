@@ -219,12 +219,12 @@ def make_shapes(rng):
         major = rng.choice([51, 52, 52])
         # Most supertypes are of the right kind and stand earlier, so that not all is circular.
         before = given if rng.random() < 0.08 else given[:at]
-        ups = [one for one in before if one in interfaces] * 9 + [one for one in anything if rng.random() < 0.04]
+        supertypes = [one for one in before if one in interfaces] * 9 + [one for one in anything if rng.random() < 0.04]
         downs = [one for one in before if one not in interfaces] * 9 + [one for one in anything if rng.random() < 0.04]
         if name in interfaces:
-            made = make_interface(rng, name, ups, major)
+            made = make_interface(rng, name, supertypes, major)
         else:
-            made = make_class(rng, name, ups, downs or [OBJECT])
+            made = make_class(rng, name, supertypes, downs or [OBJECT])
         shapes.append((name, major, made))
     return shapes, anything
 

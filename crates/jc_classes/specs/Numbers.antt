@@ -18,8 +18,8 @@ pub record Grows (old new added : List Name) : Type 0 where
   pub same : (i : ℕ) → i < length old → name_at new i ≡ name_at old i
   pub only : (i : ℕ) → length old ≤ i → i < length new → Contains added (name_at new i)
 
--- the numbers of these names were added to a row
-pub record Rows (old : List Name) (row : List ℕ) (new : List Name) (row2 : List ℕ) (added : List Name) : Type 0 where
+-- the numbers of these names were added to a list of numbers
+pub record AddsNumbers (old : List Name) (numbers : List ℕ) (new : List Name) (numbers2 : List ℕ) (added : List Name) : Type 0 where
   pub grows : Grows old new added
-  pub nodes : All (λ v. v < length new) row2
-  pub named : map (name_at new) row2 ≡ map (name_at old) row ++ added
+  pub nodes : All (λ v. v < length new) numbers2
+  pub named : map (name_at new) numbers2 ≡ map (name_at old) numbers ++ added

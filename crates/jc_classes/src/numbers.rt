@@ -4,7 +4,7 @@ ghost use Rattle.std.specs.Option.{IfSome};
 ghost use Rattle.std.specs.List.{All};
 ghost use Rattle.jc_classes.specs.NameLists.{IsRisingOf};
 ghost use Rattle.jc_classes.specs.Names.{names_of};
-ghost use Rattle.jc_classes.specs.Numbers.{name_at, IsOnce, Grows, Rows};
+ghost use Rattle.jc_classes.specs.Numbers.{name_at, IsOnce, Grows, AddsNumbers};
 ghost use Rattle.jc_classes.specs.inside.Numbering.{IsNumbered};
 
 use jc_base::{ByteMap, NoMemory};
@@ -96,18 +96,18 @@ impl Numbers {
         Err(NoMemory)
     }
 
-    /// Adds the number of a name to a row.
+    /// Adds the number of a name to a list.
     pub fn number_into(
         &mut self,
         alloc: Global,
-        row: &mut Vec<usize>,
+        list: &mut Vec<usize>,
         name: &[u8],
     ) -> Result<(), NoMemory>
-        requires { All (λ v. v < length self.old) row.old.items }
-        ensures { OnOk result (Rows self.old row.old.items self.new row.new.items (name.now ∷ [])) }
+        requires { All (λ v. v < length self.old) list.old.items }
+        ensures { OnOk result (AddsNumbers self.old list.old.items self.new list.new.items (name.now ∷ [])) }
     {
         let node = self.number(alloc, name)?;
-        row.push(node)?;
+        list.push(node)?;
         Ok(())
     }
 

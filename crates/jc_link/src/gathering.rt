@@ -7,7 +7,7 @@ ghost use Rattle.jc_classes.specs.Numbers.{IsOnce, name_at};
 ghost use Rattle.jc_link.specs.Closures.{IsClosure};
 ghost use Rattle.jc_link.specs.Meters.{counted};
 ghost use Rattle.jc_link.specs.Tables.{world};
-ghost use Rattle.jc_link.specs.inside.Gathering.{rows_in, stands_in};
+ghost use Rattle.jc_link.specs.inside.Gathering.{supertypes_in, stands_in};
 ghost use Rattle.jc_link.specs.inside.Reached.{IsGathered, IsMore};
 
 use crate::closure::Closure;
@@ -102,7 +102,7 @@ impl<'t> Reached<'t> {
     /// Nothing yet, with room for so many names.
     pub(crate) fn with_room(alloc: Global, room: usize) -> Result<Self, NoMemory>
         ensures standing { IfOk result (λ r. stands_in r.standing.items ≡ []) }
-        ensures supertypes { IfOk result (λ r. rows_in r.supertypes.items ≡ []) }
+        ensures supertypes { IfOk result (λ r. supertypes_in r.supertypes.items ≡ []) }
     {
         Ok(Reached {
             standing: Vec::with_capacity(alloc, room)?,
@@ -120,9 +120,9 @@ impl<'t> Reached<'t> {
         requires { IsOnce numbers.old }
         ensures { OnOk result (IsMore numbers.old self.old (stands_of next.entry) numbers.new self.new) }
     {
-        let row = number_supertypes(alloc, numbers, next)?;
+        let direct = number_supertypes(alloc, numbers, next)?;
         self.standing.push(next)?;
-        self.supertypes.push(row)?;
+        self.supertypes.push(direct)?;
         Ok(())
     }
 }

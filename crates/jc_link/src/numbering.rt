@@ -5,7 +5,7 @@ ghost use Rattle.std.specs.Prelude.{◌≡◌, ◌<◌, [], IfOk, OnOk, length};
 ghost use Rattle.std.specs.List.{All};
 ghost use Rattle.std.specs.Option.{option_copied, option_to_list};
 ghost use Rattle.jc_classes.specs.Lent.{stands_of};
-ghost use Rattle.jc_classes.specs.Numbers.{IsOnce, Rows, name_at};
+ghost use Rattle.jc_classes.specs.Numbers.{IsOnce, AddsNumbers, name_at};
 ghost use Rattle.jc_classes.specs.Worlds.{references_of, supers_of};
 ghost use Rattle.jc_link.specs.inside.Gathering.{Nodes, NumbersAt};
 
@@ -20,7 +20,7 @@ pub(crate) fn number_supertypes(
     standing: Standing<'_>,
 ) -> Result<Vec<usize>, NoMemory>
     requires { IsOnce numbers.old }
-    ensures { IfOk result (λ row. Rows numbers.old [] numbers.new row.items (supers_of (stands_of standing.entry))) }
+    ensures { IfOk result (λ supertypes. AddsNumbers numbers.old [] numbers.new supertypes.items (supers_of (stands_of standing.entry))) }
 {
     match standing {
         Standing::Class(facts) => number_supertypes_of(alloc, numbers, facts),
@@ -34,48 +34,48 @@ fn number_supertypes_of(
     facts: &Facts,
 ) -> Result<Vec<usize>, NoMemory>
     requires { IsOnce numbers.old }
-    ensures { IfOk result (λ row. Rows numbers.old [] numbers.new row.items (supers_of (stands.Class facts.now))) }
+    ensures { IfOk result (λ supertypes. AddsNumbers numbers.old [] numbers.new supertypes.items (supers_of (stands.Class facts.now))) }
 {
-    let mut row = Vec::new(alloc);
-    number_superclass(alloc, numbers, &mut row, facts.superclass())?;
-    number_interfaces(alloc, numbers, &mut row, facts)?;
-    Ok(row)
+    let mut supertypes = Vec::new(alloc);
+    number_superclass(alloc, numbers, &mut supertypes, facts.superclass())?;
+    number_interfaces(alloc, numbers, &mut supertypes, facts)?;
+    Ok(supertypes)
 }
 
-/// Adds the number of the superclass to a row, if there is one.
+/// Adds the number of the superclass, if there is one.
 fn number_superclass(
     alloc: Global,
     numbers: &mut Numbers,
-    row: &mut Vec<usize>,
+    direct: &mut Vec<usize>,
     name: Option<&[u8]>,
 ) -> Result<(), NoMemory>
     requires once { IsOnce numbers.old }
-    requires row { All (λ v. v < length numbers.old) row.old.items }
-    ensures { OnOk result (Rows numbers.old row.old.items numbers.new row.new.items (option_to_list (option_copied name.entry))) }
+    requires direct { All (λ v. v < length numbers.old) direct.old.items }
+    ensures { OnOk result (AddsNumbers numbers.old direct.old.items numbers.new direct.new.items (option_to_list (option_copied name.entry))) }
 {
     match name {
         Some(name) => {
-            numbers.number_into(alloc, row, name)?;
+            numbers.number_into(alloc, direct, name)?;
             Ok(())
         }
         None => Ok(()),
     }
 }
 
-/// Adds the numbers of the direct superinterfaces to a row.
+/// Adds the numbers of the direct superinterfaces.
 fn number_interfaces(
     alloc: Global,
     numbers: &mut Numbers,
-    row: &mut Vec<usize>,
+    direct: &mut Vec<usize>,
     facts: &Facts,
 ) -> Result<(), NoMemory>
     requires once { IsOnce numbers.old }
-    requires row { All (λ v. v < length numbers.old) row.old.items }
-    ensures { OnOk result (Rows numbers.old row.old.items numbers.new row.new.items facts.now.interfaces) }
+    requires direct { All (λ v. v < length numbers.old) direct.old.items }
+    ensures { OnOk result (AddsNumbers numbers.old direct.old.items numbers.new direct.new.items facts.now.interfaces) }
 {
     for number in 0..facts.interface_count() {
         let name = interface_name(facts, number);
-        numbers.number_into(alloc, row, name)?;
+        numbers.number_into(alloc, direct, name)?;
     }
     Ok(())
 }

@@ -10,7 +10,7 @@ use Rattle.std.specs.declared.alloc.Global.{Global}
 use Rattle.jc_classes.specs.Names.{Name, name_cmp, same_name}
 use Rattle.jc_classes.specs.Names.{names_of}
 use Rattle.jc_classes.proofs.worlds.NameTests.{same_is, same_self}
-use Rattle.jc_classes.specs.Numbers.{name_at, IsOnce, Grows, Rows}
+use Rattle.jc_classes.specs.Numbers.{name_at, IsOnce, Grows, AddsNumbers}
 use Rattle.jc_classes.specs.inside.Numbering.{NumberOf, IsNumbered}
 
 some_one : {X : Type 0} {x y : X} → Some x ≡ Some y → x ≡ y
@@ -107,31 +107,31 @@ grows_more a b c xs ys g h =
     under : (i n : ℕ) → (i < n) ⊎ (n ≤ i)
     under i n = grind arith
 
--- rows keep their names while names are added
-pub row_same : (a b : List Name) (row : List ℕ) → length a ≤ length b → ((i : ℕ) → i < length a → name_at b i ≡ name_at a i) → All (λ v. v < length a) row → map (name_at b) row ≡ map (name_at a) row
-row_same a b [] l h all = refl
-row_same a b (v ∷ row) l h all =
+-- lists keep their names while names are added
+pub numbers_same : (a b : List Name) (list : List ℕ) → length a ≤ length b → ((i : ℕ) → i < length a → name_at b i ≡ name_at a i) → All (λ v. v < length a) list → map (name_at b) list ≡ map (name_at a) list
+numbers_same a b [] l h all = refl
+numbers_same a b (v ∷ list) l h all =
     let e = h v (all zero v (omega arith)) in
-    let f = row_same a b row l h (λ k d m. all (suc k) d (omega arith)) in
+    let f = numbers_same a b list l h (λ k d m. all (suc k) d (omega arith)) in
     cc
 
-pub rows_start : (a : List Name) (row : List ℕ) → IsOnce a → All (λ v. v < length a) row → Rows a row a row []
-rows_start a row once all = record { grows = grows_same a [] once; nodes = all; named = sym (append-nil (map (name_at a) row)) }
+pub adds_none : (a : List Name) (list : List ℕ) → IsOnce a → All (λ v. v < length a) list → AddsNumbers a list a list []
+adds_none a list once all = record { grows = grows_same a [] once; nodes = all; named = sym (append-nil (map (name_at a) list)) }
 
-pub rows_more : (a b c : List Name) (r s t : List ℕ) (xs ys : List Name) → Rows a r b s xs → Rows b s c t ys → Rows a r c t (xs ++ ys)
-rows_more a b c r s t xs ys g h = record {
+pub adds_more : (a b c : List Name) (r s t : List ℕ) (xs ys : List Name) → AddsNumbers a r b s xs → AddsNumbers b s c t ys → AddsNumbers a r c t (xs ++ ys)
+adds_more a b c r s t xs ys g h = record {
   grows = grows_more a b c xs ys g.grows h.grows;
   nodes = h.nodes;
   named = h.named ∙ ap (λ z. z ++ ys) g.named ∙ append_assoc (map (name_at a) r) xs ys;
 }
 
-pub rows_push : (a b : List Name) (row : List ℕ) (v : ℕ) (x : Name) → Grows a b (x ∷ []) → All (λ w. w < length a) row → v < length b → name_at b v ≡ x → Rows a row b (row ++ v ∷ []) (x ∷ [])
-rows_push a b row v x g all l e =
+pub adds_one : (a b : List Name) (list : List ℕ) (v : ℕ) (x : Name) → Grows a b (x ∷ []) → All (λ w. w < length a) list → v < length b → name_at b v ≡ x → AddsNumbers a list b (list ++ v ∷ []) (x ∷ [])
+adds_one a b list v x g all l e =
     let p = g.longer in
     record {
       grows = g;
-      nodes = All-push (λ w. w < length b) row v (λ k d m. let q = all k d m in omega arith) l;
-      named = map-append (name_at b) row (v ∷ []) ∙ ap (λ z. z ++ name_at b v ∷ []) (row_same a b row g.longer g.same all) ∙ ap (λ z. map (name_at a) row ++ z ∷ []) e;
+      nodes = All-push (λ w. w < length b) list v (λ k d m. let q = all k d m in omega arith) l;
+      named = map-append (name_at b) list (v ∷ []) ∙ ap (λ z. z ++ name_at b v ∷ []) (numbers_same a b list g.longer g.same all) ∙ ap (λ z. map (name_at a) list ++ z ∷ []) e;
     }
 
 pub none_found : (p : NumberOf) (ns ms : List Name) (x : Name) → IsNumbered p ns → ns ≡ ms → ((i : ℕ) → i < length ms → name_at ms i ≡ x → ⊥) → fin.get p x ≡ None

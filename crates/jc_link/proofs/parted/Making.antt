@@ -17,28 +17,28 @@ use Rattle.jc_resolve.specs.Numbered.{Numbered, IsClosed, Agrees, TellsAnswers, 
 use Rattle.jc_link.specs.inside.TheClass.{TellsCircular}
 use Rattle.jc_link.specs.inside.Gathering.{IsNet, stand_at}
 
-pub closed_of : (found : List Name) (stands : List Stands) (rows : List (List ℕ)) (at_object : ℕ) → IsNet found stands rows at_object → IsClosed (record { names = found; records = stands; supertypes = rows })
-closed_of found stands rows at_object n = record { records = n.all_stand; size = n.all_rows; once = n.once; within = n.within; supertypes = n.above }
+pub closed_of : (found : List Name) (stands : List Stands) (supertypes : List (List ℕ)) (at_object : ℕ) → IsNet found stands supertypes at_object → IsClosed (record { names = found; records = stands; supertypes = supertypes })
+closed_of found stands supertypes at_object n = record { records = n.all_stand; size = n.all_supertypes; once = n.once; within = n.within; supertypes = n.above }
 
 -- names, and what a world has at each
 module _ (m : World) (ns : List Name) (st : List Stands) (all : st ≡ map m ns) where
   at : (i : ℕ) → i < length ns → stand_at st i ≡ m (name_at ns i)
   at i l = ap (λ z. stand_at z i) all ∙ get_or-map m ns i [] Nothing l
 
-  agrees : (rows : List (List ℕ)) → Agrees m (record { names = ns; records = st; supertypes = rows })
-  agrees rows = λ i l. sym (at i l)
+  agrees : (supertypes : List (List ℕ)) → Agrees m (record { names = ns; records = st; supertypes = supertypes })
+  agrees supertypes = λ i l. sym (at i l)
 
 -- what numbered classes say of one of them is the part of the class
-pub part_made : (m : World) (d : Name) (ns : List Name) (st : List Stands) (rows : List (List ℕ)) (h : Numbered) (class : ℕ) (ring : Bool) (how : Loading) (found : List Answer) (errors : List LinkFault) (faults : List Fault) (wrong : List (ℕ × CodeFault)) (own_stands : Stands)
-    → st ≡ map m ns → class < length ns → name_at ns class ≡ d → h ≡ record { names = ns; records = st; supertypes = rows }
+pub part_made : (m : World) (d : Name) (ns : List Name) (st : List Stands) (supertypes : List (List ℕ)) (h : Numbered) (class : ℕ) (ring : Bool) (how : Loading) (found : List Answer) (errors : List LinkFault) (faults : List Fault) (wrong : List (ℕ × CodeFault)) (own_stands : Stands)
+    → st ≡ map m ns → class < length ns → name_at ns class ≡ d → h ≡ record { names = ns; records = st; supertypes = supertypes }
     → TellsCircular h class ring
     → ((k : World) → Agrees k h → Load k (name_at h.names class) how)
     → TellsAnswers h class found
     → errors ≡ links_of (name_at h.names class) (standing_at h class) found
     → own_stands ≡ stand_at st class → faults ≡ format_faults_of own_stands → wrong ≡ code_faults_of own_stands
     → IsPart m d (record { circular = ring; load = how; format_faults = faults; code_faults = wrong; answers = found; links = errors })
-part_made m d ns st rows h class ring how found errors faults wrong own_stands all within first is rings loads answers links stands same_faults same_wrong =
-    let agree : Agrees m h = subst (Agrees m) (sym is) (agrees m ns st all rows) in
+part_made m d ns st supertypes h class ring how found errors faults wrong own_stands all within first is rings loads answers links stands same_faults same_wrong =
+    let agree : Agrees m h = subst (Agrees m) (sym is) (agrees m ns st all supertypes) in
     let name : name_at h.names class ≡ d = ap (λ (z : Numbered). name_at z.names class) is ∙ first in
     let own : stand_at st class ≡ m d = at m ns st all class within ∙ ap m first in
     let here : standing_at h class ≡ m d = ap (λ z. standing_at z class) is ∙ own in

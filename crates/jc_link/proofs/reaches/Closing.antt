@@ -35,7 +35,7 @@ module _ (m : World) (ns : List Name) (st : List Stands) (rs : List (List ℕ)) 
       record {
         once = g.once;
         all_stand = size;
-        all_rows = g.size ∙ size;
+        all_supertypes = g.size ∙ size;
         within = g.within;
         above = λ i l. let k : i < length st = omega arith in g.above i k ∙ ap supers_of (sym (g.records i k).1);
         object = o;

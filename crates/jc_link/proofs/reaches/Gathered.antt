@@ -13,9 +13,9 @@ use Rattle.jc_classes.specs.Worlds.{Stands, World, supers_of, references_of}
 use Rattle.jc_classes.specs.Worlds.Stands.{Nothing}
 use Rattle.jc_classes.specs.Parts.{Reach, class_of, class_in, names_in}
 use Rattle.jc_classes.specs.Parts.Reach.{itself, always, reference, upward}
-use Rattle.jc_classes.specs.Numbers.{name_at, IsOnce, Grows, Rows}
-use Rattle.jc_link.specs.inside.Gathering.{stand_at, row_at, IsAsked, Nodes, Gathering}
-use Rattle.jc_classes.proofs.numbering.NumberLemmas.{grows_same, grows_more, row_same}
+use Rattle.jc_classes.specs.Numbers.{name_at, IsOnce, Grows, AddsNumbers}
+use Rattle.jc_link.specs.inside.Gathering.{stand_at, supertypes_at, IsAsked, Nodes, Gathering}
+use Rattle.jc_classes.proofs.numbering.NumberLemmas.{grows_same, grows_more, numbers_same}
 
 -- ---- references
 
@@ -106,8 +106,8 @@ refs_again a b s rs number k node x g size before at is =
 pub stand_left : (xs : List Stands) (x : Stands) (i : ℕ) → i < length xs → stand_at (xs ++ x ∷ []) i ≡ stand_at xs i
 stand_left xs x i l = get_or_append_left xs (x ∷ []) Nothing i l
 
-pub row_left : (xs : List (List ℕ)) (x : List ℕ) (i : ℕ) → i < length xs → row_at (xs ++ x ∷ []) i ≡ row_at xs i
-row_left xs x i l = get_or_append_left xs (x ∷ []) [] i l
+pub supertypes_left : (xs : List (List ℕ)) (x : List ℕ) (i : ℕ) → i < length xs → supertypes_at (xs ++ x ∷ []) i ≡ supertypes_at xs i
+supertypes_left xs x i l = get_or_append_left xs (x ∷ []) [] i l
 
 place_cases : (n i : ℕ) → i < n + 1 → (i < n) ⊎ (n ≡ i)
 place_cases n i l = ⊎_elim inl (λ (e : n ≤ i). inr (omega arith)) (under i n)
@@ -115,16 +115,16 @@ place_cases n i l = ⊎_elim inl (λ (e : n ≤ i). inr (omega arith)) (under i 
     under : (a b : ℕ) → (a < b) ⊎ (b ≤ a)
     under a b = grind arith
 
-no_row : {v : ℕ} {A : Type 0} → Contains {X = ℕ} [] v → A
-no_row c = absurd (omega (arith, c.1))
+no_number : {v : ℕ} {A : Type 0} → Contains {X = ℕ} [] v → A
+no_number c = absurd (omega (arith, c.1))
 
--- a step of a row that stands in one more
-row_in : (xs : List (List ℕ)) (x : List ℕ) (a b : ℕ) → Contains (row_at (xs ++ x ∷ []) a) b → Contains (row_at xs a) b ⊎ Contains x b
-row_in xs x a b c = ⊎_elim
-    (λ (l : a < length xs). inl (subst (λ r. Contains r b) (row_left xs x a l) c))
+-- a supertype in one list more
+supertype_in : (xs : List (List ℕ)) (x : List ℕ) (a b : ℕ) → Contains (supertypes_at (xs ++ x ∷ []) a) b → Contains (supertypes_at xs a) b ⊎ Contains x b
+supertype_in xs x a b c = ⊎_elim
+    (λ (l : a < length xs). inl (subst (λ r. Contains r b) (supertypes_left xs x a l) c))
     (λ (m : length xs ≤ a). ⊎_elim
     (λ (e : length xs ≡ a). inr (subst (λ r. Contains r b) (get_or_push xs x [] a e) c))
-    (λ (n : length xs + 1 ≤ a). no_row (subst (λ r. Contains r b) (get_or_past (xs ++ x ∷ []) a [] (omega (arith, length-append xs (x ∷ [])))) c))
+    (λ (n : length xs + 1 ≤ a). no_number (subst (λ r. Contains r b) (get_or_past (xs ++ x ∷ []) a [] (omega (arith, length-append xs (x ∷ [])))) c))
     (next (length xs) a m))
     (under a (length xs))
   where
@@ -134,20 +134,20 @@ row_in xs x a b c = ⊎_elim
     next : (n i : ℕ) → n ≤ i → (n ≡ i) ⊎ (n + 1 ≤ i)
     next n i l = grind arith
 
-all_of : (row : List ℕ) (n : ℕ) → All (λ v. v < n) row → (b : ℕ) → Contains row b → b < n
-all_of row n all b c = let q = all c.0 b c.1 in subst (λ v. v < n) c.2 q
+all_of : (numbers : List ℕ) (n : ℕ) → All (λ v. v < n) numbers → (b : ℕ) → Contains numbers b → b < n
+all_of numbers n all b c = let q = all c.0 b c.1 in subst (λ v. v < n) c.2 q
 
 -- ---- the loop
 
 -- the name that is next is asked for
-pub asked_add : (m : World) (ns ns2 : List Name) (st : List Stands) (rs : List (List ℕ)) (o : Stands) (row : List ℕ)
-    → IsAsked m ns st rs → length st < length ns → o ≡ m (name_at ns (length st)) → Rows ns [] ns2 row (supers_of o) → IsAsked m ns2 (st ++ o ∷ []) (rs ++ row ∷ [])
-asked_add m ns ns2 st rs o row g l is more =
+pub asked_add : (m : World) (ns ns2 : List Name) (st : List Stands) (rs : List (List ℕ)) (o : Stands) (direct : List ℕ)
+    → IsAsked m ns st rs → length st < length ns → o ≡ m (name_at ns (length st)) → AddsNumbers ns [] ns2 direct (supers_of o) → IsAsked m ns2 (st ++ o ∷ []) (rs ++ direct ∷ [])
+asked_add m ns ns2 st rs o direct g l is more =
     let grows = more.grows in
     let longer = grows.longer in
     let at = length st in
     let sizes = length-append st (o ∷ []) in
-    let size2 = length-append rs (row ∷ []) in
+    let size2 = length-append rs (direct ∷ []) in
     let size = g.size in
     record {
       once = grows.once;
@@ -156,15 +156,15 @@ asked_add m ns ns2 st rs o row g l is more =
           (λ (p : i < at). let q = g.records i p in (omega (arith, q.0), stand_left st o i p ∙ q.1 ∙ ap m (sym (grows.same i q.0))))
           (λ (p : at ≡ i). (omega arith, get_or_push st o Nothing i p ∙ is ∙ ap m (ap (name_at ns) p ∙ sym (grows.same i (omega arith)))))
           (place_cases at i (omega arith));
-      within = λ a b c. ⊎_elim (λ q. let r = g.within a b q in omega arith) (λ q. all_of row (length ns2) more.nodes b q) (row_in rs row a b c);
+      within = λ a b c. ⊎_elim (λ q. let r = g.within a b q in omega arith) (λ q. all_of direct (length ns2) more.nodes b q) (supertype_in rs direct a b c);
       above = λ i k. ⊎_elim
           (λ (p : i < at).
           let q = g.records i p in
-          let r : row_at (rs ++ row ∷ []) i ≡ row_at rs i = row_left rs row i (omega arith) in
+          let r : supertypes_at (rs ++ direct ∷ []) i ≡ supertypes_at rs i = supertypes_left rs direct i (omega arith) in
           ap (map (name_at ns2)) r
-          ∙ row_same ns ns2 (row_at rs i) grows.longer grows.same (λ j e k2. g.within i _ (Contains-get_or (row_at rs i) j e k2))
+          ∙ numbers_same ns ns2 (supertypes_at rs i) grows.longer grows.same (λ j e k2. g.within i _ (Contains-get_or (supertypes_at rs i) j e k2))
           ∙ g.above i p ∙ ap (λ n. supers_of (m n)) (sym (grows.same i q.0)))
-          (λ (p : at ≡ i). ap (map (name_at ns2)) (get_or_push rs row [] i (omega arith)) ∙ more.named ∙ ap supers_of (is ∙ ap m (ap (name_at ns) p ∙ sym (grows.same i (omega arith)))))
+          (λ (p : at ≡ i). ap (map (name_at ns2)) (get_or_push rs direct [] i (omega arith)) ∙ more.named ∙ ap supers_of (is ∙ ap m (ap (name_at ns) p ∙ sym (grows.same i (omega arith)))))
           (place_cases at i (omega arith));
     }
 
@@ -174,20 +174,20 @@ asked_none m ns once = record {
   once = once;
   size = refl;
   records = λ k l. absurd (omega arith);
-  within = λ a b c. no_row c;
+  within = λ a b c. no_number c;
   above = λ k l. absurd (omega arith);
 }
 
 -- so of a reach
-pub gathering_add : (m : World) (d : Name) (ns ns2 : List Name) (st : List Stands) (rs : List (List ℕ)) (nodes : List (Option ℕ)) (o : Stands) (row : List ℕ)
-    → Gathering m d ns st rs nodes → length st < length ns → o ≡ m (name_at ns (length st)) → Rows ns [] ns2 row (supers_of o) → Gathering m d ns2 (st ++ o ∷ []) (rs ++ row ∷ []) nodes
-gathering_add m d ns ns2 st rs nodes o row g l is more =
+pub gathering_add : (m : World) (d : Name) (ns ns2 : List Name) (st : List Stands) (rs : List (List ℕ)) (nodes : List (Option ℕ)) (o : Stands) (direct : List ℕ)
+    → Gathering m d ns st rs nodes → length st < length ns → o ≡ m (name_at ns (length st)) → AddsNumbers ns [] ns2 direct (supers_of o) → Gathering m d ns2 (st ++ o ∷ []) (rs ++ direct ∷ []) nodes
+gathering_add m d ns ns2 st rs nodes o direct g l is more =
     let grows = more.grows in
     let longer = grows.longer in
     let at = length st in
     let first = g.first.0 in
     record {
-      asked = asked_add m ns ns2 st rs o row g.asked l is more;
+      asked = asked_add m ns ns2 st rs o direct g.asked l is more;
       first = (omega arith, grows.same 0 g.first.0 ∙ g.first.1);
       object = (g.object.0, omega (arith, g.object.1), get_or_default ns2 g.object.0 object [] (omega (arith, g.object.1)) ∙ grows.same g.object.0 g.object.1 ∙ get_or_default ns g.object.0 [] object g.object.1 ∙ g.object.2);
       reached = λ i k. ⊎_elim
@@ -256,13 +256,13 @@ named_in names (x ∷ nodes) (r ∷ rs) n e c =
     here None n c = absurd (omega (arith, c.1))
     here (Some v) n c = (v, refl, one_is (name_at names v) n c)
 
-pub map_out : (f : ℕ → Name) (row : List ℕ) (n : Name) → Contains (map f row) n → (v : ℕ) × Contains row v × (f v ≡ n)
+pub map_out : (f : ℕ → Name) (numbers : List ℕ) (n : Name) → Contains (map f numbers) n → (v : ℕ) × Contains numbers v × (f v ≡ n)
 map_out f [] n c = absurd (omega (arith, c.1))
-map_out f (v ∷ row) n c =
+map_out f (v ∷ numbers) n c =
     ⊎_elim
     (λ (h : Contains (f v ∷ []) n). (v, (zero, omega arith, refl), one_is (f v) n h))
-    (λ h. let q = map_out f row n h in (q.0, Contains-append_right (v ∷ []) row q.0 q.1, q.2))
-    (Contains-append_cases (f v ∷ []) (map f row) n c)
+    (λ h. let q = map_out f numbers n h in (q.0, Contains-append_right (v ∷ []) numbers q.0 q.1, q.2))
+    (Contains-append_cases (f v ∷ []) (map f numbers) n c)
 
 -- each name of the reach has a number
 pub all_numbered : (m : World) (d : Name) (ns : List Name) (st : List Stands) (rs : List (List ℕ)) (nodes : List (Option ℕ)) → Gathering m d ns st rs nodes → length st ≡ length ns → {n : Name} → Reach m d n → (i : ℕ) × (i < length ns) × (name_at ns i ≡ n)
@@ -272,7 +272,7 @@ all_numbered m d ns st rs nodes g e {n} (reference h) = let q = named_in ns node
 all_numbered m d ns st rs nodes g e {n} (upward {mid} r h) =
     let p = all_numbered m d ns st rs nodes g e r in
     let k : p.0 < length st = omega (arith, p.1) in
-    let q = map_out (name_at ns) (row_at rs p.0) n (subst (λ z. Contains z n) (sym (g.asked.above p.0 k)) (subst (λ z. Contains (supers_of (m z)) n) (sym p.2) h)) in
+    let q = map_out (name_at ns) (supertypes_at rs p.0) n (subst (λ z. Contains z n) (sym (g.asked.above p.0 k)) (subst (λ z. Contains (supers_of (m z)) n) (sym p.2) h)) in
     (q.0, g.asked.within p.0 q.0 q.1, q.2)
 
 -- ---- as the code has it

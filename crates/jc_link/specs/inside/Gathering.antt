@@ -7,7 +7,7 @@ use Rattle.std.specs.declared.alloc.Global.{Global}
 use Rattle.jc_classes.specs.Facts.{Reference}
 use Rattle.jc_classes.specs.Lent.{stands_of}
 use Rattle.jc_classes.specs.Names.{Name, object}
-use Rattle.jc_classes.specs.Numbers.{name_at, IsOnce, Grows, Rows}
+use Rattle.jc_classes.specs.Numbers.{name_at, IsOnce, Grows, AddsNumbers}
 use Rattle.jc_classes.specs.Parts.{Reach, class_of, names_in}
 use Rattle.jc_classes.specs.Worlds.{Stands, World, supers_of, references_of}
 use Rattle.jc_classes.specs.Worlds.Stands.{Nothing}
@@ -16,14 +16,14 @@ use Rattle.jc_classes.specs.declared.standing.Standing.{Standing}
 abbrev pub stand_at : List Stands → ℕ → Stands
 stand_at stands i = slice_index_or stands i Nothing
 
-abbrev pub row_at : List (List ℕ) → ℕ → List ℕ
-row_at rows i = slice_index_or rows i []
+abbrev pub supertypes_at : List (List ℕ) → ℕ → List ℕ
+supertypes_at supertypes i = slice_index_or supertypes i []
 
 abbrev pub stands_in : List Standing → List Stands
 stands_in standing = map stands_of standing
 
-abbrev pub rows_in : List (Vec ℕ Global) → List (List ℕ)
-rows_in rows = map (λ (v : Vec ℕ Global). v.items) rows
+abbrev pub supertypes_in : List (Vec ℕ Global) → List (List ℕ)
+supertypes_in supertypes = map (λ (v : Vec ℕ Global). v.items) supertypes
 
 -- the number of the class that each reference names
 abbrev pub NumberReferences : List Name → List (Option ℕ) → List Reference → Type 0
@@ -43,37 +43,37 @@ abbrev pub NumbersAt : (old new : List Name) → List Reference → (place : ℕ
 NumbersAt old new references place node =
     (r : Reference) → slice_get references place ≡ Some r → Nodes old [] new (node ∷ []) (r ∷ [])
 
--- what stands at the next name was added, with the row of its supertypes, which were numbered
-pub record IsReached (old : List Name) (stands : List Stands) (rows : List (List ℕ)) (next : Stands)
-    (new : List Name) (stands2 : List Stands) (rows2 : List (List ℕ)) : Type 0 where
-  pub row : List ℕ
-  pub numbered : Rows old [] new row (supers_of next)
+-- what stands at the next name was added, with its direct supertypes, which were numbered
+pub record IsReached (old : List Name) (stands : List Stands) (supertypes : List (List ℕ)) (next : Stands)
+    (new : List Name) (stands2 : List Stands) (supertypes2 : List (List ℕ)) : Type 0 where
+  pub direct : List ℕ
+  pub numbered : AddsNumbers old [] new direct (supers_of next)
   pub stands_more : stands2 ≡ stands ++ next ∷ []
-  pub rows_more : rows2 ≡ rows ++ row ∷ []
+  pub supertypes_more : supertypes2 ≡ supertypes ++ direct ∷ []
 
--- what stands at the first names, and the rows of their supertypes; other names wait
-pub record IsAsked (m : World) (names : List Name) (stands : List Stands) (rows : List (List ℕ)) : Type 0 where
+-- what stands at the first names, and their supertypes; other names wait
+pub record IsAsked (m : World) (names : List Name) (stands : List Stands) (supertypes : List (List ℕ)) : Type 0 where
   pub once : IsOnce names
-  pub size : length rows ≡ length stands
+  pub size : length supertypes ≡ length stands
   pub records : (i : ℕ) → i < length stands → (i < length names) × (stand_at stands i ≡ m (name_at names i))
-  pub within : (a b : ℕ) → Contains (row_at rows a) b → b < length names
-  pub above : (i : ℕ) → i < length stands → map (name_at names) (row_at rows i) ≡ supers_of (m (name_at names i))
+  pub within : (a b : ℕ) → Contains (supertypes_at supertypes a) b → b < length names
+  pub above : (i : ℕ) → i < length stands → map (name_at names) (supertypes_at supertypes i) ≡ supers_of (m (name_at names i))
 
 -- so of names of the reach of a class
-pub record Gathering (m : World) (d : Name) (names : List Name) (stands : List Stands) (rows : List (List ℕ))
+pub record Gathering (m : World) (d : Name) (names : List Name) (stands : List Stands) (supertypes : List (List ℕ))
     (nodes : List (Option ℕ)) : Type 0 where
-  pub asked : IsAsked m names stands rows
+  pub asked : IsAsked m names stands supertypes
   pub first : (0 < length names) × (name_at names 0 ≡ d)
   pub object : Contains names object
   pub reached : (i : ℕ) → i < length names → Reach m d (name_at names i)
   pub references : NumberReferences names nodes (references_of (m d))
   pub references_in : (v : ℕ) → Contains nodes (Some v) → v < length names
 
--- what numbers and rows are to each other, whatever the world
-pub record IsNet (names : List Name) (stands : List Stands) (rows : List (List ℕ)) (at_object : ℕ) : Type 0 where
+-- what names, what stands at them and supertypes are to each other, whatever the world
+pub record IsNet (names : List Name) (stands : List Stands) (supertypes : List (List ℕ)) (at_object : ℕ) : Type 0 where
   pub once : IsOnce names
   pub all_stand : length stands ≡ length names
-  pub all_rows : length rows ≡ length names
-  pub within : (a b : ℕ) → Contains (row_at rows a) b → b < length names
-  pub above : (i : ℕ) → i < length names → map (name_at names) (row_at rows i) ≡ supers_of (stand_at stands i)
+  pub all_supertypes : length supertypes ≡ length names
+  pub within : (a b : ℕ) → Contains (supertypes_at supertypes a) b → b < length names
+  pub above : (i : ℕ) → i < length names → map (name_at names) (supertypes_at supertypes i) ≡ supers_of (stand_at stands i)
   pub object : (at_object < length names) × (name_at names at_object ≡ object)

@@ -9,26 +9,26 @@ use Rattle.jc_classes.specs.Numbers.{name_at}
 use Rattle.jc_classes.specs.Worlds.{Stands, references_of}
 use Rattle.jc_resolve.specs.Numbered.{Numbered}
 use Rattle.jc_link.specs.Nets.{Net}
-use Rattle.jc_link.specs.inside.Gathering.{IsNet, NumberReferences, rows_in, stand_at, stands_in}
+use Rattle.jc_link.specs.inside.Gathering.{IsNet, NumberReferences, supertypes_in, stand_at, stands_in}
 use Rattle.jc_link.specs.declared.net.Net.TheInside.{Inside}
 
 abbrev pub net_shown : Inside → Net
 net_shown a = record { names = a.numbers; stands = stands_in a.standing.items }
 
 abbrev pub nodes_in : List (Vec (Option ℕ) Global) → List (List (Option ℕ))
-nodes_in rows = map (λ (v : Vec (Option ℕ) Global). v.items) rows
+nodes_in references = map (λ (v : Vec (Option ℕ) Global). v.items) references
 
 abbrev pub nodes_at : List (List (Option ℕ)) → ℕ → List (Option ℕ)
-nodes_at rows i = slice_index_or rows i []
+nodes_at references i = slice_index_or references i []
 
 -- of what stands at each of the first names, the numbers of the classes that its references name
-pub record AreReferred (names : List Name) (stands : List Stands) (rows : List (List (Option ℕ))) : Type 0 where
-  pub size : length rows ≡ length stands
-  pub named : (i : ℕ) → i < length stands → NumberReferences names (nodes_at rows i) (references_of (stand_at stands i))
-  pub within : (i v : ℕ) → i < length stands → Contains (nodes_at rows i) (Some v) → v < length names
+pub record AreReferred (names : List Name) (stands : List Stands) (references : List (List (Option ℕ))) : Type 0 where
+  pub size : length references ≡ length stands
+  pub named : (i : ℕ) → i < length stands → NumberReferences names (nodes_at references i) (references_of (stand_at stands i))
+  pub within : (i v : ℕ) → i < length stands → Contains (nodes_at references i) (Some v) → v < length names
 
 pub record IsWhole (a : Inside) : Type 0 where
-  pub net : IsNet a.numbers (stands_in a.standing.items) (rows_in a.supertypes.items) a.object
+  pub net : IsNet a.numbers (stands_in a.standing.items) (supertypes_in a.supertypes.items) a.object
   pub referred : AreReferred a.numbers (stands_in a.standing.items) (nodes_in a.references.items)
 
 -- the names of these classes have numbers
@@ -42,5 +42,5 @@ pub record AreKept (old new : List Name) : Type 0 where
 
 -- the hierarchy is that of the net
 pub record IsHierarchyOf (n : Net) (h : Numbered) : Type 0 where
-  pub rows : List (List ℕ)
-  pub is : h ≡ record { names = n.names; records = n.stands; supertypes = rows }
+  pub supertypes : List (List ℕ)
+  pub is : h ≡ record { names = n.names; records = n.stands; supertypes = supertypes }

@@ -84,14 +84,14 @@ module _ (m : World) (count : ℕ) (x : Indexed) (graph : IsGraph count x) (inde
   node_in {s} {v} (direct c) = graph.nodes s v c
   node_in {v = v} (further {mid} a c) = graph.nodes mid v c
 
-  rows_at : {s : ℕ} → s < count → supers_of (m (indexed_name x s)) ≡ map (indexed_name x) (x.supertypes s)
-  rows_at {s} l = ap supers_of (index.records s (named l)) ∙ sym (index.supertypes s (named l))
+  supertypes_at : {s : ℕ} → s < count → supers_of (m (indexed_name x s)) ≡ map (indexed_name x) (x.supertypes s)
+  supertypes_at {s} l = ap supers_of (index.records s (named l)) ∙ sym (index.supertypes s (named l))
 
   step_in : {s v : ℕ} → s < count → Contains (x.supertypes s) v → Contains (supers_of (m (indexed_name x s))) (indexed_name x v)
-  step_in {s} {v} l c = subst (λ ns. Contains ns (indexed_name x v)) (sym (rows_at l)) (map_in (indexed_name x) (x.supertypes s) v c)
+  step_in {s} {v} l c = subst (λ ns. Contains ns (indexed_name x v)) (sym (supertypes_at l)) (map_in (indexed_name x) (x.supertypes s) v c)
 
   step_out : {s : ℕ} {n : Name} → s < count → Contains (supers_of (m (indexed_name x s))) n → (v : ℕ) × Contains (x.supertypes s) v × (indexed_name x v ≡ n)
-  step_out {s} {n} l c = map_out (indexed_name x) (x.supertypes s) n (subst (λ ns. Contains ns n) (rows_at l) c)
+  step_out {s} {n} l c = map_out (indexed_name x) (x.supertypes s) n (subst (λ ns. Contains ns n) (supertypes_at l) c)
 
   pub above_named : {s v : ℕ} → s < count → AboveNode x.supertypes s v → Above m (indexed_name x s) (indexed_name x v)
   above_named l (direct c) = above.direct (step_in l c)

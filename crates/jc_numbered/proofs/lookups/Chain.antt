@@ -20,17 +20,17 @@ head_of : {a b : Name} {as1 bs : List Name} → a ∷ as1 ≡ b ∷ bs → a ≡
 head_of e = cc
 
 -- the superclass stands among the supertypes
-super_place : (o : Option Name) (row : List ℕ) (s : ℕ) → cond (is_some o) 1 0 ≤ length row → cond (is_some o) (Some (node_at row 0)) None ≡ Some s → Contains row s
-super_place None row s l e = no_some e
-super_place (Some n) row s l e = subst (λ z. Contains row z) (some_is e) (Contains-get_or row 0 0 (omega arith))
+super_place : (o : Option Name) (direct : List ℕ) (s : ℕ) → cond (is_some o) 1 0 ≤ length direct → cond (is_some o) (Some (node_at direct 0)) None ≡ Some s → Contains direct s
+super_place None direct s l e = no_some e
+super_place (Some n) direct s l e = subst (λ z. Contains direct z) (some_is e) (Contains-get_or direct 0 0 (omega arith))
   where
     some_is : {a b : ℕ} → Some a ≡ Some b → a ≡ b
     some_is e = cc
 
-super_named : (f : ℕ → Name) (o : Option Name) (is : List Name) (row : List ℕ) → map f row ≡ option_to_list o ++ is → (s : ℕ) → cond (is_some o) (Some (node_at row 0)) None ≡ Some s → o ≡ Some (f s)
-super_named f None is row e s h = no_some h
+super_named : (f : ℕ → Name) (o : Option Name) (is : List Name) (direct : List ℕ) → map f direct ≡ option_to_list o ++ is → (s : ℕ) → cond (is_some o) (Some (node_at direct 0)) None ≡ Some s → o ≡ Some (f s)
+super_named f None is direct e s h = no_some h
 super_named f (Some n) is [] e s h = absurd cc
-super_named f (Some n) is (v ∷ row) e s h = ap Some (sym (head_of e) ∙ ap f (some_is h))
+super_named f (Some n) is (v ∷ direct) e s h = ap Some (sym (head_of e) ∙ ap f (some_is h))
   where
     some_is : {a b : ℕ} → Some a ≡ Some b → a ≡ b
     some_is e = cc
@@ -80,10 +80,10 @@ pub extends_not : (x : Indexed) (v w : ℕ) → (v ≡ w → ⊥) → super_at x
 extends_not x v w n e h = ⊎_elim n (λ p. no_some (sym e ∙ p.1)) (extends_cases h)
 
 -- from names back to numbers
-super_numbered : (f : ℕ → Name) (o : Option Name) (is : List Name) (row : List ℕ) (n : Name) → map f row ≡ option_to_list o ++ is → o ≡ Some n → (s : ℕ) × (cond (is_some o) (Some (node_at row 0)) None ≡ Some s) × (f s ≡ n)
-super_numbered f None is row n e h = no_some h
+super_numbered : (f : ℕ → Name) (o : Option Name) (is : List Name) (direct : List ℕ) (n : Name) → map f direct ≡ option_to_list o ++ is → o ≡ Some n → (s : ℕ) × (cond (is_some o) (Some (node_at direct 0)) None ≡ Some s) × (f s ≡ n)
+super_numbered f None is direct n e h = no_some h
 super_numbered f (Some p) is [] n e h = absurd cc
-super_numbered f (Some p) is (v ∷ row) n e h = (v, refl, head_of e ∙ name_is h)
+super_numbered f (Some p) is (v ∷ direct) n e h = (v, refl, head_of e ∙ name_is h)
   where
     name_is : {a b : Name} → Some a ≡ Some b → a ≡ b
     name_is e = cc

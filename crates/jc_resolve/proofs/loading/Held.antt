@@ -11,10 +11,10 @@ use Rattle.jc_numbered.specs.inside.Indexed.{IsIndexed, filled}
 use Rattle.jc_resolve.specs.inside.Gathered.{IsGathered}
 use Rattle.jc_resolve.specs.Numbered.{numbered, IsClosed, Agrees}
 
-supertypes_within : (rows : List (List ℕ)) (a b : ℕ) → Contains (get_or rows a []) b → a < length rows
+supertypes_within : (supertypes : List (List ℕ)) (a b : ℕ) → Contains (get_or supertypes a []) b → a < length supertypes
 supertypes_within [] a b c = absurd (let l = c.1 in omega arith)
-supertypes_within (r ∷ rows) zero b c = omega arith
-supertypes_within (r ∷ rows) (suc a) b c = let l = supertypes_within rows a b c in omega arith
+supertypes_within (r ∷ supertypes) zero b c = omega arith
+supertypes_within (r ∷ supertypes) (suc a) b c = let l = supertypes_within supertypes a b c in omega arith
 
 module _ (n : List (Vec ℕ Global)) (s : List Standing) (u : List (Vec ℕ Global)) where
   pub net_closed : IsClosed (numbered n s u) → IsGathered (length s) (filled n s u [] [])

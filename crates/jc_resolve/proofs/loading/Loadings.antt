@@ -36,27 +36,27 @@ parents_of : Indexed → Bool → List ℕ → List Parent
 parents_of x is_class [] = []
 parents_of x is_class (s ∷ more) = (record { is_class = is_class; name = indexed_name x s }) ∷ parents_of x false more
 
-interfaces_are : (x : Indexed) (row : List ℕ) (ns : List Name) → map (indexed_name x) row ≡ ns → parents_of x false row ≡ map (λ n. let p : Parent = record { is_class = false; name = n } in p) ns
+interfaces_are : (x : Indexed) (direct : List ℕ) (ns : List Name) → map (indexed_name x) direct ≡ ns → parents_of x false direct ≡ map (λ n. let p : Parent = record { is_class = false; name = n } in p) ns
 unfolding parents_of
 interfaces_are x [] [] e = refl
 interfaces_are x [] (n ∷ ns) e = absurd cc
-interfaces_are x (s ∷ row) [] e = absurd cc
-interfaces_are x (s ∷ row) (n ∷ ns) e =
+interfaces_are x (s ∷ direct) [] e = absurd cc
+interfaces_are x (s ∷ direct) (n ∷ ns) e =
     let head : indexed_name x s ≡ n = cc in
-    let rest : map (indexed_name x) row ≡ ns = cc in
-    ap (λ z. (let p : Parent = record { is_class = false; name = z } in p) ∷ parents_of x false row) head
-    ∙ ap (λ z. (let p : Parent = record { is_class = false; name = n } in p) ∷ z) (interfaces_are x row ns rest)
+    let rest : map (indexed_name x) direct ≡ ns = cc in
+    ap (λ z. (let p : Parent = record { is_class = false; name = z } in p) ∷ parents_of x false direct) head
+    ∙ ap (λ z. (let p : Parent = record { is_class = false; name = n } in p) ∷ z) (interfaces_are x direct ns rest)
 
-parents_by : (x : Indexed) (o : Option Name) (is : List Name) (row : List ℕ) → map (indexed_name x) row ≡ option_to_list o ++ is
-    → parents_of x (is_some o) row ≡ option_map_or (λ n. (let p : Parent = record { is_class = true; name = n } in p) ∷ []) o [] ++ map (λ n. let p : Parent = record { is_class = false; name = n } in p) is
+parents_by : (x : Indexed) (o : Option Name) (is : List Name) (direct : List ℕ) → map (indexed_name x) direct ≡ option_to_list o ++ is
+    → parents_of x (is_some o) direct ≡ option_map_or (λ n. (let p : Parent = record { is_class = true; name = n } in p) ∷ []) o [] ++ map (λ n. let p : Parent = record { is_class = false; name = n } in p) is
 unfolding parents_of
-parents_by x None is row e = interfaces_are x row is e
+parents_by x None is direct e = interfaces_are x direct is e
 parents_by x (Some n) is [] e = absurd cc
-parents_by x (Some n) is (s ∷ row) e =
+parents_by x (Some n) is (s ∷ direct) e =
     let head : indexed_name x s ≡ n = cc in
-    let rest : map (indexed_name x) row ≡ is = cc in
-    ap (λ z. (let p : Parent = record { is_class = true; name = z } in p) ∷ parents_of x false row) head
-    ∙ ap (λ z. (let p : Parent = record { is_class = true; name = n } in p) ∷ z) (interfaces_are x row is rest)
+    let rest : map (indexed_name x) direct ≡ is = cc in
+    ap (λ z. (let p : Parent = record { is_class = true; name = z } in p) ∷ parents_of x false direct) head
+    ∙ ap (λ z. (let p : Parent = record { is_class = true; name = n } in p) ∷ z) (interfaces_are x direct is rest)
 
 contains_head : (s : ℕ) (ss : List ℕ) → Contains (s ∷ ss) s
 contains_head s ss = (zero, omega arith, refl)
@@ -74,8 +74,8 @@ module _ (m : World) (count : ℕ) (x : Indexed) (graph : IsGraph count x) (inde
   pub sees_same : (v s : ℕ) → s < count → sees x v s ≡ can_see (indexed_name x v) (indexed_name x s) (m (indexed_name x s))
   sees_same v s l = ap (can_see (indexed_name x v) (indexed_name x s)) (sym (record_same s l))
 
-  each_named : (loads : List Load) (v : ℕ) (is_class : Bool) (row : List ℕ) → v < count → ((s : ℕ) → Contains row s → (s < count) × defs.Load m (indexed_name x s) (loading_of x (load_at loads s)))
-      → LoadEach m (indexed_name x v) (parents_of x is_class row) (loading_of x (judged_each x loads v is_class row))
+  each_named : (loads : List Load) (v : ℕ) (is_class : Bool) (direct : List ℕ) → v < count → ((s : ℕ) → Contains direct s → (s < count) × defs.Load m (indexed_name x s) (loading_of x (load_at loads s)))
+      → LoadEach m (indexed_name x v) (parents_of x is_class direct) (loading_of x (judged_each x loads v is_class direct))
   unfolding parents_of
   each_named loads v is_class [] k h = each.none
   each_named loads v is_class (s ∷ more) k h =

@@ -105,11 +105,11 @@ module _ (m : World) (k : Key) (x : Indexed) where
 
 -- ---- supertypes and names
 
-drop_taken : (row : List ℕ) (f : ℕ → Name) (o : Option Name) (is : List Name) → map f row ≡ option_to_list o ++ is → map f (drop (cond (is_some o) 1 0) row ++ take (cond (is_some o) 1 0) row) ≡ is ++ option_to_list o
-drop_taken row f None is e = ap (map f) (append-nil row) ∙ e ∙ sym (append-nil is)
+drop_taken : (direct : List ℕ) (f : ℕ → Name) (o : Option Name) (is : List Name) → map f direct ≡ option_to_list o ++ is → map f (drop (cond (is_some o) 1 0) direct ++ take (cond (is_some o) 1 0) direct) ≡ is ++ option_to_list o
+drop_taken direct f None is e = ap (map f) (append-nil direct) ∙ e ∙ sym (append-nil is)
 drop_taken [] f (Some s) is e = absurd cc
-drop_taken (v ∷ row) f (Some s) is e =
-    map-append f row (v ∷ []) ∙ ap (λ z. z ++ f v ∷ []) (tail_of e) ∙ ap (λ z. is ++ z ∷ []) (head_of e)
+drop_taken (v ∷ direct) f (Some s) is e =
+    map-append f direct (v ∷ []) ∙ ap (λ z. z ++ f v ∷ []) (tail_of e) ∙ ap (λ z. is ++ z ∷ []) (head_of e)
   where
     tail_of : {a b : Name} {as1 bs : List Name} → a ∷ as1 ≡ b ∷ bs → as1 ≡ bs
     tail_of e = cc

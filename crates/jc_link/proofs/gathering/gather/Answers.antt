@@ -3,7 +3,7 @@ use Rattle.jc_classes.specs.Names.{names_of}
 use Rattle.jc_link.specs.Meters.{counted}
 use Rattle.jc_link.specs.Tables.{world}
 use Rattle.jc_classes.specs.Numbers.{name_at}
-use Rattle.jc_link.specs.inside.Gathering.{Gathering, stands_in, rows_in}
+use Rattle.jc_link.specs.inside.Gathering.{Gathering, stands_in, supertypes_in}
 use Rattle.jc_classes.specs.NameLists.{IsRisingOf}
 use Rattle.jc_classes.specs.Names.{object as java_lang_object}
 use Rattle.jc_link.proofs.closures.Names.{rising_list}
@@ -18,7 +18,7 @@ invariant_of-result c =
     let reach = c.in_ok-reach.reach in
     let ns = names_of c.in_ok-found.found.items in
     let st = stands_in reach.reached.standing.items in
-    let rs = rows_in reach.reached.supertypes.items in
+    let rs = supertypes_in reach.reached.supertypes.items in
     let nodes = reach.references.items in
     let g : Gathering m d ns st rs nodes = subst (λ z. Gathering m d z st rs nodes) (sym e) c.in_ok-reach.ensures.gathering in
     let over : length ns ≤ length st = subst (λ z. length z ≤ length st) (sym e) c.in_ok-reach.ensures.whole in
@@ -40,7 +40,7 @@ returns-clause-closure c =
     let reach = c.in_ok-reach.reach in
     let ns = names_of c.in_ok-found.found.items in
     let st = stands_in reach.reached.standing.items in
-    let rs = rows_in reach.reached.supertypes.items in
+    let rs = supertypes_in reach.reached.supertypes.items in
     let nodes = reach.references.items in
     let g : Gathering m d ns st rs nodes = subst (λ z. Gathering m d z st rs nodes) (sym e) c.in_ok-reach.ensures.gathering in
     let over : length ns ≤ length st = subst (λ z. length z ≤ length st) (sym e) c.in_ok-reach.ensures.whole in
@@ -55,7 +55,7 @@ returns-clause-asks c =
     let reach = c.in_ok-reach.reach in
     let ns = names_of c.in_ok-found.found.items in
     let st = stands_in reach.reached.standing.items in
-    let rs = rows_in reach.reached.supertypes.items in
+    let rs = supertypes_in reach.reached.supertypes.items in
     let nodes = reach.references.items in
     let g : Gathering m d ns st rs nodes = subst (λ z. Gathering m d z st rs nodes) (sym e) c.in_ok-reach.ensures.gathering in
     let over : length ns ≤ length st = subst (λ z. length z ≤ length st) (sym e) c.in_ok-reach.ensures.whole in

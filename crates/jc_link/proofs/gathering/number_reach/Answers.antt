@@ -5,7 +5,7 @@ use Rattle.jc_classes.specs.Lent.{stands_of}
 use Rattle.jc_link.specs.Meters.{counted}
 use Rattle.jc_link.specs.Tables.{world}
 use Rattle.jc_classes.specs.Numbers.{name_at, Grows}
-use Rattle.jc_link.specs.inside.Gathering.{stands_in, rows_in, Nodes}
+use Rattle.jc_link.specs.inside.Gathering.{stands_in, supertypes_in, Nodes}
 use Rattle.jc_link.proofs.meters.Counting.{counted_add}
 use Rattle.jc_link.proofs.reaches.Gathered.{gathering_add, gathering_first, gathering_as}
 use Rattle.jc_link.proofs.reaches.Weights.{left_less, told_by}
@@ -31,9 +31,9 @@ loop-alloc-init c =
     let is : own ≡ m (name_at n3 0) = found ∙ ap m (sym first.first.1) in
     let longer = more.grows.longer in
     let st : stands_in c.push.new.self.standing.items ≡ own ∷ [] = e.stands_more ∙ ap (λ z. z ++ own ∷ []) c.in_ok-reached.ensures.standing in
-    let rs : rows_in c.push.new.self.supertypes.items ≡ e.row ∷ [] = e.rows_more ∙ ap (λ z. z ++ e.row ∷ []) c.in_ok-reached.ensures.supertypes in
+    let rs : supertypes_in c.push.new.self.supertypes.items ≡ e.direct ∷ [] = e.supertypes_more ∙ ap (λ z. z ++ e.direct ∷ []) c.in_ok-reached.ensures.supertypes in
     record {
-      gathering = gathering_as m d n4 (own ∷ []) _ (e.row ∷ []) _ nodes st rs (gathering_add m d n3 n4 [] [] nodes own e.row first first.first.0 is e.numbered);
+      gathering = gathering_as m d n4 (own ∷ []) _ (e.direct ∷ []) _ nodes st rs (gathering_add m d n3 n4 [] [] nodes own e.direct first first.first.0 is e.numbered);
       object = (omega (arith, b.node.0, e.numbered.grows.longer), e.numbered.grows.same _ (omega (arith, b.node.0)) ∙ more.grows.same _ b.node.0 ∙ b.node.1);
       asks = c.stand_at-own.ensures.asks ∙ ap (counted c.args.meter.now.asks) (sym (ap length st));
       made = c.stand_at-own.ensures.made;
@@ -46,7 +46,7 @@ loop-alloc-preserved c =
     let ns = c.loop-alloc.numbers in
     let ns2 = c.push-in-loop-alloc.new.numbers in
     let st = stands_in c.loop-alloc.reached.standing.items in
-    let rs = rows_in c.loop-alloc.reached.supertypes.items in
+    let rs = supertypes_in c.loop-alloc.reached.supertypes.items in
     let o = stands_of c.stand_at-next.result in
     let size = length-map c.loop-alloc.reached.standing.items stands_of in
     let at : c.len-in-loop-alloc-3.result ≡ length st = omega (arith, c.len-in-loop-alloc-3.ensures, c.loop-alloc.reached.standing.ok.0) in
@@ -57,8 +57,8 @@ loop-alloc-preserved c =
     let grows = e.numbered.grows in
     let longer = grows.longer in
     record {
-      gathering = gathering_as m d ns2 _ _ _ _ c.in_ok-references.references.items e.stands_more e.rows_more
-          (gathering_add m d ns ns2 st rs c.in_ok-references.references.items o e.row c.loop-alloc.invariant.gathering less is e.numbered);
+      gathering = gathering_as m d ns2 _ _ _ _ c.in_ok-references.references.items e.stands_more e.supertypes_more
+          (gathering_add m d ns ns2 st rs c.in_ok-references.references.items o e.direct c.loop-alloc.invariant.gathering less is e.numbered);
       object = (omega (arith, object.0), grows.same _ object.0 ∙ object.1);
       asks = c.stand_at-next.ensures.asks ∙ ap (λ a. counted a 1) c.loop-alloc.invariant.asks ∙ counted_add c.args.meter.now.asks (length st) 1 ∙ ap (counted c.args.meter.now.asks) (sym (ap length e.stands_more ∙ length-append st (o ∷ [])));
       made = c.stand_at-next.ensures.made ∙ c.loop-alloc.invariant.made;

@@ -7,7 +7,7 @@ use Rattle.jc_classes.specs.Numbers.{name_at}
 use Rattle.jc_link.specs.Meters.{counted}
 use Rattle.jc_link.specs.Tables.{world}
 use Rattle.jc_link.proofs.meters.Counting.{counted_add, counted_none}
-use Rattle.jc_link.specs.inside.Gathering.{rows_in, stands_in}
+use Rattle.jc_link.specs.inside.Gathering.{supertypes_in, stands_in}
 use Rattle.jc_link.specs.inside.NetShown.{nodes_in}
 use Rattle.jc_link.proofs.nets.Referred.{asked_more, referred_add, referred_as, referred_none}
 use Rattle.jc_link.proofs.nets.ClassesNumbered.{kept_all, kept_by_growth}
@@ -34,7 +34,7 @@ loop-alloc-preserved c =
     let mid = c.push.new.numbers in
     let ns2 = c.number_references.new.numbers in
     let st = stands_in c.loop-alloc.reached.standing.items in
-    let rs = rows_in c.loop-alloc.reached.supertypes.items in
+    let rs = supertypes_in c.loop-alloc.reached.supertypes.items in
     let o = stands_of c.stand_at-next.result in
     let size = length-map c.loop-alloc.reached.standing.items stands_of in
     let at : c.len-in-loop-alloc-3.result ≡ length st = omega (arith, c.len-in-loop-alloc-3.ensures, c.loop-alloc.reached.standing.ok.0) in
@@ -45,7 +45,7 @@ loop-alloc-preserved c =
     let nodes = nodes_in c.loop-alloc.references.items in
     let pushed : nodes_in c.push-in-loop-alloc.new.self.items ≡ nodes ++ c.in_ok-number_references.field-0.items ∷ [] = ap nodes_in c.in_ok-push-2.ensures.items ∙ map-append (λ (v : Vec (Option ℕ) Global). v.items) c.loop-alloc.references.items (c.in_ok-number_references.field-0 ∷ []) in
     record {
-      asked = asked_as m ns2 _ _ _ _ e.stands_more e.rows_more (asked_more m mid ns2 _ _ _ (asked_add m ns mid st rs o e.row c.loop-alloc.invariant.asked less is e.numbered) more.grows);
+      asked = asked_as m ns2 _ _ _ _ e.stands_more e.supertypes_more (asked_more m mid ns2 _ _ _ (asked_add m ns mid st rs o e.direct c.loop-alloc.invariant.asked less is e.numbered) more.grows);
       referred = referred_as ns2 _ _ _ _ e.stands_more pushed (referred_add ns mid ns2 _ st nodes o c.in_ok-number_references.field-0.items c.loop-alloc.invariant.referred e.numbered.grows more);
       kept = kept_by_growth c.args.numbers.now mid ns2 _ (kept_by_growth c.args.numbers.now ns mid _ c.loop-alloc.invariant.kept e.numbered.grows) more.grows;
       asks = c.stand_at-next.ensures.asks ∙ ap (λ a. counted a 1) c.loop-alloc.invariant.asks ∙ counted_add c.args.meter.now.asks (length st) 1 ∙ ap (counted c.args.meter.now.asks) (sym (ap length e.stands_more ∙ length-append st (o ∷ [])));

@@ -25,11 +25,11 @@ part_of-requires-clause-nodes c =
     let some = c.in-Some.ensures.some in
     let within : class < length a.standing.items = omega (arith, some.0, c.net.invariant.net.all_stand, length-map a.standing.items stands_of) in
     let own : stands_of c.index-own.result.now ≡ stand_at (stands_in a.standing.items) class = ap stands_of c.index-own.ensures ∙ sym (get_or-map stands_of a.standing.items class _ Nothing within) in
-    let is = c.requires.hierarchy.is ∙ ap (λ (n : Net). record { names = n.names; records = n.stands; supertypes = c.requires.hierarchy.rows }) (sym c.net.view_is) in
-    let rows = a.references.items in
-    let held : class < length rows = omega (arith, some.0, c.net.invariant.net.all_stand, c.net.invariant.referred.size, length-map rows (λ (v : Vec (Option ℕ) Global). v.items)) in
-    let at : c.as_slice-references.result.now ≡ nodes_at (nodes_in rows) class =
-    c.as_slice-references.ensures.value ∙ ap (λ (v : Vec (Option ℕ) Global). v.items) c.index.ensures ∙ sym (get_or-map (λ (v : Vec (Option ℕ) Global). v.items) rows class _ [] held) in
+    let is = c.requires.hierarchy.is ∙ ap (λ (n : Net). record { names = n.names; records = n.stands; supertypes = c.requires.hierarchy.supertypes }) (sym c.net.view_is) in
+    let references = a.references.items in
+    let held : class < length references = omega (arith, some.0, c.net.invariant.net.all_stand, c.net.invariant.referred.size, length-map references (λ (v : Vec (Option ℕ) Global). v.items)) in
+    let at : c.as_slice-references.result.now ≡ nodes_at (nodes_in references) class =
+    c.as_slice-references.ensures.value ∙ ap (λ (v : Vec (Option ℕ) Global). v.items) c.index.ensures ∙ sym (get_or-map (λ (v : Vec (Option ℕ) Global). v.items) references class _ [] held) in
     let here = subst (λ z. NumberReferences a.numbers z (references_of (stand_at (stands_in a.standing.items) class))) (sym at) (c.net.invariant.referred.named class (omega (arith, some.0, c.net.invariant.net.all_stand))) in
     subst (λ (h : Numbered). NumberReferences h.names c.as_slice-references.result.now (references_of (stand_at h.records class))) (sym is) here
 
@@ -39,10 +39,10 @@ part_of-requires-clause-within c = λ v h.
     let a = c.net.inside in
     let class = c.in-Some.class in
     let some = c.in-Some.ensures.some in
-    let rows = a.references.items in
-    let held : class < length rows = omega (arith, some.0, c.net.invariant.net.all_stand, c.net.invariant.referred.size, length-map rows (λ (v : Vec (Option ℕ) Global). v.items)) in
-    let at : c.as_slice-references.result.now ≡ nodes_at (nodes_in rows) class =
-    c.as_slice-references.ensures.value ∙ ap (λ (v : Vec (Option ℕ) Global). v.items) c.index.ensures ∙ sym (get_or-map (λ (v : Vec (Option ℕ) Global). v.items) rows class _ [] held) in
+    let references = a.references.items in
+    let held : class < length references = omega (arith, some.0, c.net.invariant.net.all_stand, c.net.invariant.referred.size, length-map references (λ (v : Vec (Option ℕ) Global). v.items)) in
+    let at : c.as_slice-references.result.now ≡ nodes_at (nodes_in references) class =
+    c.as_slice-references.ensures.value ∙ ap (λ (v : Vec (Option ℕ) Global). v.items) c.index.ensures ∙ sym (get_or-map (λ (v : Vec (Option ℕ) Global). v.items) references class _ [] held) in
     let l = c.net.invariant.referred.within c.in-Some.class v (omega (arith, c.in-Some.ensures.some.0, c.net.invariant.net.all_stand)) (subst (λ z. Contains z (Some v)) at h) in
     omega (arith, l, names)
 
@@ -54,10 +54,10 @@ returns-clause-part c = λ m lies.
     let within : class < length a.standing.items = omega (arith, some.0, c.net.invariant.net.all_stand, length-map a.standing.items stands_of) in
     let own : stands_of c.index-own.result.now ≡ stand_at (stands_in a.standing.items) class = ap stands_of c.index-own.ensures ∙ sym (get_or-map stands_of a.standing.items class _ Nothing within) in
     let all = subst (IsIn m) (sym c.net.view_is) lies in
-    let is : c.args.hierarchy.now ≡ record { names = a.numbers; records = stands_in a.standing.items; supertypes = c.requires.hierarchy.rows } =
-    c.requires.hierarchy.is ∙ ap (λ (n : Net). record { names = n.names; records = n.stands; supertypes = c.requires.hierarchy.rows }) (sym c.net.view_is) in
+    let is : c.args.hierarchy.now ≡ record { names = a.numbers; records = stands_in a.standing.items; supertypes = c.requires.hierarchy.supertypes } =
+    c.requires.hierarchy.is ∙ ap (λ (n : Net). record { names = n.names; records = n.stands; supertypes = c.requires.hierarchy.supertypes }) (sym c.net.view_is) in
     let made = c.in_ok-part.ensures in
     let part = c.in_ok-part.part in
-    part_made m c.args.name.now a.numbers (stands_in a.standing.items) c.requires.hierarchy.rows c.args.hierarchy.now class part.circular part.load part.answers part.links part.format_faults part.code_faults (stand_at (stands_in a.standing.items) class)
+    part_made m c.args.name.now a.numbers (stands_in a.standing.items) c.requires.hierarchy.supertypes c.args.hierarchy.now class part.circular part.load part.answers part.links part.format_faults part.code_faults (stand_at (stands_in a.standing.items) class)
     all some.0 some.1 is made.circular made.load made.answers made.links refl
     (made.format_faults ∙ ap format_faults_of own) (made.code_faults ∙ ap code_faults_of own)

@@ -4,14 +4,14 @@ use Rattle.jc_classes.specs.Names.{names_of}
 use Rattle.jc_classes.specs.Worlds.{format_faults_of, code_faults_of}
 use Rattle.jc_resolve.specs.Numbered.{IsClosed, Numbered, numbered}
 use Rattle.jc_link.specs.Closures.{Closure, IsClosure}
-use Rattle.jc_link.specs.inside.Gathering.{stand_at, stands_in, rows_in}
+use Rattle.jc_link.specs.inside.Gathering.{stand_at, stands_in, supertypes_in}
 use Rattle.jc_link.proofs.parted.Making.{closed_of, part_made}
 use Rattle.jc_link.proofs.part.make_part.Goals as goal
 
 pub new-requires-clause-closed : goal.new-requires-clause-closed
 new-requires-clause-closed c =
     let a = c.closure.inside in
-    let net = closed_of (names_of a.found.items) (stands_in a.standing.items) (rows_in a.supertypes.items) a.object c.closure.invariant.net in
+    let net = closed_of (names_of a.found.items) (stands_in a.standing.items) (supertypes_in a.supertypes.items) a.object c.closure.invariant.net in
     subst (λ z. IsClosed (numbered z c.as_slice-2.result.now c.as_slice-3.result.now)) (sym c.as_slice.ensures.value)
     (subst (λ z. IsClosed (numbered a.found.items z c.as_slice-3.result.now)) (sym c.as_slice-2.ensures.value)
     (subst (λ z. IsClosed (numbered a.found.items a.standing.items z)) (sym c.as_slice-3.ensures.value) net))
@@ -31,7 +31,7 @@ returns-clause-part c = λ m d k.
     c.in_ok-hierarchy.ensures ∙ ap (λ z. numbered z c.as_slice-2.result.now c.as_slice-3.result.now) c.as_slice.ensures.value ∙ ap (λ z. numbered a.found.items z c.as_slice-3.result.now) c.as_slice-2.ensures.value ∙ ap (λ z. numbered a.found.items a.standing.items z) c.as_slice-3.ensures.value in
     let stands = ap (λ (z : Closure). stand_at z.stands 0) (sym c.closure.view_is) in
     let part = c.in_ok-part.part in
-    part_made m d (names_of a.found.items) (stands_in a.standing.items) (rows_in a.supertypes.items) c.in_ok-hierarchy.hierarchy 0 part.circular part.load part.answers part.links part.format_faults part.code_faults (stand_at (stands_in a.standing.items) 0)
+    part_made m d (names_of a.found.items) (stands_in a.standing.items) (supertypes_in a.supertypes.items) c.in_ok-hierarchy.hierarchy 0 part.circular part.load part.answers part.links part.format_faults part.code_faults (stand_at (stands_in a.standing.items) 0)
     closure.stands c.closure.invariant.some closure.first is c.in_ok-part.ensures.circular c.in_ok-part.ensures.load c.in_ok-part.ensures.answers c.in_ok-part.ensures.links refl
     (c.in_ok-part.ensures.format_faults ∙ ap format_faults_of (c.own.ensures.first ∙ stands))
     (c.in_ok-part.ensures.code_faults ∙ ap code_faults_of (c.own.ensures.first ∙ stands))

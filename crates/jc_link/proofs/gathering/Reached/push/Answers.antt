@@ -3,4 +3,4 @@ use Rattle.std.proofs.lemmas.Grind.{common_steps}
 use Rattle.jc_link.proofs.gathering.Reached.push.Goals as goal
 
 pub returns : goal.returns
-returns c = record { row = c.in_ok-row.row.items; numbered = c.in_ok-row.ensures; stands_more = grind (arith, common_steps); rows_more = grind (arith, common_steps) }
+returns c = record { direct = c.in_ok-direct.direct.items; numbered = c.in_ok-direct.ensures; stands_more = grind (arith, common_steps); supertypes_more = grind (arith, common_steps) }

@@ -1,7 +1,7 @@
 use Rattle.std.proofs.Common.{◌∙◌, arith, ap}
 use Rattle.jc_link.specs.Meters.{counted}
 use Rattle.jc_link.specs.Tables.{world}
-use Rattle.jc_link.specs.inside.Gathering.{rows_in, stands_in}
+use Rattle.jc_link.specs.inside.Gathering.{supertypes_in, stands_in}
 use Rattle.jc_link.proofs.nets.ClassesNumbered.{kept_name}
 use Rattle.jc_link.proofs.reaches.Closing.{all_asked, all_stand, net_of}
 use Rattle.jc_link.proofs.net.Net.of.Goals as goal
@@ -16,7 +16,7 @@ invariant_of-result c =
     let kept = c.in_ok-asked.ensures.kept in
     let object = c.in_ok-object.ensures.node in
     record {
-      net = net_of m ns (stands_in reached.standing.items) (rows_in reached.supertypes.items) asked.asked c.in_ok-asked.ensures.whole c.in_ok-object.object
+      net = net_of m ns (stands_in reached.standing.items) (supertypes_in reached.supertypes.items) asked.asked c.in_ok-asked.ensures.whole c.in_ok-object.object
           (omega (arith, object.0, first.longer, kept.longer), kept.same _ (omega (arith, object.0, first.longer)) ∙ first.same _ object.0 ∙ object.1);
       referred = asked.referred;
     }
@@ -28,7 +28,7 @@ returns-clause-net c =
     let ns = c.ask_all.new.numbers in
     let reached = c.in_ok-asked.asked.reached in
     record {
-      stands = all_stand m ns (stands_in reached.standing.items) (rows_in reached.supertypes.items) c.in_ok-asked.ensures.asked.asked c.in_ok-asked.ensures.whole;
+      stands = all_stand m ns (stands_in reached.standing.items) (supertypes_in reached.supertypes.items) c.in_ok-asked.ensures.asked.asked c.in_ok-asked.ensures.whole;
       names = λ f h. kept_name n2 ns f.name c.in_ok-asked.ensures.kept (c.in_ok-number_classes.ensures.numbered f h);
     }
 
@@ -38,4 +38,4 @@ returns-clause-asks c =
     let ns = c.ask_all.new.numbers in
     let reached = c.in_ok-asked.asked.reached in
     c.in_ok-asked.ensures.asks
-    ∙ ap (counted c.args.meter.now.asks) (all_asked m ns (stands_in reached.standing.items) (rows_in reached.supertypes.items) c.in_ok-asked.ensures.asked.asked c.in_ok-asked.ensures.whole)
+    ∙ ap (counted c.args.meter.now.asks) (all_asked m ns (stands_in reached.standing.items) (supertypes_in reached.supertypes.items) c.in_ok-asked.ensures.asked.asked c.in_ok-asked.ensures.whole)
