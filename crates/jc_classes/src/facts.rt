@@ -62,7 +62,7 @@ pub(crate) struct MemberEntry {
 
 /// A reference, by the numbers of its texts in the same way. A reference to a class has the empty text for
 /// name and descriptor.
-#[derive(Clone, Copy)]
+#[derive(Clone, Copy, PartialEq, Eq)]
 pub(crate) struct ReferenceEntry {
     pub(crate) index: u16,
     pub(crate) kind: ReferenceKind,

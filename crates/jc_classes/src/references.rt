@@ -1,6 +1,6 @@
 //! The references of a class, shared with its facts.
 
-ghost use Rattle.std.specs.Prelude.{◌≡◌, IfOk, length, option_map, slice_get};
+ghost use Rattle.std.specs.Prelude.{◌≡◌, IfOk, IsTrue, length, option_map, slice_get};
 ghost use Rattle.jc_classes.specs.Lent.{reference_lent};
 
 use crate::facts::ReferenceEntry;
@@ -44,6 +44,14 @@ impl References {
             Some(entry) => Some(entry.lend(self.texts.as_ref())),
             None => None,
         }
+    }
+
+    /// Whether others are known to be the same: of equal ones whose texts stand otherwise it may say no. No memory.
+    pub fn is_same(&self, other: &References) -> bool
+        ensures { IsTrue result → self.now ≡ other.now }
+    {
+        self.entries.as_ref().as_slice() == other.entries.as_ref().as_slice()
+            && self.texts.as_ref().is_same(other.texts.as_ref())
     }
 
     /// The same references, shared.

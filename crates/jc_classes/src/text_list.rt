@@ -1,7 +1,7 @@
 //! Many texts in one buffer.
 
 ghost use Rattle.std.specs.Prelude.{◌≡◌, ◌<◌, ◌≤◌, ◌-◌, ◌++◌, [], ◌∷◌};
-ghost use Rattle.std.specs.Prelude.{drop, length, slice_index_or, take, IfOk, OnErr, OnOk};
+ghost use Rattle.std.specs.Prelude.{drop, length, slice_index_or, take, IfOk, IsTrue, OnErr, OnOk};
 ghost use Rattle.jc_classes.specs.inside.TextList.{start_at};
 
 use jc_base::NoMemory;
@@ -68,6 +68,14 @@ impl TextList {
         ensures { result ≡ length self.now }
     {
         self.ends.len()
+    }
+
+    /// Whether another list is the same. No memory.
+    pub fn is_same(&self, other: &TextList) -> bool
+        ensures { IsTrue result → self.now ≡ other.now }
+    {
+        self.ends.as_slice() == other.ends.as_slice()
+            && self.bytes.as_slice() == other.bytes.as_slice()
     }
 
     /// The list with no room to spare. No memory.

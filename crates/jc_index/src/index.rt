@@ -137,6 +137,9 @@ impl Index {
         ensures ok { OnOk result (LinkedAt self.old self.new (has_but names.now others.now) user.now) }
         ensures err { OnErr result (LinkedAtSome self.old self.new (has_but names.now others.now) user.now) }
     {
+        if names.is_same(others) {
+            return Ok(());
+        }
         for place in 0..names.len() {
             self.link_unless(names.name(place), others, user)?;
         }
@@ -172,6 +175,9 @@ impl Index {
     pub fn unlink_all_but(&mut self, names: &PackedNames, others: &PackedNames, user: &[u8])
         ensures { UnlinkedAt self.old self.new (has_but names.now others.now) user.now }
     {
+        if names.is_same(others) {
+            return;
+        }
         for place in 0..names.len() {
             self.unlink_unless(names.name(place), others, user);
         }

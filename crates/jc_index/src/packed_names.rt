@@ -1,6 +1,6 @@
 //! Names in one buffer.
 
-ghost use Rattle.std.specs.Prelude.{◌≡◌, [], length, IfOk};
+ghost use Rattle.std.specs.Prelude.{◌≡◌, [], length, IfOk, IsTrue};
 ghost use Rattle.jc_classes.specs.NameLists.{has};
 ghost use Rattle.jc_classes.specs.Names.{names_of};
 ghost use Rattle.jc_classes.specs.Numbers.{name_at};
@@ -57,6 +57,13 @@ impl PackedNames {
         ensures { result ≡ length self.now }
     {
         self.names.len()
+    }
+
+    /// Whether others are the same. No memory.
+    pub fn is_same(&self, other: &PackedNames) -> bool
+        ensures { IsTrue result → self.now ≡ other.now }
+    {
+        self.names.is_same(&other.names)
     }
 
     /// The name at a place, from 0; an empty one beyond the last. No memory.

@@ -4,8 +4,14 @@ use Rattle.jc_classes.specs.Names.{Name, same_name}
 use Rattle.jc_classes.specs.NameLists.{has}
 use Rattle.jc_index.specs.Indexes.{Between, UserLists, users_of}
 use Rattle.jc_index.proofs.indexes.Lists.{on_err_any}
-use Rattle.jc_index.proofs.indexes.Loops.{linked_more, linked_some}
+use Rattle.jc_index.proofs.indexes.Loops.{had_by_others, linked_more, linked_some}
 use Rattle.jc_index.proofs.index.Index.link_all_but.Goals as goal
+
+pub returns-then-is_same-clause-ok : goal.returns-then-is_same-clause-ok
+returns-then-is_same-clause-ok c = λ n d.
+    let names = c.args.names.now in
+    had_by_others (has (users_of c.args.self.now n) d) (has names n) (same_name d c.args.user.now) (has c.args.others.now n)
+    (λ e. ap (λ l. has l n) (sym (c.is_same.ensures c.if-is_same.true)) ∙ e)
 
 pub returns-in_err-link_unless-clause-err : goal.returns-in_err-link_unless-clause-err
 returns-in_err-link_unless-clause-err c =

@@ -3,8 +3,14 @@ use Rattle.std.proofs.lemmas.List.{take_all}
 use Rattle.jc_classes.specs.NameLists.{has}
 use Rattle.jc_classes.specs.Names.{same_name}
 use Rattle.jc_index.specs.Indexes.{users_of}
-use Rattle.jc_index.proofs.indexes.Loops.{unlinked_more}
+use Rattle.jc_index.proofs.indexes.Loops.{unless_had, unlinked_more}
 use Rattle.jc_index.proofs.index.Index.unlink_all_but.Goals as goal
+
+pub returns-then-is_same : goal.returns-then-is_same
+returns-then-is_same c = λ n d.
+    let names = c.args.names.now in
+    unless_had (has (users_of c.args.self.now n) d) (has names n) (same_name d c.args.user.now) (has c.args.others.now n)
+    (λ e. ap (λ l. has l n) (sym (c.is_same.ensures c.if-is_same.true)) ∙ e)
 
 pub loop-place-preserved : goal.loop-place-preserved
 loop-place-preserved c =
