@@ -10,7 +10,7 @@ ghost use Rattle.jc_link.specs.Meters.{counted};
 ghost use Rattle.jc_link.specs.Tables.{world};
 ghost use Rattle.jc_linkage.specs.inside.Kept.{AllFresh, AreKeys, HasKeysOf, IsKeptOf, fresh_names, reach_sum, required_by};
 
-use jc_base::NoMemory;
+use jc_base::{ByteMap, NoMemory};
 use jc_classes::Facts;
 use jc_index::PackedNames;
 use jc_link::{Closure, Meter, Outside, Part, Table, gather, make_part};
@@ -35,11 +35,12 @@ pub(crate) struct Fresh {
     pub(crate) kept: Kept,
 }
 
-/// Gathers classes and makes their parts, in order.
+/// Gathers classes and makes their parts, in order. Of what is kept of them it takes over what stays.
 pub(crate) fn make_fresh(
     alloc: Global,
     table: &Table,
     outside: &Outside,
+    kept: &ByteMap<Kept>,
     names: &[Vec<u8>],
     meter: &mut Meter,
 ) -> Result<Vec<Fresh>, NoMemory>
@@ -52,17 +53,19 @@ pub(crate) fn make_fresh(
 {
     let mut fresh = Vec::new(alloc);
     for name in names {
-        fresh.push(make_one(alloc, table, outside, name, meter)?)?;
+        let before = kept.get(name);
+        fresh.push(make_one(alloc, table, outside, name, before, meter)?)?;
     }
     Ok(fresh)
 }
 
-/// Gathers a class and makes its part.
+/// Gathers a class and makes its part. Of what is kept of it before it takes over what stays.
 pub(crate) fn make_one(
     alloc: Global,
     table: &Table,
     outside: &Outside,
     name: &[u8],
+    before: Option<&Kept>,
     meter: &mut Meter,
 ) -> Result<Fresh, NoMemory>
     ensures name { IfOk result (λ fresh. fresh.name.items ≡ name.now) }
@@ -74,7 +77,7 @@ pub(crate) fn make_one(
 {
     let name_kept = Vec::from_slice(alloc, name)?;
     let closure = gather(alloc, table, outside, name, meter)?;
-    let (part, required) = part_and_rows(alloc, &closure, meter)?;
+    let (part, required) = part_and_rows(alloc, &closure, before, meter)?;
     let reach = PackedNames::of(alloc, &closure.into_names())?;
     let kept = Kept {
         part,
@@ -91,6 +94,7 @@ pub(crate) fn make_one(
 fn part_and_rows(
     alloc: Global,
     closure: &Closure,
+    before: Option<&Kept>,
     meter: &mut Meter,
 ) -> Result<(Part, RowList), NoMemory>
     ensures part { (m : World) (d : Name) → IsClosure m d closure.now → IfOk result (λ made. IsPart m d made.0) }
@@ -100,16 +104,32 @@ fn part_and_rows(
     ensures made_rise { meter.old.made ≤ meter.new.made }
 {
     let part = make_part(alloc, closure, meter)?;
-    let required = required_by(alloc, closure.record(), &part)?;
+    let required = required_by(alloc, closure.record(), &part, before)?;
     Ok((part, required))
 }
 
 /// The rows that a class requires by its record; none where it has none.
-fn required_by(alloc: Global, own: Option<&Facts>, part: &Part) -> Result<RowList, NoMemory>
+fn required_by(
+    alloc: Global,
+    own: Option<&Facts>,
+    part: &Part,
+    before: Option<&Kept>,
+) -> Result<RowList, NoMemory>
     ensures { IfOk result (λ keys. AreKeys keys (required_by (option_copied own.entry) part.now)) }
 {
     match own {
-        Some(facts) => Ok(RowList::of(required_of(alloc, facts, part)?)),
+        Some(facts) => {
+            let required = required_of(alloc, facts, part)?;
+            Ok(RowList::of(alloc, required, rows_kept(before))?)
+        }
         None => Ok(RowList::new(alloc)),
+    }
+}
+
+/// The rows that are kept of a class.
+fn rows_kept(kept: Option<&Kept>) -> Option<&RowList> {
+    match kept {
+        Some(kept) => Some(&kept.required),
+        None => None,
     }
 }

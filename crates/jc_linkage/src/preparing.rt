@@ -37,7 +37,7 @@ pub(crate) fn prepare(
     ensures asks_rise { meter.old.asks ≤ meter.new.asks }
     ensures made_rise { meter.old.made ≤ meter.new.made }
 {
-    let fresh = make_fresh(alloc, table, outside, names, meter)?;
+    let fresh = make_fresh(alloc, table, outside, kept, names, meter)?;
     link_all(alloc, table, outside, kept, links, &fresh, comes, meter)?;
     Ok(fresh)
 }
@@ -89,7 +89,7 @@ fn link_newcomer(
     ensures asks_rise { meter.old.asks ≤ meter.new.asks }
     ensures made_rise { meter.old.made ≤ meter.new.made }
 {
-    let newcomer = make_one(alloc, table, outside, name, meter)?;
+    let newcomer = make_one(alloc, table, outside, name, None, meter)?;
     match link_and_keep(kept, links, fresh, newcomer) {
         Ok(()) => Ok(()),
         Err(newcomer) => {

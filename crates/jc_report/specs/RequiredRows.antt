@@ -1,5 +1,5 @@
 -- The rows that a class requires, lent from its references.
-use Rattle.std.specs.Prelude.{List, [], map, Option, None, Some, slice_get}
+use Rattle.std.specs.Prelude.{ℕ, List, [], map, Option, None, Some, slice_get}
 use Rattle.jc_classes.specs.Facts.{Reference}
 use Rattle.jc_classes.specs.Names.{Name}
 use Rattle.jc_report.specs.ClassRows.{class_row, reference_row}
@@ -11,9 +11,15 @@ abbrev pub row_of_some : Option Reference → rows.Row
 row_of_some (Some reference) = reference_row reference
 row_of_some None = class_row []
 
--- the row of the reference of its number
+-- the row of the reference of a number
+abbrev pub row_numbered : List Reference → ℕ → rows.Row
+row_numbered references number = row_of_some (slice_get references number)
+
+abbrev pub rows_numbered : List Reference → List ℕ → List rows.Row
+rows_numbered references numbers = map (row_numbered references) numbers
+
 abbrev pub row_required : RequiredRow → rows.Row
-row_required row = row_of_some (slice_get row.references row.number)
+row_required row = row_numbered row.references row.number
 
 -- the key of its row
 abbrev pub spelled : RequiredRow → Name

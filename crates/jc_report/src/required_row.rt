@@ -1,21 +1,18 @@
-//! The rows that a class requires, which share their texts with it.
+//! A row that a class requires, which shares its texts with it.
 
-ghost use Rattle.std.specs.Prelude.{◌≡◌, IfOk, map, slice_get};
+ghost use Rattle.std.specs.Prelude.{◌≡◌, IfOk};
 ghost use Rattle.std.specs.Cmp.{eq_by_cmp_equiv, on_total, partial_equiv_from_equiv, partial_order_from_agreeing_total};
 ghost use Rattle.std.specs.Ordering.{as_partial_cmp, eq_by_cmp, on};
 ghost use Rattle.std.proofs.Common.{refl};
 ghost use Rattle.jc_base.proofs.maps.FiniteMaps.{bytes_cmp_total};
 ghost use Rattle.jc_base.specs.Bytes.{bytes_cmp};
-ghost use Rattle.jc_report.specs.ClassRows.{required_rows};
-ghost use Rattle.jc_report.specs.RequiredRows.{row_of_some, row_required, spelled};
+ghost use Rattle.jc_report.specs.RequiredRows.{row_numbered, row_required, spelled};
 ghost use Rattle.jc_report.specs.RowView.{row_lent};
 
-use crate::class_rows::{class_row, is_required, reference_row};
+use crate::class_rows::{class_row, reference_row};
 use crate::row::Row;
 use jc_base::NoMemory;
-use jc_classes::{Facts, References};
-use jc_link::Part;
-use std::alloc::Global;
+use jc_classes::References;
 use std::cmp::Ordering;
 
 /// A row that a class requires, as the number of one of its references, with which it shares its texts, so that it
@@ -88,27 +85,9 @@ impl Ord for RequiredRow {
     }
 }
 
-/// The rows that a class requires, in the order of its references.
-pub fn required_of(alloc: Global, facts: &Facts, part: &Part) -> Result<Vec<RequiredRow>, NoMemory>
-    ensures { IfOk result (λ rows. map row_required rows.items ≡ required_rows facts.now part.now) }
-{
-    let references = facts.shared_references()?;
-    let answers = part.answers();
-    let mut rows = Vec::new(alloc);
-    for number in 0..answers.len() {
-        if is_required(answers.kind(number)) {
-            match references.at(number) {
-                Some(_) => rows.push(numbered(&references, number)?)?,
-                None => return Ok(rows),
-            }
-        }
-    }
-    Ok(rows)
-}
-
 /// The row of the reference of a number.
-fn numbered(references: &References, number: usize) -> Result<RequiredRow, NoMemory>
-    ensures { IfOk result (λ row. row_required row ≡ row_of_some (slice_get references.now number)) }
+pub(crate) fn numbered(references: &References, number: usize) -> Result<RequiredRow, NoMemory>
+    ensures { IfOk result (λ row. row_required row ≡ row_numbered references.now number) }
 {
     Ok(RequiredRow {
         references: references.share()?,

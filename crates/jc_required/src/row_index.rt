@@ -126,6 +126,9 @@ impl RowIndex {
         ensures ok { OnOk result (LinkedAt self.old self.new (has_but rows.now others.now) user.now) }
         ensures err { OnErr result (LinkedAtSome self.old self.new (has_but rows.now others.now) user.now) }
     {
+        if rows.is_same(others) {
+            return Ok(());
+        }
         let list = rows.rows();
         for place in 0..list.len() {
             self.link_unless(&list[place], place, others, user)?;
@@ -163,6 +166,9 @@ impl RowIndex {
     pub fn unlink_all_but(&mut self, rows: &RowList, others: &RowList, user: &[u8])
         ensures { UnlinkedAt self.old self.new (has_but rows.now others.now) user.now }
     {
+        if rows.is_same(others) {
+            return;
+        }
         let list = rows.rows();
         for place in 0..list.len() {
             self.unlink_unless(&list[place], place, others, user);

@@ -28,7 +28,7 @@ loop-name-preserved c =
     let items : c.push.new.self.items ≡ xs ++ x ∷ [] = c.in_ok-push.ensures.items in
     let names = c.args.names.now in
     let i = c.loop-name.name-index in
-    let named : x.name.items ≡ c.name-item.result.items = c.in_ok-make_one.ensures.name ∙ c.deref.ensures.value in
+    let named : x.name.items ≡ c.name-item.result.items = c.in_ok-make_one.ensures.name ∙ c.deref-in-loop-name.ensures.value in
     let meter = c.args.meter.now in
     record {
       names = ap fresh_names items ∙ fresh_names_push xs x

@@ -5,7 +5,7 @@ use Rattle.jc_classes.specs.Numbers.{name_at}
 use Rattle.jc_classes.specs.NameLists.{has}
 use Rattle.jc_index.specs.Indexes.{Between, UserLists, users_of}
 use Rattle.jc_index.proofs.indexes.Lists.{on_err_any}
-use Rattle.jc_index.proofs.indexes.Loops.{linked_more, linked_some}
+use Rattle.jc_index.proofs.indexes.Loops.{had_by_others, linked_more, linked_some}
 use Rattle.jc_report.specs.RequiredRows.{spelled, spelled_all}
 use Rattle.jc_required.proofs.rows.RowLists.{held_row}
 use Rattle.jc_required.proofs.row_index.RowIndex.link_all_but.Goals as goal
@@ -20,6 +20,11 @@ returns-in_err-link_unless-clause-err c =
     (subst (λ (l : List Name). Between (has (users_of old n) d) (same_name d user && (has l n && not (has c.args.others.now n))) (has (users_of c.loop-place.self n) d)) c.rows-list.ensures
     (linked_some old c.loop-place.self names (λ n. not (has c.args.others.now n)) c.loop-place.place user c.loop-place.invariant n d)) in
     on_err_any c.from_residual.result some
+
+pub returns-then-is_same-clause-ok : goal.returns-then-is_same-clause-ok
+returns-then-is_same-clause-ok c = λ n d.
+    had_by_others (has (users_of c.args.self.now n) d) (has c.args.rows.now n) (same_name d c.args.user.now) (has c.args.others.now n)
+    (λ e. sym (c.is_same.ensures c.if-is_same.true n) ∙ e)
 
 pub loop-place-preserved : goal.loop-place-preserved
 loop-place-preserved c =

@@ -1,13 +1,18 @@
-use Rattle.std.proofs.Common.{◌≡◌, ◌<◌, ◌≤◌, ◌&&◌, not, length, ap, ◌∙◌, arith}
+use Rattle.std.proofs.Common.{◌≡◌, ◌<◌, ◌≤◌, ◌&&◌, not, length, sym, ap, ◌∙◌, arith}
 use Rattle.std.proofs.lemmas.List.{length-map, take_all}
 use Rattle.jc_classes.specs.NameLists.{has}
 use Rattle.jc_classes.specs.Names.{same_name}
 use Rattle.jc_classes.specs.Numbers.{name_at}
 use Rattle.jc_index.specs.Indexes.{users_of}
-use Rattle.jc_index.proofs.indexes.Loops.{unlinked_more}
+use Rattle.jc_index.proofs.indexes.Loops.{unless_had, unlinked_more}
 use Rattle.jc_report.specs.RequiredRows.{spelled, spelled_all}
 use Rattle.jc_required.proofs.rows.RowLists.{held_row}
 use Rattle.jc_required.proofs.row_index.RowIndex.unlink_all_but.Goals as goal
+
+pub returns-then-is_same : goal.returns-then-is_same
+returns-then-is_same c = λ n d.
+    unless_had (has (users_of c.args.self.now n) d) (has c.args.rows.now n) (same_name d c.args.user.now) (has c.args.others.now n)
+    (λ e. sym (c.is_same.ensures c.if-is_same.true n) ∙ e)
 
 pub loop-place-preserved : goal.loop-place-preserved
 loop-place-preserved c =

@@ -1,23 +1,36 @@
-use Rattle.std.proofs.Common.{refl}
+use Rattle.std.proofs.Common.{Some, map, sym, ap, subst, ◌∙◌}
 use Rattle.std.specs.List.Sorted.{IsStrictlySortedBy}
-use Rattle.jc_base.specs.Bytes.{bytes_cmp}
+use Rattle.jc_classes.specs.NameLists.{has}
 use Rattle.jc_classes.specs.Names.{name_cmp}
-use Rattle.std.specs.Ordering.{eq_by_cmp, on}
-use Rattle.jc_index.proofs.lists.Ordered.{ordered_has, ordered_rises}
-use Rattle.jc_report.specs.RequiredRows.{spelled, spelled_all}
-use Rattle.jc_required.proofs.rows.RowLists.{tied}
+use Rattle.jc_report.specs.RequiredRows.{spelled_all}
+use Rattle.jc_report.specs.RowKeys.{row_key}
+use Rattle.jc_required.specs.inside.RowLists.{AreGiven}
+use Rattle.jc_required.proofs.rows.RowLists.{keys_of_rows}
 use Rattle.jc_required.proofs.row_list.RowList.of.Goals as goal
+use Rattle.jc_required.proofs.row_list.RowList.of.Goals.{in-Some+in_ok-rows-in-Some, in_default+in_ok-rows-in_default}
 
-rises : (c : goal.After-dedup) → IsStrictlySortedBy name_cmp (spelled_all c.dedup.new.self.items)
-rises c = ordered_rises spelled (eq_by_cmp (on spelled bytes_cmp)) (λ a b. refl) c.sort_unstable.new.self.items c.dedup.new.self.items
-    c.sort_unstable.ensures.sorted c.dedup.ensures.filtered
+given : (c : goal.Joined-before) → AreGiven (Some c.args.given) (spelled_all c.match-before.rows.items)
+given c = elim c.match-before.branch [
+  | in-Some+in_ok-rows-in-Some w ↦
+      let keys = ap (λ rows. spelled_all rows.items) w.rows-is ∙ w.in_ok-rows-in-Some.ensures.keys in
+      record {
+        rises = subst (IsStrictlySortedBy name_cmp) (sym keys) w.share_rows.ensures.rises;
+        same = λ key. ap (λ names. has names key) keys ∙ w.is_of.ensures w.if-is_of.true key;
+      }
+  | in_default+in_ok-rows-in_default w ↦
+      let rows = ap (λ rows. spelled_all rows.items) w.rows-is in
+      let keys = sym (keys_of_rows _) ∙ ap (map row_key) w.in_ok-rows-in_default.ensures in
+      record {
+        rises = subst (IsStrictlySortedBy name_cmp) (sym rows) w.in_order-rows.ensures.rises;
+        same = λ key. ap (λ names. has names key) rows ∙ w.in_order-rows.ensures.same key ∙ ap (λ names. has names key) keys;
+      }
+]
 
 pub invariant_of-result : goal.invariant_of-result
-invariant_of-result c = rises c
+invariant_of-result c = given c
 
 pub returns-clause-same : goal.returns-clause-same
-returns-clause-same c = ordered_has spelled (eq_by_cmp (on spelled bytes_cmp)) tied c.args.rows.items c.sort_unstable.new.self.items c.dedup.new.self.items
-    c.sort_unstable.ensures.permutation c.dedup.ensures.filtered
+returns-clause-same c = (given c).same
 
 pub returns-clause-rises : goal.returns-clause-rises
-returns-clause-rises c = rises c
+returns-clause-rises c = (given c).rises

@@ -1,0 +1,6 @@
+use Rattle.std.proofs.Common.{◌≡◌, map, take}
+use Rattle.jc_report.specs.RequiredRows.{row_required, rows_numbered}
+use Rattle.jc_report.proofs.required_references.RequiredReferences.rows.Given as goal
+
+abbrev pub invariant-loop-number : goal.invariant-loop-number
+invariant-loop-number l = map row_required l.rows.items ≡ rows_numbered l.self-inside.references (take l.number-index l.number-items)
