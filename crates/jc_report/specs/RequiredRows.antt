@@ -15,9 +15,6 @@ row_of_some None = class_row []
 abbrev pub row_numbered : List Reference → ℕ → rows.Row
 row_numbered references number = row_of_some (slice_get references number)
 
-abbrev pub rows_numbered : List Reference → List ℕ → List rows.Row
-rows_numbered references numbers = map (row_numbered references) numbers
-
 abbrev pub row_required : RequiredRow → rows.Row
 row_required row = row_numbered row.references row.number
 

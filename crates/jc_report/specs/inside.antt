@@ -5,6 +5,7 @@ pub mod Made
 pub mod MemberRows
 pub mod Members
 pub mod Naming
+pub mod NumberedRows
 pub mod Outcomes
 pub mod ReportShown
 pub mod RowSets

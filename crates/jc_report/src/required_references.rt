@@ -2,7 +2,8 @@
 
 ghost use Rattle.std.specs.Prelude.{◌≡◌, IfOk, IsTrue, map};
 ghost use Rattle.jc_report.specs.ClassRows.{required_rows, rows_required};
-ghost use Rattle.jc_report.specs.RequiredRows.{rows_numbered, row_required};
+ghost use Rattle.jc_report.specs.RequiredRows.{row_required};
+ghost use Rattle.jc_report.specs.inside.NumberedRows.{rows_numbered};
 
 use crate::class_rows::is_required;
 use crate::required_row::{RequiredRow, numbered};
@@ -22,8 +23,8 @@ pub struct RequiredReferences {
 
 impl Model for RequiredReferences {
     ghost use Rattle.std.specs.Prelude.{List};
-    ghost use Rattle.jc_report.specs.RequiredRows.{rows_numbered};
     ghost use Rattle.jc_report.specs.Rows.{Row};
+    ghost use Rattle.jc_report.specs.inside.NumberedRows.{rows_numbered};
 
     ghost Value = { List Row };
 

@@ -1,6 +1,7 @@
 use Rattle.std.proofs.Common.{◌∙◌, ◌<◌, ◌++◌, ◌∷◌, [], length, map, take, get_or, sym, ap, arith}
 use Rattle.std.proofs.lemmas.List.{map-append, take_all, take_more}
-use Rattle.jc_report.specs.RequiredRows.{row_numbered, row_required, rows_numbered}
+use Rattle.jc_report.specs.RequiredRows.{row_numbered, row_required}
+use Rattle.jc_report.specs.inside.NumberedRows.{rows_numbered}
 use Rattle.jc_report.proofs.required_references.RequiredReferences.rows.Goals as goal
 
 pub loop-number-init : goal.loop-number-init

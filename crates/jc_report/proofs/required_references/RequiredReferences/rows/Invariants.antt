@@ -1,5 +1,6 @@
 use Rattle.std.proofs.Common.{◌≡◌, map, take}
-use Rattle.jc_report.specs.RequiredRows.{row_required, rows_numbered}
+use Rattle.jc_report.specs.RequiredRows.{row_required}
+use Rattle.jc_report.specs.inside.NumberedRows.{rows_numbered}
 use Rattle.jc_report.proofs.required_references.RequiredReferences.rows.Given as goal
 
 abbrev pub invariant-loop-number : goal.invariant-loop-number
