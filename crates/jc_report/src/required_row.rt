@@ -34,6 +34,13 @@ impl RequiredRow {
         }
     }
 
+    /// The class of the row.
+    fn class(&self) -> &[u8]
+        ensures { result.now ≡ (row_required self.now).class }
+    {
+        self.row().class
+    }
+
     /// The same row, shared.
     ///
     /// Answers `NoMemory` only where it is shared as often as can be counted.
@@ -80,8 +87,13 @@ impl Ord for RequiredRow {
 
     ghost matches_eq = { λ x y. refl };
 
+    // Most rows differ in their class: the other texts are looked up only where it is the same.
     fn cmp(&self, other: &RequiredRow) -> Ordering {
-        self.row().cmp(&other.row())
+        match self.class().cmp(other.class()) {
+            Ordering::Less => Ordering::Less,
+            Ordering::Equal => self.row().cmp(&other.row()),
+            Ordering::Greater => Ordering::Greater,
+        }
     }
 }
 
