@@ -129,28 +129,32 @@ impl RowIndex {
         if rows.is_same(others) {
             return Ok(());
         }
-        let list = rows.rows();
-        for place in 0..list.len() {
-            self.link_unless(&list[place], place, others, user)?;
+        let mut near = 0;
+        for row in rows.rows() {
+            near = self.link_unless(row, near, others, user)?;
         }
         Ok(())
     }
 
-    /// Adds a user at a row, unless others have it, most likely at this place.
+    /// Adds a user at a row, unless others have it, most likely near a place. Answers the place near which they have
+    /// the next.
     fn link_unless(
         &mut self,
         row: &RequiredRow,
-        place: usize,
+        near: usize,
         others: &RowList,
         user: &[u8],
-    ) -> Result<(), NoMemory>
+    ) -> Result<usize, NoMemory>
         ensures ok { OnOk result (LinkedAt self.old self.new (λ n. same_name n (spelled row.now) && not (has others.now n)) user.now) }
         ensures err { OnErr result (self.new ≡ self.old) }
     {
-        if others.has_near(place, row) {
-            return Ok(());
+        match others.find_near(near, row) {
+            Ok(at) => Ok(at.saturating_add(1)),
+            Err(at) => {
+                self.link(row, user)?;
+                Ok(at)
+            }
         }
-        self.link(row, user)
     }
 
     /// Takes a user out at each of some rows. No memory.
@@ -169,18 +173,28 @@ impl RowIndex {
         if rows.is_same(others) {
             return;
         }
-        let list = rows.rows();
-        for place in 0..list.len() {
-            self.unlink_unless(&list[place], place, others, user);
+        let mut near = 0;
+        for row in rows.rows() {
+            near = self.unlink_unless(row, near, others, user);
         }
     }
 
-    /// Takes a user out at a row, unless others have it, most likely at this place. No memory.
-    fn unlink_unless(&mut self, row: &RequiredRow, place: usize, others: &RowList, user: &[u8])
+    /// The same for taking a user out. No memory.
+    fn unlink_unless(
+        &mut self,
+        row: &RequiredRow,
+        near: usize,
+        others: &RowList,
+        user: &[u8],
+    ) -> usize
         ensures { UnlinkedAt self.old self.new (λ n. same_name n (spelled row.now) && not (has others.now n)) user.now }
     {
-        if !others.has_near(place, row) {
-            self.unlink(row, user);
+        match others.find_near(near, row) {
+            Ok(at) => at.saturating_add(1),
+            Err(at) => {
+                self.unlink(row, user);
+                at
+            }
         }
     }
 }

@@ -1,6 +1,6 @@
 //! Rows in their order, each once.
 
-ghost use Rattle.std.specs.Prelude.{◌≡◌, [], IfOk, IsTrue, map};
+ghost use Rattle.std.specs.Prelude.{◌≡◌, [], IfOk, IsTrue, is_ok, map};
 ghost use Rattle.std.specs.List.Sorted.{IsStrictlySortedBy};
 ghost use Rattle.jc_classes.specs.NameLists.{has};
 ghost use Rattle.jc_classes.specs.Names.{Name, name_cmp};
@@ -106,20 +106,13 @@ impl RowList {
         self.rows.as_slice()
     }
 
-    /// Whether a row is among them. No memory.
-    pub fn has(&self, row: &RequiredRow) -> bool
-        ensures { result ≡ has self.now (spelled row.now) }
-    {
-        self.rows.binary_search(row).is_ok()
-    }
-
-    /// The same. A place is looked at first where the row is likely to stand.
-    pub(crate) fn has_near(&self, place: usize, row: &RequiredRow) -> bool
-        ensures { result ≡ has self.now (spelled row.now) }
+    /// Where a row stands, or else the place that it would have. It is looked for at a place first. No memory.
+    pub(crate) fn find_near(&self, place: usize, row: &RequiredRow) -> Result<usize, usize>
+        ensures { is_ok result ≡ has self.now (spelled row.now) }
     {
         match self.rows.get(place) {
-            Some(near) => near == row || self.has(row),
-            None => self.has(row),
+            Some(near) if near == row => Ok(place),
+            _ => self.rows.binary_search(row),
         }
     }
 }

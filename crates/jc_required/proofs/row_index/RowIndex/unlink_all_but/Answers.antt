@@ -14,20 +14,20 @@ returns-then-is_same c = λ n d.
     unless_had (has (users_of c.args.self.now n) d) (has c.args.rows.now n) (same_name d c.args.user.now) (has c.args.others.now n)
     (λ e. sym (c.is_same.ensures c.if-is_same.true n) ∙ e)
 
-pub loop-place-preserved : goal.loop-place-preserved
-loop-place-preserved c =
-    let items = c.rows-list.result.now in
-    let place = c.loop-place.place in
-    let name = spelled c.index-list-place.result in
-    let within : place < length items = omega (arith, c.loop-place-test.true, c.loop-place.auto.place-end) in
-    let named : name_at (spelled_all items) place ≡ name = held_row items place c.index-list-place.result within c.index-list-place.is in
-    unlinked_more c.args.self.now c.loop-place.self c.unlink_unless.new.self (spelled_all items) (λ n. not (has c.args.others.now n)) place name c.args.user.now
-    (omega (arith, within, length-map items spelled)) named c.loop-place.invariant c.unlink_unless.ensures
+pub loop-row-preserved : goal.loop-row-preserved
+loop-row-preserved c =
+    let items = c.rows-row-items.result.now in
+    let place = c.loop-row.row-index in
+    let name = spelled c.row-item.result in
+    let within : place < length items = omega (arith, c.loop-row-test.true) in
+    let named : name_at (spelled_all items) place ≡ name = held_row items place c.row-item.result within c.row-item.is in
+    unlinked_more c.args.self.now c.loop-row.self c.unlink_unless-near.new.self (spelled_all items) (λ n. not (has c.args.others.now n)) place name c.args.user.now
+    (omega (arith, within, length-map items spelled)) named c.loop-row.invariant c.unlink_unless-near.ensures
 
 pub returns : goal.returns
 returns c = λ n d.
-    let items = c.rows-list.result.now in
+    let items = c.rows-row-items.result.now in
     let names = spelled_all items in
-    let past : length names ≤ c.loop-place.place = omega (arith, c.loop-place-test.false, c.loop-place.auto.place-end, length-map items spelled) in
-    c.loop-place.invariant n d
-    ∙ ap (λ l. has (users_of c.args.self.now n) d && not (same_name d c.args.user.now && (has l n && not (has c.args.others.now n)))) (take_all c.loop-place.place names past ∙ c.rows-list.ensures)
+    let past : length names ≤ c.loop-row.row-index = omega (arith, c.loop-row-test.false, length-map items spelled) in
+    c.loop-row.invariant n d
+    ∙ ap (λ l. has (users_of c.args.self.now n) d && not (same_name d c.args.user.now && (has l n && not (has c.args.others.now n)))) (take_all c.loop-row.row-index names past ∙ c.rows-row-items.ensures)
