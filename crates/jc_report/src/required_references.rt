@@ -3,7 +3,8 @@
 ghost use Rattle.std.specs.Prelude.{◌≡◌, IfOk, IsTrue, map};
 ghost use Rattle.jc_report.specs.ClassRows.{required_rows, rows_required};
 ghost use Rattle.jc_report.specs.RequiredRows.{row_required};
-ghost use Rattle.jc_report.specs.inside.NumberedRows.{rows_numbered};
+ghost use Rattle.jc_report.specs.inside.NumberedRows.{number_of, rows_numbered};
+ghost use Rattle.std.specs.List.Sorted.{IsPermutation};
 
 use crate::class_rows::is_required;
 use crate::required_row::{RequiredRow, numbered};
@@ -32,15 +33,18 @@ impl Model for RequiredReferences {
 }
 
 impl RequiredReferences {
-    /// The rows, each sharing its texts with the class.
-    pub fn rows(&self, alloc: Global) -> Result<Vec<RequiredRow>, NoMemory>
-        ensures { IfOk result (λ rows. map row_required rows.items ≡ self.now) }
+    /// The rows, each sharing its texts with the class. Those whose numbers stand in some rows come first, in the
+    /// order of these.
+    pub fn rows_like(
+        &self,
+        alloc: Global,
+        like: &[RequiredRow],
+    ) -> Result<Vec<RequiredRow>, NoMemory>
+        ensures { IfOk result (λ rows. IsPermutation self.now (map row_required rows.items)) }
     {
-        let mut rows = Vec::with_capacity(alloc, self.numbers.len())?;
-        for number in &self.numbers {
-            rows.push(numbered(&self.references, *number)?)?;
-        }
-        Ok(rows)
+        let count = self.references.len();
+        let numbers = numbers_like(alloc, self.numbers.as_slice(), like, count)?;
+        Ok(rows_of(alloc, &self.references, numbers.as_slice())?)
     }
 
     /// Whether others are known to be the same. Of equal rows it says no where the references differ. No memory.
@@ -85,6 +89,78 @@ fn required_numbers(
                 None => return Ok(numbers),
             }
         }
+    }
+    Ok(numbers)
+}
+
+/// The rows of the references of some numbers.
+fn rows_of(
+    alloc: Global,
+    references: &References,
+    numbers: &[usize],
+) -> Result<Vec<RequiredRow>, NoMemory>
+    ensures { IfOk result (λ rows. map row_required rows.items ≡ rows_numbered references.now numbers.now) }
+{
+    let mut rows = Vec::with_capacity(alloc, numbers.len())?;
+    for number in numbers {
+        rows.push(numbered(references, *number)?)?;
+    }
+    Ok(rows)
+}
+
+/// Numbers of references, of which there are so many, those first that stand in some rows, in the order of these.
+fn numbers_like(
+    alloc: Global,
+    numbers: &[usize],
+    like: &[RequiredRow],
+    count: usize,
+) -> Result<Vec<usize>, NoMemory>
+    ensures { IfOk result (λ moved. IsPermutation numbers.now moved.items) }
+{
+    let places = places_in(alloc, like, count)?;
+    let mut placed = place_each(alloc, numbers, places.as_slice())?;
+    placed.sort_unstable();
+    Ok(placed_numbers(alloc, placed.as_slice())?)
+}
+
+/// For each of so many numbers its place in some rows, beyond all places where it has none.
+fn places_in(alloc: Global, rows: &[RequiredRow], count: usize) -> Result<Vec<usize>, NoMemory> {
+    let mut places = vec![in alloc; usize::MAX; count]?;
+    for place in 0..rows.len() {
+        let number = rows[place].number();
+        if number < places.len() {
+            places[number] = place;
+        }
+    }
+    Ok(places)
+}
+
+/// Numbers behind their places.
+fn place_each(
+    alloc: Global,
+    numbers: &[usize],
+    places: &[usize],
+) -> Result<Vec<(usize, usize)>, NoMemory>
+    ensures { IfOk result (λ placed. map number_of placed.items ≡ numbers.now) }
+{
+    let mut placed = Vec::with_capacity(alloc, numbers.len())?;
+    for number in numbers {
+        let place = match places.get(*number) {
+            Some(place) => *place,
+            None => usize::MAX,
+        };
+        placed.push((place, *number))?;
+    }
+    Ok(placed)
+}
+
+/// The numbers alone.
+fn placed_numbers(alloc: Global, placed: &[(usize, usize)]) -> Result<Vec<usize>, NoMemory>
+    ensures { IfOk result (λ numbers. numbers.items ≡ map number_of placed.now) }
+{
+    let mut numbers = Vec::with_capacity(alloc, placed.len())?;
+    for (_, number) in placed {
+        numbers.push(*number)?;
     }
     Ok(numbers)
 }

@@ -34,6 +34,13 @@ impl RequiredRow {
         }
     }
 
+    /// The number of its reference.
+    pub(crate) fn number(&self) -> usize
+        ensures { result ≡ self.now.number }
+    {
+        self.number
+    }
+
     /// The class of the row.
     fn class(&self) -> &[u8]
         ensures { result.now ≡ (row_required self.now).class }

@@ -48,7 +48,7 @@ impl RowList {
     }
 
     /// The rows of some references, put in order. Where another list has those of the same references, it is shared
-    /// and not put in order again.
+    /// and not put in order again; where it has some of them, these are in order already.
     pub fn of(
         alloc: Global,
         given: RequiredReferences,
@@ -59,7 +59,7 @@ impl RowList {
     {
         let rows = match before {
             Some(before) if before.is_of(&given) => before.share_rows(alloc)?,
-            _ => in_order(given.rows(alloc)?),
+            _ => in_order(given.rows_like(alloc, rows_in(before))?),
         };
         Ok(RowList {
             given: Some(given),
@@ -114,6 +114,14 @@ impl RowList {
             Some(near) if near == row => Ok(place),
             _ => self.rows.binary_search(row),
         }
+    }
+}
+
+/// The rows of a list, if there is one. No memory.
+fn rows_in(list: Option<&RowList>) -> &[RequiredRow] {
+    match list {
+        Some(list) => list.rows(),
+        None => &[],
     }
 }
 

@@ -2,15 +2,15 @@ use Rattle.std.proofs.Common.{◌∙◌, ◌<◌, ◌++◌, ◌∷◌, [], lengt
 use Rattle.std.proofs.lemmas.List.{map-append, take_all, take_more}
 use Rattle.jc_report.specs.RequiredRows.{row_numbered, row_required}
 use Rattle.jc_report.specs.inside.NumberedRows.{rows_numbered}
-use Rattle.jc_report.proofs.required_references.RequiredReferences.rows.Goals as goal
+use Rattle.jc_report.proofs.required_references.rows_of.Goals as goal
 
 pub loop-number-init : goal.loop-number-init
 loop-number-init c = ap (map row_required) c.in_ok-rows.ensures.items
 
 pub loop-number-preserved : goal.loop-number-preserved
 loop-number-preserved c =
-    let refs = c.self.inside.references in
-    let numbers = c.deref-number-items.result.now in
+    let refs = c.args.references.now in
+    let numbers = c.args.numbers.now in
     let i = c.loop-number.number-index in
     let less : i < length numbers = omega (arith, c.loop-number-test.true) in
     let row = c.in_ok-numbered.field-0 in
@@ -22,7 +22,6 @@ loop-number-preserved c =
 
 pub returns : goal.returns
 returns c =
-    let numbers = c.deref-number-items.result.now in
+    let numbers = c.args.numbers.now in
     c.loop-number.invariant
-    ∙ ap (rows_numbered c.self.inside.references) (take_all c.loop-number.number-index numbers (omega (arith, c.loop-number-test.false)) ∙ c.deref-number-items.ensures.value)
-    ∙ c.self.view_is
+    ∙ ap (rows_numbered c.args.references.now) (take_all c.loop-number.number-index numbers (omega (arith, c.loop-number-test.false)))
