@@ -70,7 +70,7 @@ impl TextList {
         self.ends.len()
     }
 
-    /// Whether another list is the same. No memory.
+    /// Whether another list is known to be the same. No memory.
     pub fn is_same(&self, other: &TextList) -> bool
         ensures { IsTrue result → self.now ≡ other.now }
     {

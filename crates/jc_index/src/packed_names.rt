@@ -59,7 +59,7 @@ impl PackedNames {
         self.names.len()
     }
 
-    /// Whether others are the same. No memory.
+    /// Whether others are known to be the same. No memory.
     pub fn is_same(&self, other: &PackedNames) -> bool
         ensures { IsTrue result → self.now ≡ other.now }
     {
