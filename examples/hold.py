@@ -8,7 +8,7 @@ the regular files are compared with those of the second before, by size and time
 line, and the lines of the report that came or went are printed. A file whose path has a line end can't be named in a line
 and is passed over. Names with a PREFIX that no file gives are outside (none: java/ and javax/); lines of standard input,
 `outside add PREFIX` and `outside drop PREFIX`, change which. It ends with the status of the session, where that ends, as
-for a PREFIX that is empty.
+for a PREFIX that is empty, and with 2 where JCLINK or FOLDER is not given.
 """
 import os
 import pathlib
@@ -20,7 +20,7 @@ import sys
 
 class Session:
     def __init__(self, program, folder, prefixes):
-        words = [word for prefix in prefixes for word in ("--outside", prefix)]
+        words = [f"--outside={prefix}" for prefix in prefixes]
         program = pathlib.Path(program).resolve()
         self.process = subprocess.Popen([program, "session", *words], cwd=folder, stdin=subprocess.PIPE, stdout=subprocess.PIPE)
 
@@ -126,6 +126,9 @@ def turn(session, lines):
 
 
 def main():
+    if len(sys.argv) < 3:
+        print("usage: hold.py JCLINK FOLDER [PREFIX]...", file=sys.stderr)
+        sys.exit(2)
     program, folder, *prefixes = sys.argv[1:]
     folder = pathlib.Path(folder).resolve()
     session = Session(program, folder.parent, prefixes)

@@ -23,7 +23,8 @@ if [ $# -ne 2 ]; then
   exit 2
 fi
 netty=$1 api=$2
-work=$(mktemp -d) && trap 'rm -rf "$work"' EXIT
+work=$(mktemp -d) || exit 3
+trap 'rm -rf "$work"' EXIT
 
 fail() {
   echo "netty.sh: $1" >&2

@@ -1,6 +1,6 @@
 #!/usr/bin/env python3
 """Runs the commands that README.md, docs/USAGE.md and docs/REPORT.md show, and compares what they print with what
-stands there.
+stands there; and examples/hold.py, over a folder that changes.
 
 Usage: run.py [--netty FOLDER], once ./jclink is built; the environment's JCLINK may name another program. It needs a JDK.
 
@@ -21,6 +21,7 @@ import shutil
 import subprocess
 import sys
 import tempfile
+import time
 
 sys.dont_write_bytecode = True
 sys.path.insert(0, str(pathlib.Path(__file__).resolve().parent.parent))
@@ -30,12 +31,7 @@ DOCUMENTS = ("README.md", "docs/USAGE.md", "docs/REPORT.md")
 # What a build makes.
 MADE = {"crates/jclink/out/jclink"}
 DOWNLOAD = "apt-get download libnetty-java"
-# What a reader has before the first command of a block that shows the file.
-BEFORE = {
-    "new/Store.java": """mkdir -p old new tree
-echo 'public class Store { public int size; }' > old/Store.java
-javac --release 8 -d tree old/*.java App.java""",
-}
+HOLD = [sys.executable, common.TOP / "examples" / "hold.py", common.JCLINK]
 
 
 def blocks(text):
@@ -64,7 +60,7 @@ def matches(wanted, found):
 def quotes(text):
     """The blocks of code, each as its lines."""
     for block in re.findall(r"(?:^    .*\n|^\n(?=    ))+", text, re.M):
-        lines = [line[4:] for line in block.splitlines()]
+        lines = [line[4:] for line in block.strip("\n").splitlines()]
         if lines[0].startswith("use "):
             yield lines
 
@@ -116,8 +112,6 @@ def try_block(commands, folder):
     shown = [(command.split()[1:], lines) for command, lines in commands if command.startswith("cat ")]
     for names, lines in shown:
         write_shown(folder, names, lines)
-        for name in names:
-            run(BEFORE.get(name, ""), folder)
     for command, wanted in commands:
         # (`echo $?` tells of the command before it)
         found = run(f"(exit {status}); {command}\necho \"status $?\"; pwd -P", place)
@@ -143,6 +137,51 @@ def try_document(name, folder, netty):
             yield from try_block([command for command in commands if not command[0].startswith(DOWNLOAD)], folder)
 
 
+class Held:
+    """examples/hold.py over a folder, with what it has printed and nobody looked for yet."""
+
+    def __init__(self, folder):
+        self.text = b""
+        self.process = subprocess.Popen([*HOLD, folder], stdin=subprocess.PIPE, stdout=subprocess.PIPE)
+        os.set_blocking(self.process.stdout.fileno(), False)
+
+    def tells(self, *wanted):
+        """Whether it prints a line of each of these forms within some seconds."""
+        until = time.monotonic() + 20
+        while time.monotonic() < until:
+            self.text += self.process.stdout.read() or b""
+            lines = self.text.decode().splitlines()
+            if all(any(re.fullmatch(form, line) for line in lines) for form in wanted):
+                self.text = b""
+                return True
+            time.sleep(0.1)
+        print("hold.py does not tell", *wanted, "but", *lines, sep="\n  ")
+        return False
+
+
+def try_hold(folder):
+    """Yields whether hold.py tells each change of a folder: a class that two others name comes and goes, a FIFO and a
+    name with a line end come, the folder goes and comes; and whether it ends as jclink does for an empty prefix."""
+    for name in ("One", "Two"):
+        (folder / f"{name}.java").write_text(f"class {name} {{ Object of() {{ return new Lost(); }} }}")
+    (folder / "Lost.java").write_text("class Lost {}")
+    tree, missing = folder / "tree", r"\+ \[parts\] part {}  #\d+ class Lost -> error 1 NoClass Lost"
+    run("javac --release 8 -d tree *.java", folder)
+    held = Held(tree)
+    yield held.tells(*(rf"\+ \[files\] tree/{name}\.class: class {name}" for name in ("Lost", "One", "Two")))
+    os.mkfifo(tree / "pipe.class")
+    (tree / "line\nend.class").write_bytes(b"")
+    (tree / "Lost.class").rename(folder / "Lost.class")
+    yield held.tells(r"- \[files\] tree/Lost\.class: class Lost", missing.format("One"), missing.format("Two"))
+    shutil.rmtree(tree)
+    yield held.tells(*(rf"- \[files\] tree/{name}\.class: class {name}" for name in ("One", "Two")))
+    tree.mkdir()
+    (folder / "Lost.class").rename(tree / "Lost.class")
+    yield held.tells(r"\+ \[files\] tree/Lost\.class: class Lost")
+    held.process.kill()
+    yield subprocess.run([*HOLD, tree, ""], stderr=subprocess.DEVNULL, check=False).returncode == 2
+
+
 def main():
     parser = argparse.ArgumentParser()
     parser.add_argument("--netty", type=pathlib.Path)
@@ -152,7 +191,9 @@ def main():
     for name in DOCUMENTS:
         with tempfile.TemporaryDirectory() as folder:
             right += try_document(name, pathlib.Path(folder).resolve(), netty)
-    print(f"{len(right)} commands and quotes, {right.count(False)} differ")
+    with tempfile.TemporaryDirectory() as folder:
+        right += try_hold(pathlib.Path(folder).resolve())
+    print(f"{len(right)} commands, quotes and changes, {right.count(False)} differ")
     sys.exit(0 if right and all(right) else 1)
 
 
