@@ -1,4 +1,4 @@
-//! A tree of files is checked: each is read once, and the report of all is written.
+//! A tree of files is checked: each is read once, and the report of all is written, or what makes it wrong.
 
 ghost use Rattle.std.specs.Prelude.{◌≡◌, Ok};
 ghost use Rattle.jc_classes.specs.Names.{names_of};
@@ -111,7 +111,8 @@ fn write_wrong<'p, W: Output>(
     only: Option<&Outside>,
     out: &mut W,
 ) -> Result<bool, CheckError<'p>>
-    ensures tells { TellsOf report.now (forms.Errors (prefixes_lent only.entry)) (check_lent result) (W.written out.old) (W.written out.new) }
+    ensures tells { TellsOf report.now (forms.Errors (prefixes_lent only.entry)) (check_lent result)
+        (W.written out.old) (W.written out.new) }
     ensures failures { CountsCheck (check_lent result) (W.failures out.old) (W.failures out.new) }
 {
     match write_errors(report, only, out) {

@@ -2,12 +2,12 @@
 use Rattle.std.specs.Prelude.{◌≡◌, List, [], ◌∷◌, ◌++◌, Option, Some, None}
 use Rattle.std.specs.Option.{option_to_list}
 use Rattle.jc_classes.specs.Names.{Name}
-use Rattle.jc_classes.specs.Worlds.{Stands, World, super_of, interfaces_of, fields_of, member, Found}
+use Rattle.jc_classes.specs.Worlds.{Stands, World, superclass_of, interfaces_of, fields_of, member, Found}
 use Rattle.jc_classes.specs.Facts.{Member, Key}
 
 -- where look-up of a field goes on: the direct superinterfaces in file order, then the superclass
 abbrev pub onward : Stands → List Name
-onward r = interfaces_of r ++ option_to_list (super_of r)
+onward r = interfaces_of r ++ option_to_list (superclass_of r)
 
 -- what look-up of a field in a class finds; and in several, of which the first that has it decides
 mutual

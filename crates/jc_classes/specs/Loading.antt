@@ -20,12 +20,12 @@ pub data Loading : Type 0 where
   Fails : LinkageError → Name → Loading
 
 -- a supertype, and whether it is named as the superclass
-pub record Parent : Type 0 where
+pub record Supertype : Type 0 where
   pub is_class : Bool
   pub name : Name
 
-abbrev pub parents : Facts → List Parent
-parents r =
+abbrev pub direct_supertypes : Facts → List Supertype
+direct_supertypes r =
     option_map_or (λ s. record { is_class = true; name = s } ∷ []) r.superclass []
     ++ map (λ s. record { is_class = false; name = s }) r.interfaces
 
@@ -39,8 +39,8 @@ judged Loaded sees wrong s = cond sees (cond wrong (Some (Fails errors.Incompati
 judged Outside sees wrong s = None
 judged (Fails e x) sees wrong s = Some (Fails e x)
 
-abbrev pub judged_parent : World → Name → Parent → Loading → Option Loading
-judged_parent m n p a = judged a (can_see n p.name (m p.name)) (same_bool (is_interface (m p.name)) p.is_class) p.name
+abbrev pub judged_supertype : World → Name → Supertype → Loading → Option Loading
+judged_supertype m n p a = judged a (can_see n p.name (m p.name)) (same_bool (is_interface (m p.name)) p.is_class) p.name
 
 mutual
   pub data Load (m : World) : Name → Loading → Type 0 where
@@ -50,12 +50,12 @@ mutual
     round : {n : Name} {r : Facts} → m n ≡ stands.Class r → is_faulty r ≡ false → Above m n n
         → Load m n (Fails errors.Circular n)
     through : {n : Name} {r : Facts} {a : Loading} → m n ≡ stands.Class r → is_faulty r ≡ false → (Above m n n → ⊥)
-        → LoadEach m n (parents r) a → Load m n a
+        → LoadEach m n (direct_supertypes r) a → Load m n a
 
   -- the supertypes in order, of which the first that makes an error decides
-  pub data LoadEach (m : World) : Name → List Parent → Loading → Type 0 where
+  pub data LoadEach (m : World) : Name → List Supertype → Loading → Type 0 where
     none : {n : Name} → LoadEach m n [] Loaded
-    stops : {n : Name} {p : Parent} {ps : List Parent} {a b : Loading} → Load m p.name a
-        → judged_parent m n p a ≡ Some b → LoadEach m n (p ∷ ps) b
-    passes : {n : Name} {p : Parent} {ps : List Parent} {a b : Loading} → Load m p.name a
-        → judged_parent m n p a ≡ None → LoadEach m n ps b → LoadEach m n (p ∷ ps) b
+    stops : {n : Name} {p : Supertype} {ps : List Supertype} {a b : Loading} → Load m p.name a
+        → judged_supertype m n p a ≡ Some b → LoadEach m n (p ∷ ps) b
+    passes : {n : Name} {p : Supertype} {ps : List Supertype} {a b : Loading} → Load m p.name a
+        → judged_supertype m n p a ≡ None → LoadEach m n ps b → LoadEach m n (p ∷ ps) b

@@ -1,10 +1,11 @@
 -- Look-up of methods and of interface methods (JVMS 5.4.3.3, 5.4.3.4, 2.9).
 use Rattle.std.specs.Prelude.{◌≡◌, ℕ, ◌+◌, ◌==◌, Bool, false, ◌&&◌}
 use Rattle.std.specs.Prelude.{◌||◌, not, cond, List, [], ◌∷◌, Option, Some, None}
+use Rattle.std.specs.Option.{option_or}
 use Rattle.jc_classes.specs.Facts.{Key, Member}
 use Rattle.jc_classes.specs.Names.{Name, same_name, name_less, object, method_handle, polymorphic_descriptor}
 use Rattle.jc_rules.specs.AccessFlags.{has, public, private, static, varargs, native, abstract}
-use Rattle.jc_classes.specs.Worlds.{Stands, World, super_of, methods_of, is_interface, Above, member, Found}
+use Rattle.jc_classes.specs.Worlds.{Stands, World, superclass_of, methods_of, is_interface, Above, member, Found}
 
 abbrev pub is_polymorphic : Member → Bool
 is_polymorphic x = same_name x.descriptor polymorphic_descriptor && (has x.flags varargs && has x.flags native)
@@ -29,20 +30,16 @@ sole_named methods name = cond (count_named methods name == 1) (first_named meth
 abbrev pub polymorphic : Name → List Member → Name → Option Member
 polymorphic c methods name = cond (same_name c method_handle) (if_polymorphic (sole_named methods name)) None
 
-abbrev pub or_else : Option Member → Option Member → Option Member
-or_else None y = y
-or_else (Some x) y = Some x
-
 -- the method that a class itself answers
 abbrev pub declared : Name → Stands → Key → Option Member
-declared c r k = or_else (polymorphic c (methods_of r) k.name) (member (methods_of r) k)
+declared c r k = option_or (polymorphic c (methods_of r) k.name) (member (methods_of r) k)
 
 -- what look-up in a class and its superclasses in turn finds
 pub data FindsInClasses (m : World) (k : Key) : Name → Option Found → Type 0 where
   own : {c : Name} {x : Member} → declared c (m c) k ≡ Some x → FindsInClasses m k c (Some (record { home = c; member = x }))
-  inherited : {c s : Name} {a : Option Found} → declared c (m c) k ≡ None → super_of (m c) ≡ Some s
+  inherited : {c s : Name} {a : Option Found} → declared c (m c) k ≡ None → superclass_of (m c) ≡ Some s
       → FindsInClasses m k s a → FindsInClasses m k c a
-  nowhere : {c : Name} → declared c (m c) k ≡ None → super_of (m c) ≡ None → FindsInClasses m k c None
+  nowhere : {c : Name} → declared c (m c) k ≡ None → superclass_of (m c) ≡ None → FindsInClasses m k c None
 
 abbrev pub unless_private_or_static : Member → Option Member
 unless_private_or_static x = cond (has x.flags private || has x.flags static) None (Some x)

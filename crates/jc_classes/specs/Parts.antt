@@ -9,7 +9,7 @@ use Rattle.jc_classes.specs.LinkErrors.{LinkFault, links_of}
 use Rattle.jc_classes.specs.Names.{Name, object}
 use Rattle.jc_classes.specs.declared.reference_kind.ReferenceKind.{ReferenceKind}
 use Rattle.jc_classes.specs.declared.reference_kind.ReferenceKind.TheVariants as kind
-use Rattle.jc_classes.specs.Worlds.{World, supers_of, references_of, format_faults_of, code_faults_of, Above}
+use Rattle.jc_classes.specs.Worlds.{World, supertypes_of, references_of, format_faults_of, code_faults_of, Above}
 use Rattle.jc_classes.specs.Facts.Named.{Class, Array}
 use Rattle.jc_classes.specs.Loading.{Load, Loading}
 use Rattle.jc_classes.specs.Loading.{Loading as loading}
@@ -33,7 +33,7 @@ pub data Reach (m : World) (d : Name) : Name → Type 0 where
   itself : Reach m d d
   always : Reach m d object
   reference : {n : Name} → Contains (names_in (references_of (m d))) n → Reach m d n
-  upward : {mid n : Name} → Reach m d mid → Contains (supers_of (m mid)) n → Reach m d n
+  upward : {mid n : Name} → Reach m d mid → Contains (supertypes_of (m mid)) n → Reach m d n
 
 abbrev pub ResolvesOf : World → Name → ReferenceKind → Reference → Answer → Type 0
 ResolvesOf m d kind.Class r a = ResolvesClass m d r.named a

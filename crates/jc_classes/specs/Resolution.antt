@@ -61,7 +61,7 @@ pub data Starts (m : World) (d : Name) (t : Named) (s : Start) : Type 0 where
   starts : {a : Answer} {l : Loading} → ResolvesClass m d t a → Load m object l → s ≡ start_of t a l → Starts m d t s
 
 -- an outside name above a class
-pub record IsBeyond (m : World) (c n : Name) : Type 0 where
+pub record IsOutsideAbove (m : World) (c n : Name) : Type 0 where
   pub above : Above m c n
   pub outside : m n ≡ stands.Outside
 
@@ -69,9 +69,9 @@ pub record IsBeyond (m : World) (c n : Name) : Type 0 where
 pub data Settles (m : World) (d : Name) (t : Named) (c : Name) (missing : LinkageError) : Option Found → Answer → Type 0 where
   found : {f : Found} → CanUse m d t f → Settles m d t c missing (Some f) (ToMember f.home f.member)
   hidden : {f : Found} → (CanUse m d t f → ⊥) → Settles m d t c missing (Some f) (Error IllegalAccess f.home)
-  beyond : {n : Name} → IsBeyond m c n → ((j : Name) → IsBeyond m c j → name_less j n ≡ false)
+  outside : {n : Name} → IsOutsideAbove m c n → ((j : Name) → IsOutsideAbove m c j → name_less j n ≡ false)
       → Settles m d t c missing None (Outside n)
-  nowhere : ((j : Name) → IsBeyond m c j → ⊥) → Settles m d t c missing None (Error missing (text_of t))
+  nowhere : ((j : Name) → IsOutsideAbove m c j → ⊥) → Settles m d t c missing None (Error missing (text_of t))
 
 pub data ResolvesField (m : World) (d : Name) (t : Named) (k : Key) (a : Answer) : Type 0 where
   ends : Starts m d t (Ends a) → ResolvesField m d t k a

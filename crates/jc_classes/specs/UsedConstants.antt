@@ -1,5 +1,5 @@
 -- Which constants of a class file the code of a method, a method handle or a bootstrap method names
--- (JVMS 4.4.8, 4.7.23): what nothing names is never resolved.
+-- (JVMS 4.4.8, 4.7.23): what no code names is never resolved by it.
 use Rattle.std.specs.Prelude.{ℕ, ◌+◌, ◌==◌, Bool, List, [], ◌++◌, map, Option, Some, None, option_and_then, if◌then◌else◌}
 use Rattle.std.specs.List.{flat_map, list_any, range_with_len}
 use Rattle.std.specs.Option.{option_map_or, option_to_list}

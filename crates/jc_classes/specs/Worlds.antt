@@ -19,10 +19,10 @@ pub data Stands : Type 0 where
 abbrev pub World : Type 0
 World = Name → Stands
 
-abbrev pub super_of : Stands → Option Name
-super_of (Class r) = r.superclass
-super_of Outside = None
-super_of Nothing = None
+abbrev pub superclass_of : Stands → Option Name
+superclass_of (Class r) = r.superclass
+superclass_of Outside = None
+superclass_of Nothing = None
 
 abbrev pub interfaces_of : Stands → List Name
 interfaces_of (Class r) = r.interfaces
@@ -30,8 +30,8 @@ interfaces_of Outside = []
 interfaces_of Nothing = []
 
 -- the superclass and the direct superinterfaces, in the order of loading (JVMS 5.3.5)
-abbrev pub supers_of : Stands → List Name
-supers_of r = option_to_list (super_of r) ++ interfaces_of r
+abbrev pub supertypes_of : Stands → List Name
+supertypes_of r = option_to_list (superclass_of r) ++ interfaces_of r
 
 abbrev pub fields_of : Stands → List Member
 fields_of (Class r) = r.fields
@@ -68,13 +68,13 @@ is_interface r = has (flags_of r) interface
 
 -- what one or more steps to a supertype lead to
 pub data Above (m : World) (bottom : Name) : Name → Type 0 where
-  direct : {n : Name} → Contains (supers_of (m bottom)) n → Above m bottom n
-  further : {mid n : Name} → Above m bottom mid → Contains (supers_of (m mid)) n → Above m bottom n
+  direct : {n : Name} → Contains (supertypes_of (m bottom)) n → Above m bottom n
+  further : {mid n : Name} → Above m bottom mid → Contains (supertypes_of (m mid)) n → Above m bottom n
 
 -- the class itself, or one on its chain of superclasses, which ends at a name without a record
 pub data Extends (m : World) : Name → Name → Type 0 where
   itself : {n : Name} → Extends m n n
-  through : {n s c : Name} → super_of (m n) ≡ Some s → Extends m s c → Extends m n c
+  through : {n s c : Name} → superclass_of (m n) ≡ Some s → Extends m s c → Extends m n c
 
 abbrev pub key_of : Member → Key
 key_of x = record { name = x.name; descriptor = x.descriptor }

@@ -1,4 +1,4 @@
-//! Which constants of a class file are used: what nothing names is never resolved.
+//! Which constants of a class file are used: what no code names is never resolved by it.
 
 ghost use Rattle.std.specs.Prelude.{◌≡◌, ◌++◌, ◌<◌, ◌==◌, ◌^◌, None, length, IfOk, OnOk, if◌then◌else◌, option_and_then};
 ghost use Rattle.std.specs.List.{flat_map};

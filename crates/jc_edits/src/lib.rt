@@ -1,5 +1,5 @@
-//! Class files under edits: files are added, replaced and removed one by one, and the report held is
-//! that of the files as they stand.
+//! Class files under edits: files are added, replaced and removed one by one, and outside prefixes added and dropped,
+//! and the report held is that of the files and prefixes as they stand.
 #![tactic(auto)]
 
 mod changes;

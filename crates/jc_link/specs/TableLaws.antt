@@ -6,7 +6,7 @@ use Rattle.jc_classes.specs.Laws.{Differ}
 use Rattle.jc_classes.specs.Names.{Name, same_name}
 use Rattle.jc_classes.specs.Parts.{Reach}
 use Rattle.jc_link.specs.Prefixes.{is_covered}
-use Rattle.jc_link.specs.Tables.{Places, class_at, record_at, world}
+use Rattle.jc_link.specs.Tables.{Places, class_at, class_found, world}
 
 -- what is put into a place stands there, and all else as before
 abbrev pub PlacesChange : Type 0
@@ -27,5 +27,5 @@ ReachStays = (places : Places) (old new : List Name) (d n : Name) → Reach (wor
 -- where two lists of prefixes cover the same names without a record outside the touched ones, their worlds are the same there
 abbrev pub PrefixesDiffer : Type 0
 PrefixesDiffer = (touched : Name → Bool) (places : Places) (old new : List Name)
-    → ((n : Name) → touched n ≡ false → record_at places n ≡ None → is_covered old n ≡ is_covered new n)
+    → ((n : Name) → touched n ≡ false → class_found places n ≡ None → is_covered old n ≡ is_covered new n)
     → Differ touched (world places old) (world places new)

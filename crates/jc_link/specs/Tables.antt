@@ -22,7 +22,7 @@ placed (Some facts) = facts
 abbrev pub class_at : Places → Name → Option Facts
 class_at places name = placed (map.get places name)
 
--- the records that files give, by name
+-- the standing that files give, by name
 abbrev pub classes_in : List (Name × Option Facts) → List Facts
 classes_in places = flat_map (λ place. option_to_list place.1) places
 
@@ -38,8 +38,8 @@ or_built_in (Some facts) name = Some facts
 or_built_in None name = built_in name
 
 -- the record of a name: a file's, else the built-in one
-abbrev pub record_at : Places → Name → Option Facts
-record_at places name = or_built_in (class_at places name) name
+abbrev pub class_found : Places → Name → Option Facts
+class_found places name = or_built_in (class_at places name) name
 
 abbrev pub stands_by : Option Facts → Bool → Stands
 stands_by (Some facts) outside = stands.Class facts
@@ -47,4 +47,4 @@ stands_by None outside = cond outside stands.Outside stands.Nothing
 
 -- what stands at each name: a record, else it is outside where it begins with a prefix
 abbrev pub world : Places → List Name → World
-world places prefixes name = stands_by (record_at places name) (is_covered prefixes name)
+world places prefixes name = stands_by (class_found places name) (is_covered prefixes name)

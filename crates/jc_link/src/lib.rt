@@ -1,5 +1,5 @@
-//! Linking: the table of classes and the outside prefixes, the reach of a class, and what is found of it:
-//! how it loads (JVMS 5.3.5) and the answers to its references (JVMS 5.4.3).
+//! Linking: the table of classes and the outside prefixes, the reach of a class and the net of all classes of a table,
+//! and what is found of a class: how it loads (JVMS 5.3.5) and the answers to its references (JVMS 5.4.3).
 #![tactic(auto)]
 
 mod closure;

@@ -6,7 +6,7 @@ ghost use Rattle.std.specs.List.{All};
 ghost use Rattle.std.specs.Option.{option_copied, option_to_list};
 ghost use Rattle.jc_classes.specs.Lent.{stands_of};
 ghost use Rattle.jc_classes.specs.Numbers.{IsOnce, AddsNumbers, name_at};
-ghost use Rattle.jc_classes.specs.Worlds.{references_of, supers_of};
+ghost use Rattle.jc_classes.specs.Worlds.{references_of, supertypes_of};
 ghost use Rattle.jc_link.specs.inside.Gathering.{Nodes, NumbersAt};
 
 use jc_base::NoMemory;
@@ -20,7 +20,8 @@ pub(crate) fn number_supertypes(
     standing: Standing<'_>,
 ) -> Result<Vec<usize>, NoMemory>
     requires { IsOnce numbers.old }
-    ensures { IfOk result (λ supertypes. AddsNumbers numbers.old [] numbers.new supertypes.items (supers_of (stands_of standing.entry))) }
+    ensures { IfOk result (λ supertypes. AddsNumbers numbers.old [] numbers.new supertypes.items
+        (supertypes_of (stands_of standing.entry))) }
 {
     match standing {
         Standing::Class(facts) => number_supertypes_of(alloc, numbers, facts),
@@ -34,7 +35,7 @@ fn number_supertypes_of(
     facts: &Facts,
 ) -> Result<Vec<usize>, NoMemory>
     requires { IsOnce numbers.old }
-    ensures { IfOk result (λ supertypes. AddsNumbers numbers.old [] numbers.new supertypes.items (supers_of (stands.Class facts.now))) }
+    ensures { IfOk result (λ supertypes. AddsNumbers numbers.old [] numbers.new supertypes.items (supertypes_of (stands.Class facts.now))) }
 {
     let mut supertypes = Vec::new(alloc);
     number_superclass(alloc, numbers, &mut supertypes, facts.superclass())?;
@@ -51,7 +52,8 @@ fn number_superclass(
 ) -> Result<(), NoMemory>
     requires once { IsOnce numbers.old }
     requires direct { All (λ v. v < length numbers.old) direct.old.items }
-    ensures { OnOk result (AddsNumbers numbers.old direct.old.items numbers.new direct.new.items (option_to_list (option_copied name.entry))) }
+    ensures { OnOk result (AddsNumbers numbers.old direct.old.items numbers.new direct.new.items
+        (option_to_list (option_copied name.entry))) }
 {
     match name {
         Some(name) => {

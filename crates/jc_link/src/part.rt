@@ -11,11 +11,10 @@ ghost use Rattle.jc_classes.specs.Numbers.{name_at};
 ghost use Rattle.jc_classes.specs.Parts.{IsPart};
 ghost use Rattle.jc_classes.specs.Worlds.{World, code_faults_of, format_faults_of, references_of};
 ghost use Rattle.jc_resolve.specs.Answers.{loading_of};
-ghost use Rattle.jc_resolve.specs.Numbered.{Agrees, TellsAnswers, standing_at};
+ghost use Rattle.jc_resolve.specs.Numbered.{Agrees, NumberReferences, TellsAnswers, standing_at};
 ghost use Rattle.jc_link.specs.Closures.{IsClosure};
 ghost use Rattle.jc_link.specs.Meters.{counted};
 ghost use Rattle.jc_link.specs.inside.TheClass.{TellsCircular};
-ghost use Rattle.jc_link.specs.inside.Gathering.{NumberReferences};
 ghost use Rattle.std.specs.Option.{option_map_or};
 
 use crate::closure::Closure;

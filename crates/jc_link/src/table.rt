@@ -5,7 +5,7 @@ ghost use Rattle.std.specs.Option.{option_copied};
 ghost use Rattle.std.specs.FinMap as map;
 ghost use Rattle.std.specs.Iterator.{YieldsFirstRef, item_count};
 ghost use Rattle.jc_link.specs.Meters.{counted};
-ghost use Rattle.jc_link.specs.Tables.{built_in, class_at, classes_of, record_at};
+ghost use Rattle.jc_link.specs.Tables.{built_in, class_at, classes_of, class_found};
 
 use crate::meter::Meter;
 use jc_base::{ByteMap, NoMemory, byte_map};
@@ -59,7 +59,7 @@ impl Table {
     /// The record of a name: the one that a file gives, or the built-in one where no file names
     /// `java/lang/Object`. Each call is one ask. No memory.
     pub fn get(&self, name: &[u8], meter: &mut Meter) -> Option<&Facts>
-        ensures found { option_copied result ≡ record_at self.now name.now }
+        ensures found { option_copied result ≡ class_found self.now name.now }
         ensures asks { meter.new.asks ≡ counted meter.old.asks 1 }
         ensures made { meter.new.made ≡ meter.old.made }
     {

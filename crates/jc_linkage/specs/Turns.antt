@@ -3,8 +3,8 @@ use Rattle.std.specs.Prelude.{Bool, ◌&&◌, not, List, is_some}
 use Rattle.jc_classes.specs.Loading.{same_bool}
 use Rattle.jc_classes.specs.Names.{Name}
 use Rattle.jc_link.specs.Prefixes.{is_covered}
-use Rattle.jc_link.specs.Tables.{Places, record_at}
+use Rattle.jc_link.specs.Tables.{Places, class_found}
 
 -- a name without a record is outside by one list of prefixes, and not by the other
 abbrev pub turns : Places → (old new : List Name) → Name → Bool
-turns places old new n = not (is_some (record_at places n)) && not (same_bool (is_covered old n) (is_covered new n))
+turns places old new n = not (is_some (class_found places n)) && not (same_bool (is_covered old n) (is_covered new n))

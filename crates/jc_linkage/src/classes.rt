@@ -12,7 +12,7 @@ use std::marker::Model;
 /// The classes of a [`crate::Linkage`] in the order of their names, seen as the list of those that are left.
 #[derive(Drop)]
 pub struct HeldClasses<'a> {
-    pub(crate) records: TableClasses<'a>,
+    pub(crate) classes: TableClasses<'a>,
     pub(crate) kept: byte_map::Iter<'a, Kept>,
 }
 
@@ -23,7 +23,7 @@ impl<'a> Model for HeldClasses<'a> {
 
     ghost Value = { List reports.Class };
 
-    ghost view = { λ a. with_parts a.records a.kept };
+    ghost view = { λ a. with_parts a.classes a.kept };
 }
 
 impl<'a> Iterator for HeldClasses<'a> {
@@ -34,7 +34,7 @@ impl<'a> Iterator for HeldClasses<'a> {
     ghost remaining = { item_count (λ left. left) };
 
     fn next(&mut self) -> Option<LentClass<'a>> {
-        let facts = self.records.next()?;
+        let facts = self.classes.next()?;
         let (_, kept) = self.kept.next()?;
         Some(LentClass {
             facts,

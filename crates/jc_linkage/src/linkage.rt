@@ -153,7 +153,7 @@ impl Linkage {
         ensures { AreHeldClasses self.now result }
     {
         HeldClasses {
-            records: self.table.classes(),
+            classes: self.table.classes(),
             kept: self.kept.iter(),
         }
     }

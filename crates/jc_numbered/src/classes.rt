@@ -1,4 +1,4 @@
-//! The classes of a reach, by numbers.
+//! The classes of a reach or of a net, by numbers.
 
 ghost use Rattle.std.specs.Prelude.{◌≡◌, ◌<◌, ◌++◌, length, map, OnOk, option_map, reverse, slice_index_or};
 ghost use Rattle.std.specs.List.{All};
@@ -7,7 +7,7 @@ ghost use Rattle.jc_classes.specs.MethodLookup.{of_object};
 ghost use Rattle.jc_classes.specs.Names.{names_of, object as java_lang_object, package_of};
 ghost use Rattle.jc_classes.specs.Worlds.{member, fields_of, methods_of, flags_of};
 ghost use Rattle.jc_graph.specs.Graph.{successors_of};
-ghost use Rattle.jc_numbered.specs.inside.Indexed.{filled, indexed_name, record_at, super_at, supers_before, onward_nodes, IsGraph};
+ghost use Rattle.jc_numbered.specs.inside.Indexed.{filled, indexed_name, standing_of, superclass_at, superclass_count, onward_nodes, IsGraph};
 ghost use Rattle.jc_numbered.specs.inside.Members.{declared_at};
 ghost use Rattle.jc_numbered.specs.inside.Packages.{package_end, same_package};
 ghost use Rattle.jc_numbered.specs.inside.Picks.{gives, is_interface_at};
@@ -117,7 +117,7 @@ impl<'c, 't> Classes<'c, 't> {
     /// What stands at a node.
     pub fn at(&self, node: usize) -> Standing<'t>
         requires { node < length self.now.standing.now }
-        ensures { stands_of result ≡ record_at (indexed_of self.now) node }
+        ensures { stands_of result ≡ standing_of (indexed_of self.now) node }
     {
         self.standing[node]
     }
@@ -136,7 +136,7 @@ impl<'c, 't> Classes<'c, 't> {
     /// A node's access flags.
     pub fn flags(&self, node: usize) -> u16
         requires { node < length self.now.standing.now }
-        ensures { result ≡ flags_of (record_at (indexed_of self.now) node) }
+        ensures { result ≡ flags_of (standing_of (indexed_of self.now) node) }
     {
         match self.at(node) {
             Standing::Class(facts) => facts.flags(),
@@ -155,7 +155,7 @@ impl<'c, 't> Classes<'c, 't> {
     /// A node's own field.
     pub fn field(&self, node: usize, key: Key) -> Option<Member<'_>>
         requires { node < length self.now.standing.now }
-        ensures { option_map member_lent result ≡ member (fields_of (record_at (indexed_of self.now) node)) (key_lent key.entry) }
+        ensures { option_map member_lent result ≡ member (fields_of (standing_of (indexed_of self.now) node)) (key_lent key.entry) }
     {
         match self.at(node) {
             Standing::Class(facts) => facts.field(key),
@@ -177,7 +177,7 @@ impl<'c, 't> Classes<'c, 't> {
     /// A node's own method.
     pub fn method(&self, node: usize, key: Key) -> Option<Member<'_>>
         requires { node < length self.now.standing.now }
-        ensures { option_map member_lent result ≡ member (methods_of (record_at (indexed_of self.now) node)) (key_lent key.entry) }
+        ensures { option_map member_lent result ≡ member (methods_of (standing_of (indexed_of self.now) node)) (key_lent key.entry) }
     {
         match self.at(node) {
             Standing::Class(facts) => facts.method(key),
@@ -188,7 +188,7 @@ impl<'c, 't> Classes<'c, 't> {
     /// A node's own public instance method.
     pub fn open_method(&self, node: usize, key: Key) -> Option<Member<'_>>
         requires { node < length self.now.standing.now }
-        ensures { option_map member_lent result ≡ of_object (record_at (indexed_of self.now) node) (key_lent key.entry) }
+        ensures { option_map member_lent result ≡ of_object (standing_of (indexed_of self.now) node) (key_lent key.entry) }
     {
         match self.method(node, key) {
             Some(member) => {
@@ -205,9 +205,9 @@ impl<'c, 't> Classes<'c, 't> {
     /// A node's superclass.
     pub fn superclass(&self, node: usize) -> Option<usize>
         requires { node < length self.now.standing.now }
-        ensures { result ≡ super_at (indexed_of self.now) node }
+        ensures { result ≡ superclass_at (indexed_of self.now) node }
     {
-        if self.supers_before(node) == 1 {
+        if self.superclass_count(node) == 1 {
             Some(self.supertypes[node][0])
         } else {
             None
@@ -243,9 +243,9 @@ impl<'c, 't> Classes<'c, 't> {
     }
 
     /// How many supertypes stand before the interfaces.
-    fn supers_before(&self, node: usize) -> usize
+    fn superclass_count(&self, node: usize) -> usize
         requires { node < length self.now.standing.now }
-        ensures { result ≡ supers_before (record_at (indexed_of self.now) node) }
+        ensures { result ≡ superclass_count (standing_of (indexed_of self.now) node) }
     {
         match self.at(node) {
             Standing::Class(facts) => match facts.superclass() {
@@ -261,10 +261,10 @@ impl<'c, 't> Classes<'c, 't> {
         requires { node < length self.now.standing.now }
         ensures { OnOk result (reverse stack.new.items ≡ onward_nodes (indexed_of self.now) node ++ reverse stack.old.items) }
     {
-        let (supers, interfaces) = self.supertypes[node]
+        let (superclass, interfaces) = self.supertypes[node]
             .as_slice()
-            .split_at(self.supers_before(node));
-        push_back(stack, supers)?;
+            .split_at(self.superclass_count(node));
+        push_back(stack, superclass)?;
         push_back(stack, interfaces)?;
         Ok(())
     }

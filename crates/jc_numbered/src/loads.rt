@@ -70,16 +70,16 @@ pub fn judge_each(
     classes: &Classes,
     loads: &[Load],
     node: usize,
-    has_super: bool,
-    supers: &[usize],
+    has_superclass: bool,
+    supertypes: &[usize],
 ) -> Load
     requires node { node < length classes.now.standing.now }
-    requires supers { All (λ s. s < length classes.now.standing.now) supers.now }
+    requires supertypes { All (λ s. s < length classes.now.standing.now) supertypes.now }
     requires loads { length loads.now ≡ length classes.now.standing.now }
-    ensures { result ≡ judged_each (indexed_of classes.now) loads.now node has_super supers.now }
+    ensures { result ≡ judged_each (indexed_of classes.now) loads.now node has_superclass supertypes.now }
 {
-    let mut is_class = has_super;
-    for other in supers {
+    let mut is_class = has_superclass;
+    for other in supertypes {
         if let Some(error) = judge(classes, loads, node, is_class, *other) {
             return error;
         }

@@ -46,7 +46,7 @@ load_error name loading.Loaded = []
 load_error name loading.Outside = []
 load_error name (loading.Fails error fault) = of_class name (error_text error fault ++ codes "\n")
 
--- behind a reference that nothing names, so that it is never resolved
+-- behind a reference that no code names, so that no code resolves it
 abbrev pub use_mark : (is_used : Bool) → List ℕ
 use_mark is_used = cond is_used [] (codes " (unused)")
 

@@ -61,7 +61,8 @@ fn write_files<W: Output>(
     files: &[FileRow<'_>],
     only: Option<&Outside>,
 )
-    ensures { Sends W.written W.failures text.old text.new (flat_map (file_error (prefixes_lent only.entry)) (map lent.row_lent files.now)) }
+    ensures { Sends W.written W.failures text.old text.new
+        (flat_map (file_error (prefixes_lent only.entry)) (map lent.row_lent files.now)) }
 {
     for row in files {
         write_file(text, row, only);
@@ -175,7 +176,8 @@ fn write_answer_error<W: Output>(
     reference: Reference<'_>,
     answer: Answer<'_>,
 )
-    ensures { Sends W.written W.failures text.old text.new (answer_error facts.now (reference_lent reference.entry) (answer_of answer.entry)) }
+    ensures { Sends W.written W.failures text.old text.new
+        (answer_error facts.now (reference_lent reference.entry) (answer_of answer.entry)) }
 {
     if let Answer::Error(_, _) = answer {
         write_front(text, facts.name());

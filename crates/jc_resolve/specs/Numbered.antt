@@ -10,7 +10,7 @@ use Rattle.jc_classes.specs.Names.{Name, names_of}
 use Rattle.jc_classes.specs.Numbers.{name_at, IsOnce}
 use Rattle.jc_classes.specs.Parts.{AreAnswers, class_of}
 use Rattle.jc_classes.specs.Resolution.{Answer}
-use Rattle.jc_classes.specs.Worlds.{World, Stands, references_of, supers_of}
+use Rattle.jc_classes.specs.Worlds.{World, Stands, references_of, supertypes_of}
 use Rattle.jc_classes.specs.Worlds.Stands.{Nothing}
 use Rattle.jc_classes.specs.Lent.{stands_of}
 use Rattle.jc_classes.specs.declared.standing.Standing.{Standing}
@@ -18,33 +18,33 @@ use Rattle.jc_classes.specs.declared.standing.Standing.{Standing}
 -- names, what stands at each, and the numbers of its supertypes
 pub record Numbered : Type 0 where
   pub names : List Name
-  pub records : List Stands
+  pub standing : List Stands
   pub supertypes : List (List ℕ)
 
 abbrev pub node_name : Numbered → ℕ → Name
 node_name h i = name_at h.names i
 
 abbrev pub standing_at : Numbered → ℕ → Stands
-standing_at h i = slice_index_or h.records i Nothing
+standing_at h i = slice_index_or h.standing i Nothing
 
-abbrev pub supertypes_of : Numbered → ℕ → List ℕ
-supertypes_of h i = slice_index_or h.supertypes i []
+abbrev pub supertypes_at : Numbered → ℕ → List ℕ
+supertypes_at h i = slice_index_or h.supertypes i []
 
 -- as they are lent
 abbrev pub numbered : List (Vec ℕ Global) → List Standing → List (Vec ℕ Global) → Numbered
 numbered names standing supertypes = record {
   names = names_of names;
-  records = map stands_of standing;
+  standing = map stands_of standing;
   supertypes = map (λ (v : Vec ℕ Global). v.items) supertypes;
 }
 
 -- each name stands once, and what is named as a supertype has a number
 pub record IsClosed (h : Numbered) : Type 0 where
-  pub records : length h.records ≡ length h.names
+  pub standing : length h.standing ≡ length h.names
   pub size : length h.supertypes ≡ length h.names
   pub once : IsOnce h.names
-  pub within : (a b : ℕ) → Contains (supertypes_of h a) b → b < length h.names
-  pub supertypes : (i : ℕ) → i < length h.names → map (name_at h.names) (supertypes_of h i) ≡ supers_of (standing_at h i)
+  pub within : (a b : ℕ) → Contains (supertypes_at h a) b → b < length h.names
+  pub supertypes : (i : ℕ) → i < length h.names → map (name_at h.names) (supertypes_at h i) ≡ supertypes_of (standing_at h i)
 
 -- a world has at each name what stands there
 abbrev pub Agrees : World → Numbered → Type 0
@@ -56,8 +56,8 @@ abbrev pub references_at : Numbered → ℕ → List Reference
 references_at h i = references_of (standing_at h i)
 
 -- the numbers of the classes that references name
-abbrev pub AreClassesOf : Numbered → List Reference → List (Option ℕ) → Type 0
-AreClassesOf h rs nodes = map (option_map (name_at h.names)) nodes ≡ map (λ (r : Reference). class_of r.named) rs
+abbrev pub NumberReferences : List Name → List (Option ℕ) → List Reference → Type 0
+NumberReferences names nodes references = map (option_map (name_at names)) nodes ≡ map (λ (r : Reference). class_of r.named) references
 
 -- the errors of its instructions, where its references have these answers
 abbrev pub links_at : Numbered → ℕ → List Answer → List LinkFault

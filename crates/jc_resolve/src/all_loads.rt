@@ -48,7 +48,8 @@ pub(crate) fn load_all(
     classes: &Classes,
     sorted: &Sorted,
 ) -> Result<Vec<Load>, NoMemory>
-    requires circular { TellsCircular (successors_of classes.now.supertypes.now) (length classes.now.standing.now) sorted.now.circular.items }
+    requires circular { TellsCircular (successors_of classes.now.supertypes.now) (length classes.now.standing.now)
+        sorted.now.circular.items }
     requires order { IsSorted (length classes.now.standing.now) (indexed_of classes.now) sorted.now }
     ensures size { IfOk result (λ v. length v.items ≡ length classes.now.standing.now) }
     ensures loads { IfOk result (λ v. AreLoads (length classes.now.standing.now) (indexed_of classes.now) v.items) }

@@ -8,7 +8,7 @@ ghost use Rattle.jc_resolve.specs.inside.Entries.{entry_shown};
 ghost use Rattle.jc_resolve.specs.inside.Resolved.{begun_of, ended_of};
 ghost use Rattle.jc_resolve.specs.inside.Shows.{ShowsHit, ShowsOutcome, ShowsSettled};
 
-use crate::resolve::{Begun, Outcome};
+use crate::resolve::{Begun, MemberOutcome};
 use jc_classes::{Key, LinkageError, same};
 use jc_numbered::{Hit, Settled};
 
@@ -66,12 +66,16 @@ fn settled_entry(settled: Settled<'_>, missing: LinkageError, key: Key<'_>) -> E
 }
 
 /// The answer of a reference to a member.
-pub(crate) fn outcome_entry(outcome: Outcome<'_>, missing: LinkageError, key: Key<'_>) -> Entry
+pub(crate) fn outcome_entry(
+    outcome: MemberOutcome<'_>,
+    missing: LinkageError,
+    key: Key<'_>,
+) -> Entry
     ensures { ShowsOutcome (key_lent key.entry) missing outcome.entry result }
 {
     match outcome {
-        Outcome::Ends(begun) => begun_entry(begun),
-        Outcome::Settled(settled) => settled_entry(settled, missing, key),
-        Outcome::NoInterface => Entry::OwnError(LinkageError::Incompatible),
+        MemberOutcome::Ends(begun) => begun_entry(begun),
+        MemberOutcome::Settled(settled) => settled_entry(settled, missing, key),
+        MemberOutcome::NoInterface => Entry::OwnError(LinkageError::Incompatible),
     }
 }

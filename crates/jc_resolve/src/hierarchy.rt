@@ -11,7 +11,7 @@ ghost use Rattle.jc_classes.specs.Worlds.{World, Above};
 ghost use Rattle.jc_resolve.specs.Answers.{loading_of};
 ghost use Rattle.jc_numbered.specs.inside.Shown.{indexed_of};
 ghost use Rattle.jc_resolve.specs.Numbered.{links_at, node_name, numbered, references_at};
-ghost use Rattle.jc_resolve.specs.Numbered.{Agrees, AreClassesOf, IsClosed, TellsAnswers};
+ghost use Rattle.jc_resolve.specs.Numbered.{Agrees, IsClosed, NumberReferences, TellsAnswers};
 ghost use Rattle.jc_resolve.specs.inside.Resolved.{loading_of as loading_at};
 
 use crate::all_answers::linked;
@@ -33,7 +33,7 @@ pub enum Loading {
     Fails(LinkageError, Vec<u8>),
 }
 
-/// The classes of a reach by numbers, with how each of them loads.
+/// The classes of a reach or of a net by numbers, with how each of them loads.
 #[derive(Drop)]
 pub struct Hierarchy<'c, 't> {
     classes: Classes<'c, 't>,
@@ -125,7 +125,7 @@ impl<'c, 't> Hierarchy<'c, 't> {
         nodes: &[Option<usize>],
     ) -> Result<Linked, NoMemory>
         requires class { class < length self.old.names }
-        requires nodes { AreClassesOf self.old (references_at self.old class) nodes.now }
+        requires nodes { NumberReferences self.old.names nodes.now (references_at self.old class) }
         requires within { (v : ℕ) → Contains nodes.now (Some v) → v < length self.old.names }
         ensures answers { IfOk result (λ linked. TellsAnswers self.old class linked.answers) }
         ensures links { IfOk result (λ linked. linked.links ≡ links_at self.old class linked.answers) }

@@ -1,5 +1,5 @@
-//! Loading, look-up and resolution (JVMS 5.3.5, 5.4.3) over the classes of a reach, by their numbers: how each
-//! class loads, and the answer to each reference of a class.
+//! Loading, look-up and resolution (JVMS 5.3.5, 5.4.3, 6.5) over the classes of a reach or of a net, by their numbers:
+//! how each class loads, the answer to each reference of a class, and which of its instructions do not link.
 #![tactic(auto)]
 
 mod all_answers;

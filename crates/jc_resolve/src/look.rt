@@ -7,10 +7,10 @@ ghost use Rattle.jc_resolve.specs.inside.Resolved.{has_loaded, TellsGood};
 
 use jc_numbered::{Classes, Load};
 
-/// A class that asks, among the classes of its reach, of which it is known how each loads.
+/// A class that asks, among classes of which it is known how each loads.
 #[derive(Clone, Copy)]
 pub(crate) struct Look<'l, 'c, 't> {
-    /// The classes of its reach.
+    /// The classes of its reach, or of a net that has it.
     pub(crate) classes: &'l Classes<'c, 't>,
     /// How each of them loads.
     pub(crate) loads: &'l [Load],

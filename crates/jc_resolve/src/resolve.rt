@@ -41,7 +41,7 @@ pub(crate) enum Begun {
 
 /// The answer of a reference to a member.
 #[derive(Clone, Copy)]
-pub(crate) enum Outcome<'a> {
+pub(crate) enum MemberOutcome<'a> {
     Ends(Begun),
     Settled(Settled<'a>),
     /// What is named is no interface.
@@ -140,7 +140,7 @@ impl<'l, 'c, 't> Look<'l, 'c, 't> {
         room: &mut Room,
         named: NamedNode,
         key: Key,
-    ) -> Result<Outcome<'l>, NoMemory>
+    ) -> Result<MemberOutcome<'l>, NoMemory>
         requires named { IsWithinAll (size_of self.now) named }
         requires room { IsRoom self.now.classes.now room.old }
         ensures room { OnOk result (IsRoom self.now.classes.now room.new) }
@@ -161,9 +161,9 @@ impl<'l, 'c, 't> Look<'l, 'c, 't> {
                     start,
                     found,
                 )?;
-                Ok(Outcome::Settled(settled))
+                Ok(MemberOutcome::Settled(settled))
             }
-            other => Ok(Outcome::Ends(other)),
+            other => Ok(MemberOutcome::Ends(other)),
         }
     }
 
@@ -174,7 +174,7 @@ impl<'l, 'c, 't> Look<'l, 'c, 't> {
         room: &mut Room,
         named: NamedNode,
         key: Key,
-    ) -> Result<Outcome<'l>, NoMemory>
+    ) -> Result<MemberOutcome<'l>, NoMemory>
         requires named { IsWithinAll (size_of self.now) named }
         requires room { IsRoom self.now.classes.now room.old }
         ensures room { OnOk result (IsRoom self.now.classes.now room.new) }
@@ -185,7 +185,7 @@ impl<'l, 'c, 't> Look<'l, 'c, 't> {
         match self.begin(named) {
             Begun::At(start) => {
                 if AccessFlag::Interface.is_in(classes.flags(start)) {
-                    return Ok(Outcome::Ends(Begun::Fails(LinkageError::Incompatible, start)));
+                    return Ok(MemberOutcome::Ends(Begun::Fails(LinkageError::Incompatible, start)));
                 }
                 let found = find_method(alloc, classes, room, start, key)?;
                 let target = target_of(named);
@@ -198,9 +198,9 @@ impl<'l, 'c, 't> Look<'l, 'c, 't> {
                     start,
                     found,
                 )?;
-                Ok(Outcome::Settled(settled))
+                Ok(MemberOutcome::Settled(settled))
             }
-            other => Ok(Outcome::Ends(other)),
+            other => Ok(MemberOutcome::Ends(other)),
         }
     }
 
@@ -211,7 +211,7 @@ impl<'l, 'c, 't> Look<'l, 'c, 't> {
         room: &mut Room,
         named: NamedNode,
         key: Key,
-    ) -> Result<Outcome<'l>, NoMemory>
+    ) -> Result<MemberOutcome<'l>, NoMemory>
         requires named { IsWithinAll (size_of self.now) named }
         requires room { IsRoom self.now.classes.now room.old }
         ensures room { OnOk result (IsRoom self.now.classes.now room.new) }
@@ -222,7 +222,7 @@ impl<'l, 'c, 't> Look<'l, 'c, 't> {
         match self.begin(named) {
             Begun::At(start) => {
                 if !AccessFlag::Interface.is_in(classes.flags(start)) {
-                    return Ok(Outcome::NoInterface);
+                    return Ok(MemberOutcome::NoInterface);
                 }
                 let found = find_interface_method(alloc, classes, room, start, key)?;
                 let target = target_of(named);
@@ -235,9 +235,9 @@ impl<'l, 'c, 't> Look<'l, 'c, 't> {
                     start,
                     found,
                 )?;
-                Ok(Outcome::Settled(settled))
+                Ok(MemberOutcome::Settled(settled))
             }
-            other => Ok(Outcome::Ends(other)),
+            other => Ok(MemberOutcome::Ends(other)),
         }
     }
 }

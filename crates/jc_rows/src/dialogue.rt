@@ -1,7 +1,7 @@
 //! The lines of a row that tell what goes in and what has to come out.
 
 use crate::doubles::Refusal;
-use crate::outcome::Outcome;
+use crate::outcome::Expected;
 use crate::parts::{Names, bytes_of};
 use crate::tokens::{Token, tokens_of};
 use anyhow::{Context, Result, bail};
@@ -28,7 +28,7 @@ pub(crate) struct Dialogue<'a> {
     pub(crate) answers: Vec<Result<Vec<u8>, SourceError>>,
     pub(crate) room: Option<usize>,
     pub(crate) error_room: Option<usize>,
-    pub(crate) wanted: Outcome,
+    pub(crate) wanted: Expected,
 }
 
 impl<'a> Dialogue<'a> {
@@ -44,7 +44,7 @@ impl<'a> Dialogue<'a> {
             answers: Vec::new(alloc),
             room: None,
             error_room: None,
-            wanted: Outcome::new(alloc),
+            wanted: Expected::new(alloc),
         }
     }
 

@@ -11,15 +11,15 @@ use std::rt::Files;
 
 /// The output, standard error, and how it ends.
 #[derive(Drop)]
-pub(crate) struct Outcome {
+pub(crate) struct Expected {
     pub(crate) output: Vec<u8>,
     pub(crate) told: Vec<u8>,
     pub(crate) ending: String,
 }
 
-impl Outcome {
-    pub(crate) fn new(alloc: Global) -> Outcome {
-        Outcome {
+impl Expected {
+    pub(crate) fn new(alloc: Global) -> Expected {
+        Expected {
             output: Vec::new(alloc),
             told: Vec::new(alloc),
             ending: String::new(alloc),
@@ -115,7 +115,7 @@ pub(crate) fn told_of_status(
 
 fn told_of_outputs(
     alloc: Global,
-    wanted: &Outcome,
+    wanted: &Expected,
     out: &MemOutput,
     err: &MemOutput,
     status: u8,

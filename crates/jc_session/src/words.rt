@@ -110,7 +110,8 @@ fn form<'w>(alloc: Global, matches: &ArgMatches<'w>) -> Result<CheckForm, Fault<
 /// The outside prefixes: those that are given, else the standard ones.
 fn outside<'w>(alloc: Global, matches: &ArgMatches<'w>) -> Result<Outside, Fault<'w>>
     ensures held { IfOk result (HoldsGiven (given (codes "outside") (rows_of (found_of matches.now)))) }
-    ensures refused { IfErr result (λ fault. fault_lent fault ≡ Usage → AreRefused (given (codes "outside") (rows_of (found_of matches.now)))) }
+    ensures refused { IfErr result (λ fault. fault_lent fault ≡ Usage
+        → AreRefused (given (codes "outside") (rows_of (found_of matches.now)))) }
     ensures fault { IfErr result (λ fault. (fault_lent fault ≡ Usage) ⊎ (fault_lent fault ≡ NoMemory)) }
 {
     match matches.get_strs("outside") {

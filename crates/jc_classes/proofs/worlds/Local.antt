@@ -6,15 +6,15 @@ use Rattle.std.specs.Option.{option_to_list, option_map_or}
 use Rattle.std.proofs.lemmas.List.Elements.{Contains-append_left, Contains-append_right, Contains-append_cases}
 use Rattle.jc_classes.specs.Facts.{Facts, Key, Named}
 use Rattle.jc_classes.specs.Names.{Name, object}
-use Rattle.jc_classes.specs.Worlds.{World, Stands, Above, Extends, Found, super_of, interfaces_of, supers_of, fields_of, methods_of, flags_of, is_interface, member}
+use Rattle.jc_classes.specs.Worlds.{World, Stands, Above, Extends, Found, superclass_of, interfaces_of, supertypes_of, fields_of, methods_of, flags_of, is_interface, member}
 use Rattle.jc_classes.specs.Worlds.{Above as above, Extends as extends, Stands as stands}
 use Rattle.jc_classes.specs.FieldLookup.{FindsField, FindsFirst, onward, FindsField as field, FindsFirst as first}
 use Rattle.jc_classes.specs.MethodLookup.{IsCandidate, IsMaximal, IsOnly, IsLeast, given_by, declared, of_object, FindsInClasses, FindsAbove, FindsMethod, FindsInterfaceMethod}
 use Rattle.jc_classes.specs.MethodLookup.{FindsInClasses as chain, FindsAbove as up, FindsMethod as method, FindsInterfaceMethod as imethod}
-use Rattle.jc_classes.specs.Loading.{Load, LoadEach, Loading, Parent, parents, can_see, judged, same_bool, Load as load, LoadEach as each}
+use Rattle.jc_classes.specs.Loading.{Load, LoadEach, Loading, Supertype, direct_supertypes, can_see, judged, same_bool, Load as load, LoadEach as each}
 use Rattle.jc_classes.specs.declared.linkage_error.LinkageError.{LinkageError}
 use Rattle.jc_classes.specs.Access.{CanUse, IsWithin, IsRelated, CanUse as may}
-use Rattle.jc_classes.specs.Resolution.{Answer, Start, ResolvesClass, Starts, IsBeyond, Settles, ResolvesField, ResolvesMethod, ResolvesInterfaceMethod}
+use Rattle.jc_classes.specs.Resolution.{Answer, Start, ResolvesClass, Starts, IsOutsideAbove, Settles, ResolvesField, ResolvesMethod, ResolvesInterfaceMethod}
 use Rattle.jc_classes.specs.Resolution.{class_answer, ResolvesClass as rclass, Settles as settles, ResolvesField as rfield, ResolvesMethod as rmethod, ResolvesInterfaceMethod as rimethod}
 use Rattle.jc_classes.specs.Resolution.Starts.{starts}
 use Rattle.jc_classes.specs.Resolution.Start.{At}
@@ -25,7 +25,7 @@ use Rattle.jc_classes.specs.Facts.Named.{Class, Array}
 -- two maps agree at a set of names that is closed under supertypes
 pub record Agree (R : Name → Type 0) (m n : World) : Type 0 where
   pub same : (x : Name) → R x → m x ≡ n x
-  pub closed : (x s : Name) → R x → Contains (supers_of (m x)) s → R s
+  pub closed : (x s : Name) → R x → Contains (supertypes_of (m x)) s → R s
 
 -- the set holds the class that is named, or the innermost one of the array
 abbrev pub Holds : (Name → Type 0) → Named → Type 0
@@ -35,7 +35,7 @@ Holds R (Array t e) = (c : Name) → e ≡ Some c → R c
 pub agree_back : (R : Name → Type 0) (m n : World) → Agree R m n → Agree R n m
 agree_back R m n g = record {
   same = λ x r. sym (g.same x r);
-  closed = λ x s r h. g.closed x s r (subst (λ o. Contains (supers_of o) s) (sym (g.same x r)) h);
+  closed = λ x s r h. g.closed x s r (subst (λ o. Contains (supertypes_of o) s) (sym (g.same x r)) h);
 }
 
 pub contains_head : (s : Name) (ss : List Name) → Contains (s ∷ ss) s
@@ -44,37 +44,37 @@ contains_head s ss = (zero, omega arith, refl)
 pub contains_later : (s : Name) (ss : List Name) (x : Name) → Contains ss x → Contains (s ∷ ss) x
 contains_later s ss x h = Contains-append_right (s ∷ []) ss x h
 
-pub super_in : (o : Stands) (s : Name) → super_of o ≡ Some s → Contains (supers_of o) s
-super_in o s e = Contains-append_left (option_to_list (super_of o)) (interfaces_of o) s (subst (λ x. Contains (option_to_list x) s) (sym e) (contains_head s []))
+pub super_in : (o : Stands) (s : Name) → superclass_of o ≡ Some s → Contains (supertypes_of o) s
+super_in o s e = Contains-append_left (option_to_list (superclass_of o)) (interfaces_of o) s (subst (λ x. Contains (option_to_list x) s) (sym e) (contains_head s []))
 
-pub onward_in : (o : Stands) (s : Name) → Contains (onward o) s → Contains (supers_of o) s
+pub onward_in : (o : Stands) (s : Name) → Contains (onward o) s → Contains (supertypes_of o) s
 onward_in o s h = ⊎_elim
-    (λ i. Contains-append_right (option_to_list (super_of o)) (interfaces_of o) s i)
-    (λ i. Contains-append_left (option_to_list (super_of o)) (interfaces_of o) s i)
-    (Contains-append_cases (interfaces_of o) (option_to_list (super_of o)) s h)
+    (λ i. Contains-append_right (option_to_list (superclass_of o)) (interfaces_of o) s i)
+    (λ i. Contains-append_left (option_to_list (superclass_of o)) (interfaces_of o) s i)
+    (Contains-append_cases (interfaces_of o) (option_to_list (superclass_of o)) s h)
 
 at_is : {c d : Name} → At c ≡ At d → c ≡ d
 at_is e = cc
 
 -- ---- what the rules read of a supertype
 
-abbrev pub names_of : List Parent → List Name
-names_of ps = map (λ (p : Parent). p.name) ps
+abbrev pub names_of : List Supertype → List Name
+names_of ps = map (λ (p : Supertype). p.name) ps
 
-parent_head : (p : Parent) (ps : List Parent) → Contains (names_of (p ∷ ps)) p.name
-parent_head p ps = contains_head p.name (names_of ps)
+supertype_head : (p : Supertype) (ps : List Supertype) → Contains (names_of (p ∷ ps)) p.name
+supertype_head p ps = contains_head p.name (names_of ps)
 
-parent_later : (p : Parent) (ps : List Parent) (s : Name) → Contains (names_of ps) s → Contains (names_of (p ∷ ps)) s
-parent_later p ps s h = contains_later p.name (names_of ps) s h
+supertype_later : (p : Supertype) (ps : List Supertype) (s : Name) → Contains (names_of ps) s → Contains (names_of (p ∷ ps)) s
+supertype_later p ps s h = contains_later p.name (names_of ps) s h
 
-pub parents_are : (r : Facts) → names_of (parents r) ≡ option_to_list r.superclass ++ r.interfaces
-parents_are r = by r.superclass r.interfaces
+pub direct_supertypes_are : (r : Facts) → names_of (direct_supertypes r) ≡ option_to_list r.superclass ++ r.interfaces
+direct_supertypes_are r = by r.superclass r.interfaces
   where
-    names : (xs : List Name) → map (λ (p : Parent). p.name) (map (λ x. let p : Parent = record { is_class = false; name = x } in p) xs) ≡ xs
+    names : (xs : List Name) → map (λ (p : Supertype). p.name) (map (λ x. let p : Supertype = record { is_class = false; name = x } in p) xs) ≡ xs
     names [] = refl
     names (x ∷ xs) = ap (λ ys. x ∷ ys) (names xs)
 
-    by : (o : Option Name) (is : List Name) → map (λ (p : Parent). p.name) (option_map_or (λ s. (let p : Parent = record { is_class = true; name = s } in p) ∷ []) o [] ++ map (λ s. let p : Parent = record { is_class = false; name = s } in p) is) ≡ option_to_list o ++ is
+    by : (o : Option Name) (is : List Name) → map (λ (p : Supertype). p.name) (option_map_or (λ s. (let p : Supertype = record { is_class = true; name = s } in p) ∷ []) o [] ++ map (λ s. let p : Supertype = record { is_class = false; name = s } in p) is) ≡ option_to_list o ++ is
     by None is = names is
     by (Some s) is = ap (λ ys. s ∷ ys) (names is)
 
@@ -87,13 +87,13 @@ module _ (R : Name → Type 0) (m n : World) (g : Agree R m n) where
   along P x r h = subst P (g.same x r) h
 
   pub above_there : {b x : Name} → R b → Above m b x → Above n b x
-  above_there {b} {x} r (above.direct h) = above.direct (along (λ o. Contains (supers_of o) x) b r h)
-  above_there {b} {x} r (above.further {mid} a h) = above.further (above_there r a) (along (λ o. Contains (supers_of o) x) mid (above_in g r a) h)
+  above_there {b} {x} r (above.direct h) = above.direct (along (λ o. Contains (supertypes_of o) x) b r h)
+  above_there {b} {x} r (above.further {mid} a h) = above.further (above_there r a) (along (λ o. Contains (supertypes_of o) x) mid (above_in g r a) h)
 
   pub extends_there : {b x : Name} → R b → Extends m b x → Extends n b x
   extends_there r extends.itself = extends.itself
   extends_there {b} r (extends.through {s = s} e h) =
-      extends.through (along (λ o. super_of o ≡ Some s) b r e) (extends_there (g.closed b s r (super_in (m b) s e)) h)
+      extends.through (along (λ o. superclass_of o ≡ Some s) b r e) (extends_there (g.closed b s r (super_in (m b) s e)) h)
 
   abbrev Within : List Name → Type 0
   Within ss = (s : Name) → Contains ss s → R s
@@ -115,8 +115,8 @@ module _ (R : Name → Type 0) (m n : World) (g : Agree R m n) where
   pub chain_there : {k : Key} {c : Name} {a : Option Found} → R c → FindsInClasses m k c a → FindsInClasses n k c a
   chain_there {k} {c} r (chain.own {x = x} e) = chain.own (along (λ o. declared c o k ≡ Some x) c r e)
   chain_there {k} {c} r (chain.inherited {s = s} e f l) =
-      chain.inherited (along (λ o. declared c o k ≡ None) c r e) (along (λ o. super_of o ≡ Some s) c r f) (chain_there (g.closed c s r (super_in (m c) s f)) l)
-  chain_there {k} {c} r (chain.nowhere e f) = chain.nowhere (along (λ o. declared c o k ≡ None) c r e) (along (λ o. super_of o ≡ None) c r f)
+      chain.inherited (along (λ o. declared c o k ≡ None) c r e) (along (λ o. superclass_of o ≡ Some s) c r f) (chain_there (g.closed c s r (super_in (m c) s f)) l)
+  chain_there {k} {c} r (chain.nowhere e f) = chain.nowhere (along (λ o. declared c o k ≡ None) c r e) (along (λ o. superclass_of o ≡ None) c r f)
 
   pub candidate_there : {k : Key} {c : Name} {f : Found} → R c → IsCandidate m k c f → IsCandidate n k c f
   candidate_there {k} {c} {f} r i = record {
@@ -124,8 +124,8 @@ module _ (R : Name → Type 0) (m n : World) (g : Agree R m n) where
     given = along (λ o. given_by o k ≡ Some f.member) f.home (above_in g r i.above) i.given;
   }
 
-  pub beyond_there : {c x : Name} → R c → IsBeyond m c x → IsBeyond n c x
-  beyond_there {x = x} r i = record { above = above_there r i.above; outside = along (λ o. o ≡ stands.Outside) x (above_in g r i.above) i.outside }
+  pub outside_there : {c x : Name} → R c → IsOutsideAbove m c x → IsOutsideAbove n c x
+  outside_there {x = x} r i = record { above = above_there r i.above; outside = along (λ o. o ≡ stands.Outside) x (above_in g r i.above) i.outside }
 
   pub within_there : {a b : Name} → R a → IsWithin m a b → IsWithin n a b
   within_there r h = ⊎_elim (λ e. inl (extends_there r e)) inr h
@@ -177,7 +177,7 @@ module _ (R : Name → Type 0) (m n : World) (g : Agree R m n) where
 
   -- ---- loading
 
-  abbrev Each : List Parent → Type 0
+  abbrev Each : List Supertype → Type 0
   Each ps = (s : Name) → Contains (names_of ps) s → R s
 
   mutual
@@ -187,14 +187,14 @@ module _ (R : Name → Type 0) (m n : World) (g : Agree R m n) where
     load_there {x = x} r (load.faulty {r = y} e o) = load.faulty (along R m n g (λ q. q ≡ stands.Class y) x r e) o
     load_there {x = x} r (load.round {r = y} e o a) = load.round (along R m n g (λ q. q ≡ stands.Class y) x r e) o (above_there R m n g r a)
     load_there {x = x} r (load.through {r = y} e o z l) = load.through (along R m n g (λ q. q ≡ stands.Class y) x r e) o (λ a. z (above_there R n m back3 r a))
-        (each_there r (λ s h. g.closed x s r (subst (λ q. Contains (supers_of q) s) (sym e) (subst (λ ss. Contains ss s) (parents_are y) h))) l)
+        (each_there r (λ s h. g.closed x s r (subst (λ q. Contains (supertypes_of q) s) (sym e) (subst (λ ss. Contains ss s) (direct_supertypes_are y) h))) l)
 
-    pub each_there : {x : Name} {ps : List Parent} {a : Loading} → R x → Each ps → LoadEach m x ps a → LoadEach n x ps a
+    pub each_there : {x : Name} {ps : List Supertype} {a : Loading} → R x → Each ps → LoadEach m x ps a → LoadEach n x ps a
     each_there r h each.none = each.none
-    each_there {x} r h (each.stops {p = p} {ps = ps} {a = a} {b = b} l e) = let q = h p.name (parent_head p ps) in
+    each_there {x} r h (each.stops {p = p} {ps = ps} {a = a} {b = b} l e) = let q = h p.name (supertype_head p ps) in
         each.stops (load_there q l) (along R m n g (λ o. judged a (can_see x p.name o) (same_bool (is_interface o) p.is_class) p.name ≡ Some b) p.name q e)
-    each_there {x} r h (each.passes {p = p} {ps = ps} {a = a} l e y) = let q = h p.name (parent_head p ps) in
-        each.passes (load_there q l) (along R m n g (λ o. judged a (can_see x p.name o) (same_bool (is_interface o) p.is_class) p.name ≡ None) p.name q e) (each_there r (λ s i. h s (parent_later p ps s i)) y)
+    each_there {x} r h (each.passes {p = p} {ps = ps} {a = a} l e y) = let q = h p.name (supertype_head p ps) in
+        each.passes (load_there q l) (along R m n g (λ o. judged a (can_see x p.name o) (same_bool (is_interface o) p.is_class) p.name ≡ None) p.name q e) (each_there r (λ s i. h s (supertype_later p ps s i)) y)
 
   -- ---- references
 
@@ -224,8 +224,8 @@ module _ (R : Name → Type 0) (m n : World) (g : Agree R m n) where
   pub settles_there : {d : Name} {t : Named} {c : Name} {x : LinkageError} {f : Option Found} {a : Answer} → R d → R c → Holds R t → Settles m d t c x f a → Settles n d t c x f a
   settles_there r s h (settles.found u) = settles.found (may_there R m n g r h u)
   settles_there r s h (settles.hidden u) = settles.hidden (λ v. u (may_there R n m back4 r h v))
-  settles_there r s h (settles.beyond i l) = settles.beyond (beyond_there R m n g s i) (λ j y. l j (beyond_there R n m back4 s y))
-  settles_there r s h (settles.nowhere l) = settles.nowhere (λ j y. l j (beyond_there R n m back4 s y))
+  settles_there r s h (settles.outside i l) = settles.outside (outside_there R m n g s i) (λ j y. l j (outside_there R n m back4 s y))
+  settles_there r s h (settles.nowhere l) = settles.nowhere (λ j y. l j (outside_there R n m back4 s y))
 
   -- look-up begins at a name of the set
   object_within : (l : Loading) (c : Name) → R object → At c ≡ object_start l → R c

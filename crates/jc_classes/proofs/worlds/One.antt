@@ -19,7 +19,7 @@ use Rattle.jc_classes.specs.MethodLookup.{FindsInClasses as chain}
 use Rattle.jc_classes.specs.MethodLookup.{FindsAbove as above}
 use Rattle.jc_classes.specs.MethodLookup.{FindsMethod as method}
 use Rattle.jc_classes.specs.MethodLookup.{FindsInterfaceMethod as imethod}
-use Rattle.jc_classes.specs.Loading.{Load, LoadEach, Loading, Parent, parents, can_see, judged_parent}
+use Rattle.jc_classes.specs.Loading.{Load, LoadEach, Loading, Supertype, direct_supertypes, can_see, judged_supertype}
 use Rattle.jc_classes.specs.declared.linkage_error.LinkageError.{LinkageError}
 use Rattle.jc_classes.specs.Loading.{Load as load}
 use Rattle.jc_classes.specs.Loading.{LoadEach as each}
@@ -164,13 +164,13 @@ mutual
   load_one (load.through e o n l) (load.outside f) = record_outside e f
   load_one (load.through e o n l) (load.faulty f p) = apart (ap (λ (x : Facts). is_faulty x) (record_one e f) ∙ p) o
   load_one (load.through e o n l) (load.round f p r) = absurd (n r)
-  load_one {m} {n} {b = b} (load.through e o x l) (load.through f p y r) = each_one l (subst (λ (q : Facts). LoadEach m n (parents q) b) (record_one f e) r)
+  load_one {m} {n} {b = b} (load.through e o x l) (load.through f p y r) = each_one l (subst (λ (q : Facts). LoadEach m n (direct_supertypes q) b) (record_one f e) r)
 
-  each_one : {m : World} {n : Name} {ps : List Parent} {a b : Loading} → LoadEach m n ps a → LoadEach m n ps b → a ≡ b
+  each_one : {m : World} {n : Name} {ps : List Supertype} {a b : Loading} → LoadEach m n ps a → LoadEach m n ps b → a ≡ b
   each_one each.none each.none = refl
-  each_one {m} {n} (each.stops {p = q} l e) (each.stops r f) = some_one e (ap (judged_parent m n q) (load_one l r) ∙ f)
-  each_one {m} {n} (each.stops {p = q} l e) (each.passes r f s) = some_none e (ap (judged_parent m n q) (load_one l r) ∙ f)
-  each_one {m} {n} (each.passes {p = q} l e x) (each.stops r f) = some_none f (sym (ap (judged_parent m n q) (load_one l r)) ∙ e)
+  each_one {m} {n} (each.stops {p = q} l e) (each.stops r f) = some_one e (ap (judged_supertype m n q) (load_one l r) ∙ f)
+  each_one {m} {n} (each.stops {p = q} l e) (each.passes r f s) = some_none e (ap (judged_supertype m n q) (load_one l r) ∙ f)
+  each_one {m} {n} (each.passes {p = q} l e x) (each.stops r f) = some_none f (sym (ap (judged_supertype m n q) (load_one l r)) ∙ e)
   each_one (each.passes l e x) (each.passes r f s) = each_one x s
 
 -- ---- references
@@ -188,9 +188,9 @@ settles_one (settles.found u) (settles.found v) = refl
 settles_one (settles.found u) (settles.hidden n) = absurd (n u)
 settles_one (settles.hidden n) (settles.found u) = absurd (n u)
 settles_one (settles.hidden n) (settles.hidden p) = refl
-settles_one (settles.beyond {n} i l) (settles.beyond {n = p} j r) = ap answer.Outside (same_least n p (r n i) (l p j))
-settles_one (settles.beyond {n} i l) (settles.nowhere q) = absurd (q n i)
-settles_one (settles.nowhere q) (settles.beyond {n} i l) = absurd (q n i)
+settles_one (settles.outside {n} i l) (settles.outside {n = p} j r) = ap answer.Outside (same_least n p (r n i) (l p j))
+settles_one (settles.outside {n} i l) (settles.nowhere q) = absurd (q n i)
+settles_one (settles.nowhere q) (settles.outside {n} i l) = absurd (q n i)
 settles_one (settles.nowhere q) (settles.nowhere r) = refl
 
 at_ends : {A : Type 0} {c : Name} {a : Answer} → At c ≡ Ends a → A

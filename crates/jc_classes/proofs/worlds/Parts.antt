@@ -7,7 +7,7 @@ use Rattle.jc_classes.specs.LinkErrors.{links_of}
 use Rattle.jc_classes.specs.Names.{Name, object}
 use Rattle.jc_classes.specs.declared.reference_kind.ReferenceKind.{ReferenceKind}
 use Rattle.jc_classes.specs.declared.reference_kind.ReferenceKind.TheVariants as kind
-use Rattle.jc_classes.specs.Worlds.{World, Above, supers_of, references_of, format_faults_of, code_faults_of}
+use Rattle.jc_classes.specs.Worlds.{World, Above, supertypes_of, references_of, format_faults_of, code_faults_of}
 use Rattle.jc_classes.specs.Facts.Named.{Class, Array}
 use Rattle.jc_classes.specs.Loading.{Loading}
 use Rattle.jc_classes.specs.Loading.Loading.{Loaded, Outside, Fails}
@@ -39,7 +39,7 @@ module _ (touched : Name → Bool) (m k : World) (d : Name) (differ : Differ tou
       ⊎_elim
       (λ q. ⊎_elim
       (λ t. inr (mid, t, q))
-      (λ t. inl (upward q (subst (λ r. Contains (supers_of r) n) (differ mid t) h)))
+      (λ t. inl (upward q (subst (λ r. Contains (supertypes_of r) n) (differ mid t) h)))
       (bool_cases (touched mid)))
       inr
       (reach_or_hits r)
@@ -55,19 +55,19 @@ module _ (touched : Name → Bool) (m k : World) (d : Name) (differ : Differ tou
   reach_there itself = itself
   reach_there always = always
   reach_there {n} (reference h) = reference (subst (λ o. Contains (names_in (references_of o)) n) (same_at itself) h)
-  reach_there {n} (upward r h) = upward (reach_there r) (subst (λ o. Contains (supers_of o) n) (same_at r) h)
+  reach_there {n} (upward r h) = upward (reach_there r) (subst (λ o. Contains (supertypes_of o) n) (same_at r) h)
 
   pub reach_back : {n : Name} → Reach k d n → Reach m d n
   reach_back itself = itself
   reach_back always = always
   reach_back {n} (reference h) = reference (subst (λ o. Contains (names_in (references_of o)) n) (sym (same_at itself)) h)
-  reach_back {n} (upward q h) = let r = reach_back q in upward r (subst (λ o. Contains (supers_of o) n) (sym (same_at r)) h)
+  reach_back {n} (upward q h) = let r = reach_back q in upward r (subst (λ o. Contains (supertypes_of o) n) (sym (same_at r)) h)
 
   pub agree : Agree (Reach m d) m k
   agree = record { same = λ x r. same_at r; closed = λ x s r h. upward r h }
 
   pub agree_back : Agree (Reach m d) k m
-  agree_back = record { same = λ x r. sym (same_at r); closed = λ x s r h. upward r (subst (λ o. Contains (supers_of o) s) (sym (same_at r)) h) }
+  agree_back = record { same = λ x r. sym (same_at r); closed = λ x s r h. upward r (subst (λ o. Contains (supertypes_of o) s) (sym (same_at r)) h) }
 
 -- ---- parts
 

@@ -9,6 +9,7 @@ use Rattle.jc_graph.specs.declared.walk.Walk.{Walk}
 use Rattle.std.specs.Bool.{Decides}
 use Rattle.jc_graph.specs.inside.Marks.{set_all}
 use Rattle.jc_graph.specs.Graph.{Successors, Above}
+pub use Rattle.jc_graph.specs.Seen.{flag_at, node_at}
 
 pub record State : Type 0 where
   pub path : List ℕ
@@ -28,14 +29,8 @@ state_of w = record {
   order = w.order.items;
 }
 
-abbrev pub node_at : List ℕ → ℕ → ℕ
-node_at nodes i = slice_index_or nodes i 0
-
 abbrev pub place_at : List Place → ℕ → Place
 place_at places v = slice_index_or places v Unseen
-
-abbrev pub flag_at : List Bool → ℕ → Bool
-flag_at flags v = slice_index_or flags v false
 
 abbrev pub segment_at : List Segment → ℕ → Segment
 segment_at segments k = slice_index_or segments k (record { path_from = 0; steps_from = 0 })

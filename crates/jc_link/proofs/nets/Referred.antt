@@ -5,7 +5,7 @@ use Rattle.std.specs.List.{Contains}
 use Rattle.jc_classes.specs.Facts.{Reference}
 use Rattle.jc_classes.specs.Names.{Name}
 use Rattle.jc_classes.specs.Numbers.{Grows, name_at}
-use Rattle.jc_classes.specs.Worlds.{Stands, World, references_of, supers_of}
+use Rattle.jc_classes.specs.Worlds.{Stands, World, references_of, supertypes_of}
 use Rattle.jc_classes.specs.Worlds.Stands.{Nothing}
 use Rattle.jc_classes.proofs.numbering.NumberLemmas.{numbers_same}
 use Rattle.std.proofs.lemmas.List.Elements.{Contains-get_or}
@@ -20,12 +20,12 @@ asked_more m ns ns2 added st rs g grows =
     record {
       once = grows.once;
       size = g.size;
-      records = λ i k. let q = g.records i k in (omega (arith, q.0, longer), q.1 ∙ ap m (sym (grows.same i q.0)));
+      standing = λ i k. let q = g.standing i k in (omega (arith, q.0, longer), q.1 ∙ ap m (sym (grows.same i q.0)));
       within = λ a b c. let r = g.within a b c in omega (arith, r, longer);
       above = λ i k.
-          let q = g.records i k in
+          let q = g.standing i k in
           numbers_same ns ns2 (supertypes_at rs i) longer grows.same (λ j e k2. g.within i _ (Contains-get_or (supertypes_at rs i) j e k2))
-          ∙ g.above i k ∙ ap (λ n. supers_of (m n)) (sym (grows.same i q.0));
+          ∙ g.above i k ∙ ap (λ n. supertypes_of (m n)) (sym (grows.same i q.0));
     }
 
 pub referred_none : (ns : List Name) → AreReferred ns [] []
@@ -38,9 +38,9 @@ place_cases n i l = ⊎_elim inl (λ (e : n ≤ i). inr (omega (arith, e, l))) (
     under a b = grind arith
 
 -- one name on: its supertypes are numbered, and then the classes that its references name
-pub referred_add : (a b c supers : List Name) (st : List Stands) (references : List (List (Option ℕ))) (o : Stands) (nodes : List (Option ℕ))
-    → AreReferred a st references → Grows a b supers → Nodes b [] c nodes (references_of o) → AreReferred c (st ++ o ∷ []) (references ++ nodes ∷ [])
-referred_add a b c supers st references o nodes g first more =
+pub referred_add : (a b c supertypes : List Name) (st : List Stands) (references : List (List (Option ℕ))) (o : Stands) (nodes : List (Option ℕ))
+    → AreReferred a st references → Grows a b supertypes → Nodes b [] c nodes (references_of o) → AreReferred c (st ++ o ∷ []) (references ++ nodes ∷ [])
+referred_add a b c supertypes st references o nodes g first more =
     let l1 = first.longer in
     let l2 = more.grows.longer in
     let sizes = length-append st (o ∷ []) in

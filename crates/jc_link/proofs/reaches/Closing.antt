@@ -4,10 +4,11 @@ use Rattle.jc_classes.specs.NameLists.{IsRisingOf}
 use Rattle.jc_classes.specs.Names.{Name, object as java_lang_object}
 use Rattle.jc_classes.specs.Numbers.{name_at}
 use Rattle.jc_classes.specs.Parts.{Reach}
-use Rattle.jc_classes.specs.Worlds.{Stands, World, supers_of, references_of}
+use Rattle.jc_classes.specs.Worlds.{Stands, World, supertypes_of, references_of}
 use Rattle.jc_classes.proofs.numbering.Rising.{has_at, place_of}
 use Rattle.jc_link.specs.Closures.{IsClosure}
-use Rattle.jc_link.specs.inside.Gathering.{stand_at, Gathering, IsAsked, IsNet, NumberReferences}
+use Rattle.jc_resolve.specs.Numbered.{NumberReferences}
+use Rattle.jc_link.specs.inside.Gathering.{stand_at, Gathering, IsAsked, IsNet}
 use Rattle.jc_link.proofs.reaches.Gathered.{all_numbered}
 
 each_stands : (m : World) (ns : List Name) (st : List Stands) → length st ≡ length ns → ((i : ℕ) → i < length st → stand_at st i ≡ m (name_at ns i)) → st ≡ map m ns
@@ -21,7 +22,7 @@ each_stands m (n ∷ ns) [] e h = absurd (omega arith)
 
 module _ (m : World) (ns : List Name) (st : List Stands) (rs : List (List ℕ)) (g : IsAsked m ns st rs) (over : length ns ≤ length st) where
   pub all_asked : length st ≡ length ns
-  all_asked = by (length st) (length ns) over (λ i q. (g.records i q).0)
+  all_asked = by (length st) (length ns) over (λ i q. (g.standing i q).0)
     where
       under : (a b : ℕ) → (a < b) ⊎ (b ≤ a)
       under a b = grind arith
@@ -33,24 +34,26 @@ module _ (m : World) (ns : List Name) (st : List Stands) (rs : List (List ℕ)) 
   net_of at_object o =
       let size = all_asked in
       record {
-        once = g.once;
-        all_stand = size;
-        all_supertypes = g.size ∙ size;
-        within = g.within;
-        above = λ i l. let k : i < length st = omega arith in g.above i k ∙ ap supers_of (sym (g.records i k).1);
+        closed = record {
+          standing = size;
+          size = g.size ∙ size;
+          once = g.once;
+          within = g.within;
+          supertypes = λ i l. let k : i < length st = omega arith in g.above i k ∙ ap supertypes_of (sym (g.standing i k).1);
+        };
         object = o;
       }
 
   -- each name has what stands there
   pub all_stand : st ≡ map m ns
-  all_stand = each_stands m ns st all_asked (λ i l. (g.records i l).1)
+  all_stand = each_stands m ns st all_asked (λ i l. (g.standing i l).1)
 
 module _ (m : World) (d : Name) (ns : List Name) (st : List Stands) (rs : List (List ℕ)) (nodes : List (Option ℕ)) (g : Gathering m d ns st rs nodes) (over : length ns ≤ length st) where
   -- its references are those of what stands at the first name
   pub references_of_first : NumberReferences ns nodes (references_of (stand_at st 0))
   references_of_first =
       let some : 0 < length st = omega (arith, g.first.0, over) in
-      g.references ∙ ap (λ s. map (λ r. Rattle.jc_classes.specs.Parts.class_of r.named) (references_of s)) (ap m (sym g.first.1) ∙ sym (g.asked.records 0 some).1)
+      g.references ∙ ap (λ s. map (λ r. Rattle.jc_classes.specs.Parts.class_of r.named) (references_of s)) (ap m (sym g.first.1) ∙ sym (g.asked.standing 0 some).1)
 
   pub closure_of : (names : List Name) → IsRisingOf names ns → IsClosure m d (record { names = names; found = ns; stands = st })
   closure_of names r = record {

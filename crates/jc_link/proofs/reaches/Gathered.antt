@@ -9,7 +9,7 @@ use Rattle.jc_classes.specs.Facts.{IsNamedBefore, Reference}
 use Rattle.jc_classes.specs.Facts.Named.{Class}
 use Rattle.jc_classes.specs.declared.reference_kind.ReferenceKind.TheVariants as kind
 use Rattle.jc_classes.specs.Names.{Name, object}
-use Rattle.jc_classes.specs.Worlds.{Stands, World, supers_of, references_of}
+use Rattle.jc_classes.specs.Worlds.{Stands, World, supertypes_of, references_of}
 use Rattle.jc_classes.specs.Worlds.Stands.{Nothing}
 use Rattle.jc_classes.specs.Parts.{Reach, class_of, class_in, names_in}
 use Rattle.jc_classes.specs.Parts.Reach.{itself, always, reference, upward}
@@ -141,7 +141,7 @@ all_of numbers n all b c = let q = all c.0 b c.1 in subst (λ v. v < n) c.2 q
 
 -- the name that is next is asked for
 pub asked_add : (m : World) (ns ns2 : List Name) (st : List Stands) (rs : List (List ℕ)) (o : Stands) (direct : List ℕ)
-    → IsAsked m ns st rs → length st < length ns → o ≡ m (name_at ns (length st)) → AddsNumbers ns [] ns2 direct (supers_of o) → IsAsked m ns2 (st ++ o ∷ []) (rs ++ direct ∷ [])
+    → IsAsked m ns st rs → length st < length ns → o ≡ m (name_at ns (length st)) → AddsNumbers ns [] ns2 direct (supertypes_of o) → IsAsked m ns2 (st ++ o ∷ []) (rs ++ direct ∷ [])
 asked_add m ns ns2 st rs o direct g l is more =
     let grows = more.grows in
     let longer = grows.longer in
@@ -152,19 +152,19 @@ asked_add m ns ns2 st rs o direct g l is more =
     record {
       once = grows.once;
       size = omega arith;
-      records = λ i k. ⊎_elim
-          (λ (p : i < at). let q = g.records i p in (omega (arith, q.0), stand_left st o i p ∙ q.1 ∙ ap m (sym (grows.same i q.0))))
+      standing = λ i k. ⊎_elim
+          (λ (p : i < at). let q = g.standing i p in (omega (arith, q.0), stand_left st o i p ∙ q.1 ∙ ap m (sym (grows.same i q.0))))
           (λ (p : at ≡ i). (omega arith, get_or_push st o Nothing i p ∙ is ∙ ap m (ap (name_at ns) p ∙ sym (grows.same i (omega arith)))))
           (place_cases at i (omega arith));
       within = λ a b c. ⊎_elim (λ q. let r = g.within a b q in omega arith) (λ q. all_of direct (length ns2) more.nodes b q) (supertype_in rs direct a b c);
       above = λ i k. ⊎_elim
           (λ (p : i < at).
-          let q = g.records i p in
+          let q = g.standing i p in
           let r : supertypes_at (rs ++ direct ∷ []) i ≡ supertypes_at rs i = supertypes_left rs direct i (omega arith) in
           ap (map (name_at ns2)) r
           ∙ numbers_same ns ns2 (supertypes_at rs i) grows.longer grows.same (λ j e k2. g.within i _ (Contains-get_or (supertypes_at rs i) j e k2))
-          ∙ g.above i p ∙ ap (λ n. supers_of (m n)) (sym (grows.same i q.0)))
-          (λ (p : at ≡ i). ap (map (name_at ns2)) (get_or_push rs direct [] i (omega arith)) ∙ more.named ∙ ap supers_of (is ∙ ap m (ap (name_at ns) p ∙ sym (grows.same i (omega arith)))))
+          ∙ g.above i p ∙ ap (λ n. supertypes_of (m n)) (sym (grows.same i q.0)))
+          (λ (p : at ≡ i). ap (map (name_at ns2)) (get_or_push rs direct [] i (omega arith)) ∙ more.named ∙ ap supertypes_of (is ∙ ap m (ap (name_at ns) p ∙ sym (grows.same i (omega arith)))))
           (place_cases at i (omega arith));
     }
 
@@ -173,14 +173,14 @@ pub asked_none : (m : World) (ns : List Name) → IsOnce ns → IsAsked m ns [] 
 asked_none m ns once = record {
   once = once;
   size = refl;
-  records = λ k l. absurd (omega arith);
+  standing = λ k l. absurd (omega arith);
   within = λ a b c. no_number c;
   above = λ k l. absurd (omega arith);
 }
 
 -- so of a reach
 pub gathering_add : (m : World) (d : Name) (ns ns2 : List Name) (st : List Stands) (rs : List (List ℕ)) (nodes : List (Option ℕ)) (o : Stands) (direct : List ℕ)
-    → Gathering m d ns st rs nodes → length st < length ns → o ≡ m (name_at ns (length st)) → AddsNumbers ns [] ns2 direct (supers_of o) → Gathering m d ns2 (st ++ o ∷ []) (rs ++ direct ∷ []) nodes
+    → Gathering m d ns st rs nodes → length st < length ns → o ≡ m (name_at ns (length st)) → AddsNumbers ns [] ns2 direct (supertypes_of o) → Gathering m d ns2 (st ++ o ∷ []) (rs ++ direct ∷ []) nodes
 gathering_add m d ns ns2 st rs nodes o direct g l is more =
     let grows = more.grows in
     let longer = grows.longer in
@@ -192,7 +192,7 @@ gathering_add m d ns ns2 st rs nodes o direct g l is more =
       object = (g.object.0, omega (arith, g.object.1), get_or_default ns2 g.object.0 object [] (omega (arith, g.object.1)) ∙ grows.same g.object.0 g.object.1 ∙ get_or_default ns g.object.0 [] object g.object.1 ∙ g.object.2);
       reached = λ i k. ⊎_elim
           (λ (p : i < length ns). subst (Reach m d) (sym (grows.same i p)) (g.reached i p))
-          (λ (p : length ns ≤ i). upward (g.reached at l) (subst (λ s. Contains (supers_of s) (name_at ns2 i)) is (grows.only i p k)))
+          (λ (p : length ns ≤ i). upward (g.reached at l) (subst (λ s. Contains (supertypes_of s) (name_at ns2 i)) is (grows.only i p k)))
           (under i (length ns));
       references = nodes_same ns ns2 nodes grows.same g.references_in ∙ g.references;
       references_in = λ v c. let q = g.references_in v c in omega arith;
@@ -272,7 +272,7 @@ all_numbered m d ns st rs nodes g e {n} (reference h) = let q = named_in ns node
 all_numbered m d ns st rs nodes g e {n} (upward {mid} r h) =
     let p = all_numbered m d ns st rs nodes g e r in
     let k : p.0 < length st = omega (arith, p.1) in
-    let q = map_out (name_at ns) (supertypes_at rs p.0) n (subst (λ z. Contains z n) (sym (g.asked.above p.0 k)) (subst (λ z. Contains (supers_of (m z)) n) (sym p.2) h)) in
+    let q = map_out (name_at ns) (supertypes_at rs p.0) n (subst (λ z. Contains z n) (sym (g.asked.above p.0 k)) (subst (λ z. Contains (supertypes_of (m z)) n) (sym p.2) h)) in
     (q.0, g.asked.within p.0 q.0 q.1, q.2)
 
 -- ---- as the code has it

@@ -9,7 +9,7 @@ use Rattle.std.specs.FinMap.Entries.{find}
 use Rattle.jc_classes.specs.Facts.{Facts}
 use Rattle.jc_classes.specs.Names.{Name, name_cmp, same_name, object}
 use Rattle.jc_classes.specs.Parts.{names_in}
-use Rattle.jc_classes.specs.Worlds.{Stands, references_of, supers_of}
+use Rattle.jc_classes.specs.Worlds.{Stands, references_of, supertypes_of}
 use Rattle.jc_classes.specs.BuiltIn.{object_facts}
 use Rattle.jc_link.specs.Prefixes.{is_covered}
 use Rattle.jc_link.specs.Tables.{Places, placed, or_built_in, stands_by, world}
@@ -27,7 +27,7 @@ asked names (suc k) n = same_name n (name_at names k) || asked names k n
 
 -- how many names what stands somewhere tells: its supertypes, and the classes that its references name
 abbrev pub told_by : Stands → ℕ
-told_by s = length (supers_of s) + length (names_in (references_of s))
+told_by s = length (supertypes_of s) + length (names_in (references_of s))
 
 -- how many the class at a place tells
 abbrev pub told_count : Option Facts → ℕ

@@ -6,7 +6,7 @@ use Rattle.jc_classes.specs.Facts.{Facts}
 use Rattle.jc_classes.specs.Names.{same_name}
 use Rattle.jc_link.specs.Prefixes.{is_covered}
 use Rattle.jc_link.specs.TableLaws.{PlacesChange, PrefixesDiffer, WorldsDiffer}
-use Rattle.jc_link.specs.Tables.{placed, or_built_in, record_at, stands_by}
+use Rattle.jc_link.specs.Tables.{placed, or_built_in, class_found, stands_by}
 
 placed_cond : (b : Bool) (x y : Option (Option Facts)) → placed (cond b x y) ≡ cond b (placed x) (placed y)
 placed_cond true x y = refl
@@ -26,4 +26,4 @@ by_record (Some facts) a b h = refl
 by_record None a b h = ap (stands_by None) (h refl)
 
 pub prefixes_differ : PrefixesDiffer
-prefixes_differ = λ touched places old new same n e. by_record (record_at places n) (is_covered old n) (is_covered new n) (same n e)
+prefixes_differ = λ touched places old new same n e. by_record (class_found places n) (is_covered old n) (is_covered new n) (same n e)

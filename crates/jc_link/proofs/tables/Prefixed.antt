@@ -5,12 +5,12 @@ use Rattle.jc_classes.specs.Facts.{Facts, Reference}
 use Rattle.jc_classes.specs.Names.{Name}
 use Rattle.jc_classes.specs.Parts.{Reach, names_in}
 use Rattle.jc_classes.specs.Parts.Reach.{itself, always, reference, upward}
-use Rattle.jc_classes.specs.Worlds.{references_of, supers_of}
+use Rattle.jc_classes.specs.Worlds.{references_of, supertypes_of}
 use Rattle.jc_link.specs.Prefixes.{is_covered}
-use Rattle.jc_link.specs.Tables.{Places, record_at, stands_by, world}
+use Rattle.jc_link.specs.Tables.{Places, class_found, stands_by, world}
 
 -- what is outside has no supertypes and no references, and neither has what is nowhere
-supers_stay : (o : Option Facts) (a b : Bool) → supers_of (stands_by o a) ≡ supers_of (stands_by o b)
+supers_stay : (o : Option Facts) (a b : Bool) → supertypes_of (stands_by o a) ≡ supertypes_of (stands_by o b)
 supers_stay (Some facts) a b = refl
 supers_stay None true true = refl
 supers_stay None true false = refl
@@ -28,6 +28,6 @@ pub reach_stays : (places : Places) (old new : List Name) {d n : Name} → Reach
 reach_stays places old new itself = itself
 reach_stays places old new always = always
 reach_stays places old new {d = d} (reference {n = n} found) =
-    reference (subst (λ (rs : List Reference). Contains (names_in rs) n) (references_stay (record_at places d) (is_covered old d) (is_covered new d)) found)
+    reference (subst (λ (rs : List Reference). Contains (names_in rs) n) (references_stay (class_found places d) (is_covered old d) (is_covered new d)) found)
 reach_stays places old new (upward {mid = mid} {n = n} reached found) =
-    upward (reach_stays places old new reached) (subst (λ (ns : List Name). Contains ns n) (supers_stay (record_at places mid) (is_covered old mid) (is_covered new mid)) found)
+    upward (reach_stays places old new reached) (subst (λ (ns : List Name). Contains ns n) (supers_stay (class_found places mid) (is_covered old mid) (is_covered new mid)) found)

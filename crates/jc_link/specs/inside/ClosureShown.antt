@@ -5,7 +5,8 @@ use Rattle.jc_classes.specs.NameLists.{IsRisingOf}
 use Rattle.jc_classes.specs.Names.{names_of}
 use Rattle.jc_classes.specs.Worlds.{references_of}
 use Rattle.jc_link.specs.Closures.{Closure}
-use Rattle.jc_link.specs.inside.Gathering.{IsNet, NumberReferences, stand_at, stands_in, supertypes_in}
+use Rattle.jc_resolve.specs.Numbered.{NumberReferences}
+use Rattle.jc_link.specs.inside.Gathering.{IsNet, stand_at, stands_in, supertypes_in}
 use Rattle.jc_link.specs.declared.closure.Closure.TheInside.{Inside}
 
 abbrev pub closure_shown : Inside → Closure

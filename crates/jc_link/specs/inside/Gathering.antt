@@ -9,9 +9,10 @@ use Rattle.jc_classes.specs.Lent.{stands_of}
 use Rattle.jc_classes.specs.Names.{Name, object}
 use Rattle.jc_classes.specs.Numbers.{name_at, IsOnce, Grows, AddsNumbers}
 use Rattle.jc_classes.specs.Parts.{Reach, class_of, names_in}
-use Rattle.jc_classes.specs.Worlds.{Stands, World, supers_of, references_of}
+use Rattle.jc_classes.specs.Worlds.{Stands, World, supertypes_of, references_of}
 use Rattle.jc_classes.specs.Worlds.Stands.{Nothing}
 use Rattle.jc_classes.specs.declared.standing.Standing.{Standing}
+use Rattle.jc_resolve.specs.Numbered.{IsClosed, NumberReferences}
 
 abbrev pub stand_at : List Stands → ℕ → Stands
 stand_at stands i = slice_index_or stands i Nothing
@@ -24,10 +25,6 @@ stands_in standing = map stands_of standing
 
 abbrev pub supertypes_in : List (Vec ℕ Global) → List (List ℕ)
 supertypes_in supertypes = map (λ (v : Vec ℕ Global). v.items) supertypes
-
--- the number of the class that each reference names
-abbrev pub NumberReferences : List Name → List (Option ℕ) → List Reference → Type 0
-NumberReferences names nodes references = map (option_map (name_at names)) nodes ≡ map (λ (r : Reference). class_of r.named) references
 
 -- the numbers of the classes that these references name were added
 pub record Nodes (old : List Name) (nodes : List (Option ℕ)) (new : List Name) (nodes2 : List (Option ℕ))
@@ -47,7 +44,7 @@ NumbersAt old new references place node =
 pub record IsReached (old : List Name) (stands : List Stands) (supertypes : List (List ℕ)) (next : Stands)
     (new : List Name) (stands2 : List Stands) (supertypes2 : List (List ℕ)) : Type 0 where
   pub direct : List ℕ
-  pub numbered : AddsNumbers old [] new direct (supers_of next)
+  pub numbered : AddsNumbers old [] new direct (supertypes_of next)
   pub stands_more : stands2 ≡ stands ++ next ∷ []
   pub supertypes_more : supertypes2 ≡ supertypes ++ direct ∷ []
 
@@ -55,9 +52,9 @@ pub record IsReached (old : List Name) (stands : List Stands) (supertypes : List
 pub record IsAsked (m : World) (names : List Name) (stands : List Stands) (supertypes : List (List ℕ)) : Type 0 where
   pub once : IsOnce names
   pub size : length supertypes ≡ length stands
-  pub records : (i : ℕ) → i < length stands → (i < length names) × (stand_at stands i ≡ m (name_at names i))
+  pub standing : (i : ℕ) → i < length stands → (i < length names) × (stand_at stands i ≡ m (name_at names i))
   pub within : (a b : ℕ) → Contains (supertypes_at supertypes a) b → b < length names
-  pub above : (i : ℕ) → i < length stands → map (name_at names) (supertypes_at supertypes i) ≡ supers_of (m (name_at names i))
+  pub above : (i : ℕ) → i < length stands → map (name_at names) (supertypes_at supertypes i) ≡ supertypes_of (m (name_at names i))
 
 -- so of names of the reach of a class
 pub record Gathering (m : World) (d : Name) (names : List Name) (stands : List Stands) (supertypes : List (List ℕ))
@@ -69,11 +66,7 @@ pub record Gathering (m : World) (d : Name) (names : List Name) (stands : List S
   pub references : NumberReferences names nodes (references_of (m d))
   pub references_in : (v : ℕ) → Contains nodes (Some v) → v < length names
 
--- what names, what stands at them and supertypes are to each other, whatever the world
+-- names with what stands at each and the numbers of its supertypes, and `java/lang/Object` among them
 pub record IsNet (names : List Name) (stands : List Stands) (supertypes : List (List ℕ)) (at_object : ℕ) : Type 0 where
-  pub once : IsOnce names
-  pub all_stand : length stands ≡ length names
-  pub all_supertypes : length supertypes ≡ length names
-  pub within : (a b : ℕ) → Contains (supertypes_at supertypes a) b → b < length names
-  pub above : (i : ℕ) → i < length names → map (name_at names) (supertypes_at supertypes i) ≡ supers_of (stand_at stands i)
+  pub closed : IsClosed (record { names = names; standing = stands; supertypes = supertypes })
   pub object : (at_object < length names) × (name_at names at_object ≡ object)

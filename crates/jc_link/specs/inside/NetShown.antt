@@ -7,9 +7,9 @@ use Rattle.jc_classes.specs.Facts.{Facts}
 use Rattle.jc_classes.specs.Names.{Name}
 use Rattle.jc_classes.specs.Numbers.{name_at}
 use Rattle.jc_classes.specs.Worlds.{Stands, references_of}
-use Rattle.jc_resolve.specs.Numbered.{Numbered}
+use Rattle.jc_resolve.specs.Numbered.{NumberReferences, Numbered}
 use Rattle.jc_link.specs.Nets.{Net}
-use Rattle.jc_link.specs.inside.Gathering.{IsNet, NumberReferences, supertypes_in, stand_at, stands_in}
+use Rattle.jc_link.specs.inside.Gathering.{IsNet, supertypes_in, stand_at, stands_in}
 use Rattle.jc_link.specs.declared.net.Net.TheInside.{Inside}
 
 abbrev pub net_shown : Inside → Net
@@ -43,4 +43,4 @@ pub record AreKept (old new : List Name) : Type 0 where
 -- the hierarchy is that of the net
 pub record IsHierarchyOf (n : Net) (h : Numbered) : Type 0 where
   pub supertypes : List (List ℕ)
-  pub is : h ≡ record { names = n.names; records = n.stands; supertypes = supertypes }
+  pub is : h ≡ record { names = n.names; standing = n.stands; supertypes = supertypes }

@@ -9,7 +9,7 @@ use Rattle.jc_classes.specs.NameLists.{has}
 use Rattle.jc_classes.specs.Names.{Name, object, same_name}
 use Rattle.jc_classes.specs.BuiltIn.{object_facts}
 use Rattle.jc_link.specs.Prefixes.{is_covered}
-use Rattle.jc_link.specs.Tables.{Places, class_at, or_built_in, record_at, world}
+use Rattle.jc_link.specs.Tables.{Places, class_at, or_built_in, class_found, world}
 use Rattle.jc_link.proofs.tables.Changes.{prefixes_differ}
 use Rattle.jc_link.specs.declared.meter.Meter.{Meter}
 use Rattle.jc_linkage.specs.Affected.{IsAffected, IsBounded, NoRepeat}
@@ -73,7 +73,7 @@ module _ (places : Places) (old new : List Name) (kept : KeptMap) (links : Links
       let other = not (same_bool (is_covered old n) (is_covered new n)) in
       ap (λ b. other && (not b && not (same_name n object))) (given_kept n)
       ∙ ap (λ b. other && b) (not_or (given_in places n) (same_name n object) ∙ ap not (sym (record_some (class_at places n) n)))
-      ∙ turn_and other (not (is_some (record_at places n)))
+      ∙ turn_and other (not (is_some (class_found places n)))
 
   differ : Differ (turns places old new) (world places old) (world places new)
   differ = prefixes_differ (turns places old new) places old new (λ n t none.

@@ -10,7 +10,7 @@ use Rattle.jc_report.specs.Reports as reports
 use Rattle.jc_report.specs.Rows.{Row, row_cmp}
 use Rattle.jc_linkage.specs.declared.kept.Kept.{Kept}
 
--- records with what is kept of them, in order
+-- classes with what is kept of them, in order
 abbrev pub with_parts : List Facts → List (Name × Kept) → List reports.Class
 with_parts [] kept = []
 with_parts (f ∷ fs) [] = []

@@ -6,8 +6,8 @@ use Rattle.std.proofs.lemmas.List.Elements.{Contains-append_right}
 use Rattle.jc_classes.specs.Facts.{Key, Member}
 use Rattle.jc_classes.specs.MethodLookup.{only_inheritable}
 use Rattle.jc_classes.specs.Names.{Name}
-use Rattle.jc_classes.specs.Worlds.{Stands, World, Above, member, methods_of, supers_of, Above as above}
-use Rattle.jc_numbered.specs.inside.Indexed.{Indexed, indexed_name, record_at, IsGraph, IsIndexed}
+use Rattle.jc_classes.specs.Worlds.{Stands, World, Above, member, methods_of, supertypes_of, Above as above}
+use Rattle.jc_numbered.specs.inside.Indexed.{Indexed, indexed_name, standing_of, IsGraph, IsIndexed}
 use Rattle.jc_numbered.specs.inside.Picks.{is_interface_at, offers}
 use Rattle.jc_graph.specs.Graph.{Above as AboveNode}
 use Rattle.jc_graph.specs.Graph.Above.{direct, further}
@@ -70,7 +70,7 @@ filter_twice p q h (w ∷ vs) = elim (q w) as (λ b. q w ≡ b → filter p (con
 
 -- only an interface offers a method
 pub offers_interfaces : (x : Indexed) (k : Key) (vs : List ℕ) → filter (offers x k) (filter (is_interface_at x) vs) ≡ filter (offers x k) vs
-offers_interfaces x k vs = filter_twice (offers x k) (is_interface_at x) (λ v e. is_one (is_interface_at x v) (only_inheritable (member (methods_of (record_at x v)) k)) e) vs
+offers_interfaces x k vs = filter_twice (offers x k) (is_interface_at x) (λ v e. is_one (is_interface_at x v) (only_inheritable (member (methods_of (standing_of x v)) k)) e) vs
   where
     is_one : (b : Bool) (o : Option Member) → is_some (cond b o None) ≡ true → b ≡ true
     is_one true o e = refl
@@ -84,13 +84,13 @@ module _ (m : World) (count : ℕ) (x : Indexed) (graph : IsGraph count x) (inde
   node_in {s} {v} (direct c) = graph.nodes s v c
   node_in {v = v} (further {mid} a c) = graph.nodes mid v c
 
-  supertypes_at : {s : ℕ} → s < count → supers_of (m (indexed_name x s)) ≡ map (indexed_name x) (x.supertypes s)
-  supertypes_at {s} l = ap supers_of (index.records s (named l)) ∙ sym (index.supertypes s (named l))
+  supertypes_at : {s : ℕ} → s < count → supertypes_of (m (indexed_name x s)) ≡ map (indexed_name x) (x.supertypes s)
+  supertypes_at {s} l = ap supertypes_of (index.standing s (named l)) ∙ sym (index.supertypes s (named l))
 
-  step_in : {s v : ℕ} → s < count → Contains (x.supertypes s) v → Contains (supers_of (m (indexed_name x s))) (indexed_name x v)
+  step_in : {s v : ℕ} → s < count → Contains (x.supertypes s) v → Contains (supertypes_of (m (indexed_name x s))) (indexed_name x v)
   step_in {s} {v} l c = subst (λ ns. Contains ns (indexed_name x v)) (sym (supertypes_at l)) (map_in (indexed_name x) (x.supertypes s) v c)
 
-  step_out : {s : ℕ} {n : Name} → s < count → Contains (supers_of (m (indexed_name x s))) n → (v : ℕ) × Contains (x.supertypes s) v × (indexed_name x v ≡ n)
+  step_out : {s : ℕ} {n : Name} → s < count → Contains (supertypes_of (m (indexed_name x s))) n → (v : ℕ) × Contains (x.supertypes s) v × (indexed_name x v ≡ n)
   step_out {s} {n} l c = map_out (indexed_name x) (x.supertypes s) n (subst (λ ns. Contains ns n) (supertypes_at l) c)
 
   pub above_named : {s v : ℕ} → s < count → AboveNode x.supertypes s v → Above m (indexed_name x s) (indexed_name x v)
@@ -101,11 +101,11 @@ module _ (m : World) (count : ℕ) (x : Indexed) (graph : IsGraph count x) (inde
   above_numbered l (above.direct c) = let p = step_out l c in (p.0, direct p.1, p.2)
   above_numbered {s} {n} l (above.further a c) =
       let q = above_numbered l a in
-      let p = step_out (node_in q.1) (subst (λ z. Contains (supers_of (m z)) n) (sym q.2) c) in
+      let p = step_out (node_in q.1) (subst (λ z. Contains (supertypes_of (m z)) n) (sym q.2) c) in
       (p.0, further q.1 p.1, p.2)
 
   pub same_node : {v w : ℕ} → v < count → w < count → indexed_name x v ≡ indexed_name x w → v ≡ w
   same_node {v} {w} k l e = index.once v w (named k) (named l) e
 
-  pub record_is : {A : Type 0} (f : Stands → A) (v : ℕ) (a : A) → v < count → f (record_at x v) ≡ a → f (m (indexed_name x v)) ≡ a
-  record_is f v a l e = ap f (index.records v (named l)) ∙ e
+  pub record_is : {A : Type 0} (f : Stands → A) (v : ℕ) (a : A) → v < count → f (standing_of x v) ≡ a → f (m (indexed_name x v)) ≡ a
+  record_is f v a l e = ap f (index.standing v (named l)) ∙ e

@@ -8,9 +8,9 @@ use Rattle.jc_classes.specs.Access.{IsWithin}
 use Rattle.std.specs.Bool.{Decides}
 use Rattle.std.specs.Prelude.{◌==◌}
 use Rattle.std.proofs.lemmas.Bool.Decides.{Decides-eqb}
-use Rattle.jc_classes.specs.Worlds.{World, Extends, super_of, interfaces_of, Extends as extends}
+use Rattle.jc_classes.specs.Worlds.{World, Extends, superclass_of, interfaces_of, Extends as extends}
 use Rattle.jc_graph.specs.Seen.{node_at}
-use Rattle.jc_numbered.specs.inside.Indexed.{Indexed, indexed_name, record_at, rank_at, good_at, super_at, IsGraph, IsIndexed}
+use Rattle.jc_numbered.specs.inside.Indexed.{Indexed, indexed_name, standing_of, rank_at, good_at, superclass_at, IsGraph, IsIndexed}
 use Rattle.jc_numbered.specs.inside.Chain.{ExtendsNode, ExtendsNode as node}
 
 no_some : {X A : Type 0} {x : X} → None ≡ Some x → A
@@ -40,43 +40,43 @@ none_named None v e = refl
 none_named (Some n) v e = no_some (sym e)
 
 module _ (count : ℕ) (x : Indexed) (graph : IsGraph count x) where
-  pub super_in : (v s : ℕ) → super_at x v ≡ Some s → Contains (x.supertypes v) s
-  super_in v s e = super_place (super_of (record_at x v)) (x.supertypes v) s (graph.begins v) e
+  pub super_in : (v s : ℕ) → superclass_at x v ≡ Some s → Contains (x.supertypes v) s
+  super_in v s e = super_place (superclass_of (standing_of x v)) (x.supertypes v) s (graph.begins v) e
 
-  pub super_node : (v s : ℕ) → super_at x v ≡ Some s → s < count
+  pub super_node : (v s : ℕ) → superclass_at x v ≡ Some s → s < count
   super_node v s e = graph.nodes v s (super_in v s e)
 
-  pub super_good : (v s : ℕ) → good_at x v ≡ true → super_at x v ≡ Some s → good_at x s ≡ true
+  pub super_good : (v s : ℕ) → good_at x v ≡ true → superclass_at x v ≡ Some s → good_at x s ≡ true
   super_good v s g e = graph.stays v s g (super_in v s e)
 
-  pub super_falls : (v s : ℕ) → good_at x v ≡ true → super_at x v ≡ Some s → rank_at x s < rank_at x v
+  pub super_falls : (v s : ℕ) → good_at x v ≡ true → superclass_at x v ≡ Some s → rank_at x s < rank_at x v
   super_falls v s g e = graph.falls v s g (super_in v s e)
 
   module _ (m : World) (index : IsIndexed m x) where
-    pub super_is : (v s : ℕ) → v < count → super_at x v ≡ Some s → super_of (m (indexed_name x v)) ≡ Some (indexed_name x s)
+    pub super_is : (v s : ℕ) → v < count → superclass_at x v ≡ Some s → superclass_of (m (indexed_name x v)) ≡ Some (indexed_name x s)
     super_is v s l e = let n : v < length x.names = let q = graph.names in omega arith in
-        ap super_of (index.records v n) ∙ super_named (indexed_name x) (super_of (record_at x v)) (interfaces_of (record_at x v)) (x.supertypes v) (index.supertypes v n) s e
+        ap superclass_of (index.standing v n) ∙ super_named (indexed_name x) (superclass_of (standing_of x v)) (interfaces_of (standing_of x v)) (x.supertypes v) (index.supertypes v n) s e
 
-    pub super_none : (v : ℕ) → v < count → super_at x v ≡ None → super_of (m (indexed_name x v)) ≡ None
+    pub super_none : (v : ℕ) → v < count → superclass_at x v ≡ None → superclass_of (m (indexed_name x v)) ≡ None
     super_none v l e = let n : v < length x.names = let q = graph.names in omega arith in
-        ap super_of (index.records v n) ∙ none_named (super_of (record_at x v)) _ e
+        ap superclass_of (index.standing v n) ∙ none_named (superclass_of (standing_of x v)) _ e
 
     pub extends_named : {v w : ℕ} → v < count → ExtendsNode x v w → Extends m (indexed_name x v) (indexed_name x w)
     extends_named l node.itself = extends.itself
     extends_named {v} l (node.through {s = s} e h) = extends.through (super_is v s l e) (extends_named (super_node v s e) h)
 
 -- what is on a chain is its first node or on the rest
-extends_cases : {x : Indexed} {v w : ℕ} → ExtendsNode x v w → (v ≡ w) ⊎ ((s : ℕ) × (super_at x v ≡ Some s) × ExtendsNode x s w)
+extends_cases : {x : Indexed} {v w : ℕ} → ExtendsNode x v w → (v ≡ w) ⊎ ((s : ℕ) × (superclass_at x v ≡ Some s) × ExtendsNode x s w)
 extends_cases node.itself = inl refl
 extends_cases (node.through {s = s} e h) = inr (s, e, h)
 
 some_same : {o : Option ℕ} {a b : ℕ} → o ≡ Some a → o ≡ Some b → a ≡ b
 some_same e f = cc
 
-pub extends_on : (x : Indexed) (v s w : ℕ) → (v ≡ w → ⊥) → super_at x v ≡ Some s → ExtendsNode x v w → ExtendsNode x s w
+pub extends_on : (x : Indexed) (v s w : ℕ) → (v ≡ w → ⊥) → superclass_at x v ≡ Some s → ExtendsNode x v w → ExtendsNode x s w
 extends_on x v s w n e h = ⊎_elim (λ q. absurd (n q)) (λ p. subst (λ z. ExtendsNode x z w) (some_same p.1 e) p.2) (extends_cases h)
 
-pub extends_not : (x : Indexed) (v w : ℕ) → (v ≡ w → ⊥) → super_at x v ≡ None → ExtendsNode x v w → ⊥
+pub extends_not : (x : Indexed) (v w : ℕ) → (v ≡ w → ⊥) → superclass_at x v ≡ None → ExtendsNode x v w → ⊥
 extends_not x v w n e h = ⊎_elim n (λ p. no_some (sym e ∙ p.1)) (extends_cases h)
 
 -- from names back to numbers
@@ -96,8 +96,8 @@ module _ (count : ℕ) (x : Indexed) (graph : IsGraph count x) (m : World) (inde
       subst (λ z. ExtendsNode x v z) (index.once v w a b (e ∙ sym f)) node.itself
   extends_numbered n c (extends.through {s = s} h r) v w l k e f =
       let a : v < length x.names = let q = graph.names in omega arith in
-      let o : super_of (record_at x v) ≡ Some s = ap super_of (sym (index.records v a)) ∙ ap (λ z. super_of (m z)) e ∙ h in
-      let p = super_numbered (indexed_name x) (super_of (record_at x v)) (interfaces_of (record_at x v)) (x.supertypes v) s (index.supertypes v a) o in
+      let o : superclass_of (standing_of x v) ≡ Some s = ap superclass_of (sym (index.standing v a)) ∙ ap (λ z. superclass_of (m z)) e ∙ h in
+      let p = super_numbered (indexed_name x) (superclass_of (standing_of x v)) (interfaces_of (standing_of x v)) (x.supertypes v) s (index.supertypes v a) o in
       node.through p.1 (extends_numbered s c r p.0 w (super_node count x graph v p.0 p.1) k p.2 f)
 
   pub decides_within : (object : ℕ) (v w : ℕ) (b : Bool) → v < count → w < count → object < count → indexed_name x object ≡ java_lang_object → (w ≡ object → ⊥) → Decides b (ExtendsNode x v w) → Decides b (IsWithin m (indexed_name x v) (indexed_name x w))

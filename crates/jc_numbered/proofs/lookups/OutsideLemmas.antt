@@ -5,8 +5,8 @@ use Rattle.std.specs.Bool.{Decides}
 use Rattle.std.specs.List.{Contains, filter}
 use Rattle.jc_classes.specs.Names.{Name, name_less}
 use Rattle.jc_classes.specs.Worlds.{World, Stands}
-use Rattle.jc_classes.specs.Resolution.{IsBeyond}
-use Rattle.jc_numbered.specs.inside.Indexed.{Indexed, indexed_name, record_at, IsGraph, IsIndexed}
+use Rattle.jc_classes.specs.Resolution.{IsOutsideAbove}
+use Rattle.jc_numbered.specs.inside.Indexed.{Indexed, indexed_name, standing_of, IsGraph, IsIndexed}
 use Rattle.jc_graph.specs.Graph.{Above as AboveNode}
 use Rattle.jc_graph.specs.Seen.{TellsAbove}
 use Rattle.jc_numbered.specs.inside.Picks.{TellsLowest}
@@ -22,12 +22,12 @@ is_out stands.Nothing o e = (λ q. absurd cc, λ q. absurd cc)
 module _ (m : World) (count : ℕ) (x : Indexed) (graph : IsGraph count x) (index : IsIndexed m x)
     (start : ℕ) (within : start < count) (flags : List Bool) (list : List ℕ) (tells : TellsAbove count x.supertypes (start ∷ []) flags list) where
   tells_outside : (v : ℕ) → v < count → Decides (lies_outside x v) (m (indexed_name x v) ≡ stands.Outside)
-  tells_outside v l = let e = graph.names in is_out (record_at x v) (m (indexed_name x v)) (index.records v (omega arith))
+  tells_outside v l = let e = graph.names in is_out (standing_of x v) (m (indexed_name x v)) (index.standing v (omega arith))
 
   abbrev nodes : List ℕ
   nodes = filter (lies_outside x) list
 
-  outside_out : (v : ℕ) → Contains nodes v → IsBeyond m (indexed_name x start) (indexed_name x v)
+  outside_out : (v : ℕ) → Contains nodes v → IsOutsideAbove m (indexed_name x start) (indexed_name x v)
   outside_out v c =
       let p = filter_out (lies_outside x) list v c in
       let a = (tells.tells v).0 (tells.seen.flagged v p.0) in
@@ -35,7 +35,7 @@ module _ (m : World) (count : ℕ) (x : Indexed) (graph : IsGraph count x) (inde
       let o = (tells_outside v (node_in m count x graph index b)).0 p.1 in
       record { above = above_named m count x graph index within b; outside = o }
 
-  outside_in : (j : Name) → IsBeyond m (indexed_name x start) j → (v : ℕ) × Contains nodes v × (indexed_name x v ≡ j)
+  outside_in : (j : Name) → IsOutsideAbove m (indexed_name x start) j → (v : ℕ) × Contains nodes v × (indexed_name x v ≡ j)
   outside_in j i =
       let p = above_numbered m count x graph index within i.above in
       let o = (tells_outside p.0 (node_in m count x graph index p.1)).1 (subst (λ n. m n ≡ stands.Outside) (sym p.2) i.outside) in

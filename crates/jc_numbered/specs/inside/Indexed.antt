@@ -5,8 +5,8 @@ use Rattle.std.specs.List.{Contains}
 use Rattle.std.specs.declared.vec.Vec.{Vec}
 use Rattle.std.specs.declared.alloc.Global.{Global}
 use Rattle.jc_classes.specs.Names.{Name, names_of}
-use Rattle.jc_classes.specs.Numbers.{name_at}
-use Rattle.jc_classes.specs.Worlds.{Stands, World, super_of, supers_of}
+use Rattle.jc_classes.specs.Numbers.{IsOnce, name_at}
+use Rattle.jc_classes.specs.Worlds.{Stands, World, superclass_of, supertypes_of}
 use Rattle.jc_classes.specs.Worlds.Stands.{Nothing}
 use Rattle.jc_classes.specs.Lent.{stands_of}
 use Rattle.jc_classes.specs.declared.standing.Standing.{Standing}
@@ -15,7 +15,7 @@ use Rattle.jc_graph.specs.Seen.{flag_at}
 
 pub record Indexed : Type 0 where
   pub names : List Name
-  pub records : List Stands
+  pub standing : List Stands
   pub supertypes : ℕ → List ℕ
   pub rank : List ℕ
   pub good : List Bool
@@ -24,7 +24,7 @@ pub record Indexed : Type 0 where
 abbrev pub filled : List (Vec ℕ Global) → List Standing → List (Vec ℕ Global) → List ℕ → List Bool → Indexed
 filled names standing supertypes rank good = record {
   names = names_of names;
-  records = map stands_of standing;
+  standing = map stands_of standing;
   supertypes = successors_of supertypes;
   rank = rank;
   good = good;
@@ -33,8 +33,8 @@ filled names standing supertypes rank good = record {
 abbrev pub indexed_name : Indexed → ℕ → Name
 indexed_name x i = name_at x.names i
 
-abbrev pub record_at : Indexed → ℕ → Stands
-record_at x i = slice_index_or x.records i Nothing
+abbrev pub standing_of : Indexed → ℕ → Stands
+standing_of x i = slice_index_or x.standing i Nothing
 
 abbrev pub rank_at : Indexed → ℕ → ℕ
 rank_at x i = slice_index_or x.rank i 0
@@ -43,29 +43,29 @@ abbrev pub good_at : Indexed → ℕ → Bool
 good_at x i = flag_at x.good i
 
 -- how many supertypes of a node stand before its interfaces
-abbrev pub supers_before : Stands → ℕ
-supers_before r = cond (is_some (super_of r)) 1 0
+abbrev pub superclass_count : Stands → ℕ
+superclass_count r = cond (is_some (superclass_of r)) 1 0
 
 -- the superclass of a node, which stands first
-abbrev pub super_at : Indexed → ℕ → Option ℕ
-super_at x v = cond (is_some (super_of (record_at x v))) (Some (slice_index_or (x.supertypes v) 0 0)) None
+abbrev pub superclass_at : Indexed → ℕ → Option ℕ
+superclass_at x v = cond (is_some (superclass_of (standing_of x v))) (Some (slice_index_or (x.supertypes v) 0 0)) None
 
 -- supertypes are nodes; what is above a node that loads or is outside is so too, and has a lower rank
 pub record IsGraph (count : ℕ) (x : Indexed) : Type 0 where
   pub names : length x.names ≡ count
-  pub records : length x.records ≡ count
+  pub standing : length x.standing ≡ count
   pub good : length x.good ≡ count
   pub nodes : (a b : ℕ) → Contains (x.supertypes a) b → b < count
-  pub begins : (a : ℕ) → supers_before (record_at x a) ≤ length (x.supertypes a)
+  pub begins : (a : ℕ) → superclass_count (standing_of x a) ≤ length (x.supertypes a)
   pub falls : (a b : ℕ) → good_at x a ≡ true → Contains (x.supertypes a) b → rank_at x b < rank_at x a
   pub stays : (a b : ℕ) → good_at x a ≡ true → Contains (x.supertypes a) b → good_at x b ≡ true
 
--- the records and the supertypes are those of the classes, by name
+-- what stands at each and the supertypes are those of the classes, by name
 pub record IsIndexed (m : World) (x : Indexed) : Type 0 where
-  pub once : (i j : ℕ) → i < length x.names → j < length x.names → indexed_name x i ≡ indexed_name x j → i ≡ j
-  pub records : (i : ℕ) → i < length x.names → m (indexed_name x i) ≡ record_at x i
-  pub supertypes : (i : ℕ) → i < length x.names → map (indexed_name x) (x.supertypes i) ≡ supers_of (record_at x i)
+  pub once : IsOnce x.names
+  pub standing : (i : ℕ) → i < length x.names → m (indexed_name x i) ≡ standing_of x i
+  pub supertypes : (i : ℕ) → i < length x.names → map (indexed_name x) (x.supertypes i) ≡ supertypes_of (standing_of x i)
 
 -- where look-up of a field goes on: the interfaces, then the superclass
 abbrev pub onward_nodes : Indexed → ℕ → List ℕ
-onward_nodes x i = drop (supers_before (record_at x i)) (x.supertypes i) ++ take (supers_before (record_at x i)) (x.supertypes i)
+onward_nodes x i = drop (superclass_count (standing_of x i)) (x.supertypes i) ++ take (superclass_count (standing_of x i)) (x.supertypes i)

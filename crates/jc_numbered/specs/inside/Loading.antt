@@ -5,7 +5,7 @@ use Rattle.jc_classes.specs.Loading.{can_see, same_bool}
 use Rattle.jc_classes.specs.declared.linkage_error.LinkageError.TheVariants as fault
 use Rattle.jc_numbered.specs.declared.loads.Load.{Load}
 use Rattle.jc_numbered.specs.declared.loads.Load.TheVariants.{Loaded, Outside, Fails}
-use Rattle.jc_numbered.specs.inside.Indexed.{Indexed, indexed_name, record_at}
+use Rattle.jc_numbered.specs.inside.Indexed.{Indexed, indexed_name, standing_of}
 
 -- the answer that is held for a node
 abbrev pub load_at : List Load → ℕ → Load
@@ -13,11 +13,11 @@ load_at loads v = slice_index_or loads v (Fails fault.NoClass 0)
 
 -- a node may use another
 abbrev pub sees : Indexed → ℕ → ℕ → Bool
-sees x v s = can_see (indexed_name x v) (indexed_name x s) (record_at x s)
+sees x v s = can_see (indexed_name x v) (indexed_name x s) (standing_of x s)
 
 -- a node is an interface just where a class is wanted, or a class where an interface is
 abbrev pub is_wrong_kind : Indexed → Bool → ℕ → Bool
-is_wrong_kind x is_class s = same_bool (is_interface (record_at x s)) is_class
+is_wrong_kind x is_class s = same_bool (is_interface (standing_of x s)) is_class
 
 -- the error that a supertype makes, by how it loads, whether the node may use it and whether it is of the wrong kind
 abbrev pub error_of : Load → Bool → Bool → ℕ → Option Load

@@ -2,8 +2,8 @@
 use Rattle.std.specs.Prelude.{ℕ, Option}
 use Rattle.jc_classes.specs.Facts.{Member, Key}
 use Rattle.jc_classes.specs.MethodLookup.{declared}
-use Rattle.jc_numbered.specs.inside.Indexed.{Indexed, indexed_name, record_at}
+use Rattle.jc_numbered.specs.inside.Indexed.{Indexed, indexed_name, standing_of}
 
 -- the method that a node itself answers
 abbrev pub declared_at : Indexed → ℕ → Key → Option Member
-declared_at x v k = declared (indexed_name x v) (record_at x v) k
+declared_at x v k = declared (indexed_name x v) (standing_of x v) k

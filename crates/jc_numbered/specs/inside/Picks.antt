@@ -7,13 +7,13 @@ use Rattle.jc_classes.specs.Facts.{Member, Key}
 use Rattle.jc_classes.specs.MethodLookup.{given_by}
 use Rattle.jc_classes.specs.Worlds.{is_interface}
 use Rattle.jc_graph.specs.Seen.{flag_at, node_at}
-use Rattle.jc_numbered.specs.inside.Indexed.{Indexed, indexed_name, record_at}
+use Rattle.jc_numbered.specs.inside.Indexed.{Indexed, indexed_name, standing_of}
 
 abbrev pub gives : Indexed → Key → ℕ → Option Member
-gives x k v = given_by (record_at x v) k
+gives x k v = given_by (standing_of x v) k
 
 abbrev pub is_interface_at : Indexed → ℕ → Bool
-is_interface_at x v = is_interface (record_at x v)
+is_interface_at x v = is_interface (standing_of x v)
 
 abbrev pub offers : Indexed → Key → ℕ → Bool
 offers x k v = is_some (gives x k v)

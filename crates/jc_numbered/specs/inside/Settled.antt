@@ -7,9 +7,9 @@ use Rattle.jc_classes.specs.Worlds.{World, Stands, text_of}
 use Rattle.jc_classes.specs.Facts.{Named}
 use Rattle.jc_classes.specs.declared.linkage_error.LinkageError.{LinkageError}
 use Rattle.jc_classes.specs.declared.linkage_error.LinkageError.TheVariants.{IllegalAccess}
-use Rattle.jc_classes.specs.Resolution.{Answer, IsBeyond}
+use Rattle.jc_classes.specs.Resolution.{Answer, IsOutsideAbove}
 use Rattle.jc_classes.specs.Lent.{member_lent}
-use Rattle.jc_numbered.specs.inside.Indexed.{Indexed, indexed_name, record_at, IsIndexed}
+use Rattle.jc_numbered.specs.inside.Indexed.{Indexed, indexed_name, standing_of, IsIndexed}
 use Rattle.jc_numbered.specs.declared.settled.Settled.{Settled}
 use Rattle.jc_numbered.specs.declared.settled.Settled.TheVariants as settled
 
@@ -20,12 +20,12 @@ is_outside stands.Nothing = false
 
 -- whether a node is outside
 abbrev pub lies_outside : Indexed → ℕ → Bool
-lies_outside x v = is_outside (record_at x v)
+lies_outside x v = is_outside (standing_of x v)
 
 -- the least outside name above a class
 abbrev pub TellsOutside : World → Indexed → Name → Option ℕ → Type 0
-TellsOutside m x c None = (j : Name) → IsBeyond m c j → ⊥
-TellsOutside m x c (Some v) = IsBeyond m c (indexed_name x v) × ((j : Name) → IsBeyond m c j → name_less j (indexed_name x v) ≡ false)
+TellsOutside m x c None = (j : Name) → IsOutsideAbove m c j → ⊥
+TellsOutside m x c (Some v) = IsOutsideAbove m c (indexed_name x v) × ((j : Name) → IsOutsideAbove m c j → name_less j (indexed_name x v) ≡ false)
 
 -- so of a node, in every world that has what stands at the names of x
 abbrev pub TellsOutsideAbove : Indexed → ℕ → Option ℕ → Type 0

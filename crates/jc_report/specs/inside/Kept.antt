@@ -6,11 +6,11 @@ use Rattle.jc_view.specs.ClassFile.{ClassFile}
 use Rattle.jc_classes.specs.Facts.{Facts}
 use Rattle.jc_classes.specs.FactsOf.{facts_of}
 use Rattle.jc_classes.specs.Names.{Name, name_less}
-use Rattle.jc_link.specs.Tables.{Places, class_at, record_at}
+use Rattle.jc_link.specs.Tables.{Places, class_at, class_found}
 
 -- the path of the file that the class of a name is taken from
 abbrev pub path_kept : Places → Name → Option (List ℕ)
-path_kept places name = option_map (λ facts. facts.path) (record_at places name)
+path_kept places name = option_map (λ facts. facts.path) (class_found places name)
 
 -- a class that was taken out for one from the path is put back where its own path is less
 abbrev pub put_back : Option Facts → List ℕ → Places → Places

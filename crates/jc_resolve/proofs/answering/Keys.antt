@@ -1,8 +1,9 @@
 -- What look-up finds has the key that was asked for.
 use Rattle.std.proofs.Common.{◌≡◌, ◌==◌, Bool, true, false, ◌&&◌, ◌||◌, not, cond, List, [], ◌∷◌, Option, Some, None, IfSome, ◌⊎◌, inl, inr, refl, sym, ap, subst, ◌∙◌}
+use Rattle.std.specs.Option.{option_or}
 use Rattle.jc_classes.specs.Facts.{Key, Member}
 use Rattle.jc_classes.specs.Lent.{member_lent}
-use Rattle.jc_classes.specs.MethodLookup.{count_named, declared, first_named, given_by, if_polymorphic, is_polymorphic, of_object, only_inheritable, only_open, or_else, polymorphic, sole_named}
+use Rattle.jc_classes.specs.MethodLookup.{count_named, declared, first_named, given_by, if_polymorphic, is_polymorphic, of_object, only_inheritable, only_open, polymorphic, sole_named}
 use Rattle.jc_classes.specs.Names.{Name, method_handle, polymorphic_descriptor, same_name}
 use Rattle.jc_classes.specs.Worlds.{Stands, is_at, is_interface, member, methods_of}
 use Rattle.jc_rules.specs.AccessFlags.{has, native, private, public, static, varargs}
@@ -67,7 +68,7 @@ polymorphic_keyed c xs k x e =
 pub declared_keyed : (c : Name) (r : Stands) (k : Key) (x : Member) → declared c r k ≡ Some x → IsKeyed k x
 declared_keyed c r k x e = by (polymorphic c (methods_of r) k.name) refl e
   where
-    by : (o : Option Member) → polymorphic c (methods_of r) k.name ≡ o → or_else o (member (methods_of r) k) ≡ Some x → IsKeyed k x
+    by : (o : Option Member) → polymorphic c (methods_of r) k.name ≡ o → option_or o (member (methods_of r) k) ≡ Some x → IsKeyed k x
     by None t f = member_keyed (methods_of r) k x f
     by (Some y) t f = polymorphic_keyed c (methods_of r) k x (t ∙ f)
 

@@ -10,7 +10,7 @@ use Rattle.jc_classes.specs.Resolution.Answer.{ToClass}
 use Rattle.jc_numbered.specs.declared.loads.Load.{Load}
 use Rattle.jc_resolve.specs.declared.resolve.NamedNode.{NamedNode}
 use Rattle.jc_resolve.specs.declared.resolve.NamedNode.TheVariants as by
-use Rattle.jc_numbered.specs.inside.Indexed.{Indexed, indexed_name, record_at, IsGraph, IsIndexed}
+use Rattle.jc_numbered.specs.inside.Indexed.{Indexed, indexed_name, standing_of, IsGraph, IsIndexed}
 use Rattle.jc_numbered.specs.inside.Loading.{load_at, sees}
 use Rattle.jc_resolve.specs.inside.Resolved.{loading_of, named_of, TellsLoads}
 use Rattle.jc_numbered.proofs.lookups.Bridge.{named}
@@ -18,13 +18,13 @@ use Rattle.jc_resolve.proofs.loading.Loadings.{sees_same}
 
 module _ (m : World) (count : ℕ) (x : Indexed) (graph : IsGraph count x) (index : IsIndexed m x) (loads : List Load) (told : TellsLoads m x count loads) where
   pub class_made : (d node : ℕ) (text : Name) (r : NamedNode) (a : Answer) → d < count → node < count → r ≡ by.Class node → text_of (named_of x r text) ≡ text
-      → a ≡ class_answer text (indexed_name x node) (loading_of x (load_at loads node)) (sees x d node) (flags_of (record_at x node)) → ResolvesClass m (indexed_name x d) (named_of x r text) a
+      → a ≡ class_answer text (indexed_name x node) (loading_of x (load_at loads node)) (sees x d node) (flags_of (standing_of x node)) → ResolvesClass m (indexed_name x d) (named_of x r text) a
   class_made d node text r a k l is same e =
       let n = indexed_name x node in
       let load = loading_of x (load_at loads node) in
       let t : n ≡ text = subst (λ z. text_of (named_of x z text) ≡ text) is same in
       subst (λ z. ResolvesClass m (indexed_name x d) (named_of x z text) a) (sym is)
-      (rclass.class (told node l) (e ∙ ap (λ z. class_answer z n load (sees x d node) (flags_of (record_at x node))) (sym t) ∙ ap (λ b. class_answer n n load b (flags_of (record_at x node))) (sees_same m count x graph index d node l) ∙ ap (λ r. class_answer n n load (can_see (indexed_name x d) n (m n)) (flags_of r)) (sym (index.records node (named m count x graph index l)))))
+      (rclass.class (told node l) (e ∙ ap (λ z. class_answer z n load (sees x d node) (flags_of (standing_of x node))) (sym t) ∙ ap (λ b. class_answer n n load b (flags_of (standing_of x node))) (sees_same m count x graph index d node l) ∙ ap (λ r. class_answer n n load (can_see (indexed_name x d) n (m n)) (flags_of r)) (sym (index.standing node (named m count x graph index l)))))
 
   pub array_made : (d node : ℕ) (text : Name) (r : NamedNode) (o : Option ℕ) (a : Answer) → d < count → node < count → r ≡ by.Array o → o ≡ Some node
       → a ≡ class_answer text (indexed_name x node) (loading_of x (load_at loads node)) (sees x d node) 0 → ResolvesClass m (indexed_name x d) (named_of x r text) a

@@ -4,15 +4,15 @@ use Rattle.std.proofs.lemmas.List.{get_or_default}
 use Rattle.std.specs.List.{Contains}
 use Rattle.jc_classes.specs.Names.{Name}
 use Rattle.jc_classes.specs.Facts.{Facts}
-use Rattle.jc_classes.specs.Worlds.{World, Above, supers_of}
+use Rattle.jc_classes.specs.Worlds.{World, Above, supertypes_of}
 use Rattle.jc_classes.specs.Worlds.{Stands as stands}
-use Rattle.jc_classes.specs.Loading.{Parent, parents, Loading, LoadEach, judged_parent, can_see, same_bool}
+use Rattle.jc_classes.specs.Loading.{Supertype, direct_supertypes, Loading, LoadEach, judged_supertype, can_see, same_bool}
 use Rattle.jc_classes.specs.Loading as defs
 use Rattle.jc_classes.specs.Worlds.{is_interface}
 use Rattle.jc_classes.specs.Loading.{Load as load, LoadEach as each, Loading as loading}
 use Rattle.jc_classes.specs.declared.linkage_error.LinkageError.{LinkageError}
 use Rattle.jc_classes.proofs.worlds.One.{load_one}
-use Rattle.jc_classes.proofs.worlds.Local.{parents_are}
+use Rattle.jc_classes.proofs.worlds.Local.{direct_supertypes_are}
 use Rattle.jc_graph.specs.Graph as graphs
 use Rattle.jc_graph.specs.Graph.{TellsCircular, IsOrder}
 use Rattle.jc_numbered.specs.declared.loads.Load.{Load}
@@ -28,14 +28,14 @@ pub record Loadable (m : World) (n : Name) : Type 0 where
   pub not_above : Above m n n → ⊥
   pub class : Facts
   pub record_is : m n ≡ stands.Class class
-  pub each : LoadEach m n (parents class) loading.Loaded
+  pub each : LoadEach m n (direct_supertypes class) loading.Loaded
 
 loaded_inv : {m : World} {n : Name} {a : Loading} → defs.Load m n a → a ≡ loading.Loaded → Loadable m n
 loaded_inv (load.missing e) q = absurd cc
 loaded_inv (load.outside e) q = absurd cc
 loaded_inv (load.faulty e o) q = absurd cc
 loaded_inv (load.round e o a) q = absurd cc
-loaded_inv {m} {n} (load.through {r = r} e o not l) q = record { not_above = not; class = r; record_is = e; each = subst (LoadEach m n (parents r)) q l }
+loaded_inv {m} {n} (load.through {r = r} e o not l) q = record { not_above = not; class = r; record_is = e; each = subst (LoadEach m n (direct_supertypes r)) q l }
 
 outside_inv : {m : World} {n : Name} {a : Loading} → defs.Load m n a → a ≡ loading.Outside → (m n ≡ stands.Outside) ⊎ Loadable m n
 outside_inv (load.missing e) q = absurd cc
@@ -44,7 +44,7 @@ outside_inv (load.faulty e o) q = absurd cc
 outside_inv (load.round e o a) q = absurd cc
 outside_inv (load.through {r = r} e o not l) q = absurd (never l q)
   where
-    no_out : (m : World) (n : Name) (p : Parent) (a : Loading) → judged_parent m n p a ≡ Some loading.Outside → ⊥
+    no_out : (m : World) (n : Name) (p : Supertype) (a : Loading) → judged_supertype m n p a ≡ Some loading.Outside → ⊥
     no_out m n p loading.Loaded e = by (can_see n p.name (m p.name)) (same_bool (is_interface (m p.name)) p.is_class) e
       where
         by : (s t : Bool) → cond s (cond t (Some (loading.Fails LinkageError.Incompatible p.name)) None) (Some (loading.Fails LinkageError.IllegalAccess p.name)) ≡ Some loading.Outside → ⊥
@@ -54,17 +54,17 @@ outside_inv (load.through {r = r} e o not l) q = absurd (never l q)
     no_out m n p loading.Outside e = cc
     no_out m n p (loading.Fails f x) e = cc
 
-    never : {m : World} {n : Name} {ps : List Parent} {a : Loading} → LoadEach m n ps a → a ≡ loading.Outside → ⊥
+    never : {m : World} {n : Name} {ps : List Supertype} {a : Loading} → LoadEach m n ps a → a ≡ loading.Outside → ⊥
     never each.none q = cc
     never {m} {n} (each.stops {p = p} {a = a} {b = b} l e) q = no_out m n p a (e ∙ ap Some q)
     never (each.passes l e rest) q = never rest q
 
-good_of : (m : World) (n : Name) (p : Parent) (a : Loading) → judged_parent m n p a ≡ None → (a ≡ loading.Loaded) ⊎ (a ≡ loading.Outside)
+good_of : (m : World) (n : Name) (p : Supertype) (a : Loading) → judged_supertype m n p a ≡ None → (a ≡ loading.Loaded) ⊎ (a ≡ loading.Outside)
 good_of m n p loading.Loaded e = inl refl
 good_of m n p loading.Outside e = inr refl
 good_of m n p (loading.Fails f x) e = absurd cc
 
-not_loaded : (m : World) (n : Name) (p : Parent) (a : Loading) → judged_parent m n p a ≡ Some loading.Loaded → ⊥
+not_loaded : (m : World) (n : Name) (p : Supertype) (a : Loading) → judged_supertype m n p a ≡ Some loading.Loaded → ⊥
 not_loaded m n p loading.Loaded e = by (can_see n p.name (m p.name)) (same_bool (is_interface (m p.name)) p.is_class) e
   where
     by : (s t : Bool) → cond s (cond t (Some (loading.Fails LinkageError.Incompatible p.name)) None) (Some (loading.Fails LinkageError.IllegalAccess p.name)) ≡ Some loading.Loaded → ⊥
@@ -74,11 +74,11 @@ not_loaded m n p loading.Loaded e = by (can_see n p.name (m p.name)) (same_bool 
 not_loaded m n p loading.Outside e = cc
 not_loaded m n p (loading.Fails f x) e = cc
 
-abbrev names_of : List Parent → List Name
-names_of ps = map (λ (p : Parent). p.name) ps
+abbrev names_of : List Supertype → List Name
+names_of ps = map (λ (p : Supertype). p.name) ps
 
 -- each supertype of a class that loads
-each_good : {m : World} {n : Name} {ps : List Parent} {a : Loading} → LoadEach m n ps a → a ≡ loading.Loaded → (s : Name) → (k : ℕ) → k < length (names_of ps) → slice_index_or (names_of ps) k [] ≡ s → (b : Loading) × defs.Load m s b × ((b ≡ loading.Loaded) ⊎ (b ≡ loading.Outside))
+each_good : {m : World} {n : Name} {ps : List Supertype} {a : Loading} → LoadEach m n ps a → a ≡ loading.Loaded → (s : Name) → (k : ℕ) → k < length (names_of ps) → slice_index_or (names_of ps) k [] ≡ s → (b : Loading) × defs.Load m s b × ((b ≡ loading.Loaded) ⊎ (b ≡ loading.Outside))
 each_good each.none q s k l i = absurd (omega arith)
 each_good {m} {n} (each.stops {p = p} {a = a} h e) q s k l i = absurd (not_loaded m n p a (e ∙ ap Some q))
 each_good {m} {n} (each.passes {p = p} {a = a} h e rest) q s zero l i = (a, subst (λ z. defs.Load m z a) i h, good_of m n p a e)
@@ -104,7 +104,7 @@ module _ (m : World) (count : ℕ) (x : Indexed) (graph : IsGraph count x) (inde
   no_step : (a b : ℕ) → a < count → Contains (x.supertypes a) b → m (indexed_name x a) ≡ stands.Outside → ⊥
   no_step a b l c e =
       let q = map_in (indexed_name x) (x.supertypes a) b c in
-      let r : map (indexed_name x) (x.supertypes a) ≡ [] = index.supertypes a (named l) ∙ ap supers_of (sym (index.records a (named l)) ∙ e) in
+      let r : map (indexed_name x) (x.supertypes a) ≡ [] = index.supertypes a (named l) ∙ ap supertypes_of (sym (index.standing a (named l)) ∙ e) in
       let s = subst (λ z. Contains z (indexed_name x b)) r q in
       omega (arith, s.1)
 
@@ -141,8 +141,8 @@ module _ (m : World) (count : ℕ) (x : Indexed) (graph : IsGraph count x) (inde
       let y = loadable a b l g c in
       let lb = graph.nodes a b c in
       let q = map_in (indexed_name x) (x.supertypes a) b c in
-      let r : map (indexed_name x) (x.supertypes a) ≡ names_of (parents y.class) = index.supertypes a (named l) ∙ ap supers_of (sym (index.records a (named l)) ∙ y.record_is) ∙ sym (parents_are y.class) in
+      let r : map (indexed_name x) (x.supertypes a) ≡ names_of (direct_supertypes y.class) = index.supertypes a (named l) ∙ ap supertypes_of (sym (index.standing a (named l)) ∙ y.record_is) ∙ sym (direct_supertypes_are y.class) in
       let s = subst (λ z. Contains z (indexed_name x b)) r q in
-      let e = each_good y.each refl (indexed_name x b) s.0 s.1 (get_or_default (names_of (parents y.class)) s.0 [] (indexed_name x b) s.1 ∙ s.2) in
+      let e = each_good y.each refl (indexed_name x b) s.0 s.1 (get_or_default (names_of (direct_supertypes y.class)) s.0 [] (indexed_name x b) s.1 ∙ s.2) in
       let same : e.0 ≡ loading_of x (load_at loads b) = load_one e.1 (told b lb) in
       load_good x (load_at loads b) (⊎_elim (λ i. inl (sym same ∙ i)) (λ i. inr (sym same ∙ i)) e.2)

@@ -19,14 +19,14 @@ supertypes_within (r ∷ supertypes) (suc a) b c = let l = supertypes_within sup
 module _ (n : List (Vec ℕ Global)) (s : List Standing) (u : List (Vec ℕ Global)) where
   pub net_closed : IsClosed (numbered n s u) → IsGathered (length s) (filled n s u [] [])
   net_closed h =
-      let records = length-map s stands_of in
+      let standing = length-map s stands_of in
       record {
-        names = sym h.records ∙ records;
-        records = records;
+        names = sym h.standing ∙ standing;
+        standing = standing;
         once = h.once;
-        nodes = λ a b c. let l = supertypes_within (map (λ (v : Vec ℕ Global). v.items) u) a b c in let k = h.within a b c in (omega (arith, l, h.size, h.records, records), omega (arith, k, h.records, records));
+        nodes = λ a b c. let l = supertypes_within (map (λ (v : Vec ℕ Global). v.items) u) a b c in let k = h.within a b c in (omega (arith, l, h.size, h.standing, standing), omega (arith, k, h.standing, standing));
         supertypes = h.supertypes;
       }
 
   pub index_held : (m : World) (rank : List ℕ) (good : List Bool) → IsGathered (length s) (filled n s u rank good) → Agrees m (numbered n s u) → IsIndexed m (filled n s u rank good)
-  index_held m rank good net agrees = record { once = net.once; records = agrees; supertypes = net.supertypes }
+  index_held m rank good net agrees = record { once = net.once; standing = agrees; supertypes = net.supertypes }

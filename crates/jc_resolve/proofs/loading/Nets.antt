@@ -5,7 +5,7 @@ use Rattle.std.proofs.lemmas.List.{length-map, get_or_past}
 use Rattle.std.specs.List.{Contains}
 use Rattle.std.specs.Option.{option_to_list}
 use Rattle.jc_classes.specs.Names.{Name, same_name}
-use Rattle.jc_classes.specs.Worlds.{World, Stands, super_of, interfaces_of}
+use Rattle.jc_classes.specs.Worlds.{World, Stands, superclass_of, interfaces_of}
 use Rattle.jc_classes.specs.Facts.{Reference}
 use Rattle.jc_classes.specs.Worlds.Stands.{Nothing}
 use Rattle.jc_classes.specs.Loading.{Loading}
@@ -19,7 +19,7 @@ use Rattle.jc_classes.proofs.worlds.NameTests.{same_is, same_self}
 use Rattle.jc_numbered.specs.declared.loads.Load.{Load}
 use Rattle.jc_graph.specs.Graph.{TellsCircular, IsOrder}
 use Rattle.jc_graph.specs.Seen.{flag_at}
-use Rattle.jc_numbered.specs.inside.Indexed.{Indexed, indexed_name, record_at, rank_at, good_at, supers_before, IsGraph, IsIndexed, filled}
+use Rattle.jc_numbered.specs.inside.Indexed.{Indexed, indexed_name, standing_of, rank_at, good_at, superclass_count, IsGraph, IsIndexed, filled}
 use Rattle.jc_numbered.specs.inside.Loading.{load_at}
 use Rattle.jc_resolve.specs.inside.Loading.{is_good, TellsRank}
 use Rattle.jc_resolve.specs.inside.Gathered.{IsGathered}
@@ -52,13 +52,13 @@ look_at (k ∷ ks) (r ∷ rs) once e (suc i) l =
     by false s h = h
 
 pub map_of : Indexed → World
-map_of x = look x.names x.records
+map_of x = look x.names x.standing
 
 pub indexed_map : (count : ℕ) (x : Indexed) → IsGathered count x → IsIndexed (map_of x) x
 unfolding map_of
 indexed_map count x net = record {
   once = net.once;
-  records = λ i l. look_at x.names x.records net.once (net.records ∙ sym net.names) i l;
+  standing = λ i l. look_at x.names x.standing net.once (net.standing ∙ sym net.names) i l;
   supertypes = net.supertypes;
 }
 
@@ -68,21 +68,21 @@ first_few : (o : Option Name) (is : List Name) → cond (is_some o) 1 0 ≤ leng
 first_few None is = omega arith
 first_few (Some n) is = omega arith
 
-begins_at : (count : ℕ) (x : Indexed) → IsGathered count x → (a : ℕ) → (o : Stands) → record_at x a ≡ o → supers_before (record_at x a) ≤ length (x.supertypes a)
+begins_at : (count : ℕ) (x : Indexed) → IsGathered count x → (a : ℕ) → (o : Stands) → standing_of x a ≡ o → superclass_count (standing_of x a) ≤ length (x.supertypes a)
 begins_at count x net a o e = by (under a (length x.names))
   where
     under : (i n : ℕ) → (i < n) ⊎ (n ≤ i)
     under i n = grind arith
 
-    by : (a < length x.names) ⊎ (length x.names ≤ a) → supers_before (record_at x a) ≤ length (x.supertypes a)
+    by : (a < length x.names) ⊎ (length x.names ≤ a) → superclass_count (standing_of x a) ≤ length (x.supertypes a)
     by (inl l) =
         let e = ap length (net.supertypes a l) in
         let s = length-map (x.supertypes a) (indexed_name x) in
-        let f = first_few (super_of (record_at x a)) (interfaces_of (record_at x a)) in
+        let f = first_few (superclass_of (standing_of x a)) (interfaces_of (standing_of x a)) in
         omega arith
     by (inr l) =
-        let p : record_at x a ≡ Nothing = get_or_past x.records a Nothing (omega (arith, net.names, net.records)) in
-        let q = ap (λ r. supers_before r) p in
+        let p : standing_of x a ≡ Nothing = get_or_past x.standing a Nothing (omega (arith, net.names, net.standing)) in
+        let q = ap (λ r. superclass_count r) p in
         omega arith
 
 pub graph_of : (count : ℕ) (x : Indexed) → IsGathered count x → length x.good ≡ count
@@ -90,10 +90,10 @@ pub graph_of : (count : ℕ) (x : Indexed) → IsGathered count x → length x.g
     → ((a b : ℕ) → a < count → good_at x a ≡ true → Contains (x.supertypes a) b → good_at x b ≡ true) → IsGraph count x
 graph_of count x net size falling staying = record {
   names = net.names;
-  records = net.records;
+  standing = net.standing;
   good = size;
   nodes = λ a b c. (net.nodes a b c).1;
-  begins = λ a. begins_at count x net a (record_at x a) refl;
+  begins = λ a. begins_at count x net a (standing_of x a) refl;
   falls = λ a b g c. falling a b (net.nodes a b c).0 g c;
   stays = λ a b g c. staying a b (net.nodes a b c).0 g c;
 }
@@ -133,10 +133,10 @@ answers_push m d l (s ∷ rs) (b ∷ more) r a h k = (h.0, answers_push m d l rs
 
 module _ (n : List (Vec ℕ Global)) (s : List Standing) (u : List (Vec ℕ Global)) (r r2 : List ℕ) (g g2 : List Bool) where
   pub net_again : {count : ℕ} → IsGathered count (filled n s u r g) → IsGathered count (filled n s u r2 g2)
-  net_again net = record { names = net.names; records = net.records; once = net.once; nodes = net.nodes; supertypes = net.supertypes }
+  net_again net = record { names = net.names; standing = net.standing; once = net.once; nodes = net.nodes; supertypes = net.supertypes }
 
   pub index_again : {m : World} → IsIndexed m (filled n s u r g) → IsIndexed m (filled n s u r2 g2)
-  index_again index = record { once = index.once; records = index.records; supertypes = index.supertypes }
+  index_again index = record { once = index.once; standing = index.standing; supertypes = index.supertypes }
 
 pub good_from : (loads : List Load) (v : ℕ) → load_at loads v ≡ code.Loaded → flag_at (map is_good loads) v ≡ true
 good_from [] v e = absurd cc

@@ -52,7 +52,7 @@ module _ (m : World) (count : ℕ) (x : Indexed) (graph : IsGraph count x) (inde
   above_listed v a = tells.seen.all.listed v ((tells.tells v).1 (start, (zero, omega arith, refl), a))
 
   given_named : (v : ℕ) → v < count → given_by (m (indexed_name x v)) k ≡ gives x k v
-  given_named v l = ap (λ r. given_by r k) (index.records v (named m count x graph index l))
+  given_named v l = ap (λ r. given_by r k) (index.standing v (named m count x graph index l))
 
   listed_in : (v : ℕ) → Contains nodes v → v < count
   listed_in v c = node_in m count x graph index (listed_above v (filter_out (offers x k) list v c).0)

@@ -7,10 +7,10 @@ use Rattle.std.specs.List.{All, Contains}
 use Rattle.std.specs.Option.{option_to_list}
 use Rattle.jc_classes.specs.Names.{Name}
 use Rattle.jc_classes.specs.Facts.{Member, Key}
-use Rattle.jc_classes.specs.Worlds.{World, Found, fields_of, member, super_of, interfaces_of}
+use Rattle.jc_classes.specs.Worlds.{World, Found, fields_of, member, superclass_of, interfaces_of}
 use Rattle.jc_classes.specs.FieldLookup.{FindsField, FindsFirst, onward, FindsField as field, FindsFirst as first}
 use Rattle.jc_graph.specs.Seen.{flag_at}
-use Rattle.jc_numbered.specs.inside.Indexed.{Indexed, indexed_name, record_at, rank_at, good_at, supers_before, onward_nodes, IsGraph, IsIndexed}
+use Rattle.jc_numbered.specs.inside.Indexed.{Indexed, indexed_name, standing_of, rank_at, good_at, superclass_count, onward_nodes, IsGraph, IsIndexed}
 use Rattle.jc_resolve.specs.inside.Looking.{names_at, Told, Looking, Going}
 use Rattle.jc_graph.proofs.marked.SeenLemmas.{flag_cases}
 
@@ -118,12 +118,12 @@ drop_taken (v ∷ direct) f (Some s) is e =
     head_of e = cc
 
 pub onward_names : (m : World) (x : Indexed) → IsIndexed m x → (v : ℕ) → v < length x.names → names_at x (onward_nodes x v) ≡ onward (m (indexed_name x v))
-onward_names m x h v l = drop_taken (x.supertypes v) (indexed_name x) (super_of (record_at x v)) (interfaces_of (record_at x v)) (h.supertypes v l) ∙ ap onward (sym (h.records v l))
+onward_names m x h v l = drop_taken (x.supertypes v) (indexed_name x) (superclass_of (standing_of x v)) (interfaces_of (standing_of x v)) (h.supertypes v l) ∙ ap onward (sym (h.standing v l))
 
 -- what holds of each supertype holds of each node where look-up goes on
 pub onward_all : (x : Indexed) (P : ℕ → Type 0) (v : ℕ) → ((w : ℕ) → Contains (x.supertypes v) w → P w) → All P (onward_nodes x v)
 onward_all x P v h =
-    let n = supers_before (record_at x v) in
+    let n = superclass_count (standing_of x v) in
     let all : All P (x.supertypes v) = All-weaker (Contains (x.supertypes v)) P h (x.supertypes v) (All-contains_itself (x.supertypes v)) in
     All-append P (drop n (x.supertypes v)) (take n (x.supertypes v)) (All-drop P n (x.supertypes v) all) (All-take P n (x.supertypes v) all)
 
@@ -147,7 +147,7 @@ module _ (count : ℕ) (x : Indexed) (graph : IsGraph count x) (k : Key) (start 
   pub head_in : (v : ℕ) (rest : List ℕ) (flags : List Bool) → Going count x k start (v ∷ rest) flags → v < count
   head_in v rest flags g = All-head (λ v. v < count) v rest g.nodes
 
-  pub going_add : (v : ℕ) (rest : List ℕ) (flags : List Bool) → Going count x k start (v ∷ rest) flags → member (fields_of (record_at x v)) k ≡ None → Going count x k start (onward_nodes x v ++ rest) (set flags v true)
+  pub going_add : (v : ℕ) (rest : List ℕ) (flags : List Bool) → Going count x k start (v ∷ rest) flags → member (fields_of (standing_of x v)) k ≡ None → Going count x k start (onward_nodes x v ++ rest) (set flags v true)
   going_add v rest flags g none =
       let good = All-head (λ v. good_at x v ≡ true) v rest g.good in
       record {
@@ -155,14 +155,14 @@ module _ (count : ℕ) (x : Indexed) (graph : IsGraph count x) (k : Key) (start 
         good = All-append (λ v. good_at x v ≡ true) (onward_nodes x v) rest (onward_all x (λ v. good_at x v ≡ true) v (λ w. graph.stays v w good)) (All-tail (λ v. good_at x v ≡ true) v rest g.good);
         size = length-set flags v true ∙ g.size;
         looking = λ m h. let l : v < length x.names = let q = head_in v rest flags g in let e = graph.names in omega arith in
-            looking_add m k x start v (onward_nodes x v) rest flags (g.looking m h) (ap (λ r. member (fields_of r) k) (h.records v l) ∙ none) (onward_names m x h v l)
+            looking_add m k x start v (onward_nodes x v) rest flags (g.looking m h) (ap (λ r. member (fields_of r) k) (h.standing v l) ∙ none) (onward_names m x h v l)
             (onward_all x (λ w. rank_at x w < rank_at x v) v (λ w. graph.falls v w good));
       }
 
-  pub going_found : (v : ℕ) (y : Member) (rest : List ℕ) (flags : List Bool) → Going count x k start (v ∷ rest) flags → member (fields_of (record_at x v)) k ≡ Some y → (m : World) → IsIndexed m x → FindsField m k (indexed_name x start) (Some (record { home = indexed_name x v; member = y }))
+  pub going_found : (v : ℕ) (y : Member) (rest : List ℕ) (flags : List Bool) → Going count x k start (v ∷ rest) flags → member (fields_of (standing_of x v)) k ≡ Some y → (m : World) → IsIndexed m x → FindsField m k (indexed_name x start) (Some (record { home = indexed_name x v; member = y }))
   going_found v y rest flags g e m h =
       let l : v < length x.names = let q = head_in v rest flags g in let e = graph.names in omega arith in
-      looking_found m k x start v y rest flags (g.looking m h) (ap (λ r. member (fields_of r) k) (h.records v l) ∙ e)
+      looking_found m k x start v y rest flags (g.looking m h) (ap (λ r. member (fields_of r) k) (h.standing v l) ∙ e)
 
   pub going_end : (flags : List Bool) → Going count x k start [] flags → (m : World) → IsIndexed m x → FindsField m k (indexed_name x start) None
   going_end flags g m h = (g.looking m h).whole None first.nowhere

@@ -8,7 +8,7 @@ use Rattle.jc_classes.specs.Resolution.{Answer}
 use Rattle.jc_classes.specs.Worlds.{World, references_of}
 use Rattle.jc_numbered.specs.declared.classes.Classes.{Classes}
 use Rattle.jc_numbered.specs.declared.loads.Load.{Load}
-use Rattle.jc_numbered.specs.inside.Indexed.{Indexed, indexed_name, record_at, IsIndexed}
+use Rattle.jc_numbered.specs.inside.Indexed.{Indexed, indexed_name, standing_of, IsIndexed}
 use Rattle.jc_numbered.specs.inside.Loading.{load_at}
 use Rattle.jc_numbered.specs.inside.Shown.{indexed_of}
 use Rattle.jc_resolve.specs.declared.all_answers.Asked.{Asked}
@@ -60,11 +60,11 @@ AreAnswered x loads class rs entries = (length entries ≡ length rs)
 -- ---- of the class of a number
 
 abbrev pub node_references : Classes → ℕ → List Reference
-node_references c class = references_of (record_at (indexed_of c) class)
+node_references c class = references_of (standing_of (indexed_of c) class)
 
 -- the errors of its instructions
 abbrev pub node_links : Classes → ℕ → List Answer → List LinkFault
-node_links c class answers = links_of (indexed_name (indexed_of c) class) (record_at (indexed_of c) class) answers
+node_links c class answers = links_of (indexed_name (indexed_of c) class) (standing_of (indexed_of c) class) answers
 
 -- the answers to its references
 abbrev pub TellsNodeAnswers : Classes → List Load → ℕ → List Answer → Type 0

@@ -1,19 +1,20 @@
 -- Classes as they are gathered, by numbers alone.
 use Rattle.std.specs.Prelude.{◌≡◌, ℕ, ◌<◌, [], List, map, length}
 use Rattle.std.specs.List.{Contains}
-use Rattle.jc_classes.specs.Worlds.{supers_of}
+use Rattle.jc_classes.specs.Numbers.{IsOnce}
+use Rattle.jc_classes.specs.Worlds.{supertypes_of}
 use Rattle.jc_classes.specs.declared.standing.Standing.{Standing}
-use Rattle.jc_numbered.specs.inside.Indexed.{Indexed, filled, indexed_name, record_at}
+use Rattle.jc_numbered.specs.inside.Indexed.{Indexed, filled, indexed_name, standing_of}
 use Rattle.std.specs.declared.vec.Vec.{Vec}
 use Rattle.std.specs.declared.alloc.Global.{Global}
 
 -- names that stand once, each with the supertypes of what stands there
 pub record IsGathered (count : ℕ) (x : Indexed) : Type 0 where
   pub names : length x.names ≡ count
-  pub records : length x.records ≡ count
-  pub once : (i j : ℕ) → i < length x.names → j < length x.names → indexed_name x i ≡ indexed_name x j → i ≡ j
+  pub standing : length x.standing ≡ count
+  pub once : IsOnce x.names
   pub nodes : (a b : ℕ) → Contains (x.supertypes a) b → (a < count) × (b < count)
-  pub supertypes : (i : ℕ) → i < length x.names → map (indexed_name x) (x.supertypes i) ≡ supers_of (record_at x i)
+  pub supertypes : (i : ℕ) → i < length x.names → map (indexed_name x) (x.supertypes i) ≡ supertypes_of (standing_of x i)
 
 -- what is gathered, before its loads are known
 abbrev pub bare : List (Vec ℕ Global) → List Standing → List (Vec ℕ Global) → Indexed

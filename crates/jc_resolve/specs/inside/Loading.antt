@@ -1,13 +1,13 @@
 -- How a node loads, as the code computes it.
 use Rattle.std.specs.Prelude.{◌≡◌, ℕ, ◌<◌, ◌≤◌, Bool, true, false, cond, is_some, List, length, slice_index_or}
 use Rattle.jc_classes.specs.Facts.{is_faulty}
-use Rattle.jc_classes.specs.Worlds.{World, Stands, super_of}
+use Rattle.jc_classes.specs.Worlds.{World, Stands, superclass_of}
 use Rattle.jc_classes.specs.Worlds.{Stands as stands}
 use Rattle.jc_classes.specs.Loading as defs
 use Rattle.jc_classes.specs.declared.linkage_error.LinkageError.TheVariants as fault
 use Rattle.jc_numbered.specs.declared.loads.Load.{Load}
 use Rattle.jc_numbered.specs.declared.loads.Load.TheVariants.{Loaded, Outside, Fails}
-use Rattle.jc_numbered.specs.inside.Indexed.{Indexed, indexed_name, record_at, IsIndexed}
+use Rattle.jc_numbered.specs.inside.Indexed.{Indexed, indexed_name, standing_of, IsIndexed}
 use Rattle.jc_graph.specs.Graph.{IsOrder}
 use Rattle.jc_graph.specs.declared.sorting.Sorted.{Sorted}
 use Rattle.jc_numbered.specs.inside.Loading.{judged_each}
@@ -18,12 +18,12 @@ load_by stands.Nothing flag v each = Fails fault.NoClass v
 load_by stands.Outside flag v each = Outside
 load_by (stands.Class r) flag v each = cond (is_faulty r) (Fails fault.Format v) (cond flag (Fails fault.Circular v) each)
 
-abbrev pub has_super : Stands → Bool
-has_super s = is_some (super_of s)
+abbrev pub has_superclass : Stands → Bool
+has_superclass s = is_some (superclass_of s)
 
 abbrev pub load_of : Indexed → List Bool → List Load → ℕ → Load
 load_of x flags loads v =
-    load_by (record_at x v) (slice_index_or flags v false) v (judged_each x loads v (has_super (record_at x v)) (x.supertypes v))
+    load_by (standing_of x v) (slice_index_or flags v false) v (judged_each x loads v (has_superclass (standing_of x v)) (x.supertypes v))
 
 -- the answer that is held for a node is how its name loads
 abbrev pub IsTold : Indexed → ℕ → Load → Type 0

@@ -14,7 +14,7 @@ use Rattle.jc_resolve.specs.declared.entry.Entry.{Entry}
 use Rattle.jc_resolve.specs.declared.look.Look.{Look}
 use Rattle.jc_resolve.specs.declared.resolve.Begun.{Begun}
 use Rattle.jc_resolve.specs.declared.resolve.NamedNode.{NamedNode}
-use Rattle.jc_resolve.specs.declared.resolve.Outcome.{Outcome}
+use Rattle.jc_resolve.specs.declared.resolve.MemberOutcome.{MemberOutcome}
 use Rattle.jc_resolve.specs.inside.Entries.{entry_shown}
 use Rattle.jc_resolve.specs.inside.Resolved.{begun_of, loading_of, named_of, outcome_of, TellsLoads}
 
@@ -35,7 +35,7 @@ TellsStart l named b = (m : World) (text : Name) → TellsLoads m (reach_of l) (
 
 -- the answer of a reference to a member, by the relation for members of its kind, where `missing` is the error if nothing is there
 abbrev pub TellsMember : (World → Name → Named → Key → Answer → Type 0) → LinkageError
-    → Look → NamedNode → Key → Outcome → Type 0
+    → Look → NamedNode → Key → MemberOutcome → Type 0
 TellsMember Resolves missing l named k o = (m : World) (text : Name)
     → TellsLoads m (reach_of l) (size_of l) l.loads.now → IsIndexed m (reach_of l)
     → Resolves m (asker_of l) (named_of (reach_of l) named text) k

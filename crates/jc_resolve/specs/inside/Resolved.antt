@@ -21,8 +21,8 @@ use Rattle.jc_resolve.specs.declared.resolve.NamedNode.{NamedNode}
 use Rattle.jc_resolve.specs.declared.resolve.NamedNode.TheVariants as reference
 use Rattle.jc_resolve.specs.declared.resolve.Begun.{Begun}
 use Rattle.jc_resolve.specs.declared.resolve.Begun.TheVariants as begun
-use Rattle.jc_resolve.specs.declared.resolve.Outcome.{Outcome}
-use Rattle.jc_resolve.specs.declared.resolve.Outcome.TheVariants as outcome
+use Rattle.jc_resolve.specs.declared.resolve.MemberOutcome.{MemberOutcome}
+use Rattle.jc_resolve.specs.declared.resolve.MemberOutcome.TheVariants as outcome
 
 -- how a class loads, by name
 abbrev pub loading_of : Indexed → LoadState → Loading
@@ -75,7 +75,7 @@ ended_of x (start.At c) = answer.NotLoaded
 ended_of x (start.Ends a) = a
 
 -- the answer, where `missing` is the error if nothing is there
-abbrev pub outcome_of : Indexed → Named → LinkageError → Outcome → Answer
+abbrev pub outcome_of : Indexed → Named → LinkageError → MemberOutcome → Answer
 outcome_of x t missing (outcome.Ends b) = ended_of x (begun_of x b)
 outcome_of x t missing (outcome.Settled s) = answer_of x t missing s
 outcome_of x t missing outcome.NoInterface = answer.Error error.Incompatible (text_of t)

@@ -8,7 +8,7 @@ use Rattle.jc_classes.specs.Worlds.{format_faults_of, code_faults_of, references
 use Rattle.jc_classes.specs.Worlds.Stands.{Nothing}
 use Rattle.jc_resolve.specs.Numbered.{Numbered}
 use Rattle.jc_link.specs.Nets.{IsIn, Net}
-use Rattle.jc_link.specs.inside.Gathering.{NumberReferences, stand_at, stands_in}
+use Rattle.jc_link.specs.inside.Gathering.{stand_at, stands_in}
 use Rattle.jc_link.specs.inside.NetShown.{nodes_at, nodes_in}
 use Rattle.jc_link.proofs.parted.Making.{part_made}
 use Rattle.jc_link.proofs.net.part_at.Goals as goal
@@ -23,15 +23,15 @@ part_of-requires-clause-nodes c =
     let a = c.net.inside in
     let class = c.in-Some.class in
     let some = c.in-Some.ensures.some in
-    let within : class < length a.standing.items = omega (arith, some.0, c.net.invariant.net.all_stand, length-map a.standing.items stands_of) in
+    let within : class < length a.standing.items = omega (arith, some.0, c.net.invariant.net.closed.standing, length-map a.standing.items stands_of) in
     let own : stands_of c.index-own.result.now ≡ stand_at (stands_in a.standing.items) class = ap stands_of c.index-own.ensures ∙ sym (get_or-map stands_of a.standing.items class _ Nothing within) in
-    let is = c.requires.hierarchy.is ∙ ap (λ (n : Net). record { names = n.names; records = n.stands; supertypes = c.requires.hierarchy.supertypes }) (sym c.net.view_is) in
+    let is = c.requires.hierarchy.is ∙ ap (λ (n : Net). record { names = n.names; standing = n.stands; supertypes = c.requires.hierarchy.supertypes }) (sym c.net.view_is) in
     let references = a.references.items in
-    let held : class < length references = omega (arith, some.0, c.net.invariant.net.all_stand, c.net.invariant.referred.size, length-map references (λ (v : Vec (Option ℕ) Global). v.items)) in
+    let held : class < length references = omega (arith, some.0, c.net.invariant.net.closed.standing, c.net.invariant.referred.size, length-map references (λ (v : Vec (Option ℕ) Global). v.items)) in
     let at : c.as_slice-references.result.now ≡ nodes_at (nodes_in references) class =
     c.as_slice-references.ensures.value ∙ ap (λ (v : Vec (Option ℕ) Global). v.items) c.index.ensures ∙ sym (get_or-map (λ (v : Vec (Option ℕ) Global). v.items) references class _ [] held) in
-    let here = subst (λ z. NumberReferences a.numbers z (references_of (stand_at (stands_in a.standing.items) class))) (sym at) (c.net.invariant.referred.named class (omega (arith, some.0, c.net.invariant.net.all_stand))) in
-    subst (λ (h : Numbered). NumberReferences h.names c.as_slice-references.result.now (references_of (stand_at h.records class))) (sym is) here
+    let here = subst (λ z. NumberReferences a.numbers z (references_of (stand_at (stands_in a.standing.items) class))) (sym at) (c.net.invariant.referred.named class (omega (arith, some.0, c.net.invariant.net.closed.standing))) in
+    subst (λ (h : Numbered). NumberReferences h.names c.as_slice-references.result.now (references_of (stand_at h.standing class))) (sym is) here
 
 pub part_of-requires-clause-within : goal.part_of-requires-clause-within
 part_of-requires-clause-within c = λ v h.
@@ -40,10 +40,10 @@ part_of-requires-clause-within c = λ v h.
     let class = c.in-Some.class in
     let some = c.in-Some.ensures.some in
     let references = a.references.items in
-    let held : class < length references = omega (arith, some.0, c.net.invariant.net.all_stand, c.net.invariant.referred.size, length-map references (λ (v : Vec (Option ℕ) Global). v.items)) in
+    let held : class < length references = omega (arith, some.0, c.net.invariant.net.closed.standing, c.net.invariant.referred.size, length-map references (λ (v : Vec (Option ℕ) Global). v.items)) in
     let at : c.as_slice-references.result.now ≡ nodes_at (nodes_in references) class =
     c.as_slice-references.ensures.value ∙ ap (λ (v : Vec (Option ℕ) Global). v.items) c.index.ensures ∙ sym (get_or-map (λ (v : Vec (Option ℕ) Global). v.items) references class _ [] held) in
-    let l = c.net.invariant.referred.within c.in-Some.class v (omega (arith, c.in-Some.ensures.some.0, c.net.invariant.net.all_stand)) (subst (λ z. Contains z (Some v)) at h) in
+    let l = c.net.invariant.referred.within c.in-Some.class v (omega (arith, c.in-Some.ensures.some.0, c.net.invariant.net.closed.standing)) (subst (λ z. Contains z (Some v)) at h) in
     omega (arith, l, names)
 
 pub returns-clause-part : goal.returns-clause-part
@@ -51,11 +51,11 @@ returns-clause-part c = λ m lies.
     let a = c.net.inside in
     let class = c.in-Some.class in
     let some = c.in-Some.ensures.some in
-    let within : class < length a.standing.items = omega (arith, some.0, c.net.invariant.net.all_stand, length-map a.standing.items stands_of) in
+    let within : class < length a.standing.items = omega (arith, some.0, c.net.invariant.net.closed.standing, length-map a.standing.items stands_of) in
     let own : stands_of c.index-own.result.now ≡ stand_at (stands_in a.standing.items) class = ap stands_of c.index-own.ensures ∙ sym (get_or-map stands_of a.standing.items class _ Nothing within) in
     let all = subst (IsIn m) (sym c.net.view_is) lies in
-    let is : c.args.hierarchy.now ≡ record { names = a.numbers; records = stands_in a.standing.items; supertypes = c.requires.hierarchy.supertypes } =
-    c.requires.hierarchy.is ∙ ap (λ (n : Net). record { names = n.names; records = n.stands; supertypes = c.requires.hierarchy.supertypes }) (sym c.net.view_is) in
+    let is : c.args.hierarchy.now ≡ record { names = a.numbers; standing = stands_in a.standing.items; supertypes = c.requires.hierarchy.supertypes } =
+    c.requires.hierarchy.is ∙ ap (λ (n : Net). record { names = n.names; standing = n.stands; supertypes = c.requires.hierarchy.supertypes }) (sym c.net.view_is) in
     let made = c.in_ok-part.ensures in
     let part = c.in_ok-part.part in
     part_made m c.args.name.now a.numbers (stands_in a.standing.items) c.requires.hierarchy.supertypes c.args.hierarchy.now class part.circular part.load part.answers part.links part.format_faults part.code_faults (stand_at (stands_in a.standing.items) class)

@@ -5,13 +5,13 @@ use Rattle.jc_classes.specs.Worlds.{format_faults_of, code_faults_of}
 use Rattle.jc_resolve.specs.Numbered.{IsClosed, Numbered, numbered}
 use Rattle.jc_link.specs.Closures.{Closure, IsClosure}
 use Rattle.jc_link.specs.inside.Gathering.{stand_at, stands_in, supertypes_in}
-use Rattle.jc_link.proofs.parted.Making.{closed_of, part_made}
+use Rattle.jc_link.proofs.parted.Making.{part_made}
 use Rattle.jc_link.proofs.part.make_part.Goals as goal
 
 pub new-requires-clause-closed : goal.new-requires-clause-closed
 new-requires-clause-closed c =
     let a = c.closure.inside in
-    let net = closed_of (names_of a.found.items) (stands_in a.standing.items) (supertypes_in a.supertypes.items) a.object c.closure.invariant.net in
+    let net = c.closure.invariant.net.closed in
     subst (λ z. IsClosed (numbered z c.as_slice-2.result.now c.as_slice-3.result.now)) (sym c.as_slice.ensures.value)
     (subst (λ z. IsClosed (numbered a.found.items z c.as_slice-3.result.now)) (sym c.as_slice-2.ensures.value)
     (subst (λ z. IsClosed (numbered a.found.items a.standing.items z)) (sym c.as_slice-3.ensures.value) net))

@@ -5,7 +5,7 @@ use Rattle.jc_classes.specs.Lent.{member_lent}
 use Rattle.jc_classes.specs.Worlds.{text_of}
 use Rattle.jc_classes.specs.declared.linkage_error.LinkageError.TheVariants.{IllegalAccess}
 use Rattle.jc_classes.specs.Resolution.{Settles}
-use Rattle.jc_classes.specs.Resolution.Settles.{found, hidden, beyond, nowhere}
+use Rattle.jc_classes.specs.Resolution.Settles.{found, hidden, outside, nowhere}
 use Rattle.jc_numbered.specs.inside.Indexed.{indexed_name}
 use Rattle.jc_numbered.specs.inside.Shown.{indexed_of, found_at}
 use Rattle.jc_numbered.specs.inside.Access.{named_at}
@@ -32,7 +32,7 @@ returns-in-Some-outside-clause-found c = let x = indexed_of c.args.classes.now i
     let d = indexed_name x c.args.class in
     let t = named_at x c.args.target text e in
     let b = subst (λ r. TellsOutside m x (indexed_name x c.args.start) r) (sym c.outside.ensures ∙ c.in-Some-outside.is) (c.in_ok-see-in-None.ensures.seen.outside m h) in
-    subst (λ (f : Option Hit). Settles m d t (indexed_name x c.args.start) missing (option_map (found_at x) f) (answer.Outside (indexed_name x c.in-Some-outside.node))) (sym c.in-None.is) (beyond b.0 b.1)
+    subst (λ (f : Option Hit). Settles m d t (indexed_name x c.args.start) missing (option_map (found_at x) f) (answer.Outside (indexed_name x c.in-Some-outside.node))) (sym c.in-None.is) (outside b.0 b.1)
 
 pub returns-in-None-outside-clause-found : goal.returns-in-None-outside-clause-found
 returns-in-None-outside-clause-found c = let x = indexed_of c.args.classes.now in λ m text e missing h.

@@ -4,7 +4,7 @@ use Rattle.jc_classes.specs.Lent.{stands_of}
 use Rattle.jc_classes.specs.LinkErrors.{links_in, links_of}
 use Rattle.jc_classes.specs.Parts.{AreAnswers}
 use Rattle.jc_classes.specs.Worlds.{World, references_of}
-use Rattle.jc_numbered.specs.inside.Indexed.{indexed_name, record_at, IsIndexed}
+use Rattle.jc_numbered.specs.inside.Indexed.{indexed_name, standing_of, IsIndexed}
 use Rattle.jc_numbered.specs.inside.Shown.{indexed_of}
 use Rattle.jc_numbered.specs.inside.Loading.{load_at}
 use Rattle.jc_resolve.specs.Linked.{Linked}
@@ -18,7 +18,7 @@ use Rattle.jc_resolve.proofs.all_answers.linked.Goals as goal
 pub entries_of-requires-clause-nodes : goal.entries_of-requires-clause-nodes
 entries_of-requires-clause-nodes c =
     let x = indexed_of c.args.classes.now in
-    let own : c.in-Class.facts.now.references ≡ references_of (record_at x c.args.class) = ap (λ s. references_of (stands_of s)) (sym c.in-Class.is) ∙ ap references_of c.at.ensures in
+    let own : c.in-Class.facts.now.references ≡ references_of (standing_of x c.args.class) = ap (λ s. references_of (stands_of s)) (sym c.in-Class.is) ∙ ap references_of c.at.ensures in
     subst (λ rs. AreNodesOf (length c.args.classes.now.standing.now) x rs c.args.nodes.now) (sym own) c.requires.nodes
 
 pub of-requires-2 : goal.of-requires-2
@@ -37,7 +37,7 @@ returns-clause-answers c =
     let d = indexed_name x c.args.class in
     let how = loading_of x (load_at c.args.loads.now c.args.class) in
     let refs = c.in-Class.facts.now.references in
-    let own : refs ≡ references_of (record_at x c.args.class) = ap (λ s. references_of (stands_of s)) (sym c.in-Class.is) ∙ ap references_of c.at.ensures in
+    let own : refs ≡ references_of (standing_of x c.args.class) = ap (λ s. references_of (stands_of s)) (sym c.in-Class.is) ∙ ap references_of c.at.ensures in
     let size : length x.names ≡ count = c.args.classes.now.graph.names in
     let shared : c.in_ok-references.references ≡ refs = c.in_ok-references.ensures in
     let made = c.in_ok-entries.ensures.answered in
@@ -53,10 +53,10 @@ returns-clause-links c =
     let x = indexed_of c.args.classes.now in
     let list = c.in_ok-answers.answers in
     let facts = c.in-Class.facts.now in
-    let own : stands.Class facts ≡ record_at x c.args.class = ap stands_of (sym c.in-Class.is) ∙ c.at.ensures in
+    let own : stands.Class facts ≡ standing_of x c.args.class = ap stands_of (sym c.in-Class.is) ∙ c.at.ensures in
     let f = λ (linked : Linked) (e : linked ≡ record { answers = list; links = links_in c.name.result.now facts list }).
     ap (λ (l : Linked). l.links) e
     ∙ ap (λ n. links_in n facts list) c.name.ensures
     ∙ ap (λ s. links_of (indexed_name x c.args.class) s list) own
-    ∙ ap (links_of (indexed_name x c.args.class) (record_at x c.args.class)) (sym (ap (λ (l : Linked). l.answers) e)) in
+    ∙ ap (links_of (indexed_name x c.args.class) (standing_of x c.args.class)) (sym (ap (λ (l : Linked). l.answers) e)) in
     if_ok_map _ _ _ f c.of-2.ensures

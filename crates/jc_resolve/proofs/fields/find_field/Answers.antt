@@ -2,7 +2,7 @@ use Rattle.std.proofs.Common.{◌≡◌, ◌∷◌, [], ◌++◌, length, revers
 use Rattle.jc_graph.specs.Seen.{unseen}
 use Rattle.jc_classes.specs.Lent.{key_lent}
 use Rattle.jc_classes.specs.Worlds.{fields_of}
-use Rattle.jc_numbered.specs.inside.Indexed.{onward_nodes, record_at}
+use Rattle.jc_numbered.specs.inside.Indexed.{onward_nodes, standing_of}
 use Rattle.jc_numbered.specs.inside.Shown.{indexed_of}
 use Rattle.jc_resolve.specs.inside.Looking.{Going}
 use Rattle.jc_graph.proofs.marked.SeenLemmas.{unseen_set}
@@ -89,4 +89,4 @@ pub returns-clause-seen : goal.returns-clause-seen
 returns-clause-seen c = c.loop-node.invariant.size
 
 pub returns-in-Some-field-clause-keyed : goal.returns-in-Some-field-clause-keyed
-returns-in-Some-field-clause-keyed c = member_keyed (fields_of (record_at (indexed_of c.args.classes.now) c.in-Some.node)) (key_lent c.args.key) (member_lent c.in-Some-field.member) (sym c.in-Some-field.ensures)
+returns-in-Some-field-clause-keyed c = member_keyed (fields_of (standing_of (indexed_of c.args.classes.now) c.in-Some.node)) (key_lent c.args.key) (member_lent c.in-Some-field.member) (sym c.in-Some-field.ensures)

@@ -1,7 +1,7 @@
 use Rattle.std.proofs.Common.{length, sym}
 use Rattle.jc_classes.specs.Lent.{member_lent}
 use Rattle.jc_classes.specs.Lent.{key_lent}
-use Rattle.jc_numbered.specs.inside.Indexed.{indexed_name, record_at}
+use Rattle.jc_numbered.specs.inside.Indexed.{indexed_name, standing_of}
 use Rattle.jc_numbered.specs.inside.Shown.{indexed_of}
 use Rattle.jc_resolve.proofs.lookups.FieldWalk.{none_of}
 use Rattle.jc_numbered.proofs.lookups.Chain.{super_node, super_good, super_falls}
@@ -32,4 +32,4 @@ pub returns-in-None-clause-found : goal.returns-in-None-clause-found
 returns-in-None-clause-found c = leads_end (length c.args.classes.now.standing.now) (indexed_of c.args.classes.now) c.args.classes.now.graph (key_lent c.args.key) c.args.start c.loop-member.node c.loop-member.invariant.within c.loop-member.invariant.leads (none_of member_lent _ c.declared.result c.declared.ensures c.in_default.not-Some) (sym c.in-None.ensures)
 
 pub returns-in-Some-clause-keyed : goal.returns-in-Some-clause-keyed
-returns-in-Some-clause-keyed c = declared_keyed (indexed_name (indexed_of c.args.classes.now) c.loop-member.node) (record_at (indexed_of c.args.classes.now) c.loop-member.node) (key_lent c.args.key) (member_lent c.in-Some.member) (sym c.in-Some.ensures)
+returns-in-Some-clause-keyed c = declared_keyed (indexed_name (indexed_of c.args.classes.now) c.loop-member.node) (standing_of (indexed_of c.args.classes.now) c.loop-member.node) (key_lent c.args.key) (member_lent c.in-Some.member) (sym c.in-Some.ensures)

@@ -4,7 +4,7 @@ use Rattle.jc_classes.specs.Worlds.{member, methods_of}
 use Rattle.jc_classes.specs.MethodLookup.{of_object, FindsInterfaceMethod}
 use Rattle.jc_classes.specs.MethodLookup.FindsInterfaceMethod.{own, in_object, in_interface}
 use Rattle.jc_classes.specs.Lent.{key_lent}
-use Rattle.jc_numbered.specs.inside.Indexed.{indexed_name, record_at}
+use Rattle.jc_numbered.specs.inside.Indexed.{indexed_name, standing_of}
 use Rattle.jc_numbered.specs.inside.Shown.{indexed_of}
 use Rattle.jc_resolve.proofs.lookups.IfOks.{if_ok_map}
 use Rattle.jc_resolve.proofs.lookups.FieldWalk.{none_of}
@@ -41,7 +41,7 @@ returns-clause-found c =
     in_interface none (subst (λ n. of_object (m n) k ≡ None) c.args.classes.now.object_name e) (f m h)) c.find_above.ensures.found
 
 pub returns-in-Some-clause-keyed : goal.returns-in-Some-clause-keyed
-returns-in-Some-clause-keyed c = member_keyed (methods_of (record_at (indexed_of c.args.classes.now) c.args.start)) (key_lent c.args.key) (member_lent c.in-Some.member) (sym c.in-Some.ensures)
+returns-in-Some-clause-keyed c = member_keyed (methods_of (standing_of (indexed_of c.args.classes.now) c.args.start)) (key_lent c.args.key) (member_lent c.in-Some.member) (sym c.in-Some.ensures)
 
 pub returns-in-Some-open_method-clause-keyed : goal.returns-in-Some-open_method-clause-keyed
-returns-in-Some-open_method-clause-keyed c = open_keyed (record_at (indexed_of c.args.classes.now) c.args.classes.now.object) (key_lent c.args.key) (member_lent c.in-Some-open_method.member) (sym c.in-Some-open_method.ensures)
+returns-in-Some-open_method-clause-keyed c = open_keyed (standing_of (indexed_of c.args.classes.now) c.args.classes.now.object) (key_lent c.args.key) (member_lent c.in-Some-open_method.member) (sym c.in-Some-open_method.ensures)

@@ -3,7 +3,7 @@ use Rattle.std.proofs.lemmas.Bool.{false≢true}
 use Rattle.std.specs.List.{All, filter}
 use Rattle.jc_classes.specs.Lent.{member_lent}
 use Rattle.jc_classes.specs.Lent.{key_lent}
-use Rattle.jc_numbered.specs.inside.Indexed.{record_at}
+use Rattle.jc_numbered.specs.inside.Indexed.{standing_of}
 use Rattle.jc_numbered.specs.inside.Shown.{indexed_of}
 use Rattle.jc_graph.specs.Seen.{TellsAbove}
 use Rattle.jc_numbered.specs.inside.Picks.{is_interface_at, offers}
@@ -93,7 +93,7 @@ returns-in-Some-given-clause-within c =
     picked_in (length c.args.classes.now.standing.now) x k c.see.new.self.seen.flags list c.see_above.new.seen.flags c.in-Some.node t.size t.seen p
 
 pub returns-in-Some-given-clause-keyed : goal.returns-in-Some-given-clause-keyed
-returns-in-Some-given-clause-keyed c = given_keyed (record_at (indexed_of c.args.classes.now) c.in-Some.node) (key_lent c.args.key) (member_lent c.in-Some-given.member) (sym c.in-Some-given.ensures)
+returns-in-Some-given-clause-keyed c = given_keyed (standing_of (indexed_of c.args.classes.now) c.in-Some.node) (key_lent c.args.key) (member_lent c.in-Some-given.member) (sym c.in-Some-given.ensures)
 
 pub see-requires-clause-above : goal.see-requires-clause-above
 see-requires-clause-above c = c.requires.room.above

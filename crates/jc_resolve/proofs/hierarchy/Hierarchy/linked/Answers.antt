@@ -8,7 +8,7 @@ use Rattle.jc_classes.specs.Worlds.{World, references_of}
 use Rattle.jc_numbered.specs.inside.Indexed.{IsIndexed}
 use Rattle.jc_numbered.specs.inside.Shown.{indexed_of}
 use Rattle.jc_resolve.specs.Linked.{Linked}
-use Rattle.jc_resolve.specs.Numbered.{Numbered, Agrees, AreClassesOf, numbered, standing_at, references_at}
+use Rattle.jc_resolve.specs.Numbered.{Numbered, Agrees, NumberReferences, numbered, standing_at, references_at}
 use Rattle.jc_numbered.specs.inside.Loading.{load_at}
 use Rattle.jc_resolve.specs.inside.Resolved.{loading_of, TellsLoads}
 use Rattle.jc_resolve.proofs.loading.Held.{index_held}
@@ -21,7 +21,7 @@ linked-requires-clause-nodes c =
     let class = c.args.class in
     let v : Numbered = numbered i.names.now i.standing.now i.supertypes.now in
     record {
-      named = subst (λ (z : Numbered). AreClassesOf z (references_at z class) c.args.nodes.now) (sym c.self.view_is) c.requires.nodes;
+      named = subst (λ (z : Numbered). NumberReferences z.names c.args.nodes.now (references_at z class)) (sym c.self.view_is) c.requires.nodes;
       within = λ n h.
           let l : n < length v.names = subst (λ (z : Numbered). n < length z.names) (sym c.self.view_is) (c.requires.within n h) in
           omega (arith, l, c.self.invariant.loaded.net.names);
