@@ -21,6 +21,8 @@ TOP = Path(__file__).resolve().parents[2]
 TICKS = os.sysconf("SC_CLK_TCK")
 PROGRAMS = ("jclink", "jc_rows")
 KINDS = ("proofs", "tests", "programs", "mutants")
+# Some kits keep what was proved, and pass over it where they are told to.
+FROM_NOTHING = [word for word in ("--anew",) if word in subprocess.run(["rt", "help"], capture_output=True, text=True).stdout]
 
 
 def processes():
@@ -87,7 +89,7 @@ def run(lanes, keep):
     with tempfile.TemporaryDirectory() as room:
         subprocess.run(["git", "clone", "--quiet", "--local", TOP, f"{room}/jclink"], check=True)
         began = time.time()
-        words = ["rt", "ci", "--anew"]
+        words = ["rt", "ci", *FROM_NOTHING]
         with open(keep, "wb") if keep else tempfile.TemporaryFile() as log:
             how = {"cwd": f"{room}/jclink", "stdin": subprocess.DEVNULL, "stdout": log, "stderr": subprocess.STDOUT}
             ran = subprocess.Popen(words, env={**os.environ, "RT_JOBS": str(lanes)}, **how)
