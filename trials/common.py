@@ -60,10 +60,14 @@ def copy_anew(folder, to):
 
 
 def make_copy():
-    """The sources of all crates as they stand, and those of jc_asked beside them. What was proved there before stays."""
+    """The sources of all crates as they stand, and those of jc_asked beside them. What was proved there before stays, and
+    of a crate that was not there what was proved in the tree comes along."""
     for crate in (TOP / "crates").iterdir():
+        copy = COPY / "crates" / crate.name
+        if not copy.exists():
+            copy_anew(crate / "out", copy / "out")
         for part in ("src", "specs", "proofs"):
-            copy_anew(crate / part, COPY / "crates" / crate.name / part)
+            copy_anew(crate / part, copy / part)
     shutil.rmtree(ASKED / "src", ignore_errors=True)
     (ASKED / "src").mkdir(parents=True)
     for source in (TRIALS / "asked").glob("*.rt.in"):

@@ -5,7 +5,7 @@ use Rattle.std.specs.List.{Contains}
 use Rattle.std.specs.declared.vec.Vec.{Vec}
 use Rattle.std.specs.declared.alloc.Global.{Global}
 use Rattle.jc_classes.specs.Names.{Name, names_of}
-use Rattle.jc_classes.specs.Numbers.{IsOnce, name_at}
+use Rattle.jc_classes.specs.Numbers.{name_at}
 use Rattle.jc_classes.specs.Worlds.{Stands, World, superclass_of, supertypes_of}
 use Rattle.jc_classes.specs.Worlds.Stands.{Nothing}
 use Rattle.jc_classes.specs.Lent.{stands_of}
@@ -62,7 +62,7 @@ pub record IsGraph (count : ℕ) (x : Indexed) : Type 0 where
 
 -- what stands at each and the supertypes are those of the classes, by name
 pub record IsIndexed (m : World) (x : Indexed) : Type 0 where
-  pub once : IsOnce x.names
+  pub once : (i j : ℕ) → i < length x.names → j < length x.names → indexed_name x i ≡ indexed_name x j → i ≡ j
   pub standing : (i : ℕ) → i < length x.names → m (indexed_name x i) ≡ standing_of x i
   pub supertypes : (i : ℕ) → i < length x.names → map (indexed_name x) (x.supertypes i) ≡ supertypes_of (standing_of x i)
 

@@ -1,7 +1,6 @@
 -- Classes as they are gathered, by numbers alone.
 use Rattle.std.specs.Prelude.{◌≡◌, ℕ, ◌<◌, [], List, map, length}
 use Rattle.std.specs.List.{Contains}
-use Rattle.jc_classes.specs.Numbers.{IsOnce}
 use Rattle.jc_classes.specs.Worlds.{supertypes_of}
 use Rattle.jc_classes.specs.declared.standing.Standing.{Standing}
 use Rattle.jc_numbered.specs.inside.Indexed.{Indexed, filled, indexed_name, standing_of}
@@ -12,7 +11,7 @@ use Rattle.std.specs.declared.alloc.Global.{Global}
 pub record IsGathered (count : ℕ) (x : Indexed) : Type 0 where
   pub names : length x.names ≡ count
   pub standing : length x.standing ≡ count
-  pub once : IsOnce x.names
+  pub once : (i j : ℕ) → i < length x.names → j < length x.names → indexed_name x i ≡ indexed_name x j → i ≡ j
   pub nodes : (a b : ℕ) → Contains (x.supertypes a) b → (a < count) × (b < count)
   pub supertypes : (i : ℕ) → i < length x.names → map (indexed_name x) (x.supertypes i) ≡ supertypes_of (standing_of x i)
 
