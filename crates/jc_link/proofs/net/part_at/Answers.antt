@@ -6,7 +6,7 @@ use Rattle.std.specs.declared.alloc.Global.{Global}
 use Rattle.jc_classes.specs.Lent.{stands_of}
 use Rattle.jc_classes.specs.Worlds.{format_faults_of, code_faults_of, references_of}
 use Rattle.jc_classes.specs.Worlds.Stands.{Nothing}
-use Rattle.jc_resolve.specs.Numbered.{Numbered}
+use Rattle.jc_resolve.specs.Numbered.{NumberReferences, Numbered}
 use Rattle.jc_link.specs.Nets.{IsIn, Net}
 use Rattle.jc_link.specs.inside.Gathering.{stand_at, stands_in}
 use Rattle.jc_link.specs.inside.NetShown.{nodes_at, nodes_in}
