@@ -146,11 +146,13 @@ class Held:
         os.set_blocking(self.process.stdout.fileno(), False)
 
     def tells(self, *wanted):
-        """Whether it prints a line of each of these forms within some seconds."""
+        """Whether it prints a line of each of these forms within some seconds, and none that is no line of a report."""
         until = time.monotonic() + 20
         while time.monotonic() < until:
             self.text += self.process.stdout.read() or b""
-            lines = self.text.decode().splitlines()
+            lines = self.text[: self.text.rfind(b"\n") + 1].decode().splitlines()
+            if not all(line.startswith(("+ [", "- [")) for line in lines):
+                break
             if all(any(re.fullmatch(form, line) for line in lines) for form in wanted):
                 self.text = b""
                 return True

@@ -22,7 +22,7 @@ placed (Some facts) = facts
 abbrev pub class_at : Places → Name → Option Facts
 class_at places name = placed (map.get places name)
 
--- the standing that files give, by name
+-- the classes that files give, by name
 abbrev pub classes_in : List (Name × Option Facts) → List Facts
 classes_in places = flat_map (λ place. option_to_list place.1) places
 
