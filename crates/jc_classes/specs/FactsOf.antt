@@ -6,7 +6,7 @@ use Rattle.jc_view.specs.declared.constant_pool.ConstantIndex.{ConstantIndex}
 use Rattle.jc_view.specs.ConstantPool as pool
 use Rattle.jc_view.specs.ClassFile as file
 use Rattle.jc_view.specs.ClassFile.{ClassFile, all_slots, class_text_at, constant_at}
-use Rattle.jc_view.specs.Lookups.{descriptor_at, name_at, utf8_at}
+use Rattle.jc_view.specs.Lookups.{member_descriptor_at, member_name_at, utf8_at}
 use Rattle.jc_rules.specs.Faults.{faults}
 use Rattle.jc_code.specs.MethodFaults.{code_faults}
 use Rattle.jc_code.specs.MethodUses.{uses}
@@ -31,8 +31,8 @@ class_reference c index name = do
 abbrev pub member_reference : ClassFile → ℕ → ReferenceKind → ConstantIndex → ConstantIndex → Option Reference
 member_reference c index kind class entry = do
   text ← class_text_at c class
-  name ← name_at c entry
-  descriptor ← descriptor_at c entry
+  name ← member_name_at c entry
+  descriptor ← member_descriptor_at c entry
   Some (record { index = index; kind = kind; named = named_by text; key = record { name = name; descriptor = descriptor } })
 
 -- the reference that a constant is

@@ -89,7 +89,7 @@ fn is_misnamed(class: &ClassView, kind: u8, entry: Constant) -> bool
         | Constant::Methodref(_, entry)
         | Constant::InterfaceMethodref(_, entry)
         | Constant::InvokeDynamic(_, entry) => class
-            .name_at(entry)
+            .member_name_at(entry)
             .is_some_and(|name| is_name_amiss(kind, name)),
         _ => false,
     }

@@ -12,7 +12,7 @@ use Rattle.jc_view.specs.declared.constant_pool.ConstantIndex.{ConstantIndex}
 use Rattle.jc_view.specs.declared.constant_pool.ConstantKind.{ConstantKind}
 use Rattle.jc_view.specs.declared.constant_pool.ConstantKind.TheVariants as kinds
 use Rattle.jc_view.specs.ClassFile.{ClassFile, class_text_at, constant_at}
-use Rattle.jc_view.specs.Lookups.{descriptor_at, fails, is_entry, name_at, passes, signature_entry}
+use Rattle.jc_view.specs.Lookups.{member_descriptor_at, fails, is_entry, member_name_at, passes, signature_entry}
 use Rattle.jc_view.specs.Attributes.{Handler}
 use Rattle.jc_code.specs.declared.insn.Insn.{Insn}
 use Rattle.jc_code.specs.declared.insn.Insn.TheVariants as insns
@@ -115,11 +115,11 @@ breaks_s11 s insn = false
 
 -- the descriptor of the method that an entry refers to
 abbrev pub referred_descriptor : ClassFile → ConstantIndex → Option (List ℕ)
-referred_descriptor c index = option_and_then (λ entry. option_and_then (descriptor_at c) (signature_entry entry)) (constant_at c index)
+referred_descriptor c index = option_and_then (λ entry. option_and_then (member_descriptor_at c) (signature_entry entry)) (constant_at c index)
 
 -- its name
 abbrev pub referred_name : ClassFile → ConstantIndex → Option (List ℕ)
-referred_name c index = option_and_then (λ entry. option_and_then (name_at c) (signature_entry entry)) (constant_at c index)
+referred_name c index = option_and_then (λ entry. option_and_then (member_name_at c) (signature_entry entry)) (constant_at c index)
 
 -- how many slots the parameters of a method take
 abbrev pub slots_at : ClassFile → ConstantIndex → Option ℕ

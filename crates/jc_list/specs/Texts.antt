@@ -8,7 +8,7 @@ use Rattle.jc_text.specs.Escapes.{shown}
 use Rattle.jc_view.specs.declared.constant_pool.ConstantIndex.{ConstantIndex}
 use Rattle.jc_view.specs.ConstantPool.{Constant, Class, Fieldref, Methodref, InterfaceMethodref}
 use Rattle.jc_view.specs.ClassFile.{ClassFile, class_text_at, constant_at}
-use Rattle.jc_view.specs.Lookups.{utf8_at, name_at, descriptor_at}
+use Rattle.jc_view.specs.Lookups.{utf8_at, member_name_at, member_descriptor_at}
 use Rattle.jc_rules.specs.declared.access_flag.AccessFlag.{AccessFlag}
 use Rattle.jc_rules.specs.AccessFlags.{flag_name, has, mask_of}
 
@@ -34,8 +34,8 @@ flags_text flags bits = codes "0x" ++ hexadecimal (to_be_bytes w16 bits) ++ flat
 -- a member: its class, its name and its descriptor
 abbrev pub member_reference : ClassFile → ConstantIndex → ConstantIndex → List ℕ
 member_reference c class entry =
-    shown_text (class_text_at c class) ++ codes "." ++ shown_text (name_at c entry)
-    ++ codes ":" ++ shown_text (descriptor_at c entry)
+    shown_text (class_text_at c class) ++ codes "." ++ shown_text (member_name_at c entry)
+    ++ codes ":" ++ shown_text (member_descriptor_at c entry)
 
 -- behind a blank, what a constant refers to, where it is a class, a field or a method
 abbrev pub reference_of : ClassFile → Constant → List ℕ

@@ -139,6 +139,6 @@ fn write_member_reference<W: Output>(
     ensures { Sends W.written W.failures out.old out.new (word.now ++ member_reference class.now of entry) }
 {
     write_text_behind(out, word, class.class_text(of));
-    write_text_behind(out, b".", class.name_at(entry));
-    write_text_behind(out, b":", class.descriptor_at(entry));
+    write_text_behind(out, b".", class.member_name_at(entry));
+    write_text_behind(out, b":", class.member_descriptor_at(entry));
 }

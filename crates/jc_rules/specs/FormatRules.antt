@@ -19,7 +19,7 @@ use Rattle.jc_view.specs.ConstantPool.{NameAndType, MethodHandle, MethodType, In
 use Rattle.jc_view.specs.ClassFile.{Attribute, Member, ClassFile, class_text_at, constant_at}
 use Rattle.jc_rules.specs.AccessFlags.{public, private, protected, static, final, super, synchronized, volatile, bridge}
 use Rattle.jc_rules.specs.AccessFlags.{transient, native, interface, abstract, strict, enum, annotation, has, has_two_accesses}
-use Rattle.jc_view.specs.Lookups.{utf8_at, is_kind, is_entry, name_of, descriptor_at, name_at, fails, lacks, passes}
+use Rattle.jc_view.specs.Lookups.{utf8_at, is_kind, is_entry, name_of, member_descriptor_at, member_name_at, fails, lacks, passes}
 use Rattle.jc_view.specs.Places.{PlacedAttribute}
 use Rattle.jc_view.specs.Attributes.{is_recognised, Bootstrap, bootstrap_attributes, codes_of}
 use Rattle.jc_view.specs.Attributes.{exceptions_of, first_index, second_index, values_of}
@@ -80,10 +80,10 @@ breaks_f5 c (NameAndType name descriptor) = passes (λ text. fails_beside text (
 breaks_f5 c constant = false
 
 abbrev pub breaks_f6 : ClassFile → Constant → Bool
-breaks_f6 c (Fieldref class entry) = fails is_field_text (descriptor_at c entry)
-breaks_f6 c (Methodref class entry) = fails is_method_text (descriptor_at c entry)
-breaks_f6 c (InterfaceMethodref class entry) = fails is_method_text (descriptor_at c entry)
-breaks_f6 c (InvokeDynamic bootstrap entry) = fails is_method_text (descriptor_at c entry)
+breaks_f6 c (Fieldref class entry) = fails is_field_text (member_descriptor_at c entry)
+breaks_f6 c (Methodref class entry) = fails is_method_text (member_descriptor_at c entry)
+breaks_f6 c (InterfaceMethodref class entry) = fails is_method_text (member_descriptor_at c entry)
+breaks_f6 c (InvokeDynamic bootstrap entry) = fails is_method_text (member_descriptor_at c entry)
 breaks_f6 c constant = false
 
 -- a method's name that begins with `<`, and isn't that of a constructor without a result
@@ -91,7 +91,7 @@ abbrev pub is_bad_special : Option (List ℕ) → List ℕ → Bool
 is_bad_special descriptor name = begins_with 60 name && (not (is_init name) || passes returns_value descriptor)
 
 abbrev pub breaks_f7 : ClassFile → Constant → Bool
-breaks_f7 c (Methodref class entry) = passes (is_bad_special (descriptor_at c entry)) (name_at c entry)
+breaks_f7 c (Methodref class entry) = passes (is_bad_special (member_descriptor_at c entry)) (member_name_at c entry)
 breaks_f7 c constant = false
 
 -- a reference by a handle of this kind, in a file of this version, may be such an entry (JVMS 4.4.8)

@@ -35,16 +35,16 @@ abbrev pub name_and_type_at : ClassFile → ConstantIndex → Option (ConstantIn
 name_and_type_at c index = option_and_then name_and_type (constant_at c index)
 
 -- the name that the NameAndType at the index gives
-abbrev pub name_at : ClassFile → ConstantIndex → Option (List ℕ)
-name_at c entry = option_and_then (λ pair. utf8_at c pair.0) (name_and_type_at c entry)
+abbrev pub member_name_at : ClassFile → ConstantIndex → Option (List ℕ)
+member_name_at c entry = option_and_then (λ pair. utf8_at c pair.0) (name_and_type_at c entry)
 
 -- the descriptor that it gives
-abbrev pub descriptor_at : ClassFile → ConstantIndex → Option (List ℕ)
-descriptor_at c entry = option_and_then (λ pair. utf8_at c pair.1) (name_and_type_at c entry)
+abbrev pub member_descriptor_at : ClassFile → ConstantIndex → Option (List ℕ)
+member_descriptor_at c entry = option_and_then (λ pair. utf8_at c pair.1) (name_and_type_at c entry)
 
 -- the name that a reference gives
 abbrev pub name_of : ClassFile → Constant → Option (List ℕ)
-name_of c reference = option_and_then (name_at c) (signature_entry reference)
+name_of c reference = option_and_then (member_name_at c) (signature_entry reference)
 
 -- ---- tests of what may be missing
 

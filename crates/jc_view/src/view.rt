@@ -5,7 +5,7 @@ ghost use Rattle.jc_view.specs.declared.parse_error.ParseError.TheVariants.{NoMe
 ghost use Rattle.std.specs.Option.{option_copied, option_map};
 ghost use Rattle.jc_view.specs.ClassFile.{ClassFile, all_slots, class_text_at, constant_at};
 ghost use Rattle.jc_view.specs.ConstantPool.{kind_of};
-ghost use Rattle.jc_view.specs.Lookups.{descriptor_at, is_entry, name_at, utf8_at};
+ghost use Rattle.jc_view.specs.Lookups.{member_descriptor_at, is_entry, member_name_at, utf8_at};
 ghost use Rattle.jc_view.specs.Places.{fields_in, methods_in, attributes_in, IsLent};
 ghost use Rattle.jc_view.specs.Lent.{constant_of};
 ghost use Rattle.jc_view.specs.inside.ConstantPlaces.{Holds, IsNamedAt};
@@ -189,8 +189,8 @@ impl<'a> ClassView<'a> {
     }
 
     /// The name that the NameAndType of an index gives; `None` where one of the two is missing.
-    pub fn name_at(&self, index: ConstantIndex) -> Option<&'a [u8]>
-        ensures { option_copied result ≡ name_at self.now index }
+    pub fn member_name_at(&self, index: ConstantIndex) -> Option<&'a [u8]>
+        ensures { option_copied result ≡ member_name_at self.now index }
     {
         let Some(Constant::NameAndType(name, _)) = self.constant(index.0) else {
             return None;
@@ -199,8 +199,8 @@ impl<'a> ClassView<'a> {
     }
 
     /// The descriptor that it gives.
-    pub fn descriptor_at(&self, index: ConstantIndex) -> Option<&'a [u8]>
-        ensures { option_copied result ≡ descriptor_at self.now index }
+    pub fn member_descriptor_at(&self, index: ConstantIndex) -> Option<&'a [u8]>
+        ensures { option_copied result ≡ member_descriptor_at self.now index }
     {
         let Some(Constant::NameAndType(_, descriptor)) = self.constant(index.0) else {
             return None;

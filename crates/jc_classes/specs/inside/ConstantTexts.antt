@@ -6,7 +6,7 @@ use Rattle.jc_view.specs.declared.constant_pool.ConstantIndex.{ConstantIndex}
 use Rattle.jc_view.specs.declared.constant_pool.ConstantKind.{ConstantKind}
 use Rattle.jc_view.specs.declared.constant_pool.ConstantKind.TheVariants as kinds
 use Rattle.jc_view.specs.ClassFile.{ClassFile, all_slots}
-use Rattle.jc_view.specs.Lookups.{descriptor_at, name_at, utf8_at}
+use Rattle.jc_view.specs.Lookups.{member_descriptor_at, member_name_at, utf8_at}
 use Rattle.jc_classes.specs.Facts.{Key}
 use Rattle.jc_classes.specs.inside.FactsShown.{text_at}
 
@@ -25,8 +25,8 @@ key_shown texts pair = record { name = text_at texts pair.0; descriptor = text_a
 abbrev pub key_at : ClassFile → ConstantIndex → Option Key
 key_at c entry =
     option_and_then
-    (λ name. option_and_then (λ descriptor. Some (record { name = name; descriptor = descriptor })) (descriptor_at c entry))
-    (name_at c entry)
+    (λ name. option_and_then (λ descriptor. Some (record { name = name; descriptor = descriptor })) (member_descriptor_at c entry))
+    (member_name_at c entry)
 
 -- constants of the kind are references to classes or to members (JVMS 4.4.1, 4.4.2)
 abbrev pub is_reference : ConstantKind → Bool

@@ -5,7 +5,7 @@ use Rattle.jc_base.specs.TextTests.{is_unqualified_text, is_class_text, is_metho
 use Rattle.jc_base.specs.DescriptorTests.{is_field_text, method_type_of}
 use Rattle.jc_view.specs.declared.constant_pool.ConstantIndex.{ConstantIndex}
 use Rattle.jc_view.specs.ClassFile.{ClassFile, class_text_at}
-use Rattle.jc_view.specs.Lookups.{utf8_at, name_at, descriptor_at, passes}
+use Rattle.jc_view.specs.Lookups.{utf8_at, member_name_at, member_descriptor_at, passes}
 use Rattle.jc_clean.specs.declared.roles.Role.{Role}
 use Rattle.jc_clean.specs.declared.roles.Role.TheVariants as roles
 use Rattle.jc_clean.specs.declared.roles.RoleSet.{RoleSet}
@@ -27,11 +27,11 @@ fits role text = false
 abbrev pub serves : ClassFile → Role → ConstantIndex → Bool
 serves c roles.Class index = passes (fits roles.ClassOrArray) (class_text_at c index)
 serves c roles.FieldEntry index =
-    passes (fits roles.FieldDescriptor) (descriptor_at c index) && passes (fits roles.FieldName) (name_at c index)
+    passes (fits roles.FieldDescriptor) (member_descriptor_at c index) && passes (fits roles.FieldName) (member_name_at c index)
 serves c roles.MethodEntry index =
-    passes (fits roles.MethodDescriptor) (descriptor_at c index)
-    && passes (fits roles.MethodName) (name_at c index)
-    && not (passes (is_bad_special (descriptor_at c index)) (name_at c index))
+    passes (fits roles.MethodDescriptor) (member_descriptor_at c index)
+    && passes (fits roles.MethodName) (member_name_at c index)
+    && not (passes (is_bad_special (member_descriptor_at c index)) (member_name_at c index))
 serves c role index = passes (fits role) (utf8_at c index)
 
 -- ---- what is known

@@ -7,7 +7,7 @@ use Rattle.jc_base.specs.DescriptorTests.{method_type_of}
 use Rattle.jc_view.specs.declared.constant_pool.ConstantIndex.{ConstantIndex}
 use Rattle.jc_view.specs.declared.constant_pool.ConstantKind.TheVariants as kinds
 use Rattle.jc_view.specs.ClassFile.{ClassFile}
-use Rattle.jc_view.specs.Lookups.{descriptor_at, is_entry, utf8_at}
+use Rattle.jc_view.specs.Lookups.{member_descriptor_at, is_entry, utf8_at}
 use Rattle.jc_code.specs.declared.text_sizes.Sizes.{Sizes}
 use Rattle.jc_code.specs.CodeRules.{dimensions_of, slots_at}
 
@@ -28,7 +28,7 @@ slots_in c i = option_and_then slots_of_text (utf8_at c (at_index i))
 
 -- and of the descriptor that the NameAndType gives
 abbrev pub entry_slots : ClassFile → ConstantIndex → Option ℕ
-entry_slots c entry = option_and_then slots_of_text (descriptor_at c entry)
+entry_slots c entry = option_and_then slots_of_text (member_descriptor_at c entry)
 
 -- and of the method that the InterfaceMethodref names
 abbrev pub interface_slots : ClassFile → ℕ → Option ℕ

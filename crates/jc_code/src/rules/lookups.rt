@@ -66,7 +66,7 @@ fn signature_entry(class: &ClassView, index: ConstantIndex) -> Option<ConstantIn
 pub(crate) fn referred_name<'a>(class: &ClassView<'a>, index: ConstantIndex) -> Option<&'a [u8]>
     ensures { option_copied result ≡ referred_name class.now index }
 {
-    class.name_at(signature_entry(class, index)?)
+    class.member_name_at(signature_entry(class, index)?)
 }
 
 /// Whether a method's name begins with `<`.

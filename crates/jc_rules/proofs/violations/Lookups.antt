@@ -14,7 +14,7 @@ use Rattle.jc_view.specs.declared.constant_pool.ConstantKind.{ConstantKind}
 use Rattle.jc_view.specs.ConstantPool as pool
 use Rattle.jc_view.specs.ConstantPool.{Constant, kind_of, tag_of, kind_of_tag, utf8_text, class_entry}
 use Rattle.jc_view.specs.ClassFile.{Attribute, ClassFile, constant_at, class_text_at}
-use Rattle.jc_view.specs.Lookups.{utf8_at, is_kind, is_entry, name_and_type, signature_entry, name_and_type_at, name_at, descriptor_at, name_of, passes, fails, lacks}
+use Rattle.jc_view.specs.Lookups.{utf8_at, is_kind, is_entry, name_and_type, signature_entry, name_and_type_at, member_name_at, member_descriptor_at, name_of, passes, fails, lacks}
 use Rattle.jc_rules.specs.FormatRules.{is_array_text}
 use Rattle.jc_rules.specs.Violations.{IsEntry, NamesKind, HasText, HasClassText, Has, IsRecognised, GivesName, GivesDescriptor, RefersTo, IsArrayDescriptor}
 use Rattle.jc_view.proofs.reading.FirstConstant.{kind_of_its_tag}
@@ -102,17 +102,17 @@ pair_from : (c : ClassFile) (entry name descriptor : ConstantIndex) → IsEntry 
 pair_from c entry name descriptor is = ap (option_and_then name_and_type) is
 
 module _ (c : ClassFile) {test : List ℕ → Bool} {Is : List ℕ → Type 0} (each : (text : List ℕ) → Decides (test text) (Is text)) (entry : ConstantIndex) where
-  pub gives_name : Decides (passes test (name_at c entry)) (GivesName c Is entry)
+  pub gives_name : Decides (passes test (member_name_at c entry)) (GivesName c Is entry)
   gives_name = like
       (λ h. let found = then_some (name_and_type_at c entry) (λ pair. utf8_at c pair.0) h.0 h.1 in (found.0.0, found.0.1, pair_is c entry found.0 found.1, (h.0, (text_at c found.0.0 h.0).0 found.2, h.2)))
       (λ h. (h.3.0, ap (option_and_then (λ pair. utf8_at c pair.0)) (pair_from c entry h.0 h.1 h.2) ∙ (text_at c h.0 h.3.0).1 h.3.1, h.3.2))
-      (has each (name_at c entry))
+      (has each (member_name_at c entry))
 
-  pub gives_descriptor : Decides (passes test (descriptor_at c entry)) (GivesDescriptor c Is entry)
+  pub gives_descriptor : Decides (passes test (member_descriptor_at c entry)) (GivesDescriptor c Is entry)
   gives_descriptor = like
       (λ h. let found = then_some (name_and_type_at c entry) (λ pair. utf8_at c pair.1) h.0 h.1 in (found.0.0, found.0.1, pair_is c entry found.0 found.1, (h.0, (text_at c found.0.1 h.0).0 found.2, h.2)))
       (λ h. (h.3.0, ap (option_and_then (λ pair. utf8_at c pair.1)) (pair_from c entry h.0 h.1 h.2) ∙ (text_at c h.1 h.3.0).1 h.3.1, h.3.2))
-      (has each (descriptor_at c entry))
+      (has each (member_descriptor_at c entry))
 
 module _ (c : ClassFile) {test : List ℕ → Bool} {Is : List ℕ → Type 0} (each : (text : List ℕ) → Decides (test text) (Is text)) (r : Constant) where
   pub refers_to : Decides (passes test (name_of c r)) (RefersTo c Is r)
@@ -124,15 +124,15 @@ module _ (c : ClassFile) {test : List ℕ → Bool} {Is : List ℕ → Type 0} (
         λ h. absurd (let some = h.1 in let none = e in cc),
       )
       by (Some entry) e =
-          let same : passes test (name_of c r) ≡ passes test (name_at c entry) = ap (λ o. passes test (option_and_then (name_at c) o)) e in
+          let same : passes test (name_of c r) ≡ passes test (member_name_at c entry) = ap (λ o. passes test (option_and_then (member_name_at c) o)) e in
           like
           (λ h. (entry, e, h))
           (λ h. subst (λ (i : ConstantIndex). GivesName c Is i) (let here = h.1 in let there = e in cc) h.2)
-          (Decides-at (passes test (name_of c r)) (passes test (name_at c entry)) same (gives_name c each entry))
+          (Decides-at (passes test (name_of c r)) (passes test (member_name_at c entry)) same (gives_name c each entry))
 
 module _ (c : ClassFile) {test : List ℕ → Bool} {Is : List ℕ → Type 0} (each : (text : List ℕ) → Decides (test text) (Is text)) (entry : ConstantIndex) where
-  pub other_descriptor : Decides (fails test (descriptor_at c entry)) (GivesDescriptor c (λ text. ¬ Is text) entry)
-  other_descriptor = Decides-at (fails test (descriptor_at c entry)) (passes (λ text. not (test text)) (descriptor_at c entry)) (fails_is test (descriptor_at c entry)) (gives_descriptor c (λ text. neg (each text)) entry)
+  pub other_descriptor : Decides (fails test (member_descriptor_at c entry)) (GivesDescriptor c (λ text. ¬ Is text) entry)
+  other_descriptor = Decides-at (fails test (member_descriptor_at c entry)) (passes (λ text. not (test text)) (member_descriptor_at c entry)) (fails_is test (member_descriptor_at c entry)) (gives_descriptor c (λ text. neg (each text)) entry)
 
 -- ---- more
 

@@ -9,7 +9,7 @@ ghost use Rattle.jc_rules.specs.FormatRules.{breaks_f6, breaks_f7, breaks_f8, br
 ghost use Rattle.jc_view.specs.Attributes.{bootstrap_attributes};
 
 use crate::fault::FormatRule;
-use crate::rules::lookups::{descriptor_at, is_entry, is_kind, name_at, name_of};
+use crate::rules::lookups::{is_entry, is_kind, member_descriptor_at, member_name_at, name_of};
 use crate::text_table::{Text, TextTable};
 use crate::texts::{begins_with, is_clinit, is_init, is_well_spelled};
 use jc_view::{Constant, ConstantIndex, ConstantKind};
@@ -125,12 +125,12 @@ fn breaks_f6(texts: &TextTable, constant: Constant) -> bool
 {
     match constant {
         Constant::Fieldref(_, entry) => {
-            descriptor_at(texts, entry).is_some_and(|text| !text.is_field())
+            member_descriptor_at(texts, entry).is_some_and(|text| !text.is_field())
         }
         Constant::Methodref(_, entry)
         | Constant::InterfaceMethodref(_, entry)
         | Constant::InvokeDynamic(_, entry) => {
-            descriptor_at(texts, entry).is_some_and(|text| !text.is_method())
+            member_descriptor_at(texts, entry).is_some_and(|text| !text.is_method())
         }
         _ => false,
     }
@@ -140,8 +140,8 @@ fn breaks_f7(texts: &TextTable, constant: Constant) -> bool
     ensures { result ≡ breaks_f7 texts.now (constant_of constant.entry) }
 {
     match constant {
-        Constant::Methodref(_, entry) => match name_at(texts, entry) {
-            Some(name) => is_bad_special(descriptor_at(texts, entry), name.bytes()),
+        Constant::Methodref(_, entry) => match member_name_at(texts, entry) {
+            Some(name) => is_bad_special(member_descriptor_at(texts, entry), name.bytes()),
             None => false,
         },
         _ => false,

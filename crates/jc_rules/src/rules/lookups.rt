@@ -2,7 +2,7 @@
 
 ghost use Rattle.std.specs.Prelude.{◌≡◌};
 ghost use Rattle.jc_view.specs.Lookups.{is_kind, is_entry, name_and_type, signature_entry};
-ghost use Rattle.jc_view.specs.Lookups.{name_and_type_at, name_at, descriptor_at, name_of};
+ghost use Rattle.jc_view.specs.Lookups.{name_and_type_at, member_name_at, member_descriptor_at, name_of};
 ghost use Rattle.jc_view.specs.Lent.{constant_of};
 
 use crate::text_table::{Text, TextTable};
@@ -56,16 +56,22 @@ fn name_and_type_at(
 }
 
 /// The name that the `NameAndType` of an index gives.
-pub(crate) fn name_at<'a>(texts: &TextTable<'_, 'a>, entry: ConstantIndex) -> Option<Text<'a>>
-    ensures { result ≡ name_at texts.now entry }
+pub(crate) fn member_name_at<'a>(
+    texts: &TextTable<'_, 'a>,
+    entry: ConstantIndex,
+) -> Option<Text<'a>>
+    ensures { result ≡ member_name_at texts.now entry }
 {
     let (name, _) = name_and_type_at(texts.class(), entry)?;
     texts.text(name)
 }
 
 /// The descriptor that the `NameAndType` of an index gives.
-pub(crate) fn descriptor_at<'a>(texts: &TextTable<'_, 'a>, entry: ConstantIndex) -> Option<Text<'a>>
-    ensures { result ≡ descriptor_at texts.now entry }
+pub(crate) fn member_descriptor_at<'a>(
+    texts: &TextTable<'_, 'a>,
+    entry: ConstantIndex,
+) -> Option<Text<'a>>
+    ensures { result ≡ member_descriptor_at texts.now entry }
 {
     let (_, descriptor) = name_and_type_at(texts.class(), entry)?;
     texts.text(descriptor)
@@ -75,5 +81,5 @@ pub(crate) fn descriptor_at<'a>(texts: &TextTable<'_, 'a>, entry: ConstantIndex)
 pub(crate) fn name_of<'a>(texts: &TextTable<'_, 'a>, reference: Constant) -> Option<Text<'a>>
     ensures { result ≡ name_of texts.now (constant_of reference.entry) }
 {
-    name_at(texts, signature_entry(reference)?)
+    member_name_at(texts, signature_entry(reference)?)
 }
