@@ -87,8 +87,8 @@ abbrev pub is_wrong_by : CheckForm → Report → Bool
 is_wrong_by forms.Report r = is_wrong r
 is_wrong_by (forms.Errors only) r = is_wrong_among only r
 
--- what is asked of the report of all the files was written, or a proper beginning of it where the output failed, or nothing; memory was wanted only
--- where no file before was unread or refused
+-- what is asked of the report of all the files was written, or a proper beginning of it where the output failed, or nothing;
+-- memory was wanted only where no file before was unread or refused
 abbrev pub ChecksAs : (prefixes : List (List ℕ)) → CheckForm → Added → Result Bool CheckFault → (before now : Option (List ℕ)) → Type 0
 ChecksAs prefixes form files (Ok wrong) before now =
     (f : Files) × (r : Report) × (files ≡ All f) × IsReport f prefixes r × (wrong ≡ is_wrong_by form r)

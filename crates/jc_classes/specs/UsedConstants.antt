@@ -24,7 +24,9 @@ named_by_table bytes = option_map_or (flat_map (λ m. m.arguments)) (bootstraps_
 
 -- what f finds of the constants, by rising index
 abbrev pub by_constants : (pool.Constant → Option ConstantIndex) → ClassFile → List ConstantIndex
-by_constants f c = flat_map (λ index. option_to_list (option_and_then f (constant_at c (record { 0 = index })))) (range_with_len 1 (all_slots c.constants))
+by_constants f c =
+    flat_map (λ index. option_to_list (option_and_then f (constant_at c (record { 0 = index }))))
+    (range_with_len 1 (all_slots c.constants))
 
 unfoldable pub named : ClassFile → List ConstantIndex
 named c =

@@ -115,11 +115,13 @@ breaks_s11 s insn = false
 
 -- the descriptor of the method that an entry refers to
 abbrev pub referred_descriptor : ClassFile → ConstantIndex → Option (List ℕ)
-referred_descriptor c index = option_and_then (λ entry. option_and_then (member_descriptor_at c) (signature_entry entry)) (constant_at c index)
+referred_descriptor c index =
+    option_and_then (λ entry. option_and_then (member_descriptor_at c) (signature_entry entry)) (constant_at c index)
 
 -- its name
 abbrev pub referred_name : ClassFile → ConstantIndex → Option (List ℕ)
-referred_name c index = option_and_then (λ entry. option_and_then (member_name_at c) (signature_entry entry)) (constant_at c index)
+referred_name c index =
+    option_and_then (λ entry. option_and_then (member_name_at c) (signature_entry entry)) (constant_at c index)
 
 -- how many slots the parameters of a method take
 abbrev pub slots_at : ClassFile → ConstantIndex → Option ℕ

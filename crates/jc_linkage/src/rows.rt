@@ -2,7 +2,7 @@
 
 ghost use Rattle.std.specs.Iterator.{YieldsFirstBy, item_count};
 ghost use Rattle.jc_report.specs.RowView.{row_lent};
-ghost use Rattle.jc_linkage.specs.inside.Lending.{rows_left};
+ghost use Rattle.jc_report.specs.inside.ProvidedInOrder.{rows_left};
 
 use crate::classes::HeldClasses;
 use jc_report::{ProvidedRows, Row, provided_in_order};
@@ -20,7 +20,7 @@ pub struct Provided<'a> {
 impl<'a> Model for Provided<'a> {
     ghost use Rattle.std.specs.Prelude.{◌++◌, List};
     ghost use Rattle.jc_report.specs.Rows.{Row};
-    ghost use Rattle.jc_linkage.specs.inside.Lending.{provided_in, rows_left};
+    ghost use Rattle.jc_report.specs.inside.ProvidedInOrder.{provided_in, rows_left};
 
     ghost Value = { List Row };
 

@@ -5,4 +5,5 @@ pub mod ClassesOfTables
 pub mod GivenRows
 pub mod GoneOver
 pub mod OneReport
+pub mod ProvidedByClass
 pub mod RowsByClass

@@ -15,7 +15,8 @@ use Rattle.jc_report.specs.declared.row.Row.{Row}
 
 -- each gives what the report has, where these relations say what the next of each is
 pub record AreListsOf {F C P Q : Type 0} (next_file : F → Option FileRow → F → Type 0) (next_class : C → Option LentClass → C → Type 0)
-    (next_provided : P → Option Row → P → Type 0) (next_required : Q → Option Row → Q → Type 0) (lists : ReportLists F C P Q) (r : Report) : Type 0 where
+    (next_provided : P → Option Row → P → Type 0) (next_required : Q → Option Row → Q → Type 0)
+    (lists : ReportLists F C P Q) (r : Report) : Type 0 where
   pub files : AlwaysYields next_file lent.row_lent lists.files r.files
   pub classes : AlwaysYields next_class class_lent lists.classes r.classes
   pub again : AlwaysYields next_class class_lent lists.again r.classes
@@ -30,5 +31,6 @@ pub record AreListedIn {F C : Type 0} (next_file : F → Option FileRow → F �
   pub by_name : AlwaysYields next_class class_lent classes r.classes
 
 -- the text of the report that is meant was handed over
-abbrev pub SendsReport : {W : Type 0} (written : W → Option (List ℕ)) (failures : W → ℕ) (old new : TextWriter W) → (Report → Type 0) → Type 0
+abbrev pub SendsReport : {W : Type 0} (written : W → Option (List ℕ)) (failures : W → ℕ) (old new : TextWriter W)
+    → (Report → Type 0) → Type 0
 SendsReport written failures old new IsMeant = (r : Report) → IsMeant r → Sends written failures old new (report_text r)

@@ -7,6 +7,7 @@ pub mod Members
 pub mod Naming
 pub mod NumberedRows
 pub mod Outcomes
+pub mod ProvidedInOrder
 pub mod ReportShown
 pub mod RowSets
 pub mod TreeCode

@@ -20,6 +20,7 @@ mod required_row;
 mod row;
 mod row_set;
 mod tree;
+mod tree_provided;
 
 pub use errors_text::write_errors;
 pub use file_row::{FileRow, FileState};
@@ -35,3 +36,4 @@ pub use required_references::{RequiredReferences, required_of};
 pub use required_row::RequiredRow;
 pub use row::Row;
 pub use tree::{AddError, Tree};
+pub use tree_provided::TreeProvided;

@@ -22,16 +22,17 @@ ghost use Rattle.jc_report.specs.RowView.{row_lent};
 ghost use Rattle.jc_report.specs.Trees.{IsTree};
 ghost use Rattle.jc_report.specs.inside.Given.{ForGiven};
 ghost use Rattle.jc_report.specs.inside.Made.{AreMadeOf, HasNamesOf};
+ghost use Rattle.jc_report.specs.inside.ProvidedInOrder.{provided_in};
 ghost use Rattle.jc_report.specs.inside.ReportShown.{AreByName, AreClasses};
 
 use crate::class_rows::push_required;
 use crate::errors_text::{is_asked, is_unreadable};
 use crate::file_row::FileRow;
 use crate::lent_class::{LentClass, LentClasses};
-use crate::provided_rows::{ProvidedRows, provided_in_order};
 use crate::row::Row;
 use crate::row_set::RowSet;
 use crate::tree::Tree;
+use crate::tree_provided::TreeProvided;
 use jc_base::NoMemory;
 use jc_classes::Facts;
 use jc_link::{Meter, Net, Outside, Part, PartMaker, Table};
@@ -52,7 +53,6 @@ pub(crate) struct Class<'t> {
 pub struct TreeReport<'t> {
     files: Vec<FileRow<'t>>,
     classes: Vec<Class<'t>>,
-    provided: Vec<Row<'t>>,
     required: Vec<Row<'t>>,
 }
 
@@ -122,13 +122,11 @@ impl<'t> TreeReport<'t> {
     fn empty(alloc: Global) -> TreeReport<'t>
         ensures files { result.files ≡ [] }
         ensures classes { result.classes ≡ [] }
-        ensures provided { result.provided ≡ [] }
         ensures required { result.required ≡ [] }
     {
         TreeReport {
             files: Vec::new(alloc),
             classes: Vec::new(alloc),
-            provided: Vec::new(alloc),
             required: Vec::new(alloc),
         }
     }
@@ -143,7 +141,6 @@ impl<'t> TreeReport<'t> {
     ) -> Result<(), NoMemory>
         requires files { self.old.files ≡ [] }
         requires classes { self.old.classes ≡ [] }
-        requires provided { self.old.provided ≡ [] }
         requires required { self.old.required ≡ [] }
         ensures report { (f : Files) → IsTree f tree.now → OnOk result (IsReport f outside.now self.new) }
         ensures made { OnOk result (meter.new.made ≡ counted meter.old.made (length self.new.classes)) }
@@ -152,7 +149,7 @@ impl<'t> TreeReport<'t> {
     {
         fill_files(&mut self.files, tree, meter)?;
         fill_classes(&mut self.classes, alloc, tree, outside, meter)?;
-        fill_provided(&mut self.provided, &self.classes)?;
+        provided_by_name(&self.classes);
         fill_required(&mut self.required, alloc, &self.classes)
     }
 
@@ -197,10 +194,15 @@ impl<'t> TreeReport<'t> {
     }
 
     /// The public classes that load, with their public and protected members.
-    pub fn provided(&self) -> &[Row<'t>]
-        ensures { map row_lent result.now ≡ self.now.provided }
+    pub fn provided(&self) -> TreeProvided<'_, 't>
+        ensures { result ≡ self.now.provided }
     {
-        self.provided.as_slice()
+        TreeProvided {
+            classes: LentClasses {
+                classes: self.classes.iter(),
+            },
+            rows: None,
+        }
     }
 
     /// What is referred to and is outside, or given by nothing.
@@ -271,26 +273,10 @@ fn push_classes<'t>(
     Ok(())
 }
 
-/// What the classes provide, which rise by name.
-fn fill_provided<'t>(rows: &mut Vec<Row<'t>>, classes: &[Class<'t>]) -> Result<(), NoMemory>
-    requires { map row_lent rows.old.items ≡ [] }
-    ensures { AreByName classes.now → OnOk result (AreRows (map row_lent rows.new.items) (GivesRow provided_rows classes.now)) }
-{
-    for class in classes {
-        push_all(rows, provided_in_order(class.facts, &class.part))?;
-    }
-    Ok(())
-}
-
-/// Adds the rows of a class.
-fn push_all<'t>(rows: &mut Vec<Row<'t>>, own: ProvidedRows<'t>) -> Result<(), NoMemory>
-    ensures { OnOk result (map row_lent rows.new.items ≡ map row_lent rows.old.items ++ own.entry) }
-{
-    for row in own {
-        rows.push(row)?;
-    }
-    Ok(())
-}
+/// What classes provide that rise by name, one behind another, rises.
+fn provided_by_name(classes: &[Class<'_>])
+    ensures { AreByName classes.now → AreRows (provided_in classes.now) (GivesRow provided_rows classes.now) }
+{}
 
 /// What the classes require.
 fn fill_required<'t>(

@@ -44,7 +44,7 @@ fn write_held<W: Output>(text: &mut TextWriter<'_, W>, report: &TreeReport<'_>)
         files: report.files().iter().copied(),
         classes: report.lent_classes(),
         again: report.lent_classes(),
-        provided: report.provided().iter().copied(),
+        provided: report.provided(),
         required: report.required().iter().copied(),
     };
     write_lists(text, lists);

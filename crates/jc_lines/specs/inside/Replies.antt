@@ -136,7 +136,8 @@ abbrev pub AnswersPlacing : {S W : Type 0} → (S → Option SourceAnswers) → 
     → (old new : SessionState) (source source_now : S) (out out_now : W) → Type 0
 AnswersPlacing answers written placing path result old new source source_now out out_now =
     (s : SourceAnswers) → answers source ≡ Some s
-    → Gives (held_of old) s (placing_reply (held_of old) placing path s) result (held_of new) (answers source_now) (written out) (written out_now)
+    → Gives (held_of old) s (placing_reply (held_of old) placing path s) result (held_of new) (answers source_now)
+    (written out) (written out_now)
 
 -- the same whatever the source is
 

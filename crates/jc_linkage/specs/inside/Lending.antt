@@ -1,13 +1,8 @@
--- Classes and rows as they are lent.
-use Rattle.std.specs.Prelude.{List, [], ◌∷◌, Option, Some, None}
-use Rattle.std.specs.declared.cmp.Ordering.{Ordering}
-use Rattle.std.specs.declared.cmp.Ordering.TheVariants.{Less, Equal, Greater}
-use Rattle.std.specs.List.{flat_map}
+-- Classes as they are lent.
+use Rattle.std.specs.Prelude.{List, [], ◌∷◌}
 use Rattle.jc_classes.specs.Facts.{Facts}
 use Rattle.jc_classes.specs.Names.{Name}
-use Rattle.jc_report.specs.ClassRows.{provided_rows}
 use Rattle.jc_report.specs.Reports as reports
-use Rattle.jc_report.specs.Rows.{Row, row_cmp}
 use Rattle.jc_linkage.specs.declared.kept.Kept.{Kept}
 
 -- classes with what is kept of them, in order
@@ -15,27 +10,3 @@ abbrev pub with_parts : List Facts → List (Name × Kept) → List reports.Clas
 with_parts [] kept = []
 with_parts (f ∷ fs) [] = []
 with_parts (f ∷ fs) (k ∷ ks) = record { facts = f; part = k.1.part } ∷ with_parts fs ks
-
--- before the first row, as it, or further on
-abbrev pub placed_by : Ordering → Row → Row → List Row → List Row → List Row
-placed_by Less row first rest further = row ∷ first ∷ rest
-placed_by Equal row first rest further = first ∷ rest
-placed_by Greater row first rest further = first ∷ further
-
--- the row at its place among rows that rise
-abbrev pub put : Row → List Row → List Row
-put row [] = row ∷ []
-put row (first ∷ rest) = placed_by (row_cmp row first) row first rest (put row rest)
-
--- the rows in their order, each once
-abbrev pub in_order : List Row → List Row
-in_order [] = []
-in_order (row ∷ rows) = put row (in_order rows)
-
--- the rows that each class provides, in their order
-abbrev pub provided_in : List reports.Class → List Row
-provided_in classes = flat_map (λ c. in_order (provided_rows c.facts c.part)) classes
-
-abbrev pub rows_left : Option (List Row) → List Row
-rows_left None = []
-rows_left (Some rows) = rows

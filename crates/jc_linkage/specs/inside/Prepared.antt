@@ -34,6 +34,7 @@ abbrev pub IsPreparedOver : (table : Places) → (outside : List Name) → List 
 IsPreparedOver table outside names comes = IsPrepared (world table outside) (names_of names) (option_copied comes)
 
 -- what a call answers is so
-abbrev pub Prepares : {E : Type 0} → Result (Vec Fresh Global) E → (table : Places) → (outside : List Name) → List (Vec ℕ Global) → (comes : Option (Bor (List ℕ)))
-    → (kept now : KeptMap) → (old new : Meter) → Type 0
-Prepares result table outside names comes kept now old new = IfOk result (λ fresh. IsPreparedOver table outside names comes kept now fresh.items old new)
+abbrev pub Prepares : {E : Type 0} → Result (Vec Fresh Global) E → (table : Places) → (outside : List Name)
+    → List (Vec ℕ Global) → (comes : Option (Bor (List ℕ))) → (kept now : KeptMap) → (old new : Meter) → Type 0
+Prepares result table outside names comes kept now old new =
+    IfOk result (λ fresh. IsPreparedOver table outside names comes kept now fresh.items old new)

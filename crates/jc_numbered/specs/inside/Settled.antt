@@ -25,7 +25,8 @@ lies_outside x v = is_outside (standing_of x v)
 -- the least outside name above a class
 abbrev pub TellsOutside : World → Indexed → Name → Option ℕ → Type 0
 TellsOutside m x c None = (j : Name) → IsOutsideAbove m c j → ⊥
-TellsOutside m x c (Some v) = IsOutsideAbove m c (indexed_name x v) × ((j : Name) → IsOutsideAbove m c j → name_less j (indexed_name x v) ≡ false)
+TellsOutside m x c (Some v) =
+    IsOutsideAbove m c (indexed_name x v) × ((j : Name) → IsOutsideAbove m c j → name_less j (indexed_name x v) ≡ false)
 
 -- so of a node, in every world that has what stands at the names of x
 abbrev pub TellsOutsideAbove : Indexed → ℕ → Option ℕ → Type 0

@@ -10,4 +10,5 @@ use Rattle.jc_report.specs.Trees.{IsTree, Tree}
 -- the state of the file at a path whose bytes name this class or have this refusal, whatever files are kept
 abbrev pub IsStateIn : Tree → List ℕ → Result (List ℕ) ParseError → FileState → Type 0
 IsStateIn tree path outcome state =
-    (f : Files) (bytes : List ℕ) → IsTree f tree → map.get f path ≡ Some bytes → outcome ≡ class_named bytes → state ≡ state_of f path outcome
+    (f : Files) (bytes : List ℕ) → IsTree f tree → map.get f path ≡ Some bytes → outcome ≡ class_named bytes
+    → state ≡ state_of f path outcome

@@ -7,6 +7,7 @@ use Rattle.jc_classes.specs.Names.{Name}
 use Rattle.jc_report.specs.PartText.{member_text}
 
 -- the text of the key that has this name and this descriptor was handed over
-abbrev pub SendsMember : {W : Type 0} (written : W → Option (List ℕ)) (failures : W → ℕ) (old new : TextWriter W) (class : Name) (name descriptor : List ℕ) → Type 0
+abbrev pub SendsMember : {W : Type 0} (written : W → Option (List ℕ)) (failures : W → ℕ) (old new : TextWriter W)
+    (class : Name) (name descriptor : List ℕ) → Type 0
 SendsMember written failures old new class name descriptor =
     (key : Key) → key.name ≡ name → key.descriptor ≡ descriptor → Sends written failures old new (member_text class key)

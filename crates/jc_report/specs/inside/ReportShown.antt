@@ -8,6 +8,7 @@ use Rattle.jc_report.specs.Files.{Files}
 use Rattle.jc_report.specs.FileRowView as lent
 use Rattle.jc_report.specs.Reports.{Class, IsClassOf, Report, circular_names, facts_at, name_of}
 use Rattle.jc_report.specs.RowView.{row_lent}
+use Rattle.jc_report.specs.inside.ProvidedInOrder.{provided_in}
 use Rattle.jc_report.specs.declared.report.TreeReport.TheInside.{Inside}
 
 abbrev pub report_shown : Inside → Report
@@ -15,7 +16,7 @@ report_shown a = record {
   files = map lent.row_lent a.files.items;
   classes = a.classes.items;
   circular = circular_names a.classes.items;
-  provided = map row_lent a.provided.items;
+  provided = provided_in a.classes.items;
   required = map row_lent a.required.items;
 }
 

@@ -89,7 +89,8 @@ target_at (reference.Array e) = target.Array
 -- for the class of a node
 abbrev pub StartsInClass : Bool → LoadState → ℕ → Begun → Type 0
 StartsInClass sees load v b = (x : Indexed) (l : Loading) (flags : ℕ)
-    → begun_of x b ≡ start_of (Class (indexed_name x v)) (class_answer (indexed_name x v) (indexed_name x v) (loading_of x load) sees flags) l
+    → begun_of x b
+    ≡ start_of (Class (indexed_name x v)) (class_answer (indexed_name x v) (indexed_name x v) (loading_of x load) sees flags) l
 
 -- for an array of a primitive type
 abbrev pub StartsInObject : ℕ → LoadState → Begun → Type 0

@@ -16,6 +16,6 @@ returns g c =
       classes = (YieldsList-from_first class_lent (λ left. left) _ c.lent_classes.ensures.by_name).runs;
       again = (YieldsList-from_first class_lent (λ left. left) _ c.lent_classes-2.ensures.by_name).runs;
       circular = c.lent_classes.ensures.circular ∙ ap circular_names c.lent_classes.ensures.by_name;
-      provided = copied_gives row_lent c.copied-2.result c.provided.result.now report.provided (ap iter_rest c.copied-2.ensures.source ∙ c.iter-2.ensures.rest) c.provided.ensures;
-      required = copied_gives row_lent c.copied-3.result c.required.result.now report.required (ap iter_rest c.copied-3.ensures.source ∙ c.iter-3.ensures.rest) c.required.ensures;
+      provided = (YieldsList-from_first row_lent (λ left. left) _ c.provided.ensures).runs;
+      required = copied_gives row_lent c.copied-2.result c.required.result.now report.required (ap iter_rest c.copied-2.ensures.source ∙ c.iter-2.ensures.rest) c.required.ensures;
     })

@@ -4,8 +4,8 @@ use Rattle.std.specs.List.{Contains}
 use Rattle.jc_report.specs.ClassRows.{provided_rows}
 use Rattle.jc_report.specs.Rows.{Row}
 use Rattle.jc_report.proofs.rows.RowsAreOne.{are_rows_one}
-use Rattle.jc_linkage.specs.inside.Lending.{in_order, provided_in}
-use Rattle.jc_linkage.proofs.held.ProvidedRows.{are_in_order}
+use Rattle.jc_report.specs.inside.ProvidedInOrder.{in_order, provided_in}
+use Rattle.jc_report.proofs.reports.ProvidedByClass.{are_in_order}
 use Rattle.jc_linkage.proofs.rows.ProvidedIterator.next.Goals as goal
 
 pub loop-row-preserved : goal.loop-row-preserved

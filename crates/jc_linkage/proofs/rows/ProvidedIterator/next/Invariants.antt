@@ -1,5 +1,5 @@
 use Rattle.std.proofs.Common.{◌≡◌, ◌++◌, length}
-use Rattle.jc_linkage.specs.inside.Lending.{provided_in, rows_left}
+use Rattle.jc_report.specs.inside.ProvidedInOrder.{provided_in, rows_left}
 use Rattle.jc_linkage.proofs.rows.ProvidedIterator.next.Given as goal
 
 abbrev pub invariant-loop-row : goal.invariant-loop-row
