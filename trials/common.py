@@ -60,11 +60,13 @@ def copy_anew(folder, to):
 
 
 def make_copy():
-    """The sources of all crates as they stand, and those of jc_asked beside them. What was proved there before stays, and
-    of a crate that was not there what was proved in the tree comes along."""
+    """The sources of all crates as they stand, and those of jc_asked beside them. What was proved there before stays. Of a
+    crate that was not there what was proved in the tree comes along, where rt does not see to that: some kits do, by a
+    folder beside the kit."""
+    is_shared = (pathlib.Path(shutil.which("rt")).resolve().parents[2] / "rattle-kept").is_dir()
     for crate in (TOP / "crates").iterdir():
         copy = COPY / "crates" / crate.name
-        if not copy.exists():
+        if not copy.exists() and not is_shared:
             copy_anew(crate / "out", copy / "out")
         for part in ("src", "specs", "proofs"):
             copy_anew(crate / part, copy / part)
