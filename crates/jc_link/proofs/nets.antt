@@ -1,2 +1,4 @@
+pub mod Asked
 pub mod ClassesNumbered
-pub mod Referred
+pub mod Reaching
+pub mod Walking

@@ -1,16 +1,21 @@
-//! The classes of a table with all that they reach, by numbers, and the part of each.
+//! Classes with all that they reach, by numbers, and the part of each.
 
-ghost use Rattle.std.specs.Prelude.{◌≡◌, ◌<◌, ◌≤◌, [], IfOk, OnOk, length};
-ghost use Rattle.std.specs.List.{Contains};
-ghost use Rattle.jc_classes.specs.Names.{object as java_lang_object};
-ghost use Rattle.jc_classes.specs.Numbers.{IsOnce, name_at};
-ghost use Rattle.jc_classes.specs.Parts.{IsPart};
+ghost use Rattle.std.specs.Prelude.{◌≡◌, ◌<◌, ◌≤◌, ◌++◌, ◌↔◌, ℕ, List, [], IfOk, IfSome, OnOk, length, map};
+ghost use Rattle.std.specs.List.{All, Contains, flat_map};
+ghost use Rattle.std.specs.Option.{option_copied, option_to_list};
+ghost use Rattle.jc_graph.specs.Seen.{SeenNodes};
+ghost use Rattle.jc_classes.specs.Lent.{stands_of};
+ghost use Rattle.jc_classes.specs.NameLists.{Lists};
+ghost use Rattle.jc_classes.specs.Names.{Name, names_of};
+ghost use Rattle.jc_classes.specs.Numbers.{Grows, IsOnce, name_at};
+ghost use Rattle.jc_classes.specs.Parts.{IsPart, Reach};
 ghost use Rattle.jc_classes.specs.Worlds.{World};
+ghost use Rattle.jc_link.specs.Closures.{facts_standing};
 ghost use Rattle.jc_link.specs.Meters.{counted};
-ghost use Rattle.jc_link.specs.Nets.{IsIn, IsNetOf};
+ghost use Rattle.jc_link.specs.Nets.{IsAround, IsIn, IsNetOf};
 ghost use Rattle.jc_link.specs.Tables.{classes_of, world};
-ghost use Rattle.jc_link.specs.inside.NetAsked.{AreAsked, asked_count};
-ghost use Rattle.jc_link.specs.inside.NetShown.{AreKept, AreNumbered, IsHierarchyOf};
+ghost use Rattle.jc_link.specs.inside.NetAsked.{AddsNames, AreFirst, AreReferredIn, IsAskedBy, asked_count};
+ghost use Rattle.jc_link.specs.inside.NetShown.{AllReached, AreKept, AreNumbered, AreNumbersOf, AreStarts, HasRoom, IsHierarchyOf, nodes_in};
 
 use crate::gathering::{Reached, stand_at};
 use crate::meter::Meter;
@@ -19,21 +24,23 @@ use crate::outside::Outside;
 use crate::part::{Part, part_of};
 use crate::table::Table;
 use jc_base::NoMemory;
-use jc_classes::{Numbers, Standing};
+use jc_classes::{Facts, Numbers, Standing};
+use jc_graph::{Seen, mark_above};
+use jc_index::NameList;
 use jc_resolve::Hierarchy;
 use std::alloc::Global;
 use std::marker::Model;
 
-/// The classes of a table, `java/lang/Object`, the classes that their references name, and all that stands above
-/// these, each once.
+/// Classes, `java/lang/Object`, the classes that their references name, and all that stands above these, each once.
 #[derive(Drop)]
 pub struct Net<'t> {
+    /// The classes first.
     numbers: Numbers,
     /// What stands at each number.
     standing: Vec<Standing<'t>>,
     /// The numbers of the supertypes of each number.
     supertypes: Vec<Vec<usize>>,
-    /// The numbers of the classes that the references of each number name.
+    /// Of each class the numbers of the classes that its references name.
     references: Vec<Vec<Option<usize>>>,
     /// The number of `java/lang/Object`.
     object: usize,
@@ -56,6 +63,8 @@ impl<'t> Model for Net<'t> {
 pub struct PartMaker<'n, 't> {
     net: &'n Net<'t>,
     hierarchy: Hierarchy<'n, 't>,
+    /// Room to walk in, once a reach was asked for.
+    seen: Option<Seen>,
 }
 
 impl<'n, 't> Model for PartMaker<'n, 't> {
@@ -63,11 +72,11 @@ impl<'n, 't> Model for PartMaker<'n, 't> {
 
     ghost Value = { specs.Net };
 
-    ghost use Rattle.jc_link.specs.inside.NetShown.{IsHierarchyOf};
+    ghost use Rattle.jc_link.specs.inside.NetShown.{HasRoom, IsHierarchyOf};
 
     ghost view = { λ a. a.net.now };
 
-    ghost invariant = { λ a. IsHierarchyOf a.net.now a.hierarchy };
+    ghost invariant = { λ a. IsHierarchyOf a.net.now a.hierarchy × HasRoom a.net.now a.seen };
 }
 
 impl<'t> Net<'t> {
@@ -84,29 +93,34 @@ impl<'t> Net<'t> {
         ensures made { meter.new.made ≡ meter.old.made }
     {
         let mut numbers = Numbers::new(alloc);
-        let object = numbers.number(alloc, b"java/lang/Object")?;
         number_classes(alloc, table, &mut numbers)?;
-        let asked = ask_all(alloc, table, outside, &mut numbers, meter)?;
-        let Asked {
-            reached,
-            references,
-        } = asked;
-        Ok(Net {
-            numbers,
-            standing: reached.standing,
-            supertypes: reached.supertypes,
-            references,
-            object,
-        })
+        let net = gather_net(alloc, table, outside, numbers, meter)?;
+        Ok(net)
     }
-}
 
-/// What stands at the first of the names, with the numbers of what it tells.
-#[derive(Drop)]
-struct Asked<'t> {
-    reached: Reached<'t>,
-    /// The numbers of the classes that the references of each name.
-    references: Vec<Vec<Option<usize>>>,
+    /// Gathers the net of the classes of some names, and of one more where it is given. The table is asked for each
+    /// name once.
+    pub fn around(
+        alloc: Global,
+        table: &'t Table,
+        outside: &Outside,
+        names: &[Vec<u8>],
+        more: Option<&[u8]>,
+        meter: &mut Meter,
+    ) -> Result<Net<'t>, NoMemory>
+        ensures around { IfOk result (IsAround (world table.now outside.now)) }
+        ensures classes { IfOk result (λ n. (d : Name)
+            → Contains n.classes d ↔ Contains (names_of names.now ++ option_to_list (option_copied more.entry)) d) }
+        ensures asks { IfOk result (λ n. meter.new.asks ≡ counted meter.old.asks (length n.names)) }
+        ensures asks_rise { meter.old.asks ≤ meter.new.asks }
+        ensures made { meter.new.made ≡ meter.old.made }
+    {
+        let mut numbers = Numbers::new(alloc);
+        number_names(alloc, names, &mut numbers)?;
+        number_some(alloc, more, &mut numbers)?;
+        let net = gather_net(alloc, table, outside, numbers, meter)?;
+        Ok(net)
+    }
 }
 
 /// Numbers the classes of a table.
@@ -122,33 +136,108 @@ fn number_classes(alloc: Global, table: &Table, numbers: &mut Numbers) -> Result
     Ok(())
 }
 
-/// Asks a table for what stands at each name, and numbers all that this tells.
+/// Numbers some names.
+fn number_names(alloc: Global, names: &[Vec<u8>], numbers: &mut Numbers) -> Result<(), NoMemory>
+    requires { IsOnce numbers.old }
+    ensures { OnOk result (AddsNames numbers.old numbers.new (names_of names.now)) }
+{
+    for name in names {
+        numbers.number(alloc, name)?;
+    }
+    Ok(())
+}
+
+/// Numbers a name, if there is one.
+fn number_some(alloc: Global, name: Option<&[u8]>, numbers: &mut Numbers) -> Result<(), NoMemory>
+    requires { IsOnce numbers.old }
+    ensures { OnOk result (AddsNames numbers.old numbers.new (option_to_list (option_copied name.entry))) }
+{
+    if let Some(name) = name {
+        numbers.number(alloc, name)?;
+    }
+    Ok(())
+}
+
+/// The net of the classes that have numbers.
+fn gather_net<'t>(
+    alloc: Global,
+    table: &'t Table,
+    outside: &Outside,
+    numbers: Numbers,
+    meter: &mut Meter,
+) -> Result<Net<'t>, NoMemory>
+    requires { IsOnce numbers }
+    ensures around { IfOk result (IsAround (world table.now outside.now)) }
+    ensures classes { IfOk result (λ n. n.classes ≡ numbers) }
+    ensures asks { IfOk result (λ n. meter.new.asks ≡ counted meter.old.asks (length n.names)) }
+    ensures asks_rise { meter.old.asks ≤ meter.new.asks }
+    ensures made { meter.new.made ≡ meter.old.made }
+{
+    let mut numbers = numbers;
+    let count = numbers.len();
+    let object = numbers.number(alloc, b"java/lang/Object")?;
+    let mut reached = Reached::with_room(alloc, numbers.len())?;
+    ask_all(alloc, table, outside, &mut numbers, &mut reached, meter)?;
+    let references = refer(alloc, &reached, count, &mut numbers)?;
+    ask_all(alloc, table, outside, &mut numbers, &mut reached, meter)?;
+    Ok(Net {
+        numbers,
+        standing: reached.standing,
+        supertypes: reached.supertypes,
+        references,
+        object,
+    })
+}
+
+/// Asks a table for what stands at each name for which it was not asked yet, and numbers the supertypes.
 fn ask_all<'t>(
     alloc: Global,
     table: &'t Table,
     outside: &Outside,
     numbers: &mut Numbers,
+    reached: &mut Reached<'t>,
     meter: &mut Meter,
-) -> Result<Asked<'t>, NoMemory>
-    requires { IsOnce numbers.old }
-    ensures asked { IfOk result (AreAsked (world table.now outside.now) numbers.new) }
-    ensures whole { IfOk result (λ a. length numbers.new ≤ asked_count a) }
+) -> Result<(), NoMemory>
+    requires { IsAskedBy (world table.now outside.now) numbers.old reached.old }
+    ensures asked { OnOk result (IsAskedBy (world table.now outside.now) numbers.new reached.new) }
+    ensures whole { OnOk result (length numbers.new ≤ asked_count reached.new) }
     ensures kept { OnOk result (AreKept numbers.old numbers.new) }
-    ensures asks { IfOk result (λ a. meter.new.asks ≡ counted meter.old.asks (asked_count a)) }
+    ensures reached { OnOk result ((classes : List Name) → AllReached (world table.now outside.now) classes numbers.old
+        → AllReached (world table.now outside.now) classes numbers.new) }
+    ensures asks { OnOk result ((count : ℕ) → meter.old.asks ≡ counted count (asked_count reached.old)
+        → meter.new.asks ≡ counted count (asked_count reached.new)) }
     ensures asks_rise { meter.old.asks ≤ meter.new.asks }
     ensures made { meter.new.made ≡ meter.old.made }
 {
-    let mut reached = Reached::with_room(alloc, numbers.len())?;
-    let mut references = Vec::with_capacity(alloc, numbers.len())?;
     while reached.standing.len() < numbers.len() {
         let next = stand_at(table, outside, numbers.name(reached.standing.len()), meter);
         reached.push(alloc, numbers, next)?;
-        references.push(number_references(alloc, numbers, next)?)?;
     }
-    Ok(Asked {
-        reached,
-        references,
-    })
+    Ok(())
+}
+
+/// Numbers the classes that the references of so many classes name, which have the first numbers.
+fn refer(
+    alloc: Global,
+    reached: &Reached<'_>,
+    count: usize,
+    numbers: &mut Numbers,
+) -> Result<Vec<Vec<Option<usize>>>, NoMemory>
+    requires once { IsOnce numbers.old }
+    requires count { count ≤ asked_count reached.now }
+    ensures size { IfOk result (λ references. length (nodes_in references.items) ≡ count) }
+    ensures kept { OnOk result (AreKept numbers.old numbers.new) }
+    ensures asked { (m : World) → IsAskedBy m numbers.old reached.now → OnOk result (IsAskedBy m numbers.new reached.now) }
+    ensures referred { (m : World) → IsAskedBy m numbers.old reached.now
+        → IfOk result (λ references. AreReferredIn m numbers.new (nodes_in references.items)) }
+    ensures reached { (m : World) (classes : List Name) → IsAskedBy m numbers.old reached.now
+        → AreFirst count numbers.old classes → AllReached m classes numbers.old → OnOk result (AllReached m classes numbers.new) }
+{
+    let mut references = Vec::with_capacity(alloc, count)?;
+    for class in 0..count {
+        references.push(number_references(alloc, numbers, reached.standing[class])?)?;
+    }
+    Ok(references)
 }
 
 impl<'n, 't> PartMaker<'n, 't> {
@@ -163,12 +252,16 @@ impl<'n, 't> PartMaker<'n, 't> {
             net.supertypes.as_slice(),
             net.object,
         )?;
-        Ok(PartMaker { net, hierarchy })
+        Ok(PartMaker {
+            net,
+            hierarchy,
+            seen: None,
+        })
     }
 
     /// Makes the part of the class of a name.
     pub fn part(&mut self, alloc: Global, name: &[u8], meter: &mut Meter) -> Result<Part, NoMemory>
-        requires { Contains self.old.names name.now }
+        requires { Contains self.old.classes name.now }
         ensures part { (m : World) → IsIn m self.old → IfOk result (IsPart m name.now) }
         ensures net { self.new ≡ self.old }
         ensures made { OnOk result (meter.new.made ≡ counted meter.old.made 1) }
@@ -176,6 +269,31 @@ impl<'n, 't> PartMaker<'n, 't> {
         ensures asks { meter.new.asks ≡ meter.old.asks }
     {
         part_at(alloc, self.net, &mut self.hierarchy, name, meter)
+    }
+
+    /// The record of a class. No memory.
+    pub fn record(&self, name: &[u8]) -> Option<&'t Facts>
+        requires { Contains self.now.classes name.now }
+        ensures { (m : World) → IsIn m self.now → option_copied result ≡ facts_standing (m name.now) }
+    {
+        match standing_at(self.net, name) {
+            Standing::Class(facts) => Some(facts),
+            _ => None,
+        }
+    }
+
+    /// The names of the reach of a class, rising.
+    pub fn reach(&mut self, alloc: Global, name: &[u8]) -> Result<NameList, NoMemory>
+        requires { Contains self.old.classes name.now }
+        ensures reach { (m : World) → IsIn m self.old → IfOk result (λ names. Lists names (Reach m name.now)) }
+        ensures net { self.new ≡ self.old }
+    {
+        let net = self.net;
+        let mut seen = room(alloc, self.seen.take(), net)?;
+        see_reach(alloc, net, &mut seen, name)?;
+        let names = names_at(alloc, &net.numbers, seen.nodes())?;
+        self.seen = Some(seen);
+        Ok(NameList::of(names))
     }
 }
 
@@ -188,7 +306,7 @@ fn part_at(
     meter: &mut Meter,
 ) -> Result<Part, NoMemory>
     requires hierarchy { IsHierarchyOf net.now hierarchy.old }
-    requires name { Contains net.now.names name.now }
+    requires name { Contains net.now.classes name.now }
     ensures part { (m : World) → IsIn m net.now → IfOk result (IsPart m name.now) }
     ensures same { hierarchy.new ≡ hierarchy.old }
     ensures made { OnOk result (meter.new.made ≡ counted meter.old.made 1) }
@@ -203,4 +321,80 @@ fn part_at(
     let part = part_of(alloc, hierarchy, class, own, references)?;
     meter.count_part();
     Ok(part)
+}
+
+/// What stands at the name of a class.
+fn standing_at<'t>(net: &Net<'t>, name: &[u8]) -> Standing<'t>
+    requires { Contains net.now.classes name.now }
+    ensures { (m : World) → IsIn m net.now → stands_of result ≡ m name.now }
+{
+    let Some(class) = net.numbers.find(name) else {
+        unreachable!()
+    };
+    net.standing[class]
+}
+
+/// The room that was kept, or new room.
+fn room(alloc: Global, kept: Option<Seen>, net: &Net) -> Result<Seen, NoMemory>
+    requires { HasRoom net.now kept }
+    ensures { IfOk result (λ seen. length seen.flags ≡ length net.now.names) }
+{
+    match kept {
+        Some(seen) => Ok(seen),
+        None => Seen::new(alloc, net.numbers.len()),
+    }
+}
+
+/// Sees what the class of a name reaches, by numbers.
+fn see_reach(alloc: Global, net: &Net, seen: &mut Seen, name: &[u8]) -> Result<(), NoMemory>
+    requires seen { length seen.old.flags ≡ length net.now.names }
+    requires name { Contains net.now.classes name.now }
+    ensures size { OnOk result (length seen.new.flags ≡ length net.now.names) }
+    ensures within { OnOk result (All (λ v. v < length net.now.names) seen.new.list) }
+    ensures reach { (m : World) → IsIn m net.now → OnOk result (AreNumbersOf net.now.names (Reach m name.now) seen.new.list) }
+{
+    let starts = starts_of(alloc, net, name)?;
+    mark_above(net.supertypes.as_slice(), seen, &starts)?;
+    seen.add_all(&starts)
+}
+
+/// The numbers of the class of a name, of `java/lang/Object` and of the classes that its references name.
+fn starts_of(alloc: Global, net: &Net, name: &[u8]) -> Result<Vec<usize>, NoMemory>
+    requires { Contains net.now.classes name.now }
+    ensures within { IfOk result (λ starts. All (λ v. v < length net.now.names) starts.items) }
+    ensures starts { (m : World) → IsIn m net.now → IfOk result (λ starts. AreStarts m name.now net.now.names starts.items) }
+{
+    let Some(class) = net.numbers.find(name) else {
+        unreachable!()
+    };
+    let references = net.references[class].as_slice();
+    let mut starts = Vec::with_capacity(alloc, 2 + references.len())?;
+    starts.push(class)?;
+    starts.push(net.object)?;
+    push_some(&mut starts, references)?;
+    Ok(starts)
+}
+
+/// Adds those of these numbers that are there.
+fn push_some(numbers: &mut Vec<usize>, others: &[Option<usize>]) -> Result<(), NoMemory>
+    ensures { OnOk result (numbers.new.items ≡ numbers.old.items ++ flat_map option_to_list others.now) }
+{
+    for other in others {
+        if let Some(other) = other {
+            numbers.push(*other)?;
+        }
+    }
+    Ok(())
+}
+
+/// The names of these numbers.
+fn names_at(alloc: Global, numbers: &Numbers, nodes: &[usize]) -> Result<Vec<Vec<u8>>, NoMemory>
+    requires { All (λ v. v < length numbers.now) nodes.now }
+    ensures { IfOk result (λ names. names_of names.items ≡ map (name_at numbers.now) nodes.now) }
+{
+    let mut names = Vec::with_capacity(alloc, nodes.len())?;
+    for node in nodes {
+        names.push(Vec::from_slice(alloc, numbers.name(*node))?)?;
+    }
+    Ok(names)
 }

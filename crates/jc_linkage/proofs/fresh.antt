@@ -1,3 +1,4 @@
 pub mod Counts
+pub mod FewAsks
 pub mod FreshLists
 pub mod NewcomersReady

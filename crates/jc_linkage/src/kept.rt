@@ -1,19 +1,18 @@
 //! What is kept of a class.
 
 ghost use Rattle.std.specs.Prelude.{◌≡◌, ◌≤◌, IfOk, OnOk, length};
+ghost use Rattle.std.specs.List.{Contains};
 ghost use Rattle.std.specs.Option.{option_copied};
 ghost use Rattle.jc_classes.specs.Names.{Name, names_of};
-ghost use Rattle.jc_classes.specs.Parts.{IsPart};
 ghost use Rattle.jc_classes.specs.Worlds.{World};
-ghost use Rattle.jc_link.specs.Closures.{IsClosure};
 ghost use Rattle.jc_link.specs.Meters.{counted};
-ghost use Rattle.jc_link.specs.Tables.{world};
-ghost use Rattle.jc_linkage.specs.inside.Kept.{AllFresh, AreKeys, HasKeysOf, IsKeptOf, fresh_names, reach_sum, required_by};
+ghost use Rattle.jc_link.specs.Nets.{IsIn};
+ghost use Rattle.jc_linkage.specs.inside.Kept.{AllFresh, AreKeys, IsKeptOf, fresh_names, required_by};
 
 use jc_base::{ByteMap, NoMemory};
 use jc_classes::Facts;
 use jc_index::PackedNames;
-use jc_link::{Closure, Meter, Outside, Part, Table, gather, make_part};
+use jc_link::{Meter, Part, PartMaker};
 use jc_report::required_of;
 use jc_required::RowList;
 use std::alloc::Global;
@@ -35,50 +34,51 @@ pub(crate) struct Fresh {
     pub(crate) kept: Kept,
 }
 
-/// Gathers classes and makes their parts, in order. Of what is kept of them it takes over what stays.
+/// Makes the parts of classes, in order. Of what is kept of them it takes over what stays.
 pub(crate) fn make_fresh(
     alloc: Global,
-    table: &Table,
-    outside: &Outside,
+    maker: &mut PartMaker,
     kept: &ByteMap<Kept>,
     names: &[Vec<u8>],
     meter: &mut Meter,
 ) -> Result<Vec<Fresh>, NoMemory>
+    requires { (d : Name) → Contains (names_of names.now) d → Contains maker.old.classes d }
     ensures names { IfOk result (λ fresh. fresh_names fresh.items ≡ names_of names.now) }
-    ensures kept { IfOk result (λ fresh. AllFresh (world table.now outside.now) fresh.items) }
+    ensures kept { (m : World) → IsIn m maker.old → IfOk result (λ fresh. AllFresh m fresh.items) }
+    ensures net { maker.new ≡ maker.old }
     ensures made { OnOk result (meter.new.made ≡ counted meter.old.made (length names.now)) }
-    ensures asks { IfOk result (λ fresh. meter.new.asks ≡ counted meter.old.asks (reach_sum fresh.items)) }
-    ensures asks_rise { meter.old.asks ≤ meter.new.asks }
     ensures made_rise { meter.old.made ≤ meter.new.made }
+    ensures asks { meter.new.asks ≡ meter.old.asks }
 {
     let mut fresh = Vec::new(alloc);
     for name in names {
         let before = kept.get(name);
-        fresh.push(make_one(alloc, table, outside, name, before, meter)?)?;
+        fresh.push(make_one(alloc, maker, name, before, meter)?)?;
     }
     Ok(fresh)
 }
 
-/// Gathers a class and makes its part. Of what is kept of it before it takes over what stays.
+/// Makes the part of a class. Of what is kept of it before it takes over what stays.
 pub(crate) fn make_one(
     alloc: Global,
-    table: &Table,
-    outside: &Outside,
+    maker: &mut PartMaker,
     name: &[u8],
     before: Option<&Kept>,
     meter: &mut Meter,
 ) -> Result<Fresh, NoMemory>
+    requires { Contains maker.old.classes name.now }
     ensures name { IfOk result (λ fresh. fresh.name.items ≡ name.now) }
-    ensures kept { IfOk result (λ fresh. IsKeptOf (world table.now outside.now) name.now fresh.kept) }
+    ensures kept { (m : World) → IsIn m maker.old → IfOk result (λ fresh. IsKeptOf m name.now fresh.kept) }
+    ensures net { maker.new ≡ maker.old }
     ensures made { OnOk result (meter.new.made ≡ counted meter.old.made 1) }
-    ensures asks { IfOk result (λ fresh. meter.new.asks ≡ counted meter.old.asks (length fresh.kept.reach)) }
-    ensures asks_rise { meter.old.asks ≤ meter.new.asks }
     ensures made_rise { meter.old.made ≤ meter.new.made }
+    ensures asks { meter.new.asks ≡ meter.old.asks }
 {
     let name_kept = Vec::from_slice(alloc, name)?;
-    let closure = gather(alloc, table, outside, name, meter)?;
-    let (part, required) = part_and_rows(alloc, &closure, before, meter)?;
-    let reach = PackedNames::of(alloc, &closure.into_names())?;
+    let part = maker.part(alloc, name, meter)?;
+    let required = required_by(alloc, maker.record(name), &part, before)?;
+    let names = maker.reach(alloc, name)?;
+    let reach = PackedNames::of(alloc, &names)?;
     let kept = Kept {
         part,
         reach,
@@ -88,24 +88,6 @@ pub(crate) fn make_one(
         name: name_kept,
         kept,
     })
-}
-
-/// The part of the class that a closure was gathered for, and the rows that it requires.
-fn part_and_rows(
-    alloc: Global,
-    closure: &Closure,
-    before: Option<&Kept>,
-    meter: &mut Meter,
-) -> Result<(Part, RowList), NoMemory>
-    ensures part { (m : World) (d : Name) → IsClosure m d closure.now → IfOk result (λ made. IsPart m d made.0) }
-    ensures required { (m : World) (d : Name) → IsClosure m d closure.now → IfOk result (λ made. HasKeysOf m d made.1 made.0) }
-    ensures made { OnOk result (meter.new.made ≡ counted meter.old.made 1) }
-    ensures asks { meter.new.asks ≡ meter.old.asks }
-    ensures made_rise { meter.old.made ≤ meter.new.made }
-{
-    let part = make_part(alloc, closure, meter)?;
-    let required = required_by(alloc, closure.record(), &part, before)?;
-    Ok((part, required))
 }
 
 /// The rows that a class requires by its record; none where it has none.

@@ -1,19 +1,21 @@
 //! The parts that an edit needs are made and linked before anything is taken away.
 
-ghost use Rattle.std.specs.Prelude.{◌≡◌, ◌≤◌, [], IfErr, IfOk, None, OnErr, OnOk, Some};
+ghost use Rattle.std.specs.Prelude.{◌≡◌, ◌≤◌, ◌++◌, [], IfErr, IfOk, None, OnErr, OnOk, Some};
 ghost use Rattle.std.specs.FinMap as map;
+ghost use Rattle.std.specs.List.{Contains};
 ghost use Rattle.std.specs.Option.{option_copied};
-ghost use Rattle.jc_classes.specs.Names.{Name};
-ghost use Rattle.jc_link.specs.Tables.{world};
+ghost use Rattle.jc_classes.specs.Names.{Name, names_of};
+ghost use Rattle.jc_classes.specs.Worlds.{World};
+ghost use Rattle.jc_link.specs.Nets.{IsIn};
 ghost use Rattle.jc_linkage.specs.inside.Kept.{AreLinked};
 ghost use Rattle.jc_linkage.specs.inside.LinkSets.{AreLinks, held_and_fresh, links_of, together};
-ghost use Rattle.jc_linkage.specs.inside.Prepared.{IsPrepared, IsPreparedOver, Prepares};
+ghost use Rattle.jc_linkage.specs.inside.Prepared.{IsPrepared, Prepares, one_of};
 
 use crate::kept::{Fresh, Kept, make_fresh, make_one};
 use crate::linking::{link_fresh, undo_fresh, undo_links};
 use crate::links::Links;
 use jc_base::{ByteMap, NoMemory};
-use jc_link::{Meter, Outside, Table};
+use jc_link::{Meter, Net, Outside, PartMaker, Table};
 use std::alloc::{AllocFailed, Global};
 
 /// Makes the parts of the affected classes, and of one that comes, and links them; the newcomer is kept
@@ -37,8 +39,38 @@ pub(crate) fn prepare(
     ensures asks_rise { meter.old.asks ≤ meter.new.asks }
     ensures made_rise { meter.old.made ≤ meter.new.made }
 {
-    let fresh = make_fresh(alloc, table, outside, kept, names, meter)?;
-    link_all(alloc, table, outside, kept, links, &fresh, comes, meter)?;
+    if names.is_empty() && comes.is_none() {
+        return Ok(Vec::new(alloc));
+    }
+    let net = Net::around(alloc, table, outside, names, comes, meter)?;
+    let mut maker = PartMaker::new(alloc, &net)?;
+    let fresh = prepare_all(alloc, &mut maker, kept, links, names, comes, meter)?;
+    Ok(fresh)
+}
+
+/// The same over the net of these classes.
+fn prepare_all(
+    alloc: Global,
+    maker: &mut PartMaker,
+    kept: &mut ByteMap<Kept>,
+    links: &mut Links,
+    names: &[Vec<u8>],
+    comes: Option<&[u8]>,
+    meter: &mut Meter,
+) -> Result<Vec<Fresh>, NoMemory>
+    requires classes { (d : Name) → Contains (names_of names.now ++ one_of (option_copied comes)) d → Contains maker.old.classes d }
+    requires linked { AreLinked kept.old links.old }
+    requires absent { (n : Name) → option_copied comes ≡ Some n → map.get kept.old n ≡ None }
+    ensures kept_err { OnErr result (kept.new ≡ kept.old) }
+    ensures linked_err { OnErr result (AreLinked kept.old links.new) }
+    ensures ready { (m : World) → IsIn m maker.old
+        → IfOk result (λ fresh. IsPrepared m (names_of names.now) (option_copied comes.entry) kept.old kept.new fresh.items meter.old meter.new) }
+    ensures linked { IfOk result (λ fresh. AreLinks (held_and_fresh kept.new fresh.items) links.new) }
+    ensures asks { meter.new.asks ≡ meter.old.asks }
+    ensures made_rise { meter.old.made ≤ meter.new.made }
+{
+    let fresh = make_fresh(alloc, maker, kept, names, meter)?;
+    link_all(alloc, maker, kept, links, &fresh, comes, meter)?;
     Ok(fresh)
 }
 
@@ -46,25 +78,26 @@ pub(crate) fn prepare(
 /// kept are as before.
 fn link_all(
     alloc: Global,
-    table: &Table,
-    outside: &Outside,
+    maker: &mut PartMaker,
     kept: &mut ByteMap<Kept>,
     links: &mut Links,
     fresh: &[Fresh],
     comes: Option<&[u8]>,
     meter: &mut Meter,
 ) -> Result<(), NoMemory>
+    requires class { (n : Name) → option_copied comes ≡ Some n → Contains maker.old.classes n }
     requires linked { AreLinked kept.old links.old }
     requires absent { (n : Name) → option_copied comes ≡ Some n → map.get kept.old n ≡ None }
     ensures kept_err { OnErr result (kept.new ≡ kept.old) }
     ensures linked_err { OnErr result (AreLinked kept.old links.new) }
-    ensures ready { OnOk result (IsPreparedOver table.now outside.now [] comes.entry kept.old kept.new [] meter.old meter.new) }
+    ensures ready { (m : World) → IsIn m maker.old
+        → OnOk result (IsPrepared m [] (option_copied comes.entry) kept.old kept.new [] meter.old meter.new) }
     ensures linked { OnOk result (AreLinks (held_and_fresh kept.new fresh.now) links.new) }
-    ensures asks_rise { meter.old.asks ≤ meter.new.asks }
+    ensures asks { meter.new.asks ≡ meter.old.asks }
     ensures made_rise { meter.old.made ≤ meter.new.made }
 {
     match comes {
-        Some(name) => link_newcomer(alloc, table, outside, kept, links, fresh, name, meter),
+        Some(name) => link_newcomer(alloc, maker, kept, links, fresh, name, meter),
         None => link_others(kept, links, fresh),
     }
 }
@@ -72,24 +105,25 @@ fn link_all(
 /// The same where a class comes.
 fn link_newcomer(
     alloc: Global,
-    table: &Table,
-    outside: &Outside,
+    maker: &mut PartMaker,
     kept: &mut ByteMap<Kept>,
     links: &mut Links,
     fresh: &[Fresh],
     name: &[u8],
     meter: &mut Meter,
 ) -> Result<(), NoMemory>
+    requires class { Contains maker.old.classes name.now }
     requires linked { AreLinked kept.old links.old }
     requires absent { map.get kept.old name.now ≡ None }
     ensures kept_err { OnErr result (kept.new ≡ kept.old) }
     ensures linked_err { OnErr result (AreLinked kept.old links.new) }
-    ensures ready { OnOk result (IsPrepared (world table.now outside.now) [] (Some name.now) kept.old kept.new [] meter.old meter.new) }
+    ensures ready { (m : World) → IsIn m maker.old
+        → OnOk result (IsPrepared m [] (Some name.now) kept.old kept.new [] meter.old meter.new) }
     ensures linked { OnOk result (AreLinks (held_and_fresh kept.new fresh.now) links.new) }
-    ensures asks_rise { meter.old.asks ≤ meter.new.asks }
+    ensures asks { meter.new.asks ≡ meter.old.asks }
     ensures made_rise { meter.old.made ≤ meter.new.made }
 {
-    let newcomer = make_one(alloc, table, outside, name, None, meter)?;
+    let newcomer = make_one(alloc, maker, name, None, meter)?;
     match link_and_keep(kept, links, fresh, newcomer) {
         Ok(()) => Ok(()),
         Err(newcomer) => {

@@ -21,7 +21,7 @@ ghost use Rattle.jc_report.specs.Rows.{AreRows};
 ghost use Rattle.jc_report.specs.RowView.{row_lent};
 ghost use Rattle.jc_report.specs.Trees.{IsTree};
 ghost use Rattle.jc_report.specs.inside.Given.{ForGiven};
-ghost use Rattle.jc_report.specs.inside.Made.{AreMadeOf, HasNamesOf};
+ghost use Rattle.jc_report.specs.inside.Made.{AreMadeOf, HasClasses};
 ghost use Rattle.jc_report.specs.inside.ProvidedInOrder.{provided_in};
 ghost use Rattle.jc_report.specs.inside.ReportShown.{AreByName, AreClasses};
 
@@ -259,7 +259,7 @@ fn push_classes<'t>(
     meter: &mut Meter,
 ) -> Result<(), NoMemory>
     requires none { classes.old.items ≡ [] }
-    requires names { HasNamesOf (classes_of table.now) maker.old }
+    requires names { HasClasses (classes_of table.now) maker.old }
     ensures classes { (prefixes : List Name) → IsIn (world table.now prefixes) maker.old
         → OnOk result (AreMadeOf table.now prefixes classes.new.items) }
     ensures made { OnOk result (meter.new.made ≡ counted meter.old.made (length classes.new.items)) }

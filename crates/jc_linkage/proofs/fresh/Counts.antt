@@ -1,11 +1,9 @@
 -- What making parts counts.
-use Rattle.std.proofs.Common.{◌≡◌, ℕ, ◌+◌, ◌<◌, ◌^◌, List, [], ◌∷◌, ◌++◌, length, arith}
+use Rattle.std.proofs.Common.{◌≡◌, ℕ, ◌+◌, ◌<◌, ◌^◌, List, length, arith}
 use Rattle.std.specs.declared.vec.Vec.{Vec}
 use Rattle.std.specs.declared.alloc.Global.{Global}
 use Rattle.jc_classes.specs.Names.{names_of}
 use Rattle.jc_link.specs.Meters.{counted}
-use Rattle.jc_linkage.specs.declared.kept.Fresh.{Fresh}
-use Rattle.jc_linkage.specs.inside.Kept.{reach_sum}
 use Rattle.std.proofs.lemmas.List.{length-map}
 
 pub counted_add : (a k j : ℕ) → counted (counted a k) j ≡ counted a (k + j)
@@ -13,14 +11,6 @@ counted_add a k j = omega arith
 
 pub counted_none : (a : ℕ) → a < 2 ^ 64 → a ≡ counted a 0
 counted_none a h = omega arith
-
-pub reach_sum_push : (xs : List Fresh) (x : Fresh) → reach_sum (xs ++ x ∷ []) ≡ reach_sum xs + length x.kept.reach
-reach_sum_push [] x = omega arith
-reach_sum_push (y ∷ xs) x = let h = reach_sum_push xs x in omega arith
-
-pub reach_sum_append : (xs ys : List Fresh) → reach_sum (xs ++ ys) ≡ reach_sum xs + reach_sum ys
-reach_sum_append [] ys = omega arith
-reach_sum_append (x ∷ xs) ys = let h = reach_sum_append xs ys in omega arith
 
 pub names_length : (vs : List (Vec ℕ Global)) → length (names_of vs) ≡ length vs
 names_length vs = length-map vs (λ (v : Vec ℕ Global). v.items)

@@ -1,6 +1,7 @@
 -- Lists of what is fresh.
-use Rattle.std.proofs.Common.{◌≡◌, ℕ, ◌+◌, ◌<◌, true, false, ◌&&◌, ◌||◌, cond, List, [], ◌∷◌, ◌++◌, length, get_or, take, drop, Option, Some, refl, sym, ap, ◌∙◌, IsSome, is_some, subst, ◌⊎◌, inl, inr}
-use Rattle.std.proofs.lemmas.List.{map-append, take_more, take-append-drop}
+use Rattle.std.proofs.Common.{◌≡◌, ℕ, ◌+◌, ◌<◌, arith, true, false, ◌&&◌, ◌||◌, cond, List, [], ◌∷◌, ◌++◌, length, get_or, take, drop, Option, Some, refl, sym, ap, ◌∙◌, IsSome, is_some, subst, ◌⊎◌, inl, inr}
+use Rattle.std.proofs.lemmas.List.{get_or-map, length-map, map-append, take_more, take-append-drop}
+use Rattle.std.specs.List.{Contains}
 use Rattle.std.proofs.lemmas.List.Folds.{list_any-append}
 use Rattle.std.specs.Cmp.{eq_by_cmp_equiv}
 use Rattle.std.specs.Cmp.Lexicographic.{nat_list_cmp_total}
@@ -39,6 +40,11 @@ pub names_more : (xs : List (Vec ℕ Global)) (i : ℕ) (x : Vec ℕ Global) →
 names_more xs i x l e =
     ap names_of (take_more xs i x l ∙ ap (λ y. take i xs ++ y ∷ []) (sym e))
     ∙ map-append (λ (v : Vec ℕ Global). v.items) (take i xs) (x ∷ [])
+
+-- the name at a place is one of them
+pub name_among : (xs : List (Vec ℕ Global)) (i : ℕ) (x : Vec ℕ Global) → i < length xs → x ≡ get_or xs i x → Contains (names_of xs) x.items
+name_among xs i x l e =
+    (i, omega (arith, l, length-map xs (λ (v : Vec ℕ Global). v.items)), get_or-map (λ (v : Vec ℕ Global). v.items) xs i x x.items l ∙ ap (λ (v : Vec ℕ Global). v.items) (sym e))
 
 pub fresh_names_push : (xs : List Fresh) (x : Fresh) → fresh_names (xs ++ x ∷ []) ≡ fresh_names xs ++ x.name.items ∷ []
 fresh_names_push xs x = map-append (λ (y : Fresh). y.name.items) xs (x ∷ [])

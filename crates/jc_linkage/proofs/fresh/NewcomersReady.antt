@@ -1,7 +1,15 @@
 -- One that comes, among what is made ready.
-use Rattle.std.proofs.Common.{◌≡◌, ◌+◌, Bool, ◌&&◌, ◌||◌, List, [], length, Option, None, refl, sym, ap, ◌∙◌, Some}
+use Rattle.std.proofs.Common.{◌≡◌, ◌≤◌, ◌+◌, ◌++◌, ℕ, arith, is_some, true, false, Bool, ◌&&◌, ◌||◌, List, [], ◌∷◌, length, Option, None, refl, sym, ap, ◌∙◌, Some}
 use Rattle.std.proofs.lemmas.List.{length-append, map-append}
 use Rattle.std.specs.FinMap as map
+use Rattle.std.specs.List.{Contains}
+use Rattle.std.specs.Option.{option_copied, option_to_list}
+use Rattle.std.specs.Bool.{◌==◌}
+use Rattle.std.specs.Borrow.{Bor}
+use Rattle.std.specs.declared.vec.Vec.{Vec}
+use Rattle.std.specs.declared.alloc.Global.{Global}
+use Rattle.std.proofs.lemmas.Bool.{false≢true}
+use Rattle.jc_classes.specs.Names.{names_of}
 use Rattle.jc_classes.specs.Names.{Name, same_name}
 use Rattle.jc_classes.specs.Worlds.{World}
 use Rattle.jc_link.specs.Meters.{counted}
@@ -16,7 +24,7 @@ use Rattle.jc_linkage.specs.Affected.{NoRepeat}
 use Rattle.jc_linkage.proofs.equations.Booleans.{or_none}
 use Rattle.jc_linkage.proofs.equations.LinkTests.{all_linked}
 use Rattle.jc_linkage.proofs.fresh.FreshLists.{all_fresh_append}
-use Rattle.jc_linkage.proofs.fresh.Counts.{counted_add, counted_none, reach_sum_append}
+use Rattle.jc_linkage.proofs.fresh.Counts.{counted_add, counted_none}
 use Rattle.jc_linkage.proofs.held.KeptMaps.{held_insert, held_at}
 
 -- where none comes, nothing is made
@@ -28,12 +36,12 @@ ready_none m comes kept meter none = record {
   parts = tt;
   at = λ d. refl;
   made = counted_none meter.made meter.made_fit;
-  asks = counted_none meter.asks meter.asks_fit;
+  asks = omega arith;
 }
 
 -- what is made ready of the one that comes, behind the others
 pub ready_behind : (m : World) (names : List Name) (comes : Option Name) (kept now : KeptMap) (fresh : List Fresh) (old mid new : Meter)
-    → fresh_names fresh ≡ names → AllFresh m fresh → mid.made ≡ counted old.made (length names) → mid.asks ≡ counted old.asks (reach_sum fresh)
+    → fresh_names fresh ≡ names → AllFresh m fresh → mid.made ≡ counted old.made (length names) → new.asks ≡ old.asks
     → IsPrepared m [] comes kept now [] mid new → IsPrepared m names comes kept now fresh old new
 ready_behind m names comes kept now fresh old mid new others parts made asks ready = record {
   last = ready.last;
@@ -45,14 +53,45 @@ ready_behind m names comes kept now fresh old mid new others parts made asks rea
       ready.made ∙ ap (λ a. counted a (length (fresh_names ready.last))) made ∙ counted_add old.made (length names) (length (fresh_names ready.last))
       ∙ ap (counted old.made)
       (ap (λ z. length z + length (fresh_names ready.last)) (sym others) ∙ sym (ap length (map-append (λ (x : Fresh). x.name.items) fresh ready.last) ∙ length-append (fresh_names fresh) (fresh_names ready.last)));
-  asks =
-      ready.asks ∙ ap (λ a. counted a (reach_sum ready.last)) asks ∙ counted_add old.asks (reach_sum fresh) (reach_sum ready.last)
-      ∙ ap (counted old.asks) (sym (reach_sum_append fresh ready.last));
+  asks = omega (arith, asks);
+}
+
+-- the same of a meter before, which counts few asks
+pub ready_from : (m : World) (names : List Name) (comes : Option Name) (kept now : KeptMap) (fresh : List Fresh) (old mid new : Meter)
+    → mid.made ≡ old.made → (ready : IsPrepared m names comes kept now fresh mid new) → new.asks ≤ old.asks + reach_sum (fresh ++ ready.last)
+    → IsPrepared m names comes kept now fresh old new
+ready_from m names comes kept now fresh old mid new made ready asks = record {
+  last = ready.last;
+  others = ready.others;
+  newcomer = ready.newcomer;
+  parts = ready.parts;
+  at = ready.at;
+  made = ready.made ∙ ap (λ a. counted a (length (fresh_names (fresh ++ ready.last)))) made;
+  asks = asks;
 }
 
 pub one_has : (o : Option Name) (d : Name) → has (one_of o) d ≡ is_name o d
 one_has None d = refl
 one_has (Some n) d = or_none (same_name d n)
+
+pub one_is : (o : Option Name) → one_of o ≡ option_to_list o
+one_is None = refl
+one_is (Some n) = refl
+
+-- there is one
+pub one_of_both : (names : List Name) (o : Option Name) → (names ≡ [] → o ≡ None → ⊥) → (d : Name) × Contains (names ++ one_of o) d
+one_of_both (x ∷ names) o some = (x, (0, omega arith, refl))
+one_of_both [] (Some n) some = (n, (0, omega arith, refl))
+one_of_both [] None some = absurd (some refl refl)
+
+-- as they are lent
+pub some_comes : (o : Option (Bor (List ℕ))) → is_some o ≡ true → option_copied o ≡ None → ⊥
+some_comes None e f = absurd (false≢true e)
+some_comes (Some x) e f = absurd cc
+
+pub no_names : (vs : List (Vec ℕ Global)) → names_of vs ≡ [] → false ≡ (length vs == 0) → ⊥
+no_names [] e f = absurd (false≢true f)
+no_names (x ∷ vs) e f = absurd cc
 
 pub one_once : (o : Option Name) → NoRepeat (one_of o)
 one_once None = tt

@@ -1,5 +1,5 @@
 -- Parts that are made before an edit is committed.
-use Rattle.std.specs.Prelude.{◌≡◌, ℕ, List, [], ◌∷◌, ◌++◌, length, IfOk, Option, Result, Some, None}
+use Rattle.std.specs.Prelude.{◌≡◌, ◌≤◌, ◌+◌, ℕ, List, [], ◌∷◌, ◌++◌, length, IfOk, Option, Result, Some, None}
 use Rattle.std.specs.Borrow.{Bor}
 use Rattle.std.specs.FinMap as map
 use Rattle.std.specs.Option.{option_copied}
@@ -26,7 +26,7 @@ pub record IsPrepared (m : World) (names : List Name) (comes : Option Name) (kep
   pub parts : AllFresh m (fresh ++ last)
   pub at : (d : Name) → map.get now d ≡ fresh_at last d (map.get kept d)
   pub made : new.made ≡ counted old.made (length (fresh_names (fresh ++ last)))
-  pub asks : new.asks ≡ counted old.asks (reach_sum (fresh ++ last))
+  pub asks : new.asks ≤ old.asks + reach_sum (fresh ++ last)
 
 -- the same over a table, for names and one that comes as they are lent
 abbrev pub IsPreparedOver : (table : Places) → (outside : List Name) → List (Vec ℕ Global) → (comes : Option (Bor (List ℕ)))

@@ -20,6 +20,6 @@ HaveParts places prefixes made = (c : Class) → Contains made c → IsPart (wor
 abbrev pub AreMadeOf : Places → List Name → List Class → Type 0
 AreMadeOf places prefixes made = IsSplit places made [] × HaveParts places prefixes made
 
--- a net has the names of these classes
-abbrev pub HasNamesOf : List Facts → Net → Type 0
-HasNamesOf classes n = (f : Facts) → Contains classes f → Contains n.names f.name
+-- a net has these classes
+abbrev pub HasClasses : List Facts → Net → Type 0
+HasClasses classes n = (f : Facts) → Contains classes f → Contains n.classes f.name

@@ -1,19 +1,21 @@
-use Rattle.std.proofs.Common.{◌≡◌, length}
+use Rattle.std.proofs.Common.{◌≡◌, ◌≤◌, ℕ, List}
+use Rattle.jc_classes.specs.Names.{Name}
 use Rattle.jc_link.specs.Meters.{counted}
 use Rattle.jc_link.specs.Tables.{world}
-use Rattle.jc_link.specs.inside.Gathering.{IsAsked, stands_in, supertypes_in}
-use Rattle.jc_link.specs.inside.NetShown.{AreKept, AreReferred, nodes_in}
+use Rattle.jc_link.specs.inside.NetAsked.{IsAskedBy, asked_count}
+use Rattle.jc_link.specs.inside.NetShown.{AllReached, AreKept}
 use Rattle.jc_link.proofs.reaches.Weights.{left}
 use Rattle.jc_link.proofs.net.ask_all.Given as goal
 
 abbrev pub invariant-loop-alloc : goal.invariant-loop-alloc
 invariant-loop-alloc l = record {
-  asked : IsAsked (world l.table l.outside) l.numbers (stands_in l.reached.standing.items) (supertypes_in l.reached.supertypes.items);
-  referred : AreReferred l.numbers (stands_in l.reached.standing.items) (nodes_in l.references.items);
+  asked : IsAskedBy (world l.table l.outside) l.numbers l.reached;
   kept : AreKept l.fn.numbers l.numbers;
-  asks : l.meter.asks ≡ counted l.fn.meter.asks (length (stands_in l.reached.standing.items));
+  reached : (classes : List Name) → AllReached (world l.table l.outside) classes l.fn.numbers → AllReached (world l.table l.outside) classes l.numbers;
+  asks : (count : ℕ) → l.fn.meter.asks ≡ counted count (asked_count l.fn.reached) → l.meter.asks ≡ counted count (asked_count l.reached);
+  asks_rise : l.fn.meter.asks ≤ l.meter.asks;
   made : l.meter.made ≡ l.fn.meter.made;
 }
 
 abbrev pub decreases-loop-alloc : goal.decreases-loop-alloc
-decreases-loop-alloc l = left l.table l.numbers (length (stands_in l.reached.standing.items))
+decreases-loop-alloc l = left l.table l.numbers (asked_count l.reached)

@@ -10,6 +10,7 @@ use Rattle.jc_resolve.specs.Numbered.{NumberReferences, Numbered}
 use Rattle.jc_link.specs.Nets.{IsIn, Net}
 use Rattle.jc_link.specs.inside.Gathering.{stand_at, stands_in}
 use Rattle.jc_link.specs.inside.NetShown.{nodes_at, nodes_in}
+use Rattle.jc_link.proofs.nets.ClassesNumbered.{among_first}
 use Rattle.jc_link.proofs.parted.Making.{part_made}
 use Rattle.jc_link.proofs.net.part_at.Goals as goal
 
@@ -27,10 +28,12 @@ part_of-requires-clause-nodes c =
     let own : stands_of c.index-own.result.now ≡ stand_at (stands_in a.standing.items) class = ap stands_of c.index-own.ensures ∙ sym (get_or-map stands_of a.standing.items class _ Nothing within) in
     let is = c.requires.hierarchy.is ∙ ap (λ (n : Net). record { names = n.names; standing = n.stands; supertypes = c.requires.hierarchy.supertypes }) (sym c.net.view_is) in
     let references = a.references.items in
-    let held : class < length references = omega (arith, some.0, c.net.invariant.net.closed.standing, c.net.invariant.referred.size, length-map references (λ (v : Vec (Option ℕ) Global). v.items)) in
+    let first = among_first (length (nodes_in references)) class a.numbers c.args.name.now c.net.invariant.net.closed.once
+    (subst (λ (n : Net). Contains n.classes c.args.name.now) (sym c.net.view_is) c.requires.name) some.0 some.1 in
+    let held : class < length references = omega (arith, first, length-map references (λ (v : Vec (Option ℕ) Global). v.items)) in
     let at : c.as_slice-references.result.now ≡ nodes_at (nodes_in references) class =
     c.as_slice-references.ensures.value ∙ ap (λ (v : Vec (Option ℕ) Global). v.items) c.index.ensures ∙ sym (get_or-map (λ (v : Vec (Option ℕ) Global). v.items) references class _ [] held) in
-    let here = subst (λ z. NumberReferences a.numbers z (references_of (stand_at (stands_in a.standing.items) class))) (sym at) (c.net.invariant.referred.named class (omega (arith, some.0, c.net.invariant.net.closed.standing))) in
+    let here = subst (λ z. NumberReferences a.numbers z (references_of (stand_at (stands_in a.standing.items) class))) (sym at) (c.net.invariant.referred.named class first) in
     subst (λ (h : Numbered). NumberReferences h.names c.as_slice-references.result.now (references_of (stand_at h.standing class))) (sym is) here
 
 pub part_of-requires-clause-within : goal.part_of-requires-clause-within
@@ -40,10 +43,12 @@ part_of-requires-clause-within c = λ v h.
     let class = c.in-Some.class in
     let some = c.in-Some.ensures.some in
     let references = a.references.items in
-    let held : class < length references = omega (arith, some.0, c.net.invariant.net.closed.standing, c.net.invariant.referred.size, length-map references (λ (v : Vec (Option ℕ) Global). v.items)) in
+    let first = among_first (length (nodes_in references)) class a.numbers c.args.name.now c.net.invariant.net.closed.once
+    (subst (λ (n : Net). Contains n.classes c.args.name.now) (sym c.net.view_is) c.requires.name) some.0 some.1 in
+    let held : class < length references = omega (arith, first, length-map references (λ (v : Vec (Option ℕ) Global). v.items)) in
     let at : c.as_slice-references.result.now ≡ nodes_at (nodes_in references) class =
     c.as_slice-references.ensures.value ∙ ap (λ (v : Vec (Option ℕ) Global). v.items) c.index.ensures ∙ sym (get_or-map (λ (v : Vec (Option ℕ) Global). v.items) references class _ [] held) in
-    let l = c.net.invariant.referred.within c.in-Some.class v (omega (arith, c.in-Some.ensures.some.0, c.net.invariant.net.closed.standing)) (subst (λ z. Contains z (Some v)) at h) in
+    let l = c.net.invariant.referred.within c.in-Some.class v first (subst (λ z. Contains z (Some v)) at h) in
     omega (arith, l, names)
 
 pub returns-clause-part : goal.returns-clause-part

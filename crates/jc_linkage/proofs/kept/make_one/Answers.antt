@@ -1,17 +1,16 @@
 use Rattle.std.proofs.Common.{sym, subst, ◌∙◌}
+use Rattle.std.specs.List.{Contains}
 use Rattle.jc_classes.specs.NameLists.{Lists}
 use Rattle.jc_classes.specs.Parts.{Reach}
-use Rattle.jc_link.specs.Tables.{world}
+use Rattle.jc_link.specs.Nets.{IsIn, Net}
+use Rattle.jc_linkage.specs.inside.Kept.{AreKeys, required_by}
 use Rattle.jc_linkage.proofs.kept.make_one.Goals as goal
 
 pub returns-clause-kept : goal.returns-clause-kept
-returns-clause-kept c =
-    let m = world c.args.table.now c.args.outside.now in
-    let d = c.args.name.now in
-    let made = c.in_ok-part.ensures in
-    let closed = c.in_ok-closure.ensures.closure in
+returns-clause-kept c = λ m lies.
+    let there = subst (IsIn m) (sym c.part.ensures.net) lies in
     record {
-      part = made.part m d closed;
-      reach = subst (λ names. Lists names (Reach m d)) (sym (c.in_ok-reach.ensures ∙ c.into_names.ensures)) closed.names;
-      required = made.required m d closed;
+      part = c.in_ok-part.ensures.part m lies;
+      reach = subst (λ names. Lists names (Reach m c.args.name.now)) (sym c.in_ok-reach.ensures) (c.in_ok-names.ensures.reach m there);
+      required = subst (λ own. AreKeys c.in_ok-required.required (required_by own c.in_ok-part.part)) (c.record.ensures m there) c.in_ok-required.ensures;
     }

@@ -1,7 +1,5 @@
 use Rattle.std.proofs.Common.{◌∙◌, [], ◌∷◌, Result, Ok, Err, OnErr, refl, ap, sym, subst, arith}
 use Rattle.std.specs.FinMap as map
-use Rattle.jc_link.specs.Meters.{counted}
-use Rattle.jc_link.specs.Tables.{world}
 use Rattle.jc_linkage.specs.inside.Kept.{IsKeptOf}
 use Rattle.jc_linkage.proofs.held.KeptMaps.{kept_at}
 use Rattle.jc_linkage.proofs.preparing.link_newcomer.Goals as goal
@@ -20,15 +18,15 @@ pub returns-in_err-newcomer-clause-linked_err : goal.returns-in_err-newcomer-cla
 returns-in_err-newcomer-clause-linked_err c = on_err c.from_residual.result c.requires.linked
 
 pub returns-in-Ok-clause-ready : goal.returns-in-Ok-clause-ready
-returns-in-Ok-clause-ready c =
+returns-in-Ok-clause-ready c = λ m lies.
     let x = c.in_ok-newcomer.newcomer in
     let name = c.in_ok-newcomer.ensures.name in
     record {
       last = x ∷ [];
       others = refl;
       newcomer = ap (λ k. k ∷ []) name;
-      parts = (subst (λ k. IsKeptOf (world c.args.table.now c.args.outside.now) k x.kept) (sym name) c.in_ok-newcomer.ensures.kept, tt);
+      parts = (subst (λ k. IsKeptOf m k x.kept) (sym name) (c.in_ok-newcomer.ensures.kept m lies), tt);
       at = λ d. ap (λ z. map.get z d) c.in-Ok.ensures.kept_ok ∙ kept_at c.args.kept.now x.name.items x.kept d;
       made = c.in_ok-newcomer.ensures.made;
-      asks = c.in_ok-newcomer.ensures.asks ∙ ap (counted c.args.meter.now.asks) (omega arith);
+      asks = omega (arith, c.make_one.ensures.asks);
     }

@@ -1,14 +1,45 @@
-use Rattle.std.proofs.Common.{◌∙◌, ap, sym}
+use Rattle.std.proofs.Common.{◌≡◌, ◌∙◌, ◌≤◌, ◌++◌, [], true, None, ap, arith, length, refl, sym, subst}
+use Rattle.std.specs.List.{Contains}
 use Rattle.std.specs.Option.{option_copied}
-use Rattle.jc_classes.specs.Names.{names_of}
+use Rattle.jc_classes.specs.NameLists.{has}
+use Rattle.jc_classes.specs.Names.{Name, names_of}
+use Rattle.jc_classes.proofs.numbering.Rising.{has_of}
 use Rattle.jc_link.specs.Meters.{counted}
+use Rattle.jc_link.specs.Nets.{IsIn, Net}
 use Rattle.jc_link.specs.Tables.{world}
-use Rattle.jc_linkage.proofs.fresh.Counts.{names_length}
-use Rattle.jc_linkage.proofs.fresh.NewcomersReady.{ready_behind}
+use Rattle.jc_linkage.specs.inside.Kept.{fresh_names, reach_sum}
+use Rattle.jc_linkage.specs.inside.Prepared.{one_of}
+use Rattle.jc_linkage.proofs.fresh.FewAsks.{few_asked}
+use Rattle.jc_linkage.proofs.fresh.FreshLists.{names_append}
+use Rattle.jc_linkage.proofs.fresh.NewcomersReady.{no_names, one_is, one_of_both, ready_from, some_comes}
 use Rattle.jc_linkage.proofs.preparing.prepare.Goals as goal
+use Rattle.jc_linkage.proofs.preparing.prepare.Goals.{else-is_empty-via-then-is_empty+else-is_none, else-is_empty-via-else-is_empty}
+
+pub prepare_all-requires-clause-classes : goal.prepare_all-requires-clause-classes
+prepare_all-requires-clause-classes c = λ d h.
+    let xs = names_of c.args.names.now in
+    let o = option_copied c.args.comes in
+    subst (λ (n : Net). Contains n.classes d) (sym c.in_ok-maker.ensures)
+    ((c.in_ok-net.ensures.classes d).1 (subst (λ ys. Contains (xs ++ ys) d) (one_is o) h))
 
 pub returns-clause-ready : goal.returns-clause-ready
 returns-clause-ready c =
-    ready_behind (world c.args.table.now c.args.outside.now) (names_of c.args.names.now) (option_copied c.args.comes) c.args.kept.now c.link_all.new.kept c.in_ok-fresh.fresh.items
-    c.args.meter.now c.make_fresh.new.meter c.link_all.new.meter
-    c.in_ok-fresh.ensures.names c.in_ok-fresh.ensures.kept (c.in_ok-fresh.ensures.made ∙ ap (counted c.args.meter.now.made) (sym (names_length c.args.names.now))) c.in_ok-fresh.ensures.asks c.in_ok-link_all.ensures.ready
+    let m = world c.args.table.now c.args.outside.now in
+    let xs = names_of c.args.names.now in
+    let o = option_copied c.args.comes in
+    let net = c.in_ok-net.net in
+    let fresh = c.in_ok-fresh.fresh.items in
+    let ready = c.in_ok-fresh.ensures.ready m (subst (IsIn m) (sym c.in_ok-maker.ensures) c.in_ok-net.ensures.around.stands) in
+    let named : fresh_names (fresh ++ ready.last) ≡ xs ++ one_of o =
+    names_append fresh ready.last ∙ ap (λ ys. ys ++ fresh_names ready.last) ready.others ∙ ap (λ ys. xs ++ ys) ready.newcomer in
+    let among : (k : Name) → Contains net.classes k → has (fresh_names (fresh ++ ready.last)) k ≡ true =
+    λ k h. ap (λ ys. has ys k) named ∙ has_of (xs ++ one_of o) k (subst (λ ys. Contains (xs ++ ys) k) (sym (one_is o)) ((c.in_ok-net.ensures.classes k).0 h)) in
+    let none : xs ≡ [] → o ≡ None → ⊥ = elim c.else-is_empty.branch [
+      | else-is_empty-via-then-is_empty+else-is_none w ↦ λ e f. some_comes c.args.comes w.if-is_none.ensures f
+      | else-is_empty-via-else-is_empty w ↦ λ e f. no_names c.args.names.now e w.if-is_empty.ensures
+    ] in
+    let some = one_of_both xs o none in
+    let there : Contains net.classes some.0 = (c.in_ok-net.ensures.classes some.0).1 (subst (λ ys. Contains (xs ++ ys) some.0) (one_is o) some.1) in
+    let few = few_asked m net (fresh ++ ready.last) some.0 c.in_ok-net.ensures.around ready.parts among there in
+    ready_from m xs o c.args.kept.now c.prepare_all.new.kept fresh c.args.meter.now c.around.new.meter c.prepare_all.new.meter c.around.ensures.made ready
+    (omega (arith, c.prepare_all.ensures.asks, c.in_ok-net.ensures.asks, few))

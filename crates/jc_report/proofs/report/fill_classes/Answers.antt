@@ -3,12 +3,12 @@ use Rattle.std.proofs.lemmas.Result.{on_ok_weaker}
 use Rattle.jc_link.specs.Nets.{IsIn}
 use Rattle.jc_link.specs.Tables.{Places, world}
 use Rattle.jc_report.specs.Trees.{Tree}
-use Rattle.jc_report.specs.inside.Made.{AreMadeOf, HasNamesOf}
+use Rattle.jc_report.specs.inside.Made.{AreMadeOf, HasClasses}
 use Rattle.jc_report.proofs.reports.ClassesOfTables.{are_classes}
 use Rattle.jc_report.proofs.report.fill_classes.Goals as goal
 
 pub push_classes-requires-clause-names : goal.push_classes-requires-clause-names
-push_classes-requires-clause-names c = subst (HasNamesOf _) (sym c.in_ok-maker.ensures) c.in_ok-net.ensures.net.names
+push_classes-requires-clause-names c = subst (HasClasses _) (sym c.in_ok-maker.ensures) c.in_ok-net.ensures.net.names
 
 pub returns-clause-classes : goal.returns-clause-classes
 returns-clause-classes c = λ f tree.

@@ -24,8 +24,8 @@ pub part-requires : goal.part-requires
 part-requires c =
     let x = c.in-Some.facts.now in
     let here = left_of_table c.args.table.now c.loop-facts.classes.items c.loop-facts.facts-iterator c.next.new.self x c.loop-facts.invariant.split c.in-Some.ensures.steps in
-    subst (λ (n : Net). Contains n.names c.name.result.now) (sym c.loop-facts.invariant.maker)
-    (subst (Contains c.args.maker.now.names) (sym c.name.ensures) (c.requires.names x here))
+    subst (λ (n : Net). Contains n.classes c.name.result.now) (sym c.loop-facts.invariant.maker)
+    (subst (Contains c.args.maker.now.classes) (sym c.name.ensures) (c.requires.names x here))
 
 pub loop-facts-preserved : goal.loop-facts-preserved
 loop-facts-preserved c =

@@ -20,4 +20,4 @@ invariant_of-result c =
     c.in_ok-hierarchy.ensures
     ∙ ap (λ z. record { names = z; standing = stands_in c.as_slice.result.now; supertypes = supertypes_in c.as_slice-2.result.now }) c.names.ensures
     ∙ ap (λ z. record { names = a.numbers; standing = stands_in z; supertypes = supertypes_in c.as_slice-2.result.now }) c.as_slice.ensures.value in
-    subst (λ (n : Net). IsHierarchyOf n c.in_ok-hierarchy.hierarchy) c.net.view_is (record { supertypes = supertypes_in c.as_slice-2.result.now; is = is })
+    (subst (λ (n : Net). IsHierarchyOf n c.in_ok-hierarchy.hierarchy) c.net.view_is (record { supertypes = supertypes_in c.as_slice-2.result.now; is = is }), tt)
