@@ -1,20 +1,26 @@
 //! Numbers for names.
-ghost use Rattle.std.specs.Prelude.{◌≡◌, ◌<◌, ◌∷◌, [], ℕ, length, IfOk, OnOk, None};
+ghost use Rattle.std.specs.Prelude.{◌≡◌, ◌<◌, ◌∷◌, [], ℕ, length, IfOk, OnErr, OnOk, None};
 ghost use Rattle.std.specs.Option.{IfSome};
 ghost use Rattle.std.specs.List.{All};
 ghost use Rattle.jc_classes.specs.NameLists.{IsRisingOf};
 ghost use Rattle.jc_classes.specs.Names.{names_of};
 ghost use Rattle.jc_classes.specs.Numbers.{name_at, IsOnce, Grows, AddsNumbers};
-ghost use Rattle.jc_classes.specs.inside.Numbering.{IsNumbered};
+ghost use Rattle.jc_classes.specs.inside.Numbering.{AddsPlace, digest_of, place_at};
 
+use crate::names::same;
 use jc_base::{ByteMap, NoMemory};
 use std::alloc::Global;
+use std::collections::BTreeMap;
+use std::hash::{FoldHasher, Hasher};
 use std::marker::Model;
 
 /// Names, each once, with their numbers in the order in which they came.
 #[derive(Drop)]
 pub struct Numbers {
-    places: ByteMap<usize>,
+    /// Of each digest the first name that has it.
+    places: BTreeMap<u64, usize>,
+    /// The names whose digest one before them has.
+    others: ByteMap<usize>,
     names: Vec<Vec<u8>>,
 }
 
@@ -22,13 +28,58 @@ impl Model for Numbers {
     ghost use Rattle.std.specs.Prelude.{List};
     ghost use Rattle.jc_classes.specs.Names.{Name};
     ghost use Rattle.jc_classes.specs.Names.{names_of};
-    ghost use Rattle.jc_classes.specs.inside.Numbering.{IsNumbered};
+    ghost use Rattle.jc_classes.specs.inside.Numbering.{IsDigested, place_at};
 
     ghost Value = { List Name };
 
     ghost view = { λ a. names_of a.names.items };
 
-    ghost invariant = { λ a. IsNumbered a.places (names_of a.names.items) };
+    ghost invariant = { λ a. IsDigested (place_at a.places) a.others (names_of a.names.items) };
+}
+
+/// A number that hardly another name has: names that differ are told apart by it at once, and those that don't by
+/// their bytes.
+fn digest(name: &[u8]) -> u64
+    ensures { result ≡ digest_of name.now }
+{
+    let mut hasher = FoldHasher::default();
+    hasher.write(name);
+    hasher.finish()
+}
+
+/// Puts the number of a name that has none at its digest, or beside it where another name has that.
+fn place(
+    alloc: Global,
+    places: &mut BTreeMap<u64, usize>,
+    others: &mut ByteMap<usize>,
+    name: &[u8],
+    node: usize,
+) -> Result<(), NoMemory>
+    ensures ok { OnOk result (AddsPlace (place_at places.old) (place_at places.new) others.old others.new name.now node) }
+    ensures places_err { OnErr result ((d : ℕ) → place_at places.new d ≡ place_at places.old d) }
+    ensures others_err { OnErr result (others.new ≡ others.old) }
+{
+    let digest = digest(name);
+    if places.contains_key(&digest) {
+        let key = Vec::from_slice(alloc, name)?;
+        others.insert(key, node)?;
+        return Ok(());
+    }
+    places.insert(digest, node)?;
+    Ok(())
+}
+
+/// Copies of names of which none stands twice, rising.
+fn rising(alloc: Global, names: &[Vec<u8>]) -> Result<Vec<Vec<u8>>, NoMemory>
+    requires { IsOnce (names_of names.now) }
+    ensures { IfOk result (λ rising. IsRisingOf (names_of rising.items) (names_of names.now)) }
+{
+    let mut places = ByteMap::new(alloc);
+    for number in 0..names.len() {
+        let name = Vec::from_slice(alloc, names[number].as_slice())?;
+        places.insert(name, number)?;
+    }
+    places.into_keys(alloc)
 }
 
 impl Numbers {
@@ -36,7 +87,8 @@ impl Numbers {
         ensures { result ≡ [] }
     {
         Numbers {
-            places: ByteMap::new(alloc),
+            places: BTreeMap::new(alloc),
+            others: ByteMap::new(alloc),
             names: Vec::new(alloc),
         }
     }
@@ -68,7 +120,12 @@ impl Numbers {
         ensures some { IfSome result (λ i. (i < length self.now) × (name_at self.now i ≡ name.now)) }
         ensures none { result ≡ None → (i : ℕ) → i < length self.now → name_at self.now i ≡ name.now → ⊥ }
     {
-        match self.places.get(name) {
+        let digest = digest(name);
+        let node = *self.places.get(&digest)?;
+        if same(self.names[node].as_slice(), name) {
+            return Some(node);
+        }
+        match self.others.get(name) {
             Some(node) => {
                 let node = *node;
                 Some(node)
@@ -86,10 +143,9 @@ impl Numbers {
             return Ok(node);
         }
         let copy = Vec::from_slice(alloc, name)?;
-        let key = Vec::from_slice(alloc, name)?;
         let node = self.names.len();
         self.names.push(copy)?;
-        if let Ok(_) = self.places.insert(key, node) {
+        if let Ok(()) = place(alloc, &mut self.places, &mut self.others, name, node) {
             return Ok(node);
         }
         self.names.pop();
@@ -111,14 +167,14 @@ impl Numbers {
         Ok(())
     }
 
-    /// The names in the order of their numbers, and the same names rising. Memory is taken for the second
-    /// list alone.
+    /// The names in the order of their numbers, and the same names rising. Memory is taken for the second list, and
+    /// to put it in order.
     pub fn into_lists(self, alloc: Global) -> Result<(Vec<Vec<u8>>, Vec<Vec<u8>>), NoMemory>
         ensures numbered { IfOk result (λ lists. names_of lists.0.items ≡ self) }
         ensures rising { IfOk result (λ lists. IsRisingOf (names_of lists.1.items) self) }
     {
-        let Numbers { places, names } = self;
-        let rising = places.into_keys(alloc)?;
+        let Numbers { names, .. } = self;
+        let rising = rising(alloc, &names)?;
         Ok((names, rising))
     }
 }

@@ -1,7 +1,9 @@
 //! The references of a class, shared with its facts.
 
 ghost use Rattle.std.specs.Prelude.{◌≡◌, IfOk, IsTrue, length, option_map, slice_get};
+ghost use Rattle.std.specs.Option.{option_copied};
 ghost use Rattle.jc_classes.specs.Lent.{reference_lent};
+ghost use Rattle.jc_classes.specs.Worlds.{text_of};
 
 use crate::facts::ReferenceEntry;
 use crate::reference::Reference;
@@ -44,6 +46,14 @@ impl References {
             Some(entry) => Some(entry.lend(self.texts.as_ref())),
             None => None,
         }
+    }
+
+    /// The class that the reference of a number names, or the array by its descriptor. No memory.
+    pub fn class(&self, number: usize) -> Option<&[u8]>
+        ensures { option_copied result ≡ option_map (λ r. text_of r.named) (slice_get self.now number) }
+    {
+        let entry = self.entries.as_ref().get(number)?;
+        Some(self.texts.as_ref().text(entry.class as usize))
     }
 
     /// Whether others are known to be the same: of equal ones whose texts stand otherwise it may say no. No memory.

@@ -12,7 +12,8 @@ use std::marker::Model;
 #[derive(Drop)]
 pub struct TextList {
     bytes: Vec<u8>,
-    ends: Vec<usize>,
+    /// Where each text ends.
+    ends: Vec<u32>,
 }
 
 impl Model for TextList {
@@ -48,13 +49,15 @@ impl TextList {
     }
 
     /// Puts a text behind the others.
+    ///
+    /// Answers `NoMemory` too where the texts would have more than 4,294,967,295 bytes together.
     pub fn push(&mut self, text: &[u8]) -> Result<(), NoMemory>
         ensures ok { OnOk result (self.new ≡ self.old ++ text.now ∷ []) }
         ensures err { OnErr result (self.new ≡ self.old) }
     {
         let before = self.bytes.len();
         self.bytes.extend_from_slice(text)?;
-        match self.ends.push(self.bytes.len()) {
+        match push_end(&mut self.ends, self.bytes.len()) {
             Ok(()) => Ok(()),
             Err(_) => {
                 self.bytes.truncate(before);
@@ -99,19 +102,31 @@ impl TextList {
         if number >= ends.len() {
             return &[];
         }
-        part(self.bytes.as_slice(), start(ends, number), ends[number])
+        let end = ends[number] as usize;
+        part(self.bytes.as_slice(), start(ends, number), end)
+    }
+}
+
+/// Adds where a text ends.
+fn push_end(ends: &mut Vec<u32>, end: usize) -> Result<(), NoMemory>
+    ensures ok { OnOk result (ends.new.items ≡ ends.old.items ++ end ∷ []) }
+    ensures err { OnErr result (ends.new.items ≡ ends.old.items) }
+{
+    match u32::try_from(end) {
+        Ok(end) => Ok(ends.push(end)?),
+        Err(_) => Err(NoMemory),
     }
 }
 
 /// Where the text of a number begins.
-fn start(ends: &[usize], number: usize) -> usize
+fn start(ends: &[u32], number: usize) -> usize
     requires { number < length ends.now }
     ensures { result ≡ start_at 0 ends.now number }
 {
     if number == 0 {
         return 0;
     }
-    ends[number - 1]
+    ends[number - 1] as usize
 }
 
 /// The bytes from one place up to another.

@@ -140,26 +140,32 @@ impl Index {
         if names.is_same(others) {
             return Ok(());
         }
+        let mut near = 0;
         for place in 0..names.len() {
-            self.link_unless(names.name(place), others, user)?;
+            near = self.link_unless(names.name(place), near, others, user)?;
         }
         Ok(())
     }
 
-    /// Adds a user at a name, unless others have it.
+    /// Adds a user at a name, unless others have it, most likely near a place. Answers the place near which they have
+    /// the next.
     fn link_unless(
         &mut self,
         name: &[u8],
+        near: usize,
         others: &PackedNames,
         user: &[u8],
-    ) -> Result<(), NoMemory>
+    ) -> Result<usize, NoMemory>
         ensures ok { OnOk result (LinkedAt self.old self.new (λ n. same_name n name.now && not (has others.now n)) user.now) }
         ensures err { OnErr result (self.new ≡ self.old) }
     {
-        if others.has(name) {
-            return Ok(());
+        match others.find_near(near, name) {
+            Ok(at) => Ok(at.saturating_add(1)),
+            Err(at) => {
+                self.link(name, user)?;
+                Ok(at)
+            }
         }
-        self.link(name, user)
     }
 
     /// Takes a user out at each of some names. No memory.
@@ -178,17 +184,28 @@ impl Index {
         if names.is_same(others) {
             return;
         }
+        let mut near = 0;
         for place in 0..names.len() {
-            self.unlink_unless(names.name(place), others, user);
+            near = self.unlink_unless(names.name(place), near, others, user);
         }
     }
 
-    /// Takes a user out at a name, unless others have it. No memory.
-    fn unlink_unless(&mut self, name: &[u8], others: &PackedNames, user: &[u8])
+    /// The same for taking a user out. No memory.
+    fn unlink_unless(
+        &mut self,
+        name: &[u8],
+        near: usize,
+        others: &PackedNames,
+        user: &[u8],
+    ) -> usize
         ensures { UnlinkedAt self.old self.new (λ n. same_name n name.now && not (has others.now n)) user.now }
     {
-        if !others.has(name) {
-            self.unlink(name, user);
+        match others.find_near(near, name) {
+            Ok(at) => at.saturating_add(1),
+            Err(at) => {
+                self.unlink(name, user);
+                at
+            }
         }
     }
 }

@@ -1,10 +1,10 @@
 //! Names in their order, each once.
 
-ghost use Rattle.std.specs.Prelude.{◌≡◌, ◌∷◌, ◌↔◌, ◌||◌, ◌&&◌, not, IsTrue, OnErr, OnOk, IfErr, IfOk, []};
+ghost use Rattle.std.specs.Prelude.{◌≡◌, ◌∷◌, ◌↔◌, ◌||◌, ◌&&◌, not, IsTrue, OnErr, OnOk, IfErr, IfOk, [], length};
 ghost use Rattle.std.specs.List.Sorted.{IsStrictlySortedBy};
 ghost use Rattle.jc_classes.specs.NameLists.{has};
 ghost use Rattle.jc_classes.specs.Names.{Name, name_cmp, names_of, same_name};
-ghost use Rattle.jc_index.specs.inside.Places.{IsGapFor, StandsAt};
+ghost use Rattle.jc_index.specs.inside.Places.{IsGapFor, IsNarrowed, StandsAt};
 
 use jc_base::NoMemory;
 use std::alloc::Global;
@@ -101,7 +101,7 @@ impl NameList {
         ensures found { IfOk result (StandsAt self.now name.now) }
         ensures absent { IfErr result (IsGapFor self.now name.now) }
     {
-        let mut low = 0;
+        let mut low = self.begin(name);
         let mut high = self.names.len();
         while low < high {
             let middle = low + (high - low) / 2;
@@ -112,5 +112,20 @@ impl NameList {
             }
         }
         Err(low)
+    }
+
+    /// Where the search for a name begins: behind all names, where it belongs there, as it does where names come in
+    /// their order.
+    fn begin(&self, name: &[u8]) -> usize
+        ensures { IsNarrowed self.now name.now result (length self.now) }
+    {
+        let count = self.names.len();
+        if count == 0 {
+            return 0;
+        }
+        match self.names[count - 1].as_slice().cmp(name) {
+            Ordering::Less => count,
+            Ordering::Equal | Ordering::Greater => 0,
+        }
     }
 }

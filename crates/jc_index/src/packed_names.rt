@@ -1,13 +1,13 @@
 //! Names in one buffer.
 
-ghost use Rattle.std.specs.Prelude.{◌≡◌, [], length, IfOk, IsTrue};
+ghost use Rattle.std.specs.Prelude.{◌≡◌, [], is_ok, length, IfOk, IsTrue};
 ghost use Rattle.jc_classes.specs.NameLists.{has};
 ghost use Rattle.jc_classes.specs.Names.{names_of};
 ghost use Rattle.jc_classes.specs.Numbers.{name_at};
 
 use crate::name_list::NameList;
 use jc_base::NoMemory;
-use jc_classes::TextList;
+use jc_classes::{TextList, same};
 use std::alloc::Global;
 use std::cmp::Ordering;
 use std::marker::Model;
@@ -73,9 +73,19 @@ impl PackedNames {
         self.names.text(place)
     }
 
-    /// Whether a name is among them. No memory.
-    pub fn has(&self, name: &[u8]) -> bool
-        ensures { result ≡ has self.now name.now }
+    /// Where a name stands, or else the place that it would have. It is looked for at a place first. No memory.
+    pub(crate) fn find_near(&self, place: usize, name: &[u8]) -> Result<usize, usize>
+        ensures { is_ok result ≡ has self.now name.now }
+    {
+        if place < self.names.len() && same(self.names.text(place), name) {
+            return Ok(place);
+        }
+        self.find(name)
+    }
+
+    /// The same by halves.
+    fn find(&self, name: &[u8]) -> Result<usize, usize>
+        ensures { is_ok result ≡ has self.now name.now }
     {
         let mut low = 0;
         let mut high = self.names.len();
@@ -83,11 +93,11 @@ impl PackedNames {
             let middle = low + (high - low) / 2;
             match self.names.text(middle).cmp(name) {
                 Ordering::Less => low = middle + 1,
-                Ordering::Equal => return true,
+                Ordering::Equal => return Ok(middle),
                 Ordering::Greater => high = middle,
             }
         }
-        false
+        Err(low)
     }
 }
 

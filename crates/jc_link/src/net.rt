@@ -19,7 +19,7 @@ ghost use Rattle.jc_link.specs.inside.NetShown.{AllReached, AreKept, AreNumbered
 
 use crate::gathering::{Reached, stand_at};
 use crate::meter::Meter;
-use crate::numbering::number_references;
+use crate::numbering::{narrow, number_references, widen};
 use crate::outside::Outside;
 use crate::part::{Part, part_of};
 use crate::table::Table;
@@ -41,7 +41,7 @@ pub struct Net<'t> {
     /// The numbers of the supertypes of each number.
     supertypes: Vec<Vec<usize>>,
     /// Of each class the numbers of the classes that its references name.
-    references: Vec<Vec<Option<usize>>>,
+    references: Vec<Vec<Option<u32>>>,
     /// The number of `java/lang/Object`.
     object: usize,
 }
@@ -222,7 +222,7 @@ fn refer(
     reached: &Reached<'_>,
     count: usize,
     numbers: &mut Numbers,
-) -> Result<Vec<Vec<Option<usize>>>, NoMemory>
+) -> Result<Vec<Vec<Option<u32>>>, NoMemory>
     requires once { IsOnce numbers.old }
     requires count { count ≤ asked_count reached.now }
     ensures size { IfOk result (λ references. length (nodes_in references.items) ≡ count) }
@@ -235,7 +235,8 @@ fn refer(
 {
     let mut references = Vec::with_capacity(alloc, count)?;
     for class in 0..count {
-        references.push(number_references(alloc, numbers, reached.standing[class])?)?;
+        let nodes = number_references(alloc, numbers, reached.standing[class])?;
+        references.push(narrow(alloc, &nodes)?)?;
     }
     Ok(references)
 }
@@ -317,8 +318,8 @@ fn part_at(
         unreachable!()
     };
     let own = net.standing[class];
-    let references = net.references[class].as_slice();
-    let part = part_of(alloc, hierarchy, class, own, references)?;
+    let references = widen(alloc, net.references[class].as_slice())?;
+    let part = part_of(alloc, hierarchy, class, own, &references)?;
     meter.count_part();
     Ok(part)
 }
@@ -376,12 +377,12 @@ fn starts_of(alloc: Global, net: &Net, name: &[u8]) -> Result<Vec<usize>, NoMemo
 }
 
 /// Adds those of these numbers that are there.
-fn push_some(numbers: &mut Vec<usize>, others: &[Option<usize>]) -> Result<(), NoMemory>
+fn push_some(numbers: &mut Vec<usize>, others: &[Option<u32>]) -> Result<(), NoMemory>
     ensures { OnOk result (numbers.new.items ≡ numbers.old.items ++ flat_map option_to_list others.now) }
 {
     for other in others {
         if let Some(other) = other {
-            numbers.push(*other)?;
+            numbers.push(*other as usize)?;
         }
     }
     Ok(())

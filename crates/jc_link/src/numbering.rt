@@ -149,3 +149,46 @@ fn number_reference(
         None => Ok(None),
     }
 }
+
+/// The same numbers in half the room. More than 4,294,967,295 names are refused as if there were no memory.
+pub(crate) fn narrow(alloc: Global, nodes: &[Option<usize>]) -> Result<Vec<Option<u32>>, NoMemory>
+    ensures { IfOk result (λ narrow. narrow.items ≡ nodes.now) }
+{
+    let mut narrow = Vec::with_capacity(alloc, nodes.len())?;
+    for node in nodes {
+        narrow.push(narrow_one(*node)?)?;
+    }
+    Ok(narrow)
+}
+
+fn narrow_one(node: Option<usize>) -> Result<Option<u32>, NoMemory>
+    ensures { IfOk result (λ narrow. narrow ≡ node) }
+{
+    let Some(node) = node else {
+        return Ok(None);
+    };
+    match u32::try_from(node) {
+        Ok(node) => Ok(Some(node)),
+        Err(_) => Err(NoMemory),
+    }
+}
+
+/// The same numbers as others number them.
+pub(crate) fn widen(alloc: Global, nodes: &[Option<u32>]) -> Result<Vec<Option<usize>>, NoMemory>
+    ensures { IfOk result (λ wide. wide.items ≡ nodes.now) }
+{
+    let mut wide = Vec::with_capacity(alloc, nodes.len())?;
+    for node in nodes {
+        wide.push(widen_one(*node))?;
+    }
+    Ok(wide)
+}
+
+fn widen_one(node: Option<u32>) -> Option<usize>
+    ensures { result ≡ node }
+{
+    match node {
+        Some(node) => Some(node as usize),
+        None => None,
+    }
+}

@@ -45,7 +45,10 @@ impl RequiredRow {
     fn class(&self) -> &[u8]
         ensures { result.now ≡ (row_required self.now).class }
     {
-        self.row().class
+        match self.references.class(self.number) {
+            Some(class) => class,
+            None => &[],
+        }
     }
 
     /// The same row, shared.

@@ -78,7 +78,7 @@ fn answer_one(
     room: &mut Room,
     facts: &Facts,
     nodes: &[Option<usize>],
-    entries: &mut Vec<Entry>,
+    entries: &mut Vec<Entry<usize>>,
     number: usize,
 ) -> Result<(), NoMemory>
     requires nodes { AreNodesOf (size_of look.now) (reach_of look.now) facts.now.references nodes.now }
@@ -105,7 +105,7 @@ fn answer_next(
     room: &mut Room,
     facts: &Facts,
     nodes: &[Option<usize>],
-    entries: &mut Vec<Entry>,
+    entries: &mut Vec<Entry<usize>>,
     before: Option<usize>,
     number: usize,
 ) -> Result<(), NoMemory>
@@ -135,7 +135,7 @@ fn answer_each(
     room: &mut Room,
     facts: &Facts,
     nodes: &[Option<usize>],
-    entries: &mut Vec<Entry>,
+    entries: &mut Vec<Entry<usize>>,
 ) -> Result<(), NoMemory>
     requires nodes { AreNodesOf (size_of look.now) (reach_of look.now) facts.now.references nodes.now }
     requires room { IsRoom look.now.classes.now room.old }
@@ -161,7 +161,7 @@ fn answer_all(
     room: &mut Room,
     facts: &Facts,
     nodes: &[Option<usize>],
-) -> Result<Vec<Entry>, NoMemory>
+) -> Result<Vec<Entry<usize>>, NoMemory>
     requires nodes { AreNodesOf (size_of look.now) (reach_of look.now) facts.now.references nodes.now }
     requires room { IsRoom look.now.classes.now room.old }
     ensures room { OnOk result (IsRoom look.now.classes.now room.new) }
@@ -179,7 +179,7 @@ fn answer_kept(
     kept: &mut Option<Room>,
     facts: &Facts,
     nodes: &[Option<usize>],
-) -> Result<Vec<Entry>, NoMemory>
+) -> Result<Vec<Entry<usize>>, NoMemory>
     requires nodes { AreNodesOf (size_of look.now) (reach_of look.now) facts.now.references nodes.now }
     requires kept { IfSome kept.old (IsRoom look.now.classes.now) }
     ensures kept { IfSome kept.new (IsRoom look.now.classes.now) }
@@ -192,10 +192,15 @@ fn answer_kept(
 }
 
 /// The answers to the references of a class that does not load.
-fn none_loaded(alloc: Global, facts: &Facts) -> Result<Vec<Entry>, NoMemory>
+fn none_loaded(alloc: Global, facts: &Facts) -> Result<Vec<Entry<usize>>, NoMemory>
     ensures { IfOk result (λ entries. entries.items ≡ map (λ (r : Reference). Entry.NotLoaded) facts.now.references) }
 {
-    Ok(vec![in alloc; Entry::NotLoaded; facts.reference_count()]?)
+    let count = facts.reference_count();
+    let mut entries = Vec::with_capacity(alloc, count)?;
+    for _ in 0..count {
+        entries.push(Entry::NotLoaded)?;
+    }
+    Ok(entries)
 }
 
 /// The answers to the references of a class, by the numbers of classes.
@@ -207,7 +212,7 @@ fn entries_of(
     class: usize,
     facts: &Facts,
     nodes: &[Option<usize>],
-) -> Result<Vec<Entry>, NoMemory>
+) -> Result<Vec<Entry<usize>>, NoMemory>
     requires loads { length loads.now ≡ length classes.now.standing.now }
     requires good { TellsGood (indexed_of classes.now) loads.now }
     requires kept { IfSome kept.old (IsRoom classes.now) }

@@ -27,7 +27,7 @@ pub struct Answers {
     references: Option<References>,
     names: TextList,
     /// The answer to each reference, by the numbers of names.
-    entries: Vec<Entry>,
+    entries: Vec<Entry<u32>>,
 }
 
 impl Model for Answers {
@@ -78,6 +78,16 @@ fn note(numbers: &mut [usize], node: usize, number: usize)
     }
 }
 
+/// A number in less room. More than 4,294,967,295 names are refused as if there were no memory.
+fn small(number: usize) -> Result<u32, NoMemory>
+    ensures { IfOk result (λ kept. kept ≡ number) }
+{
+    match u32::try_from(number) {
+        Ok(kept) => Ok(kept),
+        Err(_) => Err(NoMemory),
+    }
+}
+
 impl Naming {
     /// None yet.
     fn new(alloc: Global) -> Result<Naming, NoMemory>
@@ -95,14 +105,17 @@ impl Naming {
         classes: &Classes,
         numbers: &mut [usize],
         node: usize,
-    ) -> Result<usize, NoMemory>
+    ) -> Result<u32, NoMemory>
         requires { AreNames (indexed_name (indexed_of classes.now)) self.old }
         ensures names { OnOk result (AreNames (indexed_name (indexed_of classes.now)) self.new) }
         ensures front { OnOk result (IsFront self.old.texts self.new.texts) }
         ensures number { IfOk result (IsNumberOf self.new.texts (indexed_name (indexed_of classes.now) node)) }
     {
         match known(numbers, self.nodes.as_slice(), node) {
-            Some(number) => Ok(number),
+            Some(number) => {
+                let kept = small(number)?;
+                Ok(kept)
+            }
             None => self.add(classes, numbers, node),
         }
     }
@@ -113,17 +126,18 @@ impl Naming {
         classes: &Classes,
         numbers: &mut [usize],
         node: usize,
-    ) -> Result<usize, NoMemory>
+    ) -> Result<u32, NoMemory>
         requires { AreNames (indexed_name (indexed_of classes.now)) self.old }
         ensures names { OnOk result (AreNames (indexed_name (indexed_of classes.now)) self.new) }
         ensures front { OnOk result (IsFront self.old.texts self.new.texts) }
         ensures number { IfOk result (IsNumberOf self.new.texts (indexed_name (indexed_of classes.now) node)) }
     {
         let number = self.texts.len();
+        let kept = small(number)?;
         self.texts.push(classes.name(node))?;
         self.nodes.push(node)?;
         note(numbers, node, number);
-        Ok(number)
+        Ok(kept)
     }
 
     /// An answer by the numbers of names.
@@ -131,8 +145,8 @@ impl Naming {
         &mut self,
         classes: &Classes,
         numbers: &mut [usize],
-        entry: Entry,
-    ) -> Result<Entry, NoMemory>
+        entry: Entry<usize>,
+    ) -> Result<Entry<u32>, NoMemory>
         requires { AreNames (indexed_name (indexed_of classes.now)) self.old }
         ensures names { OnOk result (AreNames (indexed_name (indexed_of classes.now)) self.new) }
         ensures front { OnOk result (IsFront self.old.texts self.new.texts) }
@@ -151,7 +165,9 @@ impl Naming {
                 error,
                 self.number(classes, numbers, node)?,
             )),
-            Entry::ToClass(_) | Entry::NotLoaded | Entry::OwnError(_) => Ok(entry),
+            Entry::ToClass(flags) => Ok(Entry::ToClass(flags)),
+            Entry::NotLoaded => Ok(Entry::NotLoaded),
+            Entry::OwnError(error) => Ok(Entry::OwnError(error)),
         }
     }
 }
@@ -175,7 +191,7 @@ impl Answers {
         classes: &Classes,
         numbers: &mut [usize],
         references: References,
-        entries: &[Entry],
+        entries: &[Entry<usize>],
     ) -> Result<Answers, NoMemory>
         requires { length entries.now ≡ length references }
         ensures { IfOk result (λ answers. answers ≡ entries_shown (indexed_name (indexed_of classes.now)) references entries.now) }
@@ -216,7 +232,7 @@ impl Answers {
 }
 
 /// What an answer says, without its texts.
-fn kind_of(entry: Entry) -> AnswerKind
+fn kind_of(entry: Entry<u32>) -> AnswerKind
     ensures { (name : ℕ → Name) (r : Refers) → kind_of (entry_shown name r entry) ≡ result }
 {
     match entry {
@@ -231,7 +247,7 @@ fn kind_of(entry: Entry) -> AnswerKind
 #[derive(Drop)]
 struct Named {
     texts: TextList,
-    entries: Vec<Entry>,
+    entries: Vec<Entry<u32>>,
 }
 
 /// Numbers the names that answers tell.
@@ -239,7 +255,7 @@ fn name_entries(
     alloc: Global,
     classes: &Classes,
     numbers: &mut [usize],
-    entries: &[Entry],
+    entries: &[Entry<usize>],
 ) -> Result<Named, NoMemory>
     ensures { IfOk result (λ named. AreSame (text_at named.texts) (indexed_name (indexed_of classes.now)) named.entries.items entries.now) }
 {
@@ -266,7 +282,7 @@ fn reference_at(references: &Option<References>, number: usize) -> Option<Refere
 }
 
 /// An answer, with its texts.
-fn lend<'a>(names: &'a TextList, reference: Reference<'a>, entry: Entry) -> Answer<'a>
+fn lend<'a>(names: &'a TextList, reference: Reference<'a>, entry: Entry<u32>) -> Answer<'a>
     ensures { answer_of result ≡ entry_shown (text_at names.now) (reference_lent reference.entry) entry }
 {
     match entry {
@@ -277,7 +293,7 @@ fn lend<'a>(names: &'a TextList, reference: Reference<'a>, entry: Entry) -> Answ
                 descriptor: reference.key.descriptor,
                 flags,
             };
-            Answer::ToMember(names.text(class), member)
+            Answer::ToMember(names.text(class as usize), member)
         }
         Entry::ToPolymorphic(flags, class) => {
             let member = Member {
@@ -285,11 +301,11 @@ fn lend<'a>(names: &'a TextList, reference: Reference<'a>, entry: Entry) -> Answ
                 descriptor: b"([Ljava/lang/Object;)Ljava/lang/Object;",
                 flags,
             };
-            Answer::ToMember(names.text(class), member)
+            Answer::ToMember(names.text(class as usize), member)
         }
-        Entry::Outside(name) => Answer::Outside(names.text(name)),
+        Entry::Outside(name) => Answer::Outside(names.text(name as usize)),
         Entry::NotLoaded => Answer::NotLoaded,
-        Entry::Error(error, name) => Answer::Error(error, names.text(name)),
+        Entry::Error(error, name) => Answer::Error(error, names.text(name as usize)),
         Entry::OwnError(error) => Answer::Error(error, reference.class),
     }
 }

@@ -40,7 +40,7 @@ pub enum AnswerKind {
 
 impl<'l, 'c, 't> Look<'l, 'c, 't> {
     /// The answer of a reference to the class of a node, which has these flags, or to an array of it.
-    fn node_entry(&self, node: usize, flags: u16) -> Entry
+    fn node_entry(&self, node: usize, flags: u16) -> Entry<usize>
         requires { node < size_of self.now }
         ensures { TellsNode self.now node flags result }
     {
@@ -58,7 +58,7 @@ impl<'l, 'c, 't> Look<'l, 'c, 't> {
     }
 
     /// The answer of a reference to a class (JVMS 5.4.3.1).
-    pub(crate) fn class_entry(&self, named: NamedNode) -> Entry
+    pub(crate) fn class_entry(&self, named: NamedNode) -> Entry<usize>
         requires { IsWithinAll (size_of self.now) named }
         ensures { TellsClass self.now named result }
     {

@@ -12,27 +12,28 @@ use crate::resolve::{Begun, MemberOutcome};
 use jc_classes::{Key, LinkageError, same};
 use jc_numbered::{Hit, Settled};
 
-/// The answer of a reference. Its texts are the reference's own, or the name of a class by its number.
+/// The answer of a reference. Its texts are the reference's own, or the name of a class by its number: a `usize` where
+/// that is one of all classes, a `u32` where it is one of the names that are kept with the answers.
 #[derive(Clone, Copy)]
-pub(crate) enum Entry {
+pub(crate) enum Entry<N> {
     /// The class that the reference names is there, with these access flags, or the array, which has none.
     ToClass(u16),
     /// A member with these access flags is there, which the class of this number declares.
-    ToMember(u16, usize),
+    ToMember(u16, N),
     /// The same of a signature polymorphic method of the name (JVMS 2.9).
-    ToPolymorphic(u16, usize),
+    ToPolymorphic(u16, N),
     /// It depends on the outside class of this number.
-    Outside(usize),
+    Outside(N),
     /// The class that has the reference does not load.
     NotLoaded,
     /// It fails, for what is known of the class of this number.
-    Error(LinkageError, usize),
+    Error(LinkageError, N),
     /// It fails, for what is known of what the reference names.
     OwnError(LinkageError),
 }
 
 /// The answer of a reference for which look-up did not begin.
-fn begun_entry(begun: Begun) -> Entry
+fn begun_entry(begun: Begun) -> Entry<usize>
     ensures { (x : Indexed) (r : Reference) → entry_shown (indexed_name x) r result ≡ ended_of x (begun_of x begun) }
 {
     match begun {
@@ -43,7 +44,7 @@ fn begun_entry(begun: Begun) -> Entry
 }
 
 /// The answer of a reference that finds a member.
-fn hit_entry(hit: Hit<'_>, key: Key<'_>) -> Entry
+fn hit_entry(hit: Hit<'_>, key: Key<'_>) -> Entry<usize>
     ensures { ShowsHit (key_lent key.entry) hit.entry result }
 {
     if same(hit.member.descriptor, key.descriptor) {
@@ -54,7 +55,7 @@ fn hit_entry(hit: Hit<'_>, key: Key<'_>) -> Entry
 }
 
 /// The answer of a reference for which look-up began. `missing` is the error where nothing is there.
-fn settled_entry(settled: Settled<'_>, missing: LinkageError, key: Key<'_>) -> Entry
+fn settled_entry(settled: Settled<'_>, missing: LinkageError, key: Key<'_>) -> Entry<usize>
     ensures { ShowsSettled (key_lent key.entry) missing settled.entry result }
 {
     match settled {
@@ -70,7 +71,7 @@ pub(crate) fn outcome_entry(
     outcome: MemberOutcome<'_>,
     missing: LinkageError,
     key: Key<'_>,
-) -> Entry
+) -> Entry<usize>
     ensures { ShowsOutcome (key_lent key.entry) missing outcome.entry result }
 {
     match outcome {

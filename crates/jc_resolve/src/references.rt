@@ -37,7 +37,7 @@ impl<'l, 'c, 't> Look<'l, 'c, 't> {
         room: &mut Room,
         reference: Reference<'_>,
         node: Option<usize>,
-    ) -> Result<Entry, NoMemory>
+    ) -> Result<Entry<usize>, NoMemory>
         requires node { IsNodeOf (reach_of self.now) reference.class.now node }
         requires within { IsWithinSome (size_of self.now) node }
         requires room { IsRoom self.now.classes.now room.old }

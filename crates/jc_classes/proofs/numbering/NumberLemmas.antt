@@ -11,7 +11,7 @@ use Rattle.jc_classes.specs.Names.{Name, name_cmp, same_name}
 use Rattle.jc_classes.specs.Names.{names_of}
 use Rattle.jc_classes.proofs.worlds.NameTests.{same_is, same_self}
 use Rattle.jc_classes.specs.Numbers.{name_at, IsOnce, Grows, AddsNumbers}
-use Rattle.jc_classes.specs.inside.Numbering.{NumberOf, IsNumbered}
+use Rattle.jc_classes.specs.inside.Numbering.{Finds, NumberOf, IsNumbered}
 
 some_one : {X : Type 0} {x y : X} → Some x ≡ Some y → x ≡ y
 some_one e = cc
@@ -31,13 +31,15 @@ names_push (y ∷ xs) x = ap (λ z. y.items ∷ z) (names_push xs x)
 
 pub numbered_empty : IsNumbered fin.empty []
 numbered_empty = record {
-  there = λ n i e. none_some (sym (fin.get-empty name_cmp n) ∙ e);
-  back = λ i l. absurd (omega arith);
+  finds = record {
+    there = λ n i e. none_some (sym (fin.get-empty name_cmp n) ∙ e);
+    back = λ i l. absurd (omega arith);
+  };
   count = fin.len-empty name_cmp ℕ;
 }
 
-pub numbered_once : (p : NumberOf) (ns : List Name) → IsNumbered p ns → IsOnce ns
-numbered_once p ns h = λ i j a b e. some_one (sym (h.back i a) ∙ ap (fin.get p) e ∙ h.back j b)
+pub finds_once : (find : Name → Option ℕ) (ns : List Name) → Finds find ns → IsOnce ns
+finds_once find ns h = λ i j a b e. some_one (sym (h.back i a) ∙ ap find e ∙ h.back j b)
 
 -- either an old place or the new one
 place_cases : (xs : List Name) (x : Name) (i : ℕ) → i < length (xs ++ x ∷ []) → (i < length xs) ⊎ (length xs ≡ i)
@@ -46,21 +48,22 @@ place_cases xs x i l = ⊎_elim inl (λ e. inr (omega (arith, length-append xs (
     under : (a b : ℕ) → (a < b) ⊎ (b ≤ a)
     under a b = grind arith
 
-pub numbered_push : (p : NumberOf) (ns : List Name) (x : Name) → IsNumbered p ns → fin.get p x ≡ None → IsNumbered (fin.insert p x (length ns)) (ns ++ x ∷ [])
-numbered_push p ns x h none = record {
-  there = λ n i e. by n (same_name n x) refl i (sym (fin.get-insert nat_list_cmp_total p x (length ns) n) ∙ e);
+-- the look-up with one name more
+pub finds_push : (find more : Name → Option ℕ) (ns : List Name) (x : Name) → Finds find ns → find x ≡ None
+    → ((n : Name) → more n ≡ cond (same_name n x) (Some (length ns)) (find n)) → Finds more (ns ++ x ∷ [])
+finds_push find more ns x h none is = record {
+  there = λ n i e. by n (same_name n x) refl i (sym (is n) ∙ e);
   back = λ i l. ⊎_elim
       (λ a.
       let e : name_at (ns ++ x ∷ []) i ≡ name_at ns i = name_left ns (x ∷ []) i a in
-      fin.get-insert nat_list_cmp_total p x (length ns) _ ∙ at (name_at (ns ++ x ∷ []) i) i (same_name (name_at (ns ++ x ∷ []) i) x) refl (ap (fin.get p) e ∙ h.back i a))
+      is _ ∙ at (name_at (ns ++ x ∷ []) i) i (same_name (name_at (ns ++ x ∷ []) i) x) refl (ap find e ∙ h.back i a))
       (λ a.
       let e : name_at (ns ++ x ∷ []) i ≡ x = name_last ns x i a in
-      fin.get-insert nat_list_cmp_total p x (length ns) _ ∙ ap (λ b. cond b (Some (length ns)) (fin.get p (name_at (ns ++ x ∷ []) i))) (ap (λ z. same_name z x) e ∙ same_self x) ∙ ap Some a)
+      is _ ∙ ap (λ b. cond b (Some (length ns)) (find (name_at (ns ++ x ∷ []) i))) (ap (λ z. same_name z x) e ∙ same_self x) ∙ ap Some a)
       (place_cases ns x i l);
-  count = fin.len-insert nat_list_cmp_total p x (length ns) ∙ ap (λ o. cond (is_some o) (fin.len p) (fin.len p + 1)) none ∙ omega (arith, h.count, length-append ns (x ∷ []));
 }
   where
-    by : (n : Name) (b : Bool) → same_name n x ≡ b → (i : ℕ) → cond b (Some (length ns)) (fin.get p n) ≡ Some i → (i < length (ns ++ x ∷ [])) × (name_at (ns ++ x ∷ []) i ≡ n)
+    by : (n : Name) (b : Bool) → same_name n x ≡ b → (i : ℕ) → cond b (Some (length ns)) (find n) ≡ Some i → (i < length (ns ++ x ∷ [])) × (name_at (ns ++ x ∷ []) i ≡ n)
     by n true s i e =
         let q : length ns ≡ i = some_one e in
         (omega (arith, length-append ns (x ∷ [])), name_last ns x i q ∙ sym (same_is n x s))
@@ -68,9 +71,15 @@ numbered_push p ns x h none = record {
         let q = h.there n i e in
         (omega (arith, length-append ns (x ∷ []), q.0), name_left ns (x ∷ []) i q.0 ∙ q.1)
 
-    at : (n : Name) (i : ℕ) (b : Bool) → same_name n x ≡ b → fin.get p n ≡ Some i → cond b (Some (length ns)) (fin.get p n) ≡ Some i
-    at n i true s e = none_some (sym none ∙ ap (fin.get p) (sym (same_is n x s)) ∙ e)
+    at : (n : Name) (i : ℕ) (b : Bool) → same_name n x ≡ b → find n ≡ Some i → cond b (Some (length ns)) (find n) ≡ Some i
+    at n i true s e = none_some (sym none ∙ ap find (sym (same_is n x s)) ∙ e)
     at n i false s e = e
+
+pub numbered_push : (p : NumberOf) (ns : List Name) (x : Name) → IsNumbered p ns → fin.get p x ≡ None → IsNumbered (fin.insert p x (length ns)) (ns ++ x ∷ [])
+numbered_push p ns x h none = record {
+  finds = finds_push (fin.get p) (fin.get (fin.insert p x (length ns))) ns x h.finds none (fin.get-insert nat_list_cmp_total p x (length ns));
+  count = fin.len-insert nat_list_cmp_total p x (length ns) ∙ ap (λ o. cond (is_some o) (fin.len p) (fin.len p + 1)) none ∙ omega (arith, h.count, length-append ns (x ∷ []));
+}
 
 pub contains_one : (x : Name) → Contains (x ∷ []) x
 contains_one x = (zero, omega arith, refl)
@@ -78,11 +87,11 @@ contains_one x = (zero, omega arith, refl)
 pub grows_same : (ns added : List Name) → IsOnce ns → Grows ns ns added
 grows_same ns added once = record { once = once; longer = omega arith; few = omega arith; same = λ i l. refl; only = λ i l m. absurd (omega arith) }
 
-pub grows_push : (p : NumberOf) (ns : List Name) (x : Name) → IsNumbered p ns → fin.get p x ≡ None → Grows ns (ns ++ x ∷ []) (x ∷ [])
-grows_push p ns x h none =
+pub grows_push : (more : Name → Option ℕ) (ns : List Name) (x : Name) → Finds more (ns ++ x ∷ []) → Grows ns (ns ++ x ∷ []) (x ∷ [])
+grows_push more ns x h =
     let size = length-append ns (x ∷ []) in
     record {
-      once = numbered_once (fin.insert p x (length ns)) (ns ++ x ∷ []) (numbered_push p ns x h none);
+      once = finds_once more (ns ++ x ∷ []) h;
       longer = omega arith;
       few = omega arith;
       same = λ i l. name_left ns (x ∷ []) i l;
@@ -134,14 +143,14 @@ adds_one a b list v x g all l e =
       named = map-append (name_at b) list (v ∷ []) ∙ ap (λ z. z ++ name_at b v ∷ []) (numbers_same a b list g.longer g.same all) ∙ ap (λ z. map (name_at a) list ++ z ∷ []) e;
     }
 
-pub none_found : (p : NumberOf) (ns ms : List Name) (x : Name) → IsNumbered p ns → ns ≡ ms → ((i : ℕ) → i < length ms → name_at ms i ≡ x → ⊥) → fin.get p x ≡ None
-none_found p ns ms x h e f = by (fin.get p x) refl
+pub none_found : (find : Name → Option ℕ) (ns ms : List Name) (x : Name) → Finds find ns → ns ≡ ms → ((i : ℕ) → i < length ms → name_at ms i ≡ x → ⊥) → find x ≡ None
+none_found find ns ms x h e f = by (find x) refl
   where
-    by : (o : Option ℕ) → fin.get p x ≡ o → fin.get p x ≡ None
+    by : (o : Option ℕ) → find x ≡ o → find x ≡ None
     by None q = q
     by (Some i) q = let t = subst (λ z. (i < length z) × (name_at z i ≡ x)) e (h.there x i q) in absurd (f i t.0 t.1)
 
-pub not_there : (p : NumberOf) (ns ms : List Name) (x : Name) → IsNumbered p ns → ns ≡ ms → fin.get p x ≡ None → (i : ℕ) → i < length ms → name_at ms i ≡ x → ⊥
-not_there p ns ms x h e none i l q =
+pub not_there : (find : Name → Option ℕ) (ns ms : List Name) (x : Name) → Finds find ns → ns ≡ ms → find x ≡ None → (i : ℕ) → i < length ms → name_at ms i ≡ x → ⊥
+not_there find ns ms x h e none i l q =
     let k : i < length ns = subst (λ z. i < length z) (sym e) l in
-    none_some (sym none ∙ ap (fin.get p) (sym q ∙ ap (λ z. name_at z i) (sym e)) ∙ h.back i k)
+    none_some (sym none ∙ ap find (sym q ∙ ap (λ z. name_at z i) (sym e)) ∙ h.back i k)

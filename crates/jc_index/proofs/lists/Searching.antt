@@ -36,6 +36,10 @@ greater_index Greater p h e = refl
 greater_index Equal p h e = let f = ap ordering_index e in absurd (omega arith)
 greater_index Less p h e = let f = ap ordering_index e in absurd (omega arith)
 
+-- before the search
+pub narrowed_all : (ns : List Name) (name : Name) → IsNarrowed ns name 0 (length ns)
+narrowed_all ns name = record { ordered = omega arith; fits = omega arith; below = λ k q. absurd (omega arith); above = λ k q l. absurd (omega arith) }
+
 pub narrowed_up : (ns : List Name) (name : Name) (low high middle : ℕ) → IsStrictlySortedBy name_cmp ns → IsNarrowed ns name low high → middle < high → name_cmp (name_at ns middle) name ≡ Less → IsNarrowed ns name (middle + 1) high
 narrowed_up ns name low high middle h n l e =
     let fits = n.fits in

@@ -22,7 +22,7 @@ use Rattle.jc_resolve.specs.inside.Resolved.{loading_of}
 use Rattle.jc_resolve.proofs.answering.Entries.{answered_set}
 
 module _ (r s : Reference) (of_kind : r.kind ≡ s.kind) (of_named : r.named ≡ s.named) (of_key : r.key ≡ s.key) where
-  same_shown : (name : ℕ → Name) (e : Entry) → entry_shown name r e ≡ entry_shown name s e
+  same_shown : (name : ℕ → Name) (e : Entry ℕ) → entry_shown name r e ≡ entry_shown name s e
   same_shown name (entry.ToClass flags) = ap (λ t. answer.ToClass (text_of t) flags) of_named
   same_shown name (entry.ToMember flags n) = ap (λ k. answer.ToMember (name n) (record { name = k.name; descriptor = k.descriptor; flags = flags })) of_key
   same_shown name (entry.ToPolymorphic flags n) = ap (λ k. answer.ToMember (name n) (record { name = k.name; descriptor = polymorphic_descriptor; flags = flags })) of_key
@@ -42,7 +42,7 @@ module _ (r s : Reference) (of_kind : r.kind ≡ s.kind) (of_named : r.named ≡
   same_answer m d loading.Outside a h = h
   same_answer m d (loading.Fails e x) a h = h
 
-  pub same_answered : (x : Indexed) (loads : List Load) (class : ℕ) (e : Entry) → IsAnsweredBy x loads class r e → IsAnsweredBy x loads class s e
+  pub same_answered : (x : Indexed) (loads : List Load) (class : ℕ) (e : Entry ℕ) → IsAnsweredBy x loads class r e → IsAnsweredBy x loads class s e
   same_answered x loads class e h = λ m told index.
       let l = loading_of x (load_at loads class) in
       let d = indexed_name x class in
@@ -54,7 +54,7 @@ some_at (r ∷ rs) zero l = (r, refl)
 some_at (r ∷ rs) (suc i) l = some_at rs i (omega (arith, l))
 
 -- the answer of one that asks for the same
-pub alike_set : (x : Indexed) (loads : List Load) (class : ℕ) (rs : List Reference) (es : List Entry) (before number : ℕ) (e : Entry)
+pub alike_set : (x : Indexed) (loads : List Load) (class : ℕ) (rs : List Reference) (es : List (Entry ℕ)) (before number : ℕ) (e : Entry ℕ)
     → AreAlike rs before number → before < length rs → number < length rs → slice_get es before ≡ Some e → IsAnsweredAt x loads class rs es before
     → (at : ℕ) → (at ≢ number → IsAnsweredAt x loads class rs es at) → IsAnsweredAt x loads class rs (set es number e) at
 alike_set x loads class rs es before number e alike b n got known at old =

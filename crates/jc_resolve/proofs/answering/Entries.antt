@@ -29,7 +29,7 @@ some_is e = cc
 
 -- ---- one for each reference
 
-pub answered_all : (x : Indexed) (loads : List Load) (class : ℕ) (rs : List Reference) (es : List Entry) → length es ≡ length rs
+pub answered_all : (x : Indexed) (loads : List Load) (class : ℕ) (rs : List Reference) (es : List (Entry ℕ)) → length es ≡ length rs
     → ((at : ℕ) → at < length rs → IsAnsweredAt x loads class rs es at) → (m : World) → TellsLoads m x (length x.names) loads → IsIndexed m x
     → AreAnswers m (indexed_name x class) (loading_of x (load_at loads class)) rs (entries_shown (indexed_name x) rs es)
 answered_all x loads class [] es size h m told index = tt
@@ -53,7 +53,7 @@ get_set_same (d ∷ es) zero e f g = sym (some_is g)
 get_set_same (d ∷ es) (suc i) e f g = get_set_same es i e f g
 
 -- one more has its answer, and those that had one still have it
-pub answered_set : (x : Indexed) (loads : List Load) (class : ℕ) (rs : List Reference) (es : List Entry) (number : ℕ) (r : Reference) (e : Entry) → slice_get rs number ≡ Some r
+pub answered_set : (x : Indexed) (loads : List Load) (class : ℕ) (rs : List Reference) (es : List (Entry ℕ)) (number : ℕ) (r : Reference) (e : Entry ℕ) → slice_get rs number ≡ Some r
     → IsAnsweredBy x loads class r e → (at : ℕ) → (at ≢ number → IsAnsweredAt x loads class rs es at) → IsAnsweredAt x loads class rs (set es number e) at
 answered_set x loads class rs es number r e got new at old = by (same_or at number)
   where
@@ -69,7 +69,7 @@ answered_set x loads class rs es number r e got new at old = by (same_or at numb
 stays : (a b : List Name) (n : ℕ) → IsFront a b → n < length a → text_at b n ≡ text_at a n
 stays a b n f l = ap (λ x. text_at x n) f.1 ∙ get_or-append a f.0 [] n l
 
-entry_stays : (a b : List Name) (r : Reference) (e : Entry) → IsFront a b → IsWithin (length a) e → entry_shown (text_at b) r e ≡ entry_shown (text_at a) r e
+entry_stays : (a b : List Name) (r : Reference) (e : Entry ℕ) → IsFront a b → IsWithin (length a) e → entry_shown (text_at b) r e ≡ entry_shown (text_at a) r e
 entry_stays a b r (entry.ToClass flags) f l = refl
 entry_stays a b r (entry.ToMember flags n) f l = ap (λ z. answer.ToMember z (record { name = r.key.name; descriptor = r.key.descriptor; flags = flags })) (stays a b n f l)
 entry_stays a b r (entry.ToPolymorphic flags n) f l = ap (λ z. answer.ToMember z (record { name = r.key.name; descriptor = polymorphic_descriptor; flags = flags })) (stays a b n f l)
@@ -78,7 +78,7 @@ entry_stays a b r entry.NotLoaded f l = refl
 entry_stays a b r (entry.Error e n) f l = ap (answer.Error e) (stays a b n f l)
 entry_stays a b r (entry.OwnError e) f l = refl
 
-pub within_more : (a b : List Name) (e : Entry) → IsFront a b → IsWithin (length a) e → IsWithin (length b) e
+pub within_more : (a b : List Name) (e : Entry ℕ) → IsFront a b → IsWithin (length a) e → IsWithin (length b) e
 within_more a b (entry.ToClass flags) f l = tt
 within_more a b (entry.ToMember flags n) f l = omega (arith, l, ap length f.1, length-append a f.0)
 within_more a b (entry.ToPolymorphic flags n) f l = omega (arith, l, ap length f.1, length-append a f.0)
@@ -88,13 +88,13 @@ within_more a b (entry.Error e n) f l = omega (arith, l, ap length f.1, length-a
 within_more a b (entry.OwnError e) f l = tt
 
 -- these tell the same as those, and so many texts hold their names
-abbrev pub AreNamed : (ℕ → Name) → List Name → List Entry → List Entry → Type 0
+abbrev pub AreNamed : (ℕ → Name) → List Name → List (Entry ℕ) → List (Entry ℕ) → Type 0
 AreNamed g texts [] [] = Unit {0}
 AreNamed g texts (a ∷ as1) (b ∷ bs) = (IsWithin (length texts) a × ((r : Reference) → entry_shown (text_at texts) r a ≡ entry_shown g r b)) × AreNamed g texts as1 bs
 AreNamed g texts [] (b ∷ bs) = ⊥
 AreNamed g texts (a ∷ as1) [] = ⊥
 
-pub named_push : (g : ℕ → Name) (a b : List Name) (as1 bs : List Entry) (e f : Entry) → IsFront a b → AreNamed g a as1 bs
+pub named_push : (g : ℕ → Name) (a b : List Name) (as1 bs : List (Entry ℕ)) (e f : Entry ℕ) → IsFront a b → AreNamed g a as1 bs
     → IsWithin (length b) e → ((r : Reference) → entry_shown (text_at b) r e ≡ entry_shown g r f) → AreNamed g b (as1 ++ e ∷ []) (bs ++ f ∷ [])
 named_push g a b [] [] e f front h l s = ((l, s), tt)
 named_push g a b [] (y ∷ bs) e f front h l s = absurd h
@@ -102,7 +102,7 @@ named_push g a b (x ∷ as1) [] e f front h l s = absurd h
 named_push g a b (x ∷ as1) (y ∷ bs) e f front h l s =
     ((within_more a b x front h.0.0, λ r. entry_stays a b r x front h.0.0 ∙ h.0.1 r), named_push g a b as1 bs e f front h.1 l s)
 
-pub named_same : (g : ℕ → Name) (texts : List Name) (as1 bs : List Entry) → AreNamed g texts as1 bs → AreSame (text_at texts) g as1 bs
+pub named_same : (g : ℕ → Name) (texts : List Name) (as1 bs : List (Entry ℕ)) → AreNamed g texts as1 bs → AreSame (text_at texts) g as1 bs
 named_same g texts [] [] h = tt
 named_same g texts [] (y ∷ bs) h = absurd h
 named_same g texts (x ∷ as1) [] h = absurd h
@@ -110,13 +110,13 @@ named_same g texts (x ∷ as1) (y ∷ bs) h = (h.0.1, named_same g texts as1 bs 
 
 -- ---- the same answers
 
-pub same_size : (f g : ℕ → Name) (as1 bs : List Entry) → AreSame f g as1 bs → length as1 ≡ length bs
+pub same_size : (f g : ℕ → Name) (as1 bs : List (Entry ℕ)) → AreSame f g as1 bs → length as1 ≡ length bs
 same_size f g [] [] h = refl
 same_size f g [] (b ∷ bs) h = absurd h
 same_size f g (a ∷ as1) [] h = absurd h
 same_size f g (a ∷ as1) (b ∷ bs) h = ap suc (same_size f g as1 bs h.1)
 
-pub same_shown : (f g : ℕ → Name) (rs : List Reference) (as1 bs : List Entry) → AreSame f g as1 bs → entries_shown f rs as1 ≡ entries_shown g rs bs
+pub same_shown : (f g : ℕ → Name) (rs : List Reference) (as1 bs : List (Entry ℕ)) → AreSame f g as1 bs → entries_shown f rs as1 ≡ entries_shown g rs bs
 same_shown f g [] as1 bs h = refl
 same_shown f g (r ∷ rs) [] [] h = refl
 same_shown f g (r ∷ rs) [] (b ∷ bs) h = absurd h
@@ -128,13 +128,13 @@ same_shown f g (r ∷ rs) (a ∷ as1) (b ∷ bs) h =
 
 -- ---- the list that is shown
 
-pub shown_size : (f : ℕ → Name) (rs : List Reference) (es : List Entry) → length es ≡ length rs → length (entries_shown f rs es) ≡ length es
+pub shown_size : (f : ℕ → Name) (rs : List Reference) (es : List (Entry ℕ)) → length es ≡ length rs → length (entries_shown f rs es) ≡ length es
 shown_size f [] [] e = refl
 shown_size f [] (x ∷ es) e = absurd (omega arith)
 shown_size f (r ∷ rs) [] e = refl
 shown_size f (r ∷ rs) (x ∷ es) e = ap suc (shown_size f rs es (omega (arith, e)))
 
-pub shown_at : (f : ℕ → Name) (rs : List Reference) (es : List Entry) (i : ℕ) (r : Reference) (e : Entry) → slice_get rs i ≡ Some r → slice_get es i ≡ Some e → slice_get (entries_shown f rs es) i ≡ Some (entry_shown f r e)
+pub shown_at : (f : ℕ → Name) (rs : List Reference) (es : List (Entry ℕ)) (i : ℕ) (r : Reference) (e : Entry ℕ) → slice_get rs i ≡ Some r → slice_get es i ≡ Some e → slice_get (entries_shown f rs es) i ≡ Some (entry_shown f r e)
 shown_at f [] es i r e p q = absurd cc
 shown_at f (s ∷ rs) [] i r e p q = absurd cc
 shown_at f (s ∷ rs) (d ∷ es) zero r e p q =
@@ -143,7 +143,7 @@ shown_at f (s ∷ rs) (d ∷ es) zero r e p q =
     λ i. Some (entry_shown f (a i) (b i))
 shown_at f (s ∷ rs) (d ∷ es) (suc i) r e p q = shown_at f rs es i r e p q
 
-pub kind_shown : (f : ℕ → Name) (rs : List Reference) (es : List Entry) (i : ℕ) (e : Entry) (k : AnswerKind) → length es ≡ length rs → slice_get es i ≡ Some e
+pub kind_shown : (f : ℕ → Name) (rs : List Reference) (es : List (Entry ℕ)) (i : ℕ) (e : Entry ℕ) (k : AnswerKind) → length es ≡ length rs → slice_get es i ≡ Some e
     → ((r : Reference) → kind_of (entry_shown f r e) ≡ k) → option_map kind_of (slice_get (entries_shown f rs es) i) ≡ Some k
 kind_shown f [] [] i e k size at kind = absurd cc
 kind_shown f [] (x ∷ es) i e k size at kind = absurd (omega (arith, size))

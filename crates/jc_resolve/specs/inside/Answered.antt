@@ -28,31 +28,31 @@ pub record AreNodesOf (count : ℕ) (x : Indexed) (rs : List Reference) (nodes :
   pub within : (v : ℕ) → Contains nodes (Some v) → v < count
 
 -- whatever the worlds are that have what stands at the names of x
-abbrev pub IsAnsweredBy : Indexed → List Load → ℕ → Reference → Entry → Type 0
+abbrev pub IsAnsweredBy : Indexed → List Load → ℕ → Reference → Entry ℕ → Type 0
 IsAnsweredBy x loads class r e = (m : World) → TellsLoads m x (length x.names) loads → IsIndexed m x
     → IsAnswer m (indexed_name x class) (loading_of x (load_at loads class)) r (entry_shown (indexed_name x) r e)
 
 -- the reference of a number has its answer
-abbrev pub IsAnsweredAt : Indexed → List Load → ℕ → List Reference → List Entry → ℕ → Type 0
-IsAnsweredAt x loads class rs entries at = (r : Reference) (e : Entry) → slice_get rs at ≡ Some r → slice_get entries at ≡ Some e
+abbrev pub IsAnsweredAt : Indexed → List Load → ℕ → List Reference → List (Entry ℕ) → ℕ → Type 0
+IsAnsweredAt x loads class rs entries at = (r : Reference) (e : Entry ℕ) → slice_get rs at ≡ Some r → slice_get entries at ≡ Some e
     → IsAnsweredBy x loads class r e
 
 -- so of a class that asks
-abbrev pub IsAnswered : Look → List Reference → List Entry → ℕ → Type 0
+abbrev pub IsAnswered : Look → List Reference → List (Entry ℕ) → ℕ → Type 0
 IsAnswered l rs entries at = IsAnsweredAt (reach_of l) l.loads.now l.class rs entries at
 
 -- a reference of this number has its answer
-abbrev pub IsAnsweredBefore : Look → List Reference → List Entry → ℕ → Type 0
+abbrev pub IsAnsweredBefore : Look → List Reference → List (Entry ℕ) → ℕ → Type 0
 IsAnsweredBefore l rs entries number = (number < length rs) × IsAnswered l rs entries number
 
-abbrev pub AreAllAnswered : Look → List Reference → List Entry → Type 0
+abbrev pub AreAllAnswered : Look → List Reference → List (Entry ℕ) → Type 0
 AreAllAnswered l rs entries = (at : ℕ) → at < length rs → IsAnswered l rs entries at
 
 -- a step answers the reference of this number, and leaves what was answered
-abbrev pub IsOneMore : Look → List Reference → ℕ → List Entry → List Entry → Type 0
+abbrev pub IsOneMore : Look → List Reference → ℕ → List (Entry ℕ) → List (Entry ℕ) → Type 0
 IsOneMore l rs number old new = (at : ℕ) → (at ≢ number → IsAnswered l rs old at) → IsAnswered l rs new at
 
-abbrev pub AreAnswered : Indexed → List Load → ℕ → List Reference → List Entry → Type 0
+abbrev pub AreAnswered : Indexed → List Load → ℕ → List Reference → List (Entry ℕ) → Type 0
 AreAnswered x loads class rs entries = (length entries ≡ length rs)
     × ((m : World) → TellsLoads m x (length x.names) loads → IsIndexed m x
     → AreAnswers m (indexed_name x class) (loading_of x (load_at loads class)) rs (entries_shown (indexed_name x) rs entries))

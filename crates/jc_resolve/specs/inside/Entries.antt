@@ -14,7 +14,7 @@ use Rattle.jc_resolve.specs.declared.resolve.MemberOutcome.{MemberOutcome}
 use Rattle.jc_resolve.specs.declared.resolve.MemberOutcome.TheVariants as outcome
 
 -- the answer of a reference, where numbers have these names
-abbrev pub entry_shown : (ℕ → Name) → Reference → Entry → defs.Answer
+abbrev pub entry_shown : (ℕ → Name) → Reference → Entry ℕ → defs.Answer
 entry_shown name r (entry.ToClass flags) = answer.ToClass (text_of r.named) flags
 entry_shown name r (entry.ToMember flags n) =
     answer.ToMember (name n) (record { name = r.key.name; descriptor = r.key.descriptor; flags = flags })
@@ -26,7 +26,7 @@ entry_shown name r (entry.Error e n) = answer.Error e (name n)
 entry_shown name r (entry.OwnError e) = answer.Error e (text_of r.named)
 
 -- the answer to each reference, in order
-abbrev pub entries_shown : (ℕ → Name) → List Reference → List Entry → List defs.Answer
+abbrev pub entries_shown : (ℕ → Name) → List Reference → List (Entry ℕ) → List defs.Answer
 entries_shown name [] entries = []
 entries_shown name (r ∷ rs) [] = []
 entries_shown name (r ∷ rs) (e ∷ entries) = entry_shown name r e ∷ entries_shown name rs entries
@@ -48,13 +48,13 @@ IsKeyedOutcome k (outcome.Settled s) = HasKey k s
 IsKeyedOutcome k outcome.NoInterface = Unit {0}
 
 -- an entry tells the same of any reference, where numbers have these names, as another where they have those
-abbrev pub IsSame : (ℕ → Name) → (ℕ → Name) → Entry → Entry → Type 0
+abbrev pub IsSame : (ℕ → Name) → (ℕ → Name) → Entry ℕ → Entry ℕ → Type 0
 IsSame f g a b = (r : Reference) → entry_shown f r a ≡ entry_shown g r b
 
 -- ---- by the numbers of texts
 
 -- so many texts hold those of an answer
-abbrev pub IsWithin : ℕ → Entry → Type 0
+abbrev pub IsWithin : ℕ → Entry ℕ → Type 0
 IsWithin count (entry.ToClass flags) = Unit {0}
 IsWithin count (entry.ToMember flags n) = n < count
 IsWithin count (entry.ToPolymorphic flags n) = n < count

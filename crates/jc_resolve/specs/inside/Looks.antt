@@ -42,18 +42,18 @@ TellsMember Resolves missing l named k o = (m : World) (text : Name)
     (outcome_of (reach_of l) (named_of (reach_of l) named text) missing o)
 
 -- the answer of a reference to the class of a node with these flags, or to an array of it
-abbrev pub TellsNode : Look → ℕ → ℕ → Entry → Type 0
+abbrev pub TellsNode : Look → ℕ → ℕ → Entry ℕ → Type 0
 TellsNode l node flags e = (r : Reference) → entry_shown (indexed_name (reach_of l)) r e
     ≡ class_answer (text_of r.named) (indexed_name (reach_of l) node) (loading_of (reach_of l) (load_at l.loads.now node))
     (sees (reach_of l) l.class node) flags
 
 -- the answer of a reference to a class
-abbrev pub TellsClass : Look → NamedNode → Entry → Type 0
+abbrev pub TellsClass : Look → NamedNode → Entry ℕ → Type 0
 TellsClass l named e = (m : World) (r : Reference) → TellsLoads m (reach_of l) (size_of l) l.loads.now → IsIndexed m (reach_of l)
     → named_of (reach_of l) named (text_of r.named) ≡ r.named
     → ResolvesClass m (asker_of l) r.named (entry_shown (indexed_name (reach_of l)) r e)
 
 -- the answer of a reference of any kind
-abbrev pub TellsReference : Look → Reference → Entry → Type 0
+abbrev pub TellsReference : Look → Reference → Entry ℕ → Type 0
 TellsReference l r e = (m : World) → TellsLoads m (reach_of l) (size_of l) l.loads.now → IsIndexed m (reach_of l)
     → ResolvesOf m (asker_of l) r.kind r (entry_shown (indexed_name (reach_of l)) r e)

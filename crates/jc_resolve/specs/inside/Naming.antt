@@ -19,7 +19,7 @@ abbrev pub AreNames : (ℕ → Name) → Naming → Type 0
 AreNames name a = a.texts ≡ map name a.nodes.items
 
 -- answers that tell the same of any references, by the numbers of these texts and of those classes
-abbrev pub AreSame : (ℕ → Name) → (ℕ → Name) → List Entry → List Entry → Type 0
+abbrev pub AreSame : (ℕ → Name) → (ℕ → Name) → List (Entry ℕ) → List (Entry ℕ) → Type 0
 AreSame f g [] [] = Unit {0}
 AreSame f g (a ∷ as1) (b ∷ bs) = IsSame f g a b × AreSame f g as1 bs
 AreSame f g [] (b ∷ bs) = ⊥

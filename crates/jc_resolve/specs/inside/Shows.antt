@@ -1,5 +1,5 @@
 -- What an entry tells of a reference that asks for a key, whatever the classes are.
-use Rattle.std.specs.Prelude.{◌≡◌}
+use Rattle.std.specs.Prelude.{ℕ, ◌≡◌}
 use Rattle.jc_classes.specs.Facts.{Key, Reference}
 use Rattle.jc_classes.specs.Lent.{member_lent}
 use Rattle.jc_classes.specs.Resolution.Answer.{ToMember}
@@ -14,15 +14,15 @@ use Rattle.jc_resolve.specs.inside.Entries.{HasKey, IsKeyed, IsKeyedOutcome, ent
 use Rattle.jc_resolve.specs.inside.Resolved.{outcome_of}
 
 -- that it finds this member
-abbrev pub ShowsHit : Key → Hit → Entry → Type 0
+abbrev pub ShowsHit : Key → Hit → Entry ℕ → Type 0
 ShowsHit k hit e = (x : Indexed) (r : Reference) → r.key ≡ k → IsKeyed r.key (member_lent hit.member)
     → entry_shown (indexed_name x) r e ≡ ToMember (indexed_name x hit.node) (member_lent hit.member)
 
 -- what look-up came to, where `missing` is the error if nothing is there
-abbrev pub ShowsSettled : Key → LinkageError → Settled → Entry → Type 0
+abbrev pub ShowsSettled : Key → LinkageError → Settled → Entry ℕ → Type 0
 ShowsSettled k missing s e = (x : Indexed) (r : Reference) → r.key ≡ k → HasKey r.key s
     → entry_shown (indexed_name x) r e ≡ answer_of x r.named missing s
 
-abbrev pub ShowsOutcome : Key → LinkageError → MemberOutcome → Entry → Type 0
+abbrev pub ShowsOutcome : Key → LinkageError → MemberOutcome → Entry ℕ → Type 0
 ShowsOutcome k missing o e = (x : Indexed) (r : Reference) → r.key ≡ k → IsKeyedOutcome r.key o
     → entry_shown (indexed_name x) r e ≡ outcome_of x r.named missing o

@@ -31,10 +31,10 @@ part_of-requires-clause-nodes c =
     let first = among_first (length (nodes_in references)) class a.numbers c.args.name.now c.net.invariant.net.closed.once
     (subst (λ (n : Net). Contains n.classes c.args.name.now) (sym c.net.view_is) c.requires.name) some.0 some.1 in
     let held : class < length references = omega (arith, first, length-map references (λ (v : Vec (Option ℕ) Global). v.items)) in
-    let at : c.as_slice-references.result.now ≡ nodes_at (nodes_in references) class =
-    c.as_slice-references.ensures.value ∙ ap (λ (v : Vec (Option ℕ) Global). v.items) c.index.ensures ∙ sym (get_or-map (λ (v : Vec (Option ℕ) Global). v.items) references class _ [] held) in
+    let at : c.deref.result.now ≡ nodes_at (nodes_in references) class =
+    c.deref.ensures.value ∙ c.in_ok-references.ensures ∙ c.as_slice.ensures.value ∙ ap (λ (v : Vec (Option ℕ) Global). v.items) c.index.ensures ∙ sym (get_or-map (λ (v : Vec (Option ℕ) Global). v.items) references class _ [] held) in
     let here = subst (λ z. NumberReferences a.numbers z (references_of (stand_at (stands_in a.standing.items) class))) (sym at) (c.net.invariant.referred.named class first) in
-    subst (λ (h : Numbered). NumberReferences h.names c.as_slice-references.result.now (references_of (stand_at h.standing class))) (sym is) here
+    subst (λ (h : Numbered). NumberReferences h.names c.deref.result.now (references_of (stand_at h.standing class))) (sym is) here
 
 pub part_of-requires-clause-within : goal.part_of-requires-clause-within
 part_of-requires-clause-within c = λ v h.
@@ -46,8 +46,8 @@ part_of-requires-clause-within c = λ v h.
     let first = among_first (length (nodes_in references)) class a.numbers c.args.name.now c.net.invariant.net.closed.once
     (subst (λ (n : Net). Contains n.classes c.args.name.now) (sym c.net.view_is) c.requires.name) some.0 some.1 in
     let held : class < length references = omega (arith, first, length-map references (λ (v : Vec (Option ℕ) Global). v.items)) in
-    let at : c.as_slice-references.result.now ≡ nodes_at (nodes_in references) class =
-    c.as_slice-references.ensures.value ∙ ap (λ (v : Vec (Option ℕ) Global). v.items) c.index.ensures ∙ sym (get_or-map (λ (v : Vec (Option ℕ) Global). v.items) references class _ [] held) in
+    let at : c.deref.result.now ≡ nodes_at (nodes_in references) class =
+    c.deref.ensures.value ∙ c.in_ok-references.ensures ∙ c.as_slice.ensures.value ∙ ap (λ (v : Vec (Option ℕ) Global). v.items) c.index.ensures ∙ sym (get_or-map (λ (v : Vec (Option ℕ) Global). v.items) references class _ [] held) in
     let l = c.net.invariant.referred.within c.in-Some.class v first (subst (λ z. Contains z (Some v)) at h) in
     omega (arith, l, names)
 

@@ -29,14 +29,15 @@ loop-class-preserved c =
     let at = c.loop-class.class in
     let o = stands_of c.index.result.now in
     let refs = nodes_in c.loop-class.references.items in
-    let nodes = c.in_ok-number_references.field-0.items in
-    let more = c.in_ok-number_references.ensures in
+    let nodes = c.in_ok-nodes.nodes.items in
+    let more = c.in_ok-nodes.ensures in
     let inv = c.loop-class.invariant in
     let here : at < length st = omega (arith, c.loop-class-test.true, c.requires.count) in
     let inside : at < length r.standing.items = omega (arith, here, length-map r.standing.items stands_of) in
     let own : o ≡ stand_at st at = ap stands_of c.index.ensures ∙ sym (get_or-map stands_of r.standing.items at _ Nothing inside) in
     let pushed : nodes_in c.push.new.self.items ≡ refs ++ nodes ∷ [] =
-    ap nodes_in c.in_ok-push.ensures.items ∙ map-append (λ (v : Vec (Option ℕ) Global). v.items) c.loop-class.references.items (c.in_ok-number_references.field-0 ∷ []) in
+    ap nodes_in c.in_ok-push.ensures.items ∙ map-append (λ (v : Vec (Option ℕ) Global). v.items) c.loop-class.references.items (c.in_ok-narrow.field-0 ∷ [])
+    ∙ ap (λ z. refs ++ z ∷ []) (c.in_ok-narrow.ensures ∙ c.deref.ensures.value) in
     let before = λ (m : World) (h : IsAskedBy m a r). (inv.asked m h).standing at here in
     let is : (m : World) → IsAskedBy m a r → o ≡ m (name_at b at) = λ m h. own ∙ (before m h).1 in
     record {

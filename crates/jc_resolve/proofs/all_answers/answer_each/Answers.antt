@@ -17,7 +17,7 @@ loop-asked-preserved c =
     let order = c.deref-asked-items.result.now in
     let none : Asked = record { node = None; place = 0; number = 0 } in
     let index = c.loop-asked.asked-index in
-    let answered = λ (entries : List Entry) (at : ℕ). IsAnswered c.args.look.now c.args.facts.now.references entries at in
+    let answered = λ (entries : List (Entry ℕ)) (at : ℕ). IsAnswered c.args.look.now c.args.facts.now.references entries at in
     record {
       room = n.room;
       size = n.size;

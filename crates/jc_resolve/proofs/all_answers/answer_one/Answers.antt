@@ -1,4 +1,4 @@
-use Rattle.std.proofs.Common.{subst, ◌≡◌, length, option_map, Some, sym, ap, ◌∙◌}
+use Rattle.std.proofs.Common.{ℕ, subst, ◌≡◌, length, option_map, Some, sym, ap, ◌∙◌}
 use Rattle.std.proofs.lemmas.Option.{slice_get_within, get_or_from_slice_get}
 use Rattle.std.specs.List.{slice_get}
 use Rattle.jc_classes.specs.Facts.{Reference}
@@ -36,7 +36,7 @@ returns-clause-answered c =
     let got : slice_get refs at ≡ Some r = sym c.reference.ensures ∙ ap (option_map reference_lent) c.in-Some.is in
     let d = indexed_name x c.args.look.now.class in
     let size : length x.names ≡ count = c.args.look.now.classes.now.graph.names in
-    let f = λ (e : Entry) (h : (m : World) → TellsLoads m x count c.args.look.now.loads.now → IsIndexed m x → ResolvesOf m d r.kind r (entry_shown (indexed_name x) r e))
+    let f = λ (e : Entry ℕ) (h : (m : World) → TellsLoads m x count c.args.look.now.loads.now → IsIndexed m x → ResolvesOf m d r.kind r (entry_shown (indexed_name x) r e))
     (m : World) (told : TellsLoads m x (length x.names) c.args.look.now.loads.now) (index : IsIndexed m x).
     subst (λ z. IsAnswer m d (loading_of x z) r (entry_shown (indexed_name x) r e)) (sym (asker_loaded c.args.look.now)) (h m (subst (λ n. TellsLoads m x n c.args.look.now.loads.now) size told) index) in
     answered_set x c.args.look.now.loads.now c.args.look.now.class refs c.args.entries.now.items at r c.in_ok-entry.entry got (f c.in_ok-entry.entry c.in_ok-entry.ensures.found)

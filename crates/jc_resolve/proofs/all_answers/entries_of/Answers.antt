@@ -1,4 +1,4 @@
-use Rattle.std.proofs.Common.{◌≡◌, get_or, length, map, sym, ap, subst, ◌∙◌, arith}
+use Rattle.std.proofs.Common.{ℕ, ◌≡◌, get_or, length, map, sym, ap, subst, ◌∙◌, arith}
 use Rattle.std.proofs.lemmas.List.{get_or_default, length-map}
 use Rattle.std.specs.declared.vec.Vec.{Vec}
 use Rattle.std.specs.declared.alloc.Global.{Global}
@@ -28,7 +28,7 @@ returns-in_default-clause-answered c =
     let refs = c.args.facts.now.references in
     let is : get_or c.args.loads.now c.args.class code.Loaded ≡ l = get_or_default c.args.loads.now c.args.class code.Loaded (code.Fails fault.NoClass 0) (omega (arith, c.requires.class, c.requires.loads)) in
     let not : l ≡ code.Loaded → ⊥ = λ e. c.in_default.not-Loaded (is ∙ e) in
-    let f = λ (v : Vec Entry Global) (e : v.items ≡ map (λ (r : Reference). NotLoaded) refs).
+    let f = λ (v : Vec (Entry ℕ) Global) (e : v.items ≡ map (λ (r : Reference). NotLoaded) refs).
     subst (AreAnswered x c.args.loads.now c.args.class refs) (sym e) (
       length-map refs (λ (r : Reference). NotLoaded),
       λ (m : World) (told : TellsLoads m x (length x.names) c.args.loads.now) (index : IsIndexed m x).

@@ -1,4 +1,4 @@
-use Rattle.std.proofs.Common.{◌≡◌, ◌+◌, ◌∷◌, [], ◌++◌, take, get_or, sym, subst}
+use Rattle.std.proofs.Common.{ℕ, ◌≡◌, ◌+◌, ◌∷◌, [], ◌++◌, take, get_or, sym, subst}
 use Rattle.std.proofs.lemmas.List.{take_more}
 use Rattle.jc_numbered.specs.inside.Indexed.{indexed_name}
 use Rattle.jc_numbered.specs.inside.Shown.{indexed_of}
@@ -24,7 +24,7 @@ loop-entry-preserved c =
     let h = c.in_ok-answer.ensures in
     let old = c.loop-entry.names.texts in
     let new = c.entry.new.self.texts in
-    let this : Entry = get_or entries i (entry.ToClass 0) in
+    let this : Entry ℕ = get_or entries i (entry.ToClass 0) in
     record {
       names = h.names;
       named = subst (λ es. AreNamed name new es (take (i + 1) entries)) (sym c.in_ok-push.ensures.items)

@@ -1,12 +1,53 @@
-use Rattle.std.proofs.Common.{◌≡◌, ◌<◌, length, sym, subst}
+use Rattle.std.proofs.Common.{◌≡◌, ◌∙◌, ◌<◌, [], ℕ, true, false, length, Some, arith, ap, sym, subst}
+use Rattle.std.proofs.lemmas.List.{get_or-map, length-map}
+use Rattle.std.specs.declared.alloc.Global.{Global}
+use Rattle.std.specs.declared.vec.Vec.{Vec}
+use Rattle.jc_classes.specs.Names.{names_of, same_name}
 use Rattle.jc_classes.specs.Numbers.{name_at}
+use Rattle.jc_classes.specs.inside.Numbering.{digest_of, number_in, place_at}
+use Rattle.jc_classes.proofs.numbering.Digests.{looked_up}
 use Rattle.jc_classes.proofs.numbering.NumberLemmas.{not_there}
 use Rattle.jc_classes.proofs.numbers.Numbers.find.Goals as goal
 
 pub returns-in-Some-clause-some : goal.returns-in-Some-clause-some
 returns-in-Some-clause-some c =
-    subst (λ z. (c.in-Some.node.now < length z) × (name_at z c.in-Some.node.now ≡ c.args.name.now)) c.self.view_is
-    (c.self.invariant.there c.args.name.now c.in-Some.node.now (sym c.in-Some.ensures))
+    let a = c.self.inside in
+    let ns = names_of a.names.items in
+    let x = c.args.name.now in
+    let i = c.in_ok-node.field-0.now in
+    let at : place_at a.places (digest_of x) ≡ Some i = ap (place_at a.places) (sym c.digest-digest.ensures) ∙ sym c.in_ok-node.ensures.value in
+    let l : i < length ns = c.self.invariant.within (digest_of x) i at in
+    let size = length-map a.names.items (λ (v : Vec ℕ Global). v.items) in
+    let name : name_at ns i ≡ c.as_slice.result.now =
+    get_or-map (λ (v : Vec ℕ Global). v.items) a.names.items i c.index.result.now [] (omega (arith, l, size)) ∙ ap (λ (v : Vec ℕ Global). v.items) (sym c.index.ensures) ∙ sym c.as_slice.ensures.value in
+    let found = looked_up (place_at a.places) a.others ns x i false at (ap (λ z. same_name z x) name ∙ sym c.if-same.ensures) in
+    subst (λ z. (c.in-Some.node.now < length z) × (name_at z c.in-Some.node.now ≡ x)) c.self.view_is
+    (c.self.invariant.finds.there x c.in-Some.node.now (found ∙ sym c.in-Some.ensures))
 
 pub returns-in-None-clause-none : goal.returns-in-None-clause-none
-returns-in-None-clause-none c = λ e. not_there c.self.inside.places _ _ c.args.name.now c.self.invariant c.self.view_is (sym c.in-None.ensures)
+returns-in-None-clause-none c =
+    let a = c.self.inside in
+    let ns = names_of a.names.items in
+    let x = c.args.name.now in
+    let i = c.in_ok-node.field-0.now in
+    let at : place_at a.places (digest_of x) ≡ Some i = ap (place_at a.places) (sym c.digest-digest.ensures) ∙ sym c.in_ok-node.ensures.value in
+    let l : i < length ns = c.self.invariant.within (digest_of x) i at in
+    let size = length-map a.names.items (λ (v : Vec ℕ Global). v.items) in
+    let name : name_at ns i ≡ c.as_slice.result.now =
+    get_or-map (λ (v : Vec ℕ Global). v.items) a.names.items i c.index.result.now [] (omega (arith, l, size)) ∙ ap (λ (v : Vec ℕ Global). v.items) (sym c.index.ensures) ∙ sym c.as_slice.ensures.value in
+    let found = looked_up (place_at a.places) a.others ns x i false at (ap (λ z. same_name z x) name ∙ sym c.if-same.ensures) in
+    λ e. not_there (number_in (place_at a.places) a.others ns) ns c.args.self.now x c.self.invariant.finds c.self.view_is (found ∙ sym c.in-None.ensures)
+
+pub returns-then-same-clause-some : goal.returns-then-same-clause-some
+returns-then-same-clause-some c =
+    let a = c.self.inside in
+    let ns = names_of a.names.items in
+    let x = c.args.name.now in
+    let i = c.in_ok-node.field-0.now in
+    let at : place_at a.places (digest_of x) ≡ Some i = ap (place_at a.places) (sym c.digest-digest.ensures) ∙ sym c.in_ok-node.ensures.value in
+    let l : i < length ns = c.self.invariant.within (digest_of x) i at in
+    let size = length-map a.names.items (λ (v : Vec ℕ Global). v.items) in
+    let name : name_at ns i ≡ c.as_slice.result.now =
+    get_or-map (λ (v : Vec ℕ Global). v.items) a.names.items i c.index.result.now [] (omega (arith, l, size)) ∙ ap (λ (v : Vec ℕ Global). v.items) (sym c.index.ensures) ∙ sym c.as_slice.ensures.value in
+    let found = looked_up (place_at a.places) a.others ns x i true at (ap (λ z. same_name z x) name ∙ sym c.if-same.ensures) in
+    subst (λ z. (i < length z) × (name_at z i ≡ x)) c.self.view_is (c.self.invariant.finds.there x i found)

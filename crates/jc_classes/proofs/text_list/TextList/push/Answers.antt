@@ -11,7 +11,7 @@ invariant_of-self-in-Ok c =
     let b = c.in_ok-extend_from_slice.ensures.items in
     let e = ap length b ∙ length-append bytes c.args.text.now in
     let n : c.len.result ≡ length c.extend_from_slice.new.self.items = omega (arith, c.len.ensures, c.extend_from_slice.new.self.ok) in
-    subst (AreEnds (length c.extend_from_slice.new.self.items) 0) (sym c.in-Ok.ensures.items)
+    subst (AreEnds (length c.extend_from_slice.new.self.items) 0) (sym c.in-Ok.ensures.ok)
     (subst (λ k. AreEnds (length c.extend_from_slice.new.self.items) 0 (ends ++ k ∷ [])) (sym n)
     (ends_push (length bytes) 0 (length c.extend_from_slice.new.self.items) ends c.self.invariant (omega (arith, e))))
 
@@ -23,7 +23,7 @@ returns-in-Ok-clause-ok c =
     let b = c.in_ok-extend_from_slice.ensures.items in
     let e = ap length b ∙ length-append bytes t in
     let n : c.len.result ≡ length bytes + length t = omega (arith, e, c.len.ensures, c.extend_from_slice.new.self.ok) in
-    ap (texts_from c.extend_from_slice.new.self.items 0) c.in-Ok.ensures.items
+    ap (texts_from c.extend_from_slice.new.self.items 0) c.in-Ok.ensures.ok
     ∙ ap (λ x. texts_from x 0 (ends ++ c.len.result ∷ [])) b
     ∙ ap (λ k. texts_from (bytes ++ t) 0 (ends ++ k ∷ [])) n
     ∙ texts_push bytes t 0 ends c.self.invariant

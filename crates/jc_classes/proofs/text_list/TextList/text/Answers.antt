@@ -10,7 +10,7 @@ returns-then-number-ends c =
     let h = subst (λ xs. length xs ≤ c.args.number) c.as_slice-ends.ensures.value c.if-number-ends.true in
     sym (subst (λ (v : List (List ℕ)). slice_index_or v c.args.number [] ≡ []) c.self.view_is (texts_end bytes 0 ends c.args.number h))
 
-part_at : (c : goal.After-shared_slice_known-1) → IsPart c.self.inside.bytes.items 0 c.self.inside.ends.items c.args.number
+part_at : (c : goal.After-start) → IsPart c.self.inside.bytes.items 0 c.self.inside.ends.items c.args.number
 part_at c = part_is c.self.inside.bytes.items 0 c.self.inside.ends.items c.args.number c.self.invariant (subst (λ xs. c.args.number < length xs) c.as_slice-ends.ensures.value c.if-number-ends.false)
 
 pub part-requires-clause-rises : goal.part-requires-clause-rises

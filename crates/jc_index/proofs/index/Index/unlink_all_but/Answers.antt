@@ -17,8 +17,8 @@ loop-place-preserved c =
     let names = c.args.names.now in
     let place = c.loop-place.place in
     let within : place < length names = omega (arith, c.loop-place-test.true, c.len-place-end.ensures) in
-    unlinked_more c.args.self.now c.loop-place.self c.unlink_unless.new.self names (λ n. not (has c.args.others.now n)) place c.name.result.now c.args.user.now
-    within (sym c.name.ensures) c.loop-place.invariant c.unlink_unless.ensures
+    unlinked_more c.args.self.now c.loop-place.self c.unlink_unless-near.new.self names (λ n. not (has c.args.others.now n)) place c.name.result.now c.args.user.now
+    within (sym c.name.ensures) c.loop-place.invariant c.unlink_unless-near.ensures
 
 pub returns : goal.returns
 returns c = λ n d.

@@ -1,4 +1,4 @@
-use Rattle.std.proofs.Common.{◌≡◌, ◌∙◌, ◌<◌, length, refl, subst, ap}
+use Rattle.std.proofs.Common.{ℕ, ◌≡◌, ◌∙◌, ◌<◌, length, refl, subst, ap}
 use Rattle.jc_numbered.specs.inside.Indexed.{indexed_name, standing_of, IsIndexed}
 use Rattle.jc_numbered.specs.inside.Shown.{indexed_of}
 use Rattle.jc_classes.specs.Facts.{Reference}
@@ -19,7 +19,7 @@ returns-in-Class c =
     let d = indexed_name x c.args.self.now.class in
     let node = c.in-Class.node in
     let l : node < count = subst (IsWithinAll count) c.in-Class.is c.requires in
-    let f = λ (e : Entry) (h : (r : Reference) → entry_shown (indexed_name x) r e ≡ class_answer (text_of r.named) (indexed_name x node) (loading_of x (load_at c.args.self.now.loads.now node)) (sees x c.args.self.now.class node) (flags_of (standing_of x node)))
+    let f = λ (e : Entry ℕ) (h : (r : Reference) → entry_shown (indexed_name x) r e ≡ class_answer (text_of r.named) (indexed_name x node) (loading_of x (load_at c.args.self.now.loads.now node)) (sees x c.args.self.now.class node) (flags_of (standing_of x node)))
     (m : World) (r : Reference) (told : TellsLoads m x count c.args.self.now.loads.now) (index : IsIndexed m x) (same : named_of x c.args.named (text_of r.named) ≡ r.named).
     subst (λ n. ResolvesClass m d n (entry_shown (indexed_name x) r e)) same
     (class_made m count x c.args.self.now.classes.now.graph index c.args.self.now.loads.now told c.args.self.now.class node (text_of r.named) c.args.named (entry_shown (indexed_name x) r e) c.args.self.now.within l c.in-Class.is (ap text_of same) (h r)) in
@@ -32,7 +32,7 @@ returns-in-Some c =
     let d = indexed_name x c.args.self.now.class in
     let node = c.in-Some.node in
     let l : node < count = subst (IsWithinSome count) c.in-Some.is (subst (IsWithinAll count) c.in-Array.is c.requires) in
-    let f = λ (e : Entry) (h : (r : Reference) → entry_shown (indexed_name x) r e ≡ class_answer (text_of r.named) (indexed_name x node) (loading_of x (load_at c.args.self.now.loads.now node)) (sees x c.args.self.now.class node) 0)
+    let f = λ (e : Entry ℕ) (h : (r : Reference) → entry_shown (indexed_name x) r e ≡ class_answer (text_of r.named) (indexed_name x node) (loading_of x (load_at c.args.self.now.loads.now node)) (sees x c.args.self.now.class node) 0)
     (m : World) (r : Reference) (told : TellsLoads m x count c.args.self.now.loads.now) (index : IsIndexed m x) (same : named_of x c.args.named (text_of r.named) ≡ r.named).
     subst (λ n. ResolvesClass m d n (entry_shown (indexed_name x) r e)) same
     (array_made m count x c.args.self.now.classes.now.graph index c.args.self.now.loads.now told c.args.self.now.class node (text_of r.named) c.args.named c.in-Array.element (entry_shown (indexed_name x) r e) c.args.self.now.within l c.in-Array.is c.in-Some.is (h r)) in

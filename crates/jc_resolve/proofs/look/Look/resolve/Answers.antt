@@ -1,4 +1,4 @@
-use Rattle.std.proofs.Common.{◌≡◌, length, sym, subst, refl}
+use Rattle.std.proofs.Common.{ℕ, ◌≡◌, length, sym, subst, refl}
 use Rattle.jc_classes.specs.Worlds.{World, text_of}
 use Rattle.jc_classes.specs.Facts.{Reference}
 use Rattle.jc_classes.specs.declared.linkage_error.LinkageError.TheVariants as error
@@ -34,7 +34,7 @@ returns-in-Class-clause-found c =
     let text = c.args.reference.class.now in
     let ne : named_of x c.named-named.result text ≡ r.named = c.named-named.ensures.named x c.requires.node in
     let same : named_of x c.named-named.result (text_of r.named) ≡ r.named = subst (λ z. named_of x c.named-named.result z ≡ r.named) (sym (text_named text)) ne in
-    let f = λ (e : Entry) (h : (m : World) (q : Reference) → TellsLoads m x count c.args.self.now.loads.now → IsIndexed m x → named_of x c.named-named.result (text_of q.named) ≡ q.named → ResolvesClass m d q.named (entry_shown (indexed_name x) q e))
+    let f = λ (e : Entry ℕ) (h : (m : World) (q : Reference) → TellsLoads m x count c.args.self.now.loads.now → IsIndexed m x → named_of x c.named-named.result (text_of q.named) ≡ q.named → ResolvesClass m d q.named (entry_shown (indexed_name x) q e))
     (m : World) (told : TellsLoads m x count c.args.self.now.loads.now) (index : IsIndexed m x).
     subst (λ k. ResolvesOf m d k r (entry_shown (indexed_name x) r e)) (sym c.in-Class.is) (h m r told index same) in
     f c.class_entry.result c.class_entry.ensures
@@ -49,7 +49,7 @@ returns-in_ok-outcome-in-Field-clause-found c =
     let ne : named_of x c.named-named.result text ≡ r.named = c.named-named.ensures.named x c.requires.node in
     let o = c.in_ok-outcome-in-Field.outcome in
     let keyed = c.in_ok-outcome-in-Field.ensures.keyed in
-    let f = λ (e : Entry) (h : (y : Indexed) (q : Reference) → q.key ≡ key_lent c.args.reference.key → IsKeyedOutcome q.key o → entry_shown (indexed_name y) q e ≡ outcome_of y q.named error.NoField o)
+    let f = λ (e : Entry ℕ) (h : (y : Indexed) (q : Reference) → q.key ≡ key_lent c.args.reference.key → IsKeyedOutcome q.key o → entry_shown (indexed_name y) q e ≡ outcome_of y q.named error.NoField o)
     (m : World) (told : TellsLoads m x count c.args.self.now.loads.now) (index : IsIndexed m x).
     subst (λ k. ResolvesOf m d k r (entry_shown (indexed_name x) r e)) (sym c.in-Field.is)
     (subst (λ z. ResolvesField m d r.named r.key z) (sym (h x r refl keyed))
@@ -66,7 +66,7 @@ returns-in_ok-outcome-in-Method-clause-found c =
     let ne : named_of x c.named-named.result text ≡ r.named = c.named-named.ensures.named x c.requires.node in
     let o = c.in_ok-outcome-in-Method.outcome in
     let keyed = c.in_ok-outcome-in-Method.ensures.keyed in
-    let f = λ (e : Entry) (h : (y : Indexed) (q : Reference) → q.key ≡ key_lent c.args.reference.key → IsKeyedOutcome q.key o → entry_shown (indexed_name y) q e ≡ outcome_of y q.named error.NoMethod o)
+    let f = λ (e : Entry ℕ) (h : (y : Indexed) (q : Reference) → q.key ≡ key_lent c.args.reference.key → IsKeyedOutcome q.key o → entry_shown (indexed_name y) q e ≡ outcome_of y q.named error.NoMethod o)
     (m : World) (told : TellsLoads m x count c.args.self.now.loads.now) (index : IsIndexed m x).
     subst (λ k. ResolvesOf m d k r (entry_shown (indexed_name x) r e)) (sym c.in-Method.is)
     (subst (λ z. ResolvesMethod m d r.named r.key z) (sym (h x r refl keyed))
@@ -83,7 +83,7 @@ returns-in_ok-outcome-in-InterfaceMethod-clause-found c =
     let ne : named_of x c.named-named.result text ≡ r.named = c.named-named.ensures.named x c.requires.node in
     let o = c.in_ok-outcome-in-InterfaceMethod.outcome in
     let keyed = c.in_ok-outcome-in-InterfaceMethod.ensures.keyed in
-    let f = λ (e : Entry) (h : (y : Indexed) (q : Reference) → q.key ≡ key_lent c.args.reference.key → IsKeyedOutcome q.key o → entry_shown (indexed_name y) q e ≡ outcome_of y q.named error.NoMethod o)
+    let f = λ (e : Entry ℕ) (h : (y : Indexed) (q : Reference) → q.key ≡ key_lent c.args.reference.key → IsKeyedOutcome q.key o → entry_shown (indexed_name y) q e ≡ outcome_of y q.named error.NoMethod o)
     (m : World) (told : TellsLoads m x count c.args.self.now.loads.now) (index : IsIndexed m x).
     subst (λ k. ResolvesOf m d k r (entry_shown (indexed_name x) r e)) (sym c.in-InterfaceMethod.is)
     (subst (λ z. ResolvesInterfaceMethod m d r.named r.key z) (sym (h x r refl keyed))

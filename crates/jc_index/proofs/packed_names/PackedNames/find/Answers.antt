@@ -6,7 +6,7 @@ use Rattle.jc_classes.specs.Numbers.{name_at}
 use Rattle.jc_index.specs.inside.Places.{IsNarrowed}
 use Rattle.jc_index.proofs.lists.Edited.{gap_lacks, stands_has}
 use Rattle.jc_index.proofs.lists.Searching.{narrowed_up, narrowed_down, found_here}
-use Rattle.jc_index.proofs.packed_names.PackedNames.has.Goals as goal
+use Rattle.jc_index.proofs.packed_names.PackedNames.find.Goals as goal
 
 pub loop-low-preserved-in-Less : goal.loop-low-preserved-in-Less
 loop-low-preserved-in-Less c =
