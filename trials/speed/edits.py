@@ -3,9 +3,12 @@
 dependants. Milliseconds from a line of `jclink session` to its answer, the reading of the file with them; parts and
 names asked for as jc_asked tells them of the same edits.
 
-Usage: edits.py TREE, once jclink is built; it builds jc_asked. What depends on a class is found by this script's own
-reading of the class files. Each edit of the second table is made three times, and the least time told.
+Usage: edits.py [--rounds N] [--beside PROGRAM] TREE, once jclink is built; it builds jc_asked. The environment's JCLINK
+may name another program, and PROGRAM, an older build say, is measured in turn with it. What depends on a class is found
+by this script's own reading of the class files. Each edit of the second table is made three times a round, and the
+least time told.
 """
+import argparse
 import collections
 import os
 import pathlib
@@ -88,8 +91,8 @@ def choose(given, counts):
 
 
 class Session:
-    def __init__(self, folder):
-        self.process = subprocess.Popen([common.JCLINK, "session"], cwd=folder, stdin=subprocess.PIPE, stdout=subprocess.PIPE)
+    def __init__(self, program, folder):
+        self.process = subprocess.Popen([program, "session"], cwd=folder, stdin=subprocess.PIPE, stdout=subprocess.PIPE)
 
     def send(self, lines):
         self.process.stdin.write(b"".join(line + b"\n" for line in lines))
@@ -102,24 +105,26 @@ class Session:
         return self.process.stdout.readline(), time.perf_counter() - start
 
     def answers(self, lines):
-        """The answers to many lines, and the seconds until the last of them."""
-        start = time.perf_counter()
+        """The answers to many lines."""
         writer = threading.Thread(target=self.send, args=(lines,))
         writer.start()
         told = [self.process.stdout.readline() for _ in lines]
-        seconds = time.perf_counter() - start
         writer.join()
-        return told, seconds
+        return told
 
     def memory(self):
         text = pathlib.Path(f"/proc/{self.process.pid}/status").read_text()
         return int(text.split("VmHWM:")[1].split()[0]) / 1000
 
+    def processor(self):
+        """The seconds of a processor so far."""
+        text = pathlib.Path(f"/proc/{self.process.pid}/stat").read_text()
+        words = text[text.rindex(")") + 2:].split()
+        return (int(words[11]) + int(words[12])) / os.sysconf("SC_CLK_TCK")
+
     def close(self):
         self.send([b"end"])
-        _, _, usage = os.wait4(self.process.pid, 0)
-        self.process.returncode = 0
-        return usage.ru_utime + usage.ru_stime
+        self.process.wait()
 
 
 def edits_of(kept, fresh, paths, beside):
@@ -152,41 +157,61 @@ def write_fresh(beside, fresh):
         path.write_bytes(common.class_file(name=name))
 
 
-def measure(folder, beside):
+def prepare(folder, beside):
+    """The lines that add all files, and the edits behind them."""
     paths, given = {}, {}
     for path in sorted(folder.rglob("*.class")):
         names = ClassNames(path.read_bytes())
         paths.setdefault(names.name, bytes(path.relative_to(folder)))
         given.setdefault(names.name, names)
-    counts = count_dependants(given)
-    kept, fresh = choose(given, counts)
+    kept, fresh = choose(given, count_dependants(given))
     write_fresh(beside, fresh)
-    adds = [b"add " + path for path in sorted(paths.values())]
-    edits = list(edits_of(kept, fresh, paths, beside))
-    session = Session(folder)
-    told, seconds = session.answers(adds)
+    return [b"add " + path for path in sorted(paths.values())], list(edits_of(kept, fresh, paths, beside))
+
+
+def measure(program, folder, adds, edits):
+    """What a round takes: seconds of a processor for the adds, MB, milliseconds of a line that asks for nothing and of
+    each line of the edits."""
+    session = Session(program, folder)
+    told = session.answers(adds)
     assert set(told) == {b"ok\n"}, collections.Counter(told)
-    memory = session.memory()
-    rows, idle = [], min(session.answer(b"")[1] for _ in range(10 * TIMES))
-    for what, lines in edits:
+    costs = [session.processor(), session.memory(), min(session.answer(b"")[1] for _ in range(10 * TIMES)) * 1000]
+    for _, lines in edits:
         rounds = [[session.answer(line) for line in lines] for _ in range(TIMES)]
         assert all(answer == b"ok\n" for one in rounds for answer, _ in one), rounds
-        rows.append((what, [min(one[at][1] for one in rounds) * 1000 for at in range(len(lines))]))
-    cpu = session.close()
-    done = counts_told(folder, adds + [line for _, lines in edits for line in lines])
+        costs += [min(one[at][1] for one in rounds) * 1000 for at in range(len(lines))]
+    session.close()
+    return costs
+
+
+def tell(programs, least, adds, edits, done):
+    """The least costs of each program, and the counts of each edit."""
     first, rest = done[:len(adds)], iter(done[len(adds):])
-    print(f"{len(adds)} files added: {sum(made for made, _ in first)} parts, {sum(asks for _, asks in first)} asks, {seconds:.1f} seconds, {memory:.0f} MB; in all {cpu:.1f} seconds of a processor; a line that asks for nothing is answered in {idle * 1000:.3f} milliseconds\n")
-    print("| edit | parts | asks | milliseconds |\n|---|---|---|---|")
-    for what, times in rows:
-        counts = [next(rest) for _ in times]
-        print(f"| {what} | " + " | ".join(", ".join(texts) for texts in (
-            [f"{made:,}" for made, _ in counts], [f"{asks:,}" for _, asks in counts], [f"{one:.3f}" for one in times])) + " |")
+    print(f"{len(adds)} files added: {sum(made for made, _ in first)} parts, {sum(asks for _, asks in first)} asks\n")
+    for program in programs:
+        seconds, memory, idle = least[program][:3]
+        print(f"{program}: {seconds:.1f} seconds of a processor, {memory:.0f} MB; {idle:.3f} milliseconds for a line that asks for nothing")
+    times = [iter(least[program][3:]) for program in programs]
+    print("\n| edit | parts | asks |" + " milliseconds |" * len(programs) + "\n|---|---|---|" + "---|" * len(programs))
+    for what, lines in edits:
+        counts = [next(rest) for _ in lines]
+        cells = [f"{made:,}" for made, _ in counts], [f"{asks:,}" for _, asks in counts], *([f"{next(one):.3f}" for _ in lines] for one in times)
+        print(f"| {what} | " + " | ".join(", ".join(texts) for texts in cells) + " |")
 
 
 def main():
+    words = argparse.ArgumentParser(description=__doc__.split("\n")[0])
+    words.add_argument("tree", type=pathlib.Path)
+    words.add_argument("--rounds", type=int, default=1)
+    words.add_argument("--beside", type=pathlib.Path, help="a program that is measured in turn")
+    words = words.parse_args()
     common.build()
+    programs = [common.JCLINK] + ([words.beside.absolute()] if words.beside else [])
     with common.Workplace() as beside:
-        measure(pathlib.Path(sys.argv[1]), beside)
+        adds, edits = prepare(words.tree, beside)
+        rounds = [[measure(program, words.tree, adds, edits) for program in programs] for _ in range(words.rounds)]
+        least = {program: [min(costs) for costs in zip(*(one[at] for one in rounds))] for at, program in enumerate(programs)}
+        tell(programs, least, adds, edits, counts_told(words.tree, adds + [line for _, lines in edits for line in lines]))
 
 
 if __name__ == "__main__":
