@@ -1,5 +1,5 @@
 -- A net has no more names than the reaches of its classes.
-use Rattle.std.proofs.Common.{◌≡◌, ◌∙◌, ◌≤◌, ◌+◌, ◌||◌, ⊎_elim, zero, suc, Bool, true, false, List, [], ◌∷◌, ◌++◌, length, length-append, arith, refl, ap, sym, subst}
+use Rattle.std.proofs.Common.{◌≡◌, ◌∙◌, ◌<◌, ◌≤◌, ◌+◌, ◌||◌, ◌&&◌, ◌⊎◌, ⊎_elim, inl, inr, ℕ, zero, suc, Bool, true, false, List, [], ◌∷◌, ◌++◌, length, length-append, arith, refl, ap, sym, subst}
 use Rattle.std.proofs.lemmas.Bool.{cases_Bool, false≢true}
 use Rattle.std.proofs.lemmas.List.{get_or_default}
 use Rattle.std.proofs.lemmas.Map.Made.{length-le_from_is_member}
@@ -9,10 +9,10 @@ use Rattle.std.specs.Cmp.{eq_by_cmp_equiv}
 use Rattle.jc_base.proofs.maps.FiniteMaps.{bytes_cmp_total}
 use Rattle.jc_classes.specs.NameLists.{has}
 use Rattle.jc_classes.specs.Names.{Name, same_name}
-use Rattle.jc_classes.specs.Numbers.{IsOnce}
+use Rattle.jc_classes.specs.Numbers.{IsOnce, name_at}
 use Rattle.jc_classes.specs.Parts.{Reach}
 use Rattle.jc_classes.specs.Worlds.{World}
-use Rattle.jc_classes.proofs.numbering.Rising.{contains_of}
+use Rattle.jc_classes.proofs.numbering.Rising.{contains_of, has_of}
 use Rattle.jc_classes.proofs.worlds.NameTests.{same_is}
 use Rattle.jc_link.specs.Nets.{IsAround, Net}
 use Rattle.jc_linkage.proofs.equations.Booleans.{or_left, or_right}

@@ -1,12 +1,13 @@
-use Rattle.std.proofs.Common.{◌≡◌, ◌∙◌, ◌++◌, [], true, None, ap, arith, sym, subst}
+use Rattle.std.proofs.Common.{◌≡◌, ◌∙◌, ◌≤◌, ◌++◌, [], true, None, ap, arith, length, refl, sym, subst}
 use Rattle.std.specs.List.{Contains}
 use Rattle.std.specs.Option.{option_copied}
 use Rattle.jc_classes.specs.NameLists.{has}
 use Rattle.jc_classes.specs.Names.{Name, names_of}
 use Rattle.jc_classes.proofs.numbering.Rising.{has_of}
+use Rattle.jc_link.specs.Meters.{counted}
 use Rattle.jc_link.specs.Nets.{IsIn, Net}
 use Rattle.jc_link.specs.Tables.{world}
-use Rattle.jc_linkage.specs.inside.Kept.{fresh_names}
+use Rattle.jc_linkage.specs.inside.Kept.{fresh_names, reach_sum}
 use Rattle.jc_linkage.specs.inside.Prepared.{one_of}
 use Rattle.jc_linkage.proofs.fresh.FewAsks.{few_asked}
 use Rattle.jc_linkage.proofs.fresh.FreshLists.{names_append}
