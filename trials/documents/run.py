@@ -29,7 +29,7 @@ import common
 
 DOCUMENTS = ("README.md", "docs/USAGE.md", "docs/REPORT.md")
 # What a build makes.
-MADE = {"crates/jclink/out/jclink"}
+MADE = {"crates/jclink/out/jclink", "crates/jclink/out/MANIFEST"}
 DOWNLOAD = "apt-get download libnetty-java"
 HOLD = [sys.executable, common.TOP / "examples" / "hold.py", common.JCLINK]
 
@@ -72,7 +72,7 @@ def is_in_a_crate(lines):
 
 def missing_files(text):
     """The files that a text names by their paths from the top, and that are not there."""
-    named = re.findall(r"[`(]((?:crates|docs|examples|trials)/[\w./-]*\w)[`)]", text)
+    named = re.findall(r"[`(]((?:crates|dist|docs|examples|scripts|trials)/[\w./-]*\w)[`)]", text)
     return sorted({name for name in named if "NAME" not in name and not list(common.TOP.glob(name))} - MADE)
 
 
