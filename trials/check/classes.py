@@ -19,8 +19,11 @@ TEXTS = [b"Code", b"ConstantValue", b"Exceptions", b"BootstrapMethods", b"Source
 BODIES = {3: 4, 4: 4, 7: 2, 8: 2, 9: 4, 10: 4, 11: 4, 12: 4, 15: 3, 16: 2, 18: 4}
 # The opcodes of which rules tell, the rarer ones twice, and what a class with code refers to.
 TOLD = [18, 19, 20, 22, 58, 132, 153, 167, 168, 169, 170, 171, *range(178, 190), 192, 193, 196, 197, 200, 187, 189, 189]
+HANDLE_OF_B = (15, 6, (10, b"B", b"m", b"(LC;)V"))
 ENTRIES = [(10, b"A", b"<init>", b"()V"), (11, b"B", b"m", b"(IJ)V"), (11, b"B", b"m", b"()V"), (9, b"A", b"x", b"I"),
-           (7, b"[[I"), (7, b"[" * 255 + b"J"), (7, b"[" * 255 + b"LA;"), (7, b"[" * 254 + b"I"), (7, b"A")]
+           (7, b"[[I"), (7, b"[" * 255 + b"J"), (7, b"[" * 255 + b"LA;"), (7, b"[" * 254 + b"I"), (7, b"A"),
+           (10, links.HANDLE, b"invokeExact", b"(LB;)V"), (16, b"(I[LB;)V"), HANDLE_OF_B,
+           (18, (HANDLE_OF_B, ((16, b"()LC;"), (7, b"D"))), b"m", b"(LA;)V")]
 
 
 def put(data, at, new):
@@ -170,7 +173,7 @@ def code_class(rng, name):
     names = [b"m", b"n", rng.choice([b"<init>", b"<clinit>", b"<clinit>", b"o"])]
     methods = [(rng.choice([0, 1, 2, 4]), one, b"()V") for one in names]
     fields = [(rng.choice([1, 4]), b"<clinit>", b"I")] * rng.randrange(2)
-    references = rng.sample(ENTRIES, 6)
+    references = [*rng.sample(ENTRIES, 9), *((7, name) for name in rng.sample([b"B", b"C", b"[[LC;"], 2))]
     data = links.class_file(name, rng.choice([0x21, 0x20]), links.OBJECT, [], fields, methods, references, rng.choice([51, 52]))
     return with_code(rng, data) if rng.random() < 0.7 else data
 

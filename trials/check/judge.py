@@ -74,6 +74,11 @@ class Report:
         used = self.loaded[name].used
         return "" if int(line.removeprefix("  #").split(" ", 1)[0]) in used else " (unused)"
 
+    def described(self):
+        """How many lines of `--errors` lack the mark for a descriptor's sake alone."""
+        return sum(index in record.described and self.world.resolve(name, *reference)[0] == "error"
+                   for name, record in self.loaded.items() for index, *reference in record.references)
+
     def required(self):
         for name in self.loaded:
             for reference, answer in self.resolved(name):
@@ -137,14 +142,17 @@ def unread_folder(files):
     return None
 
 
+def class_files(files):
+    return {path: data for path, data in files.items() if data is not None and path.endswith(b".class")}
+
+
 def owed(files, prefixes, folder, only=False):
     """What `jclink check` owes for the files of a folder: output, status and standard error. With `only`, prefixes or None
     for all, what `--errors` does."""
     unread = unread_folder(files)
     if unread is not None:
         return "", 3, f"jclink: cannot read {path_text(unread) or folder}\n"
-    read = {path: data for path, data in files.items() if data is not None and path.endswith(b".class")}
-    made = Report(read, prefixes or STANDARD)
+    made = Report(class_files(files), prefixes or STANDARD)
     if only is False:
         return made.text(), int(made.wrong()), ""
     lines = list(made.errors(only))

@@ -49,6 +49,7 @@ EXPECTED = [
     "circular", *(f"provided {kind}" for kind in ("class", "field", "method")),
     *(f"required {kind}" for kind in ("class", "field", "method", "imethod")), *ENDS.values(),
     *(f"errors of {what} {end}" for what in ("all", "some") for end in ENDS.values()), "errors used", "errors unused",
+    "errors used by a descriptor alone",
 ]
 
 
@@ -116,6 +117,8 @@ def compare_errors(what, words, folder, only, files, prefixes, told):
     """The same of what makes the report wrong."""
     ours, wanted = printed([b"--errors", *words], folder), judge.owed(files, prefixes, folder, only)
     told[f"errors {'of all' if only is None else 'of some'} {ENDS[wanted[1]]}"] += 1
+    if only is None and wanted[1] == 1:
+        told["errors used by a descriptor alone"] += judge.Report(judge.class_files(files), prefixes or judge.STANDARD).described()
     for line in wanted[0].splitlines():
         if re.match(r"\S+: #", line):
             told["errors unused" if line.endswith(" (unused)") else "errors used"] += 1

@@ -51,13 +51,14 @@ class Pool:
         return MOST - self.count
 
 
-def class_file(pool, name, flags=PUBLIC | SUPER, parent=OBJECT, interfaces=(), fields=(), methods=()):
+def class_file(pool, name, flags=PUBLIC | SUPER, parent=OBJECT, interfaces=(), fields=(), methods=(), attributes=()):
     """A member is its flags, its name, its descriptor and its attributes, as numbers of constants and bytes."""
     own = u2(flags, pool.of_class(name), pool.of_class(parent))
     above = u2(len(interfaces)) + u2(*interfaces)
     tables = b"".join(u2(len(table)) + b"".join(u2(*head, len(attributes)) + b"".join(attributes) for *head, attributes in table)
                       for table in (fields, methods))
-    return struct.pack(">IHHH", 0xCAFEBABE, 0, 52, pool.count) + bytes(pool.bytes) + own + above + tables + u2(0)
+    tables += u2(len(attributes)) + b"".join(attributes)
+    return struct.pack(">IHHH", 0xCAFEBABE, 0, 52, pool.count) + bytes(pool.bytes) + own + above + tables
 
 
 def attribute(pool, name, body):
@@ -85,11 +86,14 @@ def plain(name, **more):
     return class_file(Pool(), name, **more)
 
 
+def code_of(pool, code, max_locals=0):
+    return attribute(pool, b"Code", u2(0, max_locals) + struct.pack(">I", len(code)) + code + u2(0, 0))
+
+
 def with_code(code, max_locals=0, pool=None):
     """As many methods with this code as a file has room for."""
     pool = pool or Pool()
-    body = u2(0, max_locals) + struct.pack(">I", len(code)) + code + u2(0, 0)
-    each = [attribute(pool, b"Code", body)]
+    each = [code_of(pool, code, max_locals)]
     return {"A.class": class_file(pool, b"A", methods=[(PUBLIC, pool.text(name), pool.text(b"()V"), each)
                                                        for name in itertools.islice(names(), METHODS)])}
 
@@ -318,6 +322,80 @@ def one_interface_method():
     return with_code((b"\xb9" + u2(method) + bytes([202, 0])) * (CODE // 5), pool=pool)
 
 
+# ---- descriptors that code resolves
+
+# As long as a descriptor may be, of as many classes as a method may take.
+OF_CLASSES = b"(" + b"".join(b"L" + b"%03d" % number * 84 + b"xx;" for number in range(255)) + b")V"
+
+
+def start(methods):
+    """The constants of a class whose methods have code, with room for so many methods."""
+    pool = Pool()
+    pool.of_class(b"A"), pool.of_class(OBJECT), pool.text(b"Code"), pool.text(b"()V"), pool.text(b"BootstrapMethods")
+    return pool, [pool.text(name) for name in itertools.islice(names(), methods)]
+
+
+def naming(pool, texts, opcode, indexes, behind=b"", attributes=()):
+    """A class with an instruction for each of these constants, in as many methods as that takes."""
+    each = CODE // (3 + len(behind))
+    codes = [b"".join(opcode + u2(index) + behind for index in indexes[at:at + each]) for at in range(0, len(indexes), each)]
+    methods = [(PUBLIC, name, pool.text(b"()V"), [code_of(pool, code)]) for name, code in zip(texts, codes)]
+    assert len(codes) <= len(texts)
+    return {"A.class": class_file(pool, b"A", methods=methods, attributes=attributes)}
+
+
+def method_types_of_one_descriptor():
+    pool, texts = start(3)
+    text = pool.text(OF_CLASSES)
+    return naming(pool, texts, b"\x13", [pool.add(b"\x10" + u2(text)) for _ in range(pool.room())])
+
+
+def call_sites_of_one_descriptor():
+    pool, texts = start(6)
+    entry = pool.name_and_type(b"m", OF_CLASSES)
+    handle = pool.add(b"\x0f\6" + u2(pool.reference(10, b"A", b"m", b"()V")))
+    bootstrap = attribute(pool, b"BootstrapMethods", u2(1, handle, 0))
+    return naming(pool, texts, b"\xba", [pool.add(b"\x12" + u2(0, entry)) for _ in range(pool.room())], b"\0\0", [bootstrap])
+
+
+def calls_of_method_handles_of_one_descriptor():
+    pool, texts = start(3)
+    pool.reference(10, b"java/lang/invoke/MethodHandle", b"invokeExact", OF_CLASSES)
+    calls = [pool.reference(10, b"java/lang/invoke/MethodHandle", b"invokeExact", OF_CLASSES) for _ in range(pool.room())]
+    return naming(pool, texts, b"\xb6", calls)
+
+
+def handles_of_one_descriptor():
+    """Of one member, which nothing has to name."""
+    pool, _ = start(0)
+    member = pool.reference(10, b"A", b"m", OF_CLASSES)
+    while pool.room():
+        pool.add(b"\x0f\6" + u2(member))
+    return {"A.class": class_file(pool, b"A")}
+
+
+def arrays_of_a_class_in_a_descriptor():
+    """Texts as long as may be, each of which many constants name."""
+    pool, texts = start(1)
+    name = b"a" * (LONGEST - 300)
+    kind = pool.once(b"\x10" + u2(pool.text(b"(L" + name + b";)V")))
+    arrays = [pool.text(b"[" * dimensions + b"L" + name + b";") for dimensions in range(1, 251)]
+    for text in itertools.islice(itertools.cycle(arrays), pool.room()):
+        pool.add(b"\7" + u2(text))
+    return naming(pool, texts, b"\x13", [kind])
+
+
+def classes_in_many_descriptors():
+    """Each class of a descriptor of its own, and all names begin alike."""
+    pool, texts = start(1)
+    kinds = []
+    for number in range(pool.room() // 4):
+        name = b"a" * 350 + b"%05d" % number
+        pool.of_class(name)
+        kinds.append(pool.add(b"\x10" + u2(pool.text(b"([L" + name + b";)V"))))
+    return naming(pool, texts, b"\x13", kinds)
+
+
 # ---- instructions that don't link
 
 def instructions_that_do_not_link():
@@ -341,8 +419,7 @@ def many_methods_of_few_instructions():
     three, methods = itertools.cycle(loads), []
     for key in keys:
         code = next(three) + next(three) + next(three) + b"\xb1"
-        body = u2(0, 0) + struct.pack(">I", len(code)) + code + u2(0, 0)
-        methods.append((PUBLIC, *key, [attribute(pool, b"Code", body)]))
+        methods.append((PUBLIC, *key, [code_of(pool, code)]))
     return {"A.class": class_file(pool, b"A", fields=fields, methods=methods)}
 
 
@@ -375,5 +452,7 @@ KINDS = [methods_of_one_name, few_methods_of_one_name, fields_and_references, re
          references_below_a_shorter_chain, references_to_the_first_of_a_chain, members_below_a_chain,
          few_references_each_below_a_chain, references_below_interfaces,
          interfaces_that_give_one_method, packages_of_long_names, members_of_a_long_missing_name, one_signature, one_descriptor, one_array_type,
-         one_array_type_and_a_fault, one_interface_method, instructions_that_do_not_link,
+         one_array_type_and_a_fault, one_interface_method, method_types_of_one_descriptor, call_sites_of_one_descriptor,
+         calls_of_method_handles_of_one_descriptor, handles_of_one_descriptor, arrays_of_a_class_in_a_descriptor,
+         classes_in_many_descriptors, instructions_that_do_not_link,
          many_methods_of_few_instructions, code_faults, handlers, format_faults]

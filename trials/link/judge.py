@@ -7,6 +7,7 @@ the instructions of a class that are looked at, and deciding(use) the line of th
 """
 import importlib.util
 import pathlib
+import re
 import typing
 
 PATH = pathlib.Path(__file__).resolve().parent.parent / "code" / "judge.py"
@@ -39,12 +40,13 @@ class Record:
         self.name, self.flags = file.class_text(file.this), file.flags
         self.faults = [(f"F{rule}", place) for rule, place in rules.faults(data)]
         self.code_faults, self.uses, self.parent, self.references, self.used = [], [], None, [], set()
-        self.interfaces, self.fields, self.methods = [], [], []
+        self.interfaces, self.fields, self.methods, self.described = [], [], [], set()
         if self.faults:
             return
         self.code_faults = code_rules.faults(data)
         self.uses = list(uses_of(file, {method for method, _, _ in self.code_faults}))
-        self.used = used_by(file)
+        direct, described = used_by(file)
+        self.used, self.described = direct | described, described - direct
         self.parent = file.class_text(file.parent)
         self.interfaces = [file.class_text(index) for index in file.interfaces]
         self.fields = [self.member(file, field) for field in file.fields]
@@ -126,10 +128,27 @@ def arguments_in(body):
         at += 4 + 2 * count
 
 
+def resolved_descriptors(file, named):
+    """The descriptors whose classes code resolves: those of the method types, the call sites and the methods of
+    java/lang/invoke/MethodHandle that are named, and those of the members that method handles refer to."""
+    for index in named:
+        if file.tag(index) == 16:
+            yield file.text(file.pair(index)[0])
+        elif file.tag(index) == 18 or file.tag(index) == 10 and file.class_text(file.pair(index)[0]) == HANDLE:
+            yield file.named(index)[1]
+    for index in file.entries:
+        if file.tag(index) == 15:
+            yield file.named(code_rules.unsigned(file.entries[index][1], 1, 2))[1]
+
+
 def used_by(file):
-    """The indexes that are named, and those of the classes of references to members that are."""
+    """The indexes that are named, with those of the classes of references to members that are; and those of Class
+    constants whose classes are in descriptors that code resolves."""
     named = set(named_by(file))
-    return named | {file.pair(index)[0] for index in named if index in file.entries and file.tag(index) in (9, 10, 11)}
+    owners = {file.pair(index)[0] for index in named if file.tag(index) in (9, 10, 11)}
+    classes = {name for text in set(resolved_descriptors(file, named)) for name in re.findall(rb"L([^;]*);", text)}
+    described = {index for index in file.entries if file.tag(index) == 7 and innermost(file.class_text(index)) in classes}
+    return named | owners, described
 
 
 class Use(typing.NamedTuple):

@@ -12,9 +12,13 @@ FIELD_TYPES = [b"I", b"LA;"]
 PUBLIC, PRIVATE, PROTECTED, STATIC, FINAL, NATIVE, ABSTRACT, INTERFACE = 1, 2, 4, 8, 0x10, 0x100, 0x400, 0x200
 OF_METHOD = [PUBLIC, PUBLIC, PRIVATE, PROTECTED, PROTECTED, 0]
 CLASS, FIELDREF, METHODREF, INTERFACE_METHODREF = 7, 9, 10, 11
+STRING, METHOD_HANDLE, METHOD_TYPE, INVOKE_DYNAMIC = 8, 15, 16, 18
 # The instructions that may not link, and the kinds of constants that each names, of two the second at version 52 alone.
 NAMES_OF = {178: [9], 179: [9], 180: [9], 181: [9], 182: [10], 183: [10, 11], 184: [10, 11], 185: [11], 187: [7]}
 PUTFIELD, INVOKESPECIAL, INVOKEINTERFACE, TABLESWITCH, LOOKUPSWITCH = 181, 183, 185, 170, 171
+LDC, LDC_W, INVOKEVIRTUAL, INVOKEDYNAMIC = 18, 19, 182, 186
+# The kinds of a method handle, by the tag of its member.
+HANDLE_KINDS = {FIELDREF: [1, 2, 3, 4], METHODREF: [5, 6, 7], INTERFACE_METHODREF: [9]}
 # Those that may not link in several ways stand here more often.
 OFTEN = [*NAMES_OF, PUTFIELD, INVOKESPECIAL, INVOKESPECIAL, INVOKEINTERFACE]
 # Other instructions, some of whose operands look like those; the last ones name a class.
@@ -28,7 +32,7 @@ FAULTY = [(21, b"\xc8"), (185, (11, b"A", b"m", b"()V"), b"\0\0"), (182, (10, b"
 
 class Pool:
     def __init__(self):
-        self.places, self.bytes = {}, b""
+        self.places, self.bytes, self.bootstraps = {}, b"", []
 
     def entry(self, data):
         if data not in self.places:
@@ -42,11 +46,33 @@ class Pool:
     def named(self, text):
         return self.entry(b"\x07" + struct.pack(">H", self.utf8(text)))
 
+    def pair(self, name, descriptor):
+        return self.entry(b"\x0c" + struct.pack(">HH", self.utf8(name), self.utf8(descriptor)))
+
     def refer(self, tag, owner, name=None, descriptor=None):
-        if tag == CLASS:
-            return self.named(owner)
-        pair = self.entry(b"\x0c" + struct.pack(">HH", self.utf8(name), self.utf8(descriptor)))
-        return self.entry(bytes([tag]) + struct.pack(">HH", self.named(owner), pair))
+        """The index of a constant. Besides a class and a member it may be a string, a method type by its descriptor, a
+        method handle by its kind and member, or a call site by its bootstrap method, with a handle and its arguments, name and descriptor."""
+        if tag in (CLASS, STRING, METHOD_TYPE):
+            return self.entry(bytes([tag]) + struct.pack(">H", self.utf8(owner)))
+        if tag == METHOD_HANDLE:
+            return self.entry(b"\x0f" + struct.pack(">BH", owner, self.refer(*name)))
+        first = self.bootstrap(*owner) if tag == INVOKE_DYNAMIC else self.named(owner)
+        return self.entry(bytes([tag]) + struct.pack(">HH", first, self.pair(name, descriptor)))
+
+    def bootstrap(self, handle, arguments):
+        """The number of a bootstrap method."""
+        indexes = [self.refer(*one) for one in (handle, *arguments)]
+        method = struct.pack(f">HH{len(arguments)}H", indexes[0], len(arguments), *indexes[1:])
+        if method not in self.bootstraps:
+            self.bootstraps.append(method)
+        return self.bootstraps.index(method)
+
+    def attributes(self):
+        """Those of the class: its bootstrap methods, where there are some."""
+        if not self.bootstraps:
+            return b"\0\0"
+        body = struct.pack(">H", len(self.bootstraps)) + b"".join(self.bootstraps)
+        return struct.pack(">HHI", 1, self.utf8(b"BootstrapMethods"), len(body)) + body
 
 
 def count_of(descriptor):
@@ -57,14 +83,18 @@ def count_of(descriptor):
 
 def instruction(pool, at, opcode, operand=b"", more=None):
     """The bytes of an instruction at an offset. Its operand is bytes, or a reference with more bytes behind it; a
-    switch has one of its own, and only itself for a target."""
+    switch has one of its own, and only itself for a target. An ldc whose index is too large for it is an ldc_w."""
     if opcode in (TABLESWITCH, LOOKUPSWITCH):
         operand = bytes(3 - at % 4) + struct.pack(">iiii", 0, opcode == LOOKUPSWITCH, 0, 0)
     if isinstance(operand, bytes):
         return bytes([opcode]) + operand
     if more is None:
-        more = bytes([count_of(operand[3]), 0]) if opcode == INVOKEINTERFACE else b""
-    return bytes([opcode]) + struct.pack(">H", pool.refer(*operand)) + more
+        count = bytes([count_of(operand[3]), 0]) if opcode == INVOKEINTERFACE else b""
+        more = b"\0\0" if opcode == INVOKEDYNAMIC else count
+    index = pool.refer(*operand)
+    if opcode == LDC:
+        return bytes([LDC, index]) if index < 256 else bytes([LDC_W]) + struct.pack(">H", index)
+    return bytes([opcode]) + struct.pack(">H", index) + more
 
 
 def code_of(pool, instructions):
@@ -77,8 +107,8 @@ def code_of(pool, instructions):
 
 
 def class_file(name, flags, parent, interfaces, fields, methods, references, major=52, codes=None):
-    """A class file; members are (flags, name, descriptor), references (tag, class) or (tag, class, name, descriptor).
-    The code of a method is a return, and before it the instructions that `codes` has for the method's number."""
+    """A class file; members are (flags, name, descriptor), references what Pool.refer takes, such as (tag, class) and
+    (tag, class, name, descriptor). The code of a method is a return, and before it the instructions that `codes` has for the method's number."""
     pool = Pool()
     head = struct.pack(">HHH", flags, pool.named(name), pool.named(parent) if parent is not None else 0)
     tables = struct.pack(">H", len(interfaces)) + b"".join(struct.pack(">H", pool.named(one)) for one in interfaces)
@@ -90,8 +120,9 @@ def class_file(name, flags, parent, interfaces, fields, methods, references, maj
             tables += struct.pack(">HHHH", bits, pool.utf8(member), pool.utf8(descriptor), int(body)) + code
     for reference in references:
         pool.refer(*reference)
+    attributes = pool.attributes()
     version = struct.pack(">HH", major, len(pool.places) + 1)
-    return b"\xca\xfe\xba\xbe\0\0" + version + pool.bytes + head + tables + b"\0\0"
+    return b"\xca\xfe\xba\xbe\0\0" + version + pool.bytes + head + tables + attributes
 
 
 def some(rng, things, most):
@@ -143,8 +174,58 @@ def make_reference(rng, tag, names):
     return tag, owner, rng.choice(MEMBERS), rng.choice(METHOD_TYPES)
 
 
-def make_references(rng, names):
-    return [make_reference(rng, rng.choice([7, 9, 9, 10, 10, 11, 11]), names) for _ in range(rng.randrange(10))]
+def make_type(rng, names):
+    letter = rng.choice([b"I", b"J"]) if rng.random() < 0.3 else b"L" + rng.choice(names) + b";"
+    return b"[" * rng.choice([0, 0, 0, 1, 2]) + letter
+
+
+def make_descriptor(rng, names):
+    """The descriptor of a method, mostly with classes in it."""
+    parameters = b"".join(make_type(rng, names) for _ in range(rng.randrange(3)))
+    return b"(" + parameters + b")" + (b"V" if rng.random() < 0.4 else make_type(rng, names))
+
+
+def make_handle(rng, members, names):
+    """A method handle of a member that there is, or that has a descriptor of its own."""
+    tag = rng.choice([FIELDREF, METHODREF, METHODREF, INTERFACE_METHODREF])
+    fitting = [one for one in members if one[0] == tag and one[2] not in (b"<init>", b"<clinit>")]
+    if fitting and rng.random() < 0.4:
+        member = rng.choice(fitting)
+    elif tag == METHODREF and rng.random() < 0.2:
+        return METHOD_HANDLE, 8, (tag, rng.choice(names), b"<init>", make_descriptor(rng, names).rpartition(b")")[0] + b")V")
+    elif tag == FIELDREF:
+        member = (tag, rng.choice(names), rng.choice(FIELDS), make_type(rng, names))
+    else:
+        member = (tag, rng.choice(names), rng.choice(MEMBERS), make_descriptor(rng, names))
+    return METHOD_HANDLE, rng.choice(HANDLE_KINDS[tag]), member
+
+
+def make_call_site(rng, members, names):
+    arguments = []
+    for _ in range(rng.randrange(3)):
+        arguments.append(rng.choice([(METHOD_TYPE, make_descriptor(rng, names)), make_handle(rng, members, names), (CLASS, rng.choice(names))]))
+    bootstrap = METHOD_HANDLE, 6, (METHODREF, rng.choice(names), b"m", b"()Ljava/lang/invoke/CallSite;")
+    return INVOKE_DYNAMIC, (bootstrap, tuple(arguments)), rng.choice(MEMBERS), make_descriptor(rng, names)
+
+
+def make_described(rng, members, names):
+    """A constant whose descriptor is resolved with it where code names it, and the opcode of an instruction that names it."""
+    return rng.choice([
+        (rng.choice([LDC, LDC_W]), (METHOD_TYPE, make_descriptor(rng, names))),
+        (rng.choice([LDC, LDC_W]), make_handle(rng, members, names)),
+        (INVOKEDYNAMIC, make_call_site(rng, members, names)),
+        (INVOKEVIRTUAL, (METHODREF, HANDLE, rng.choice([b"invoke", b"invokeExact"]), make_descriptor(rng, names))),
+    ])
+
+
+def make_references(rng, names, members=()):
+    """References that no code has to name, among them now and then a class, an array and what describes them."""
+    references = [make_reference(rng, rng.choice([7, 9, 9, 10, 10, 11, 11]), names) for _ in range(rng.randrange(10))]
+    if rng.random() < 0.3:
+        references += [make_reference(rng, CLASS, names) for _ in range(rng.randrange(4))]
+    if rng.random() < 0.15:
+        references.append(make_described(rng, members, names)[1])
+    return references
 
 
 def declared(shapes):
@@ -179,10 +260,12 @@ def make_code(rng, user, major, members, names):
             opcode = rng.choice(OFTEN)
             tag = rng.choice(NAMES_OF[opcode] if major == 52 else NAMES_OF[opcode][:1])
             code.append((opcode, named_by(rng, opcode, tag, user, members, names)))
-        elif chance < 0.95:
+        elif chance < 0.92:
             code.append(rng.choice(OTHERS))
-        else:
+        elif chance < 0.96:
             code.append((rng.choice(NAMING_A_CLASS), make_reference(rng, CLASS, names)))
+        else:
+            code.append(make_described(rng, members, names))
     if rng.random() < 0.06:
         code.insert(rng.randrange(len(code)), rng.choice(FAULTY))
     return code
@@ -235,7 +318,7 @@ def make_world(rng):
     members = list(declared([(name, made) for name, _, made in shapes]))
     members += [(METHODREF, HANDLE, b"invoke", b"(I)V")] * 5 * has_handle
     for at, (name, major, made) in enumerate(shapes):
-        references = make_references(rng, anything)
+        references = make_references(rng, anything, members)
         if rng.random() < 0.1:
             references.append((METHODREF, HANDLE, b"invoke", b"(I)V"))
         codes = make_codes(rng, name, major, made[-1], members, anything)

@@ -47,7 +47,8 @@ end
 TREE = {
     "tree/I.class": worlds.class_file(b"I", 0x601, worlds.OBJECT, [], [], [(1, b"m", b"()V")], []),
     "tree/p/C.class": worlds.class_file(b"p/C", 0x21, worlds.OBJECT, [b"I"], [(1, b"x", b"I")], [], [(9, b"p/D", b"x", b"I")]),
-    "tree/p/D.class": worlds.class_file(b"p/D", 0x21, b"p/C", [], [], [], [(10, b"p/D", b"m", b"()V"), (7, b"[[Lq/E;")]),
+    "tree/p/D.class": worlds.class_file(b"p/D", 0x21, b"p/C", [], [], [(9, b"n", b"()V")], [(10, b"p/D", b"m", b"()V"), (7, b"[[Lq/E;")],
+                                        codes={0: [(worlds.LDC, (worlds.METHOD_TYPE, b"(Lq/E;[Lp/C;)V"))]}),
     "tree/q.class": worlds.class_file(b"p/C", 0x21, worlds.OBJECT, [], [], [], []),
     "tree/cut.class": CLASS_A[:52],
 }

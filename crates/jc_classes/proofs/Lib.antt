@@ -3,3 +3,4 @@ pub mod worlds
 pub mod numbering
 pub mod texts
 pub mod using
+pub mod links

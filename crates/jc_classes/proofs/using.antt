@@ -1,3 +1,4 @@
 pub mod Adding
+pub mod DescriptorClasses
 pub mod Marking
 pub mod Tables

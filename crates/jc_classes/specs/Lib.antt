@@ -6,6 +6,7 @@ pub mod FieldLookup
 pub mod Laws
 pub mod Lent
 pub mod LinkErrors
+pub mod LinkLaws
 pub mod LinkageErrors
 pub mod Loading
 pub mod MemberOrder
@@ -16,6 +17,7 @@ pub mod Names
 pub mod Numbers
 pub mod Parts
 pub mod Resolution
+pub mod ResolvedDescriptors
 pub mod UsedConstants
 pub mod Worlds
 pub mod inside

@@ -96,10 +96,13 @@ site_of d f u r = record { class = d; method = method_name f u.method; named = r
 abbrev pub link_at : MethodUse → Fault → LinkFault
 link_at u fault = record { method = u.method; place = u.place; error = fault.0; class = fault.1 }
 
+-- the error at an instruction, by its reference and the answer to that
+abbrev pub link_by : Name → Facts → MethodUse → Reference × Answer → Option LinkFault
+link_by d f u r = option_and_then (λ fault. Some (link_at u fault)) (link_fault (site_of d f u r.0) u.kind r.1)
+
+-- the error at an instruction
 abbrev pub link_of : Name → Facts → List Answer → MethodUse → Option LinkFault
-link_of d f answers u =
-    option_and_then (λ pair. option_and_then (λ fault. Some (link_at u fault)) (link_fault (site_of d f u pair.0) u.kind pair.1))
-    (answered u.index f.references answers)
+link_of d f answers u = option_and_then (link_by d f u) (answered u.index f.references answers)
 
 -- by method, then by offset
 abbrev pub links_in : Name → Facts → List Answer → List LinkFault

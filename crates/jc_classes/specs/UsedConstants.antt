@@ -1,14 +1,19 @@
--- Which constants of a class file the code of a method, a method handle or a bootstrap method names
--- (JVMS 4.4.8, 4.7.23): what no code names is never resolved by it.
-use Rattle.std.specs.Prelude.{ℕ, ◌+◌, ◌==◌, Bool, List, [], ◌++◌, map, Option, Some, None, option_and_then, if◌then◌else◌}
+-- Which constants of a class file are used. The code of a method, a method handle or a bootstrap method names them
+-- (JVMS 4.4.8, 4.7.23), or their classes are resolved with what is named (JVMS 5.4.3). No code resolves the others.
+use Rattle.std.specs.Prelude.{ℕ, ◌+◌, ◌==◌, Bool, false, List, [], ◌++◌, map, Option, Some, None, option_and_then, if◌then◌else◌}
 use Rattle.std.specs.List.{flat_map, list_any, range_with_len}
 use Rattle.std.specs.Option.{option_map_or, option_to_list}
 use Rattle.jc_view.specs.declared.constant_pool.ConstantIndex.{ConstantIndex}
 use Rattle.jc_view.specs.ConstantPool as pool
 use Rattle.jc_view.specs.AttributeReading.{bootstraps_in}
 use Rattle.jc_view.specs.Attributes.{bootstrap_attributes}
-use Rattle.jc_view.specs.ClassFile.{ClassFile, all_slots, constant_at}
+use Rattle.jc_view.specs.ClassFile.{ClassFile, all_slots, class_text_at, constant_at}
 use Rattle.jc_code.specs.NamedConstants.{named_by_method}
+use Rattle.jc_classes.specs.NameLists.{has}
+use Rattle.jc_classes.specs.NamedTexts.{named_by}
+use Rattle.jc_classes.specs.Names.{Name}
+use Rattle.jc_classes.specs.Parts.{class_of}
+use Rattle.jc_classes.specs.ResolvedDescriptors.{classes_at, handle_descriptor, own_descriptor}
 
 -- by the code of its methods
 abbrev pub named_by_methods : ClassFile → List ConstantIndex
@@ -37,6 +42,13 @@ named c =
 abbrev pub is_among : List ConstantIndex → ℕ → Bool
 is_among indexes i = list_any (λ index. index.0 == i) indexes
 
+-- what f finds of the constants that are named, in ascending order of index
+abbrev pub by_named : (pool.Constant → Option ConstantIndex) → ClassFile → List ConstantIndex
+by_named f c =
+    flat_map
+    (λ index. option_to_list (if is_among (named c) index then option_and_then f (constant_at c (record { 0 = index })) else None))
+    (range_with_len 1 (all_slots c.constants))
+
 -- the class of a reference to a member
 abbrev pub owner : pool.Constant → Option ConstantIndex
 owner (pool.Fieldref class entry) = Some class
@@ -44,13 +56,27 @@ owner (pool.Methodref class entry) = Some class
 owner (pool.InterfaceMethodref class entry) = Some class
 owner constant = None
 
--- where the constant of the index is named
-abbrev pub owner_if_named : ClassFile → ℕ → Option ConstantIndex
-owner_if_named c index = if is_among (named c) index then option_and_then owner (constant_at c (record { 0 = index })) else None
+-- the descriptors that are resolved with what is named, and with the method handles
+unfoldable pub resolved_descriptors : ClassFile → List ConstantIndex
+resolved_descriptors c = by_named (own_descriptor c) c ++ by_constants (handle_descriptor c) c
 
--- what is named, and the classes of the references to members that are
+-- whether one of them has the class
+abbrev pub is_resolved : ClassFile → Name → Bool
+is_resolved c name = list_any (λ index. has (classes_at c index) name) (resolved_descriptors c)
+
+-- the Class constant of the index, where the class that it names passes, or of an array the innermost one
+abbrev pub class_that : (Name → Bool) → ClassFile → ℕ → Option ConstantIndex
+class_that test c index =
+    if option_map_or test (option_and_then (λ text. class_of (named_by text)) (class_text_at c (record { 0 = index }))) false
+    then Some (record { 0 = index })
+    else None
+
+abbrev pub classes_that : (Name → Bool) → ClassFile → List ConstantIndex
+classes_that test c = flat_map (λ index. option_to_list (class_that test c index)) (range_with_len 1 (all_slots c.constants))
+
+-- what is named, the classes of the references to members that are, and the classes in descriptors that are resolved
 unfoldable pub used_constants : ClassFile → List ConstantIndex
-used_constants c = named c ++ flat_map (λ index. option_to_list (owner_if_named c index)) (range_with_len 1 (all_slots c.constants))
+used_constants c = named c ++ by_named owner c ++ classes_that (is_resolved c) c
 
 -- of each index whether its constant is used
 unfoldable pub used : ClassFile → List Bool

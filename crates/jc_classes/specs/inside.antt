@@ -1,6 +1,7 @@
 pub mod Alike
 pub mod ClassTexts
 pub mod ConstantTexts
+pub mod DescriptorClasses
 pub mod Entries
 pub mod FactsShown
 pub mod Numbering

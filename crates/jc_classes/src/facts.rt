@@ -242,9 +242,10 @@ impl Facts {
         self.uses.as_slice()
     }
 
-    /// Whether a constant is used, and so resolved where what names it is run: an instruction, an exception handler,
-    /// a method handle or an argument of a bootstrap method names it, or a reference to a member that is named so is
-    /// of this class.
+    /// Returns whether a constant is used, so that code may resolve it. A constant is used if an instruction, an
+    /// exception handler, a method handle or an argument of a bootstrap method names it. A Class constant is also used
+    /// if a reference to a member that is named so is of this class, or if code resolves a descriptor with its class
+    /// (JVMS 5.4.3.3, 5.4.3.5, 5.4.3.6).
     pub fn is_used(&self, index: u16) -> bool
         ensures { result ≡ is_used self.now index }
     {

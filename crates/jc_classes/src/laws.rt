@@ -1,5 +1,6 @@
 //! Laws over the definitions alone.
 ghost use Rattle.jc_classes.specs.Laws.{PartIsOne, Locality, AffectedByEither};
+ghost use Rattle.jc_classes.specs.LinkLaws.{LinksAreExact, LinksAreInOrder, NoLinksUnlessLoaded};
 
 /// A class has at most one part.
 pub fn part_is_one()
@@ -14,4 +15,12 @@ pub fn locality()
 /// A class whose reach holds a touched name before an edit has one in its reach after it.
 pub fn affected_by_either()
     ensures { AffectedByEither }
+{}
+
+/// The errors of a class's instructions are those of the instructions that do not link, by method and then by offset,
+/// each once. A class that does not load has none.
+pub fn links_are_exact()
+    ensures exact { LinksAreExact }
+    ensures rising { LinksAreInOrder }
+    ensures unless_loaded { NoLinksUnlessLoaded }
 {}

@@ -5,6 +5,7 @@
 mod alike;
 mod built_in;
 mod class_texts;
+mod descriptor_classes;
 mod facts;
 mod laws;
 mod linkage_error;
@@ -19,12 +20,13 @@ mod read_facts;
 mod reference;
 mod reference_kind;
 mod references;
+mod resolved_descriptors;
 mod standing;
 mod text_list;
 mod used;
 
 pub use facts::{Facts, Faults};
-pub use laws::{affected_by_either, locality, part_is_one};
+pub use laws::{affected_by_either, links_are_exact, locality, part_is_one};
 pub use linkage_error::LinkageError;
 pub use member::{Key, Member};
 pub use names::{less, same};

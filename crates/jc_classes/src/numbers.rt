@@ -134,10 +134,12 @@ impl Numbers {
         }
     }
 
-    /// The number of a name, which it is given if it has none.
+    /// Returns the number of a name. A name without a number gets the next one. After an error the names are as they
+    /// were.
     pub fn number(&mut self, alloc: Global, name: &[u8]) -> Result<usize, NoMemory>
         ensures node { IfOk result (λ i. (i < length self.new) × (name_at self.new i ≡ name.now)) }
         ensures grows { OnOk result (Grows self.old self.new (name.now ∷ [])) }
+        ensures err { OnErr result (self.new ≡ self.old) }
     {
         if let Some(node) = self.find(name) {
             return Ok(node);

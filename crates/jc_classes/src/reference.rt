@@ -26,7 +26,7 @@ impl<'a> Reference<'a> {
     pub fn is_array(self) -> bool
         ensures { result ≡ is_array (named_by self.entry.class.now) }
     {
-        self.class.first() == Some(&b'[')
+        is_array(self.class)
     }
 
     /// The class that it names, or of an array the innermost one; `None` for an array of a primitive
@@ -34,16 +34,31 @@ impl<'a> Reference<'a> {
     pub fn class_name(self) -> Option<&'a [u8]>
         ensures { option_copied result ≡ class_of (named_by self.entry.class.now) }
     {
-        if self.is_array() {
-            class_in_descriptor(without_dimensions(self.class))
-        } else {
-            Some(self.class)
-        }
+        class_named(self.class)
+    }
+}
+
+/// Returns whether the text of a Class constant names an array.
+fn is_array(text: &[u8]) -> bool
+    ensures { result ≡ is_array (named_by text.now) }
+{
+    text.first() == Some(&b'[')
+}
+
+/// Returns the class that the text of a Class constant names, or of an array the innermost one; `None` for an array of
+/// a primitive type.
+pub(crate) fn class_named(text: &[u8]) -> Option<&[u8]>
+    ensures { option_copied result ≡ class_of (named_by text.now) }
+{
+    if is_array(text) {
+        class_in_descriptor(without_dimensions(text))
+    } else {
+        Some(text)
     }
 }
 
 /// A descriptor without the `[` in front.
-fn without_dimensions(descriptor: &[u8]) -> &[u8]
+pub(crate) fn without_dimensions(descriptor: &[u8]) -> &[u8]
     ensures { result.now ≡ without_dimensions descriptor.now }
 {
     let mut rest = descriptor;
@@ -54,7 +69,7 @@ fn without_dimensions(descriptor: &[u8]) -> &[u8]
 }
 
 /// The class between the `L` and the last character of a descriptor.
-fn class_in_descriptor(descriptor: &[u8]) -> Option<&[u8]>
+pub(crate) fn class_in_descriptor(descriptor: &[u8]) -> Option<&[u8]>
     ensures { option_copied result ≡ class_in_descriptor descriptor.now }
 {
     let (b'L', behind) = descriptor.split_first()? else {

@@ -1,4 +1,4 @@
-//! Which constants of a class file are used: what no code names is never resolved by it.
+//! Which constants of a class file are used: code resolves no others.
 
 ghost use Rattle.std.specs.Prelude.{◌≡◌, ◌++◌, ◌<◌, ◌==◌, ◌^◌, None, length, IfOk, OnOk, if◌then◌else◌, option_and_then};
 ghost use Rattle.std.specs.List.{flat_map};
@@ -10,6 +10,7 @@ ghost use Rattle.jc_view.specs.Reading.{after_table};
 ghost use Rattle.jc_classes.specs.UsedConstants.{by_constants, named_by_handle, named_by_methods, named_by_table, owner, used};
 ghost use Rattle.jc_classes.specs.inside.Using.{Marks, are_marks, arguments_at, mark_at, named_by_attribute, owners};
 
+use crate::descriptor_classes::add_resolved_classes;
 use crate::read_facts::push_some;
 use jc_base::{Cursor, NoMemory};
 use jc_view::{
@@ -17,11 +18,12 @@ use jc_view::{
 };
 use std::alloc::Global;
 
-/// Whether each constant of a class file is used, by its index: an instruction, an exception handler, a method
-/// handle or an argument of a bootstrap method names it, or a reference to a member that is named so is of this
-/// class. The code of methods names these.
+/// Returns whether each constant of a class file is used, by its index. A constant is used if an instruction, an
+/// exception handler, a method handle or an argument of a bootstrap method names it. A Class constant is also used if
+/// a reference to a member that is named so is of this class, or if its class is in a descriptor that code resolves.
+/// `names` has the constants that the code of methods names.
 ///
-/// Answers `NoMemory` only where memory was refused.
+/// Returns `NoMemory` only when an allocation fails.
 pub(crate) fn used(
     alloc: Global,
     class: &ClassView,
@@ -34,6 +36,7 @@ pub(crate) fn used(
     add_by_bootstraps(alloc, &mut names, class)?;
     let marks = marked(alloc, class, &names)?;
     add_owners(&mut names, class, &marks)?;
+    add_resolved_classes(alloc, &mut names, class, &marks)?;
     marked(alloc, class, &names)
 }
 
@@ -174,8 +177,12 @@ fn owner(class: &ClassView, index: u16) -> Option<ConstantIndex>
     }
 }
 
-/// A mark for each constant by its index, set where it is among these.
-fn marked(alloc: Global, class: &ClassView, names: &[ConstantIndex]) -> Result<Vec<bool>, NoMemory>
+/// Returns a mark for each constant by its index, set if the constant is among these.
+pub(crate) fn marked(
+    alloc: Global,
+    class: &ClassView,
+    names: &[ConstantIndex],
+) -> Result<Vec<bool>, NoMemory>
     ensures { IfOk result (λ marks. marks.items ≡ are_marks class.now names.now) }
 {
     let mut marks = vec![in alloc; false; class.constant_count() as usize]?;
@@ -192,5 +199,15 @@ fn mark(marks: &mut Vec<bool>, index: ConstantIndex)
     let at = index.0 as usize;
     if at < marks.len() {
         marks[at] = true;
+    }
+}
+
+/// Returns whether the mark of `index` is set.
+pub(crate) fn is_marked(marks: &[bool], index: u16) -> bool
+    ensures { result ≡ mark_at marks.now index }
+{
+    match marks.get(index as usize) {
+        Some(mark) => *mark,
+        None => false,
     }
 }

@@ -1,7 +1,7 @@
 -- Instructions and how they are spelled, and the code of a method as instructions that stand one after another (JVMS 4.9.1, 6.5).
 use Rattle.std.specs.Prelude.{◌≡◌, ◌⊎◌, ℕ, ◌+◌, ◌%◌, ◌<◌, ◌^◌, ℤ, pos, ◌+ℤ◌}
 use Rattle.std.specs.Prelude.{◌-ℤ◌, ◌≤ℤ◌, FitsSigned, true, false, List, [], ◌∷◌, ◌++◌}
-use Rattle.std.specs.Prelude.{length, Option, Some, None, if◌then◌else◌, ◌==◌, ◌*◌, ◌/◌, take, drop}
+use Rattle.std.specs.Prelude.{length, Option, Some, None, option_map, if◌then◌else◌, ◌==◌, ◌*◌, ◌/◌, take, drop}
 use Rattle.std.specs.Int.{cast_unsigned, w8, w16, w32}
 use Rattle.std.specs.List.{flat_map, AllByRecursion}
 use Rattle.jc_base.specs.Endian.{big_bytes}
@@ -40,11 +40,17 @@ putstatic = 179
 abbrev pub getfield : ℕ
 getfield = 180
 
+abbrev pub putfield : ℕ
+putfield = 181
+
 abbrev pub invokevirtual : ℕ
 invokevirtual = 182
 
 abbrev pub invokespecial : ℕ
 invokespecial = 183
+
+abbrev pub invokestatic : ℕ
+invokestatic = 184
 
 abbrev pub invokeinterface : ℕ
 invokeinterface = 185
@@ -90,23 +96,27 @@ opcode_of (insns.Type opcode index) = opcode
 opcode_of (insns.NewArray element) = newarray
 opcode_of (insns.MultiNewArray index dimensions) = multianewarray
 
-abbrev pub field_use : ℕ → LinkKind
+-- what the opcodes of Field do with the field that they name
+abbrev pub field_use : ℕ → Option LinkKind
 field_use opcode =
-    if opcode == getstatic then links.GetStatic
-    else if opcode == putstatic then links.PutStatic
-    else if opcode == getfield then links.GetField
-    else links.PutField
+    if opcode == getstatic then Some links.GetStatic
+    else if opcode == putstatic then Some links.PutStatic
+    else if opcode == getfield then Some links.GetField
+    else if opcode == putfield then Some links.PutField
+    else None
 
-abbrev pub invoke_use : ℕ → LinkKind
+-- what the opcodes of Invoke do with the method that they name
+abbrev pub invoke_use : ℕ → Option LinkKind
 invoke_use opcode =
-    if opcode == invokevirtual then links.InvokeVirtual
-    else if opcode == invokespecial then links.InvokeSpecial
-    else links.InvokeStatic
+    if opcode == invokevirtual then Some links.InvokeVirtual
+    else if opcode == invokespecial then Some links.InvokeSpecial
+    else if opcode == invokestatic then Some links.InvokeStatic
+    else None
 
 -- what an instruction does with the reference that it names, and the index of that
 abbrev pub link_use : Insn → Option (LinkKind × ℕ)
-link_use (insns.Field opcode index) = Some (field_use opcode, index.0)
-link_use (insns.Invoke opcode index) = Some (invoke_use opcode, index.0)
+link_use (insns.Field opcode index) = option_map (λ kind. (kind, index.0)) (field_use opcode)
+link_use (insns.Invoke opcode index) = option_map (λ kind. (kind, index.0)) (invoke_use opcode)
 link_use (insns.InvokeInterface index count last) = Some (links.InvokeInterface, index.0)
 link_use (insns.Type opcode index) = if opcode == new then Some (links.New, index.0) else None
 link_use insn = None

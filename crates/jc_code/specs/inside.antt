@@ -5,3 +5,4 @@ pub mod Marks
 pub mod TextSizes
 pub mod Clean
 pub mod FirstPass
+pub mod Fronts

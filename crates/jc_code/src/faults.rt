@@ -1,6 +1,6 @@
 //! The faults of a method's code (JVMS 4.7.3, 4.9.1).
 
-ghost use Rattle.std.specs.Prelude.{◌≡◌, ◌++◌, ◌↔◌, [], ◌∷◌, cond, Contains, IfOk, OnOk};
+ghost use Rattle.std.specs.Prelude.{◌≡◌, ◌++◌, ◌↔◌, [], ◌∷◌, cond, Contains, IfOk, OnErr, OnOk};
 ghost use Rattle.std.specs.Option.{option_map};
 ghost use Rattle.std.specs.List.Sorted.{IsStrictlySortedBy};
 ghost use Rattle.jc_view.specs.declared.attribute_kind.Holder.TheVariants as holders;
@@ -14,6 +14,7 @@ ghost use Rattle.jc_code.specs.CodeViolations.{BreaksCode, ViolatesCode};
 ghost use Rattle.jc_code.specs.InsnReading.{insns_of};
 ghost use Rattle.jc_code.specs.MethodUses.{code_uses, uses_among};
 ghost use Rattle.jc_code.specs.NamedConstants.{named_by_code, named_by_insns};
+ghost use Rattle.jc_code.specs.inside.Fronts.{BeginsWith};
 
 use crate::clean::is_clean;
 use crate::code_fault::{CodeFault, CodeRule};
@@ -121,10 +122,11 @@ pub fn faults_in(alloc: Global, sizes: &TextSizes, code: &Code) -> Result<Vec<Co
     faults_alone(alloc, sizes, code)
 }
 
-/// The faults of the code of a method, as [`faults_in`]; what its instructions do with the references that they
-/// name, put behind others: nothing where it has a fault; and the constants that it names, put behind others.
+/// Returns the faults of the code of a method, as [`faults_in`] does.
 ///
-/// Answers `NoMemory` only where memory was refused.
+/// Appends to `uses` what the instructions do with the references that they name, or nothing if the code has a
+/// fault. Appends to `names` the constants that the code names. After an error both are as they were. Returns
+/// `NoMemory` only when an allocation fails.
 pub fn faults_and_uses(
     alloc: Global,
     sizes: &TextSizes,
@@ -136,16 +138,45 @@ pub fn faults_and_uses(
     ensures faults { IfOk result (λ found. found.items ≡ faults_of sizes.now code.now.code) }
     ensures uses { OnOk result (uses.new.items ≡ uses.old.items ++ code_uses sizes.now method code.now.code) }
     ensures names { OnOk result (names.new.items ≡ names.old.items ++ named_by_code code.now.code) }
+    ensures err { OnErr result ((uses.new.items ≡ uses.old.items) × (names.new.items ≡ names.old.items)) }
 {
     let _bytes = as_bytes(code.bytes());
     codes_are_read();
     instructions_are_apart();
-    let before = uses.len();
+    let uses_before = uses.len();
+    let names_before = names.len();
+    match list_and_name(alloc, sizes, code, method, uses, names) {
+        Ok(faults) => {
+            if !faults.is_empty() {
+                uses.truncate(uses_before);
+            }
+            Ok(faults)
+        }
+        Err(NoMemory) => {
+            uses.truncate(uses_before);
+            names.truncate(names_before);
+            Err(NoMemory)
+        }
+    }
+}
+
+/// The faults of the code of a method, in their order. Appends all uses, and all constants that the code names.
+fn list_and_name(
+    alloc: Global,
+    sizes: &TextSizes,
+    code: &Code,
+    method: u16,
+    uses: &mut Vec<MethodUse>,
+    names: &mut Vec<ConstantIndex>,
+) -> Result<Vec<CodeFault>, NoMemory>
+    ensures faults { IfOk result (λ found. AreFaultsOf sizes.now code.now.code found.items) }
+    ensures uses { OnOk result (uses.new.items ≡ uses.old.items ++ uses_among method (insns_of code.now.code.code)) }
+    ensures names { OnOk result (names.new.items ≡ names.old.items ++ named_by_code code.now.code) }
+    ensures uses_kept { BeginsWith uses.new.items uses.old.items }
+    ensures names_kept { BeginsWith names.new.items names.old.items }
+{
     let faults = list_faults(alloc, sizes, code, method, uses, names)?;
     push_catch_types(names, code)?;
-    if !faults.is_empty() {
-        uses.truncate(before);
-    }
     Ok(faults)
 }
 
@@ -158,8 +189,7 @@ fn faults_alone(alloc: Global, sizes: &TextSizes, code: &Code) -> Result<Vec<Cod
     list_faults(alloc, sizes, code, 0, &mut uses, &mut names)
 }
 
-/// The faults of the code of a method, in their order. All uses, and the constants that instructions name, are put
-/// behind others.
+/// The faults of the code of a method, in their order. Appends all uses, and the constants that instructions name.
 fn list_faults(
     alloc: Global,
     sizes: &TextSizes,
@@ -171,6 +201,8 @@ fn list_faults(
     ensures faults { IfOk result (λ found. AreFaultsOf sizes.now code.now.code found.items) }
     ensures uses { OnOk result (uses.new.items ≡ uses.old.items ++ uses_among method (insns_of code.now.code.code)) }
     ensures names { OnOk result (names.new.items ≡ names.old.items ++ named_by_insns (insns_of code.now.code.code)) }
+    ensures uses_kept { BeginsWith uses.new.items uses.old.items }
+    ensures names_kept { BeginsWith names.new.items names.old.items }
 {
     let bytes = code.bytes();
     let size = bytes.len();

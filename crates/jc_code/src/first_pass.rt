@@ -6,6 +6,7 @@ ghost use Rattle.jc_code.specs.InsnReading.{insns_of};
 ghost use Rattle.jc_code.specs.MethodUses.{uses_among};
 ghost use Rattle.jc_code.specs.NamedConstants.{named_by_insns};
 ghost use Rattle.jc_code.specs.inside.FirstPass.{IsFirstPass};
+ghost use Rattle.jc_code.specs.inside.Fronts.{BeginsWith};
 
 use crate::clean::keeps_rules;
 use crate::insn::Insn;
@@ -42,6 +43,8 @@ pub(crate) fn first_pass<'a>(
     ensures found { IfOk result (λ found. IsFirstPass scope.now code.now found) }
     ensures uses { OnOk result (uses.new.items ≡ uses.old.items ++ uses_among method (insns_of code.now)) }
     ensures names { OnOk result (names.new.items ≡ names.old.items ++ named_by_insns (insns_of code.now)) }
+    ensures uses_kept { BeginsWith uses.new.items uses.old.items }
+    ensures names_kept { BeginsWith names.new.items names.old.items }
 {
     let mut marks = vec![in alloc; false; code.len()]?;
     let mut jumps = Vec::new(alloc);

@@ -133,8 +133,8 @@ impl<'a> Insn<'a> {
         ensures { result ≡ link_use self.now }
     {
         match self {
-            Insn::Field { opcode, index } => Some((field_use(*opcode), index.0)),
-            Insn::Invoke { opcode, index } => Some((invoke_use(*opcode), index.0)),
+            Insn::Field { opcode, index } => Some((field_use(*opcode)?, index.0)),
+            Insn::Invoke { opcode, index } => Some((invoke_use(*opcode)?, index.0)),
             Insn::InvokeInterface { index, .. } => Some((LinkKind::InvokeInterface, index.0)),
             Insn::Type { opcode, index } if *opcode == Opcode::NEW => {
                 Some((LinkKind::New, index.0))
@@ -144,28 +144,34 @@ impl<'a> Insn<'a> {
     }
 }
 
-fn field_use(opcode: Opcode) -> LinkKind
+/// What an opcode of `Insn::Field` does with the field that it names.
+fn field_use(opcode: Opcode) -> Option<LinkKind>
     ensures { result ≡ field_use opcode }
 {
     if opcode == Opcode::GETSTATIC {
-        LinkKind::GetStatic
+        Some(LinkKind::GetStatic)
     } else if opcode == Opcode::PUTSTATIC {
-        LinkKind::PutStatic
+        Some(LinkKind::PutStatic)
     } else if opcode == Opcode::GETFIELD {
-        LinkKind::GetField
+        Some(LinkKind::GetField)
+    } else if opcode == Opcode::PUTFIELD {
+        Some(LinkKind::PutField)
     } else {
-        LinkKind::PutField
+        None
     }
 }
 
-fn invoke_use(opcode: Opcode) -> LinkKind
+/// What an opcode of `Insn::Invoke` does with the method that it names.
+fn invoke_use(opcode: Opcode) -> Option<LinkKind>
     ensures { result ≡ invoke_use opcode }
 {
     if opcode == Opcode::INVOKEVIRTUAL {
-        LinkKind::InvokeVirtual
+        Some(LinkKind::InvokeVirtual)
     } else if opcode == Opcode::INVOKESPECIAL {
-        LinkKind::InvokeSpecial
+        Some(LinkKind::InvokeSpecial)
+    } else if opcode == Opcode::INVOKESTATIC {
+        Some(LinkKind::InvokeStatic)
     } else {
-        LinkKind::InvokeStatic
+        None
     }
 }

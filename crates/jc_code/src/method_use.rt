@@ -1,6 +1,6 @@
 //! What the instructions of methods do with the references that they name (JVMS 6.5).
 
-ghost use Rattle.std.specs.Prelude.{◌≡◌, ◌++◌, OnOk};
+ghost use Rattle.std.specs.Prelude.{◌≡◌, ◌++◌, OnErr, OnOk};
 ghost use Rattle.std.specs.Option.{option_to_list};
 ghost use Rattle.jc_code.specs.MethodUses.{use_at};
 
@@ -26,7 +26,8 @@ pub(crate) fn push_use(
     place: u16,
     insn: &Insn,
 ) -> Result<(), NoMemory>
-    ensures { OnOk result (uses.new.items ≡ uses.old.items ++ option_to_list (use_at method (place, insn.now))) }
+    ensures ok { OnOk result (uses.new.items ≡ uses.old.items ++ option_to_list (use_at method (place, insn.now))) }
+    ensures err { OnErr result (uses.new.items ≡ uses.old.items) }
 {
     if let Some((kind, index)) = insn.link_use() {
         uses.push(MethodUse {

@@ -7,7 +7,7 @@ use Rattle.jc_view.specs.declared.attribute_kind.Holder.TheVariants as holders
 use Rattle.jc_view.specs.ClassFile.{Attribute, ClassFile, attribute_bytes}
 use Rattle.jc_view.specs.Places.{attributes_from, attributes_in, attributes_place}
 use Rattle.jc_view.specs.Attributes.{bootstrap_attributes, is_recognised}
-use Rattle.jc_classes.specs.UsedConstants.{by_constants, named, named_by_handle, named_by_methods, named_by_table, used, used_constants}
+use Rattle.jc_classes.specs.UsedConstants.{by_constants, classes_that, is_resolved, named, named_by_handle, named_by_methods, named_by_table, used, used_constants}
 use Rattle.jc_classes.specs.inside.Using.{are_marks, named_by_attribute, owners}
 use Rattle.jc_classes.proofs.texts.ConstantTexts.{found_more}
 
@@ -54,7 +54,7 @@ pub named_whole : (c : ClassFile)
 unfolding named
 named_whole c = refl
 
-pub used_whole : (c : ClassFile) → named c ++ owners c (named c) ≡ used_constants c
+pub used_whole : (c : ClassFile) → named c ++ owners c (named c) ++ classes_that (is_resolved c) c ≡ used_constants c
 unfolding used_constants
 used_whole c = refl
 

@@ -4,6 +4,7 @@ use Rattle.jc_code.specs.Insns.{IsCode}
 use Rattle.jc_code.specs.inside.Clean.{has_targets, jumps_of, others_keep}
 use Rattle.jc_code.specs.inside.Marks.{marked}
 use Rattle.jc_code.proofs.clean_code.Passed.{and_true, jumps_more, keep_more}
+use Rattle.jc_code.proofs.appended.Fronts.{begins_longer, begins_whole}
 use Rattle.jc_code.proofs.marks.Marked.{has_marked, marked_none, marks_long, none_marked, place_within}
 use Rattle.jc_code.specs.InsnsLeft.{InsnsLeft}
 use Rattle.jc_code.specs.MethodUses.{use_at, uses_among}
@@ -24,6 +25,8 @@ loop-place-init c =
       keep = refl;
       uses = refl;
       names = refl;
+      uses_kept = begins_whole c.args.uses.now.items;
+      names_kept = begins_whole c.args.names.now.items;
     })
 
 pub overflow_cast-place-in-Some : goal.overflow_cast-place-in-Some
@@ -62,15 +65,17 @@ loop-place-preserved c =
           ∙ ap (λ items. c.loop-place.is_kept && others_keep c.args.scope.now items) (sym c.in-Some.ensures.steps.1.0)
           ∙ c.loop-place.invariant.keep;
       uses =
-          ap (λ uses. uses ++ uses_among c.args.method left) c.in_ok-push_use.ensures
+          ap (λ uses. uses ++ uses_among c.args.method left) c.in_ok-push_use.ensures.ok
           ∙ append_assoc c.loop-place.uses.items (option_to_list (use_at c.args.method (place, insn))) (uses_among c.args.method left)
           ∙ ap (λ items. c.loop-place.uses.items ++ uses_among c.args.method items) (sym c.in-Some.ensures.steps.1.0)
           ∙ c.loop-place.invariant.uses;
       names =
-          ap (λ names. names ++ named_by_insns left) c.in_ok-push_named.ensures
+          ap (λ names. names ++ named_by_insns left) c.in_ok-push_named.ensures.ok
           ∙ append_assoc c.loop-place.names.items (option_to_list (named_by_insn insn)) (named_by_insns left)
           ∙ ap (λ items. c.loop-place.names.items ++ named_by_insns items) (sym c.in-Some.ensures.steps.1.0)
           ∙ c.loop-place.invariant.names;
+      uses_kept = begins_longer c.args.uses.now.items c.loop-place.uses.items _ _ c.loop-place.invariant.uses_kept c.in_ok-push_use.ensures.ok;
+      names_kept = begins_longer c.args.names.now.items c.loop-place.names.items _ _ c.loop-place.invariant.names_kept c.in_ok-push_named.ensures.ok;
     }
 
 pub returns-clause-found : goal.returns-clause-found

@@ -2,6 +2,7 @@ use Rattle.std.proofs.Common.{◌≡◌, ◌++◌, ◌&&◌, length, map}
 use Rattle.jc_code.specs.inside.Clean.{jumps_of, others_keep}
 use Rattle.jc_code.specs.MethodUses.{uses_among}
 use Rattle.jc_code.specs.NamedConstants.{named_by_insns}
+use Rattle.jc_code.specs.inside.Fronts.{BeginsWith}
 use Rattle.jc_code.specs.inside.Marks.{marked}
 use Rattle.jc_code.proofs.marks.Marked.{IsMarked}
 use Rattle.jc_code.proofs.first_pass.first_pass.Given as goal
@@ -16,4 +17,6 @@ invariant-loop-place l = record {
   keep : l.is_kept && others_keep l.fn.scope l.insns.left ≡ others_keep l.fn.scope l.initial.insns.left;
   uses : l.uses.items ++ uses_among l.fn.method l.insns.left ≡ l.fn.uses.items ++ uses_among l.fn.method l.initial.insns.left;
   names : l.names.items ++ named_by_insns l.insns.left ≡ l.fn.names.items ++ named_by_insns l.initial.insns.left;
+  uses_kept : BeginsWith l.uses.items l.fn.uses.items;
+  names_kept : BeginsWith l.names.items l.fn.names.items;
 }

@@ -1,0 +1,15 @@
+use Rattle.std.proofs.Common.{◌≡◌, ◌-◌, ◌++◌, None, if◌then◌else◌}
+use Rattle.std.specs.List.{flat_map, range_with_len}
+use Rattle.std.specs.Option.{option_to_list}
+use Rattle.std.specs.Prelude.{option_and_then}
+use Rattle.jc_view.specs.ClassFile.{constant_at}
+use Rattle.jc_classes.specs.ResolvedDescriptors.{own_descriptor}
+use Rattle.jc_classes.specs.UsedConstants.{is_among, named}
+use Rattle.jc_classes.proofs.resolved_descriptors.add_own.Given as goal
+
+abbrev pub invariant-loop-index : goal.invariant-loop-index
+invariant-loop-index l = l.descriptors.items
+    ≡ l.fn.descriptors.items
+    ++ flat_map
+    (λ index. option_to_list (if is_among (named l.class) index then option_and_then (own_descriptor l.class) (constant_at l.class (record { 0 = index })) else None))
+    (range_with_len 1 (l.index - 1))

@@ -1,0 +1,288 @@
+-- The names of classes in descriptors, as a set, and the Class constants that name them.
+use Rattle.std.proofs.Common.{◌≡◌, ◌∙◌, ℕ, zero, suc, ◌+◌, ◌<◌, ◌≤◌, ◌||◌, ◌&&◌, ◌==◌, Bool, true, false, cond, List, [], ◌∷◌, ◌++◌, length, map, Option, Some, None, is_some, refl, ap, sym, subst, arith, ◌⊎◌, inl, inr, ⊎_elim, if◌then◌else◌}
+use Rattle.std.specs.FinMap as fin
+use Rattle.std.specs.List.{flat_map, list_any, range_with_len}
+use Rattle.std.specs.Option.{option_map_or, option_to_list}
+use Rattle.std.specs.Prelude.{option_and_then}
+use Rattle.std.proofs.lemmas.Grind.{flat_map-append}
+use Rattle.std.proofs.lemmas.List.{append-nil, get_or_past}
+use Rattle.std.proofs.lemmas.List.Folds.{list_any-append}
+use Rattle.std.proofs.lemmas.List.FromFn.{get_or-map-range_with_len, length-map-range_with_len}
+use Rattle.jc_base.specs.Bytes.{bytes_cmp}
+use Rattle.jc_base.proofs.maps.FiniteMaps.{bytes_cmp_total}
+use Rattle.jc_view.specs.declared.constant_pool.ConstantIndex.{ConstantIndex}
+use Rattle.jc_view.specs.ConstantPool.{Constant, class_entry}
+use Rattle.jc_view.specs.ClassFile.{ClassFile, all_slots, class_text_at, constant_at}
+use Rattle.jc_view.specs.Lookups.{utf8_at}
+use Rattle.jc_classes.specs.NameLists.{has}
+use Rattle.jc_classes.specs.NamedTexts.{named_by}
+use Rattle.jc_classes.specs.Names.{Name, same_name}
+use Rattle.jc_classes.specs.Parts.{class_of}
+use Rattle.jc_classes.specs.ResolvedDescriptors.{class_in_type, classes_in, handle_descriptor, own_descriptor}
+use Rattle.jc_classes.specs.UsedConstants.{by_constants, by_named, class_that, classes_that, is_among, resolved_descriptors}
+use Rattle.jc_classes.specs.inside.DescriptorClasses.{Adds, NameSet, class_marked, classes_marked, names_one, text_marks}
+use Rattle.jc_classes.specs.inside.Using.{mark_at}
+use Rattle.jc_classes.proofs.texts.ConstantTexts.{range_more, text_within}
+use Rattle.jc_classes.proofs.worlds.NameTests.{same_is}
+
+or_none : (b : Bool) → (b || false) ≡ b
+or_none true = refl
+or_none false = refl
+
+or_all : (b : Bool) → (b || true) ≡ true
+or_all true = refl
+or_all false = refl
+
+or_assoc : (a b c : Bool) → ((a || b) || c) ≡ (a || (b || c))
+or_assoc true b c = refl
+or_assoc false b c = refl
+
+-- ---- names in a set
+
+in_set : (found : NameSet) (k n : Name) → fin.contains_key (fin.insert found k tt) n ≡ (fin.contains_key found n || same_name n k)
+in_set found k n = ap is_some (fin.get-insert bytes_cmp_total found k tt n) ∙ by (same_name n k) (fin.get found n)
+  where
+    by : (b : Bool) (o : Option (Unit {0})) → is_some (cond b (Some tt) o) ≡ (is_some o || b)
+    by true None = refl
+    by true (Some x) = refl
+    by false None = refl
+    by false (Some x) = refl
+
+pub no_name : (n : Name) → fin.contains_key (fin.empty {X = Unit {0}} {R = bytes_cmp}) n ≡ false
+no_name n = ap is_some (fin.get-empty bytes_cmp n)
+
+-- a name is put in
+pub one_added : (found new : NameSet) (k : Name) → new ≡ fin.insert found k tt → Adds (k ∷ []) found new
+one_added found new k is = record {
+  each = λ n. ap (λ m. fin.contains_key m n) is ∙ in_set found k n ∙ ap (λ b. fin.contains_key found n || b) (sym (or_none (same_name n k)));
+}
+
+-- one that is there already
+pub one_there : (found : NameSet) (k : Name) → fin.contains_key found k ≡ true → Adds (k ∷ []) found found
+one_there found k e = record { each = λ n. by n (same_name n k) refl }
+  where
+    by : (n : Name) (b : Bool) → same_name n k ≡ b → fin.contains_key found n ≡ (fin.contains_key found n || (same_name n k || false))
+    by n true t =
+        let there : fin.contains_key found n ≡ true = ap (fin.contains_key found) (same_is n k t) ∙ e in
+        there ∙ sym (ap (λ b. fin.contains_key found n || (b || false)) t ∙ or_all (fin.contains_key found n))
+    by n false t = sym (ap (λ b. fin.contains_key found n || (b || false)) t ∙ or_none (fin.contains_key found n))
+
+pub none_added : (found : NameSet) → Adds [] found found
+none_added found = record { each = λ n. sym (or_none (fin.contains_key found n)) }
+
+-- some, and then more
+pub added_both : (names more : List Name) (old found new : NameSet) → Adds names old found → Adds more found new → Adds (names ++ more) old new
+added_both names more old found new first second = record {
+  each = λ n. second.each n
+      ∙ ap (λ b. b || has more n) (first.each n)
+      ∙ or_assoc (fin.contains_key old n) (has names n) (has more n)
+      ∙ ap (λ b. fin.contains_key old n || b) (sym (list_any-append (same_name n) names more));
+}
+
+-- ---- in a loop
+
+-- with those that are left they are all
+pub record Leaves (left all : List Name) (old found : NameSet) : Type 0 where
+  pub each : (n : Name) → (fin.contains_key found n || has left n) ≡ (fin.contains_key old n || has all n)
+
+pub all_left : (all : List Name) (old : NameSet) → Leaves all all old old
+all_left all old = record { each = λ n. refl }
+
+pub less_left : (names left all : List Name) (old found new : NameSet) → Leaves (names ++ left) all old found → Adds names found new → Leaves left all old new
+less_left names left all old found new so_far more = record {
+  each = λ n. ap (λ b. b || has left n) (more.each n)
+      ∙ or_assoc (fin.contains_key found n) (has names n) (has left n)
+      ∙ ap (λ b. fin.contains_key found n || b) (sym (list_any-append (same_name n) names left))
+      ∙ so_far.each n;
+}
+
+pub none_left : (all : List Name) (old found : NameSet) → Leaves [] all old found → Adds all old found
+none_left all old found done = record { each = λ n. sym (or_none (fin.contains_key found n)) ∙ done.each n }
+
+-- ---- of the parameters and the result
+
+pub with_result : (params : List (List ℕ)) (result : List ℕ) → flat_map class_in_type params ++ class_in_type result ≡ flat_map class_in_type (params ++ result ∷ [])
+with_result params result =
+    ap (λ v. flat_map class_in_type params ++ v) (sym (append-nil (class_in_type result)))
+    ∙ sym (flat_map-append class_in_type params (result ∷ []))
+
+-- ---- over all indexes
+
+same_number : (u v : ℕ) → u ≡ v → (v == u) ≡ true
+same_number u v e = grind arith
+
+other_number : (u v : ℕ) → (u ≡ v → ⊥) → (v == u) ≡ false
+other_number u v n = grind arith
+
+nat_cases : (u v : ℕ) → (u ≡ v) ⊎ (u ≡ v → ⊥)
+nat_cases u v = search arith
+
+order_cases : (u v : ℕ) → (u < v) ⊎ (v ≤ u)
+order_cases u v = search arith
+
+any_same : {X : Type 0} (f g : X → Bool) (xs : List X) → ((x : X) → f x ≡ g x) → list_any f xs ≡ list_any g xs
+any_same f g [] e = refl
+any_same f g (x ∷ xs) e = ap (λ b. b || list_any f xs) (e x) ∙ ap (λ b. g x || b) (any_same f g xs e)
+
+any_none : {X : Type 0} (xs : List X) → list_any (λ x. false) xs ≡ false
+any_none [] = refl
+any_none (x ∷ xs) = any_none xs
+
+or_parts : (a b c d : Bool) → ((a || b) || (c || d)) ≡ ((a || c) || (b || d))
+or_parts true b c d = refl
+or_parts false true true d = refl
+or_parts false true false d = refl
+or_parts false false c d = refl
+
+any_either : {X : Type 0} (f g : X → Bool) (xs : List X) → list_any (λ x. f x || g x) xs ≡ (list_any f xs || list_any g xs)
+any_either f g [] = refl
+any_either f g (x ∷ xs) = ap (λ b. (f x || g x) || b) (any_either f g xs) ∙ or_parts (f x) (g x) (list_any f xs) (list_any g xs)
+
+and_or : (a b c : Bool) → ((a || b) && c) ≡ ((a && c) || (b && c))
+and_or true b true = refl
+and_or true true false = refl
+and_or true false false = refl
+and_or false b c = refl
+
+-- an index that is in the range is the one at which the test counts
+elsewhere : (f : ℕ → Bool) (k from n : ℕ) → ((i : ℕ) → from ≤ i → i < from + n → i ≡ k → ⊥) → list_any (λ i. (k == i) && f i) (range_with_len from n) ≡ false
+elsewhere f k from zero none = refl
+elsewhere f k from (suc n) none =
+    ap (λ b. (b && f from) || list_any (λ i. (k == i) && f i) (range_with_len (from + 1) n)) (other_number from k (none from (omega arith) (omega arith)))
+    ∙ elsewhere f k (from + 1) n (λ i l h e. none i (omega (arith, l)) (omega (arith, h)) e)
+
+at_one : (f : ℕ → Bool) (k from n : ℕ) → from ≤ k → k < from + n → list_any (λ i. (k == i) && f i) (range_with_len from n) ≡ f k
+at_one f k from zero l h = absurd (omega (arith, l, h))
+at_one f k from (suc n) l h =
+    ⊎_elim
+    (λ e. ap (λ b. (b && f from) || list_any (λ i. (k == i) && f i) (range_with_len (from + 1) n)) (same_number from k e)
+    ∙ ap (λ b. f from || b) (elsewhere f k (from + 1) n (λ i m u is. omega (arith, m, is, e)))
+    ∙ or_none (f from) ∙ ap f e)
+    (λ no. ap (λ b. (b && f from) || list_any (λ i. (k == i) && f i) (range_with_len (from + 1) n)) (other_number from k no)
+    ∙ at_one f k (from + 1) n (omega (arith, l, no)) (omega (arith, h)))
+    (nat_cases from k)
+
+-- the marks of names at all indexes, of which those that pass are within the count
+pub any_marked : (count : ℕ) (f : ConstantIndex → Bool) (names : List ConstantIndex) → ((x : ConstantIndex) → count ≤ x.0 → f x ≡ false)
+    → list_any (λ i. is_among names i && f (record { 0 = i })) (range_with_len 0 count) ≡ list_any f names
+any_marked count f [] out = any_none (range_with_len 0 count)
+any_marked count f (x ∷ names) out =
+    any_same
+    (λ (i : ℕ). ((x.0 == i) || is_among names i) && f (record { 0 = i }))
+    (λ i. ((x.0 == i) && f (record { 0 = i })) || (is_among names i && f (record { 0 = i })))
+    (range_with_len 0 count) (λ i. and_or (x.0 == i) (is_among names i) (f (record { 0 = i })))
+    ∙ any_either (λ (i : ℕ). (x.0 == i) && f (record { 0 = i })) (λ i. is_among names i && f (record { 0 = i })) (range_with_len 0 count)
+    ∙ ap (λ b. list_any (λ (i : ℕ). (x.0 == i) && f (record { 0 = i })) (range_with_len 0 count) || b) (any_marked count f names out)
+    ∙ ap (λ b. b || list_any f names) one
+  where
+    one : list_any (λ (i : ℕ). (x.0 == i) && f (record { 0 = i })) (range_with_len 0 count) ≡ f x
+    one = ⊎_elim
+        (λ l. at_one (λ i. f (record { 0 = i })) x.0 0 count (omega arith) (omega (arith, l)))
+        (λ le. elsewhere (λ i. f (record { 0 = i })) x.0 0 count (λ i m u is. omega (arith, u, is, le)) ∙ sym (out x le))
+        (order_cases x.0 count)
+
+-- one more index
+pub any_more : (f : ℕ → Bool) (n : ℕ) → list_any f (range_with_len 0 (n + 1)) ≡ (list_any f (range_with_len 0 n) || f n)
+any_more f n =
+    let k : n + 1 ≡ suc n = omega arith in
+    let e : 0 + n ≡ n = omega arith in
+    ap (λ j. list_any f (range_with_len 0 j)) k
+    ∙ ap (list_any f) (range_more 0 n ∙ ap (λ x. range_with_len 0 n ++ x ∷ []) e)
+    ∙ list_any-append f (range_with_len 0 n) (n ∷ [])
+    ∙ ap (λ b. list_any f (range_with_len 0 n) || b) (or_none (f n))
+
+-- no classes are found where no text is
+pub none_without_text : (o : Option (List ℕ)) (n : Name) → o ≡ None → has (option_map_or classes_in o []) n ≡ false
+none_without_text o n e = ap (λ x. has (option_map_or classes_in x []) n) e
+
+-- no text is past the last constant
+pub no_text_past : (c : ClassFile) (index : ConstantIndex) → 1 + all_slots c.constants ≤ index.0 → utf8_at c index ≡ None
+no_text_past c index le = by (utf8_at c index) refl
+  where
+    by : (o : Option (List ℕ)) → utf8_at c index ≡ o → o ≡ None
+    by None e = refl
+    by (Some text) e = absurd (omega (arith, text_within c index text e, le))
+
+-- a found class, where a mark is
+pub if_marked : (b : Bool) (names : List Name) (n : Name) → has (if b then names else []) n ≡ (b && has names n)
+if_marked true names n = refl
+if_marked false names n = refl
+
+-- ---- Class constants
+
+text_mark : (test : Name → Bool) (c : ClassFile) (index : ConstantIndex) → mark_at (text_marks test c) index.0 ≡ names_one test (utf8_at c index)
+text_mark test c index =
+    let count = 1 + all_slots c.constants in
+    let one = λ (i : ℕ). names_one test (utf8_at c (record { 0 = i })) in
+    ⊎_elim
+    (λ l. get_or-map-range_with_len one 0 count index.0 index.0 false l (omega arith))
+    (λ le. get_or_past (text_marks test c) index.0 false (rw (length-map-range_with_len one 0 count) le) ∙ sym (ap (names_one test) (no_text_past c index le)))
+    (order_cases index.0 count)
+
+mark_of : (test : Name → Bool) (c : ClassFile) (o : Option Constant)
+    → option_map_or (λ text. mark_at (text_marks test c) text.0) (option_and_then class_entry o) false
+    ≡ names_one test (option_and_then (λ class. option_and_then (utf8_at c) (class_entry class)) o)
+mark_of test c None = refl
+mark_of test c (Some class) = by (class_entry class)
+  where
+    by : (o : Option ConstantIndex) → option_map_or (λ text. mark_at (text_marks test c) text.0) o false ≡ names_one test (option_and_then (utf8_at c) o)
+    by None = refl
+    by (Some text) = text_mark test c text
+
+flat_same : {X A : Type 0} (f g : X → List A) (xs : List X) → ((x : X) → f x ≡ g x) → flat_map f xs ≡ flat_map g xs
+flat_same f g [] e = refl
+flat_same f g (x ∷ xs) e = ap (λ v. v ++ flat_map f xs) (e x) ∙ ap (λ v. g x ++ v) (flat_same f g xs e)
+
+flat_none : {X A : Type 0} (xs : List X) → flat_map {X = X} {A = A} (λ x. []) xs ≡ []
+flat_none [] = refl
+flat_none (x ∷ xs) = flat_none xs
+
+test_same : (test other : Name → Bool) (o : Option Name) → ((n : Name) → test n ≡ other n) → option_map_or test o false ≡ option_map_or other o false
+test_same test other None e = refl
+test_same test other (Some n) e = e n
+
+if_class : Bool → ℕ → List ConstantIndex
+if_class b index = option_to_list (if b then Some (record { 0 = index }) else None)
+
+-- the constants whose texts are marked are those whose classes pass
+pub marked_that : (test : Name → Bool) (c : ClassFile) → classes_marked (text_marks test c) c ≡ classes_that test c
+unfolding if_class
+marked_that test c =
+    flat_same
+    (λ index. option_to_list (class_marked (text_marks test c) c index))
+    (λ index. option_to_list (class_that test c index))
+    (range_with_len 1 (all_slots c.constants))
+    (λ index. ap (λ b. if_class b index) (mark_of test c (constant_at c (record { 0 = index }))))
+
+pub same_classes : (test other : Name → Bool) (c : ClassFile) → ((n : Name) → test n ≡ other n) → classes_that test c ≡ classes_that other c
+unfolding if_class
+same_classes test other c e =
+    flat_same
+    (λ index. option_to_list (class_that test c index))
+    (λ index. option_to_list (class_that other c index))
+    (range_with_len 1 (all_slots c.constants))
+    (λ index. ap (λ b. if_class b index) (test_same test other (option_and_then (λ text. class_of (named_by text)) (class_text_at c (record { 0 = index }))) e))
+
+pub empty_list : {X : Type 0} (xs : List X) → (length xs == 0) ≡ true → xs ≡ []
+empty_list [] e = refl
+empty_list (x ∷ xs) e = absurd (grind (arith, e))
+
+none_passes : (o : Option Name) → option_map_or (λ n. false) o false ≡ false
+none_passes None = refl
+none_passes (Some n) = refl
+
+pub no_classes : (c : ClassFile) → classes_that (λ n. false) c ≡ []
+unfolding if_class
+no_classes c =
+    flat_same
+    (λ index. option_to_list (class_that (λ n. false) c index))
+    (λ index. [])
+    (range_with_len 1 (all_slots c.constants))
+    (λ index. ap (λ b. if_class b index) (none_passes (option_and_then (λ text. class_of (named_by text)) (class_text_at c (record { 0 = index })))))
+    ∙ flat_none (range_with_len 1 (all_slots c.constants))
+
+-- ---- the whole
+
+pub descriptors_whole : (c : ClassFile) → by_named (own_descriptor c) c ++ by_constants (handle_descriptor c) c ≡ resolved_descriptors c
+unfolding resolved_descriptors
+descriptors_whole c = refl

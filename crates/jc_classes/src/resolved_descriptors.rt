@@ -1,0 +1,139 @@
+//! The descriptors whose classes code resolves (JVMS 5.4.3.3, 5.4.3.5, 5.4.3.6).
+
+ghost use Rattle.std.specs.Prelude.{◌≡◌, ◌++◌, None, IfOk, OnOk, if◌then◌else◌, option_and_then};
+ghost use Rattle.jc_view.specs.ClassFile.{constant_at};
+ghost use Rattle.jc_view.specs.Lookups.{signature_entry};
+ghost use Rattle.jc_classes.specs.ResolvedDescriptors.{descriptor_in, handle_descriptor, is_method_handle, own_descriptor};
+ghost use Rattle.jc_classes.specs.UsedConstants.{by_constants, by_named, named, resolved_descriptors};
+ghost use Rattle.jc_classes.specs.inside.Using.{are_marks, mark_at};
+
+use crate::names::same;
+use crate::read_facts::push_some;
+use crate::used::is_marked;
+use jc_base::NoMemory;
+use jc_view::{ClassView, Constant, ConstantIndex};
+use std::alloc::Global;
+
+/// Returns the indexes of the descriptors that code resolves. `marks` has the constants that code names.
+///
+/// Returns `NoMemory` only when an allocation fails.
+pub(crate) fn resolved_descriptors(
+    alloc: Global,
+    class: &ClassView,
+    marks: &[bool],
+) -> Result<Vec<ConstantIndex>, NoMemory>
+    requires { marks.now ≡ are_marks class.now (named class.now) }
+    ensures { IfOk result (λ descriptors. descriptors.items ≡ resolved_descriptors class.now) }
+{
+    let mut descriptors = Vec::new(alloc);
+    add_own(&mut descriptors, class, marks)?;
+    add_by_handles(&mut descriptors, class)?;
+    Ok(descriptors)
+}
+
+/// Adds the descriptors that are resolved with marked constants.
+fn add_own(
+    descriptors: &mut Vec<ConstantIndex>,
+    class: &ClassView,
+    marks: &[bool],
+) -> Result<(), NoMemory>
+    requires { marks.now ≡ are_marks class.now (named class.now) }
+    ensures { OnOk result (descriptors.new.items ≡ descriptors.old.items ++ by_named (own_descriptor class.now) class.now) }
+{
+    for index in 1..class.constant_count() {
+        push_some(descriptors, own_if_marked(class, marks, index))?;
+    }
+    Ok(())
+}
+
+/// Returns the descriptor that is resolved with the constant at `index` if the constant is marked.
+fn own_if_marked(class: &ClassView, marks: &[bool], index: u16) -> Option<ConstantIndex>
+    ensures { result ≡ (if mark_at marks.now index then option_and_then (own_descriptor class.now) (constant_at class.now (record { 0 = index })) else None) }
+{
+    if is_marked(marks, index) {
+        own_descriptor(class, index)
+    } else {
+        None
+    }
+}
+
+/// Returns the descriptor that is resolved with the constant at `index`: that of a method type, of a call site, or of
+/// a method that may be signature polymorphic.
+fn own_descriptor(class: &ClassView, index: u16) -> Option<ConstantIndex>
+    ensures { result ≡ option_and_then (own_descriptor class.now) (constant_at class.now (record { 0 = index })) }
+{
+    match class.constant(index)? {
+        Constant::MethodType(descriptor) => Some(descriptor),
+        Constant::InvokeDynamic(_, entry) => descriptor_in(class, entry),
+        Constant::Methodref(owner, entry) => polymorphic_descriptor(class, owner, entry),
+        _ => None,
+    }
+}
+
+/// Returns the descriptor of a method of `java/lang/invoke/MethodHandle`, which may be signature polymorphic (JVMS 2.9).
+fn polymorphic_descriptor(
+    class: &ClassView,
+    owner: ConstantIndex,
+    entry: ConstantIndex,
+) -> Option<ConstantIndex>
+    ensures { result ≡ (if is_method_handle class.now owner then descriptor_in class.now entry else None) }
+{
+    if is_method_handle(class, owner) {
+        descriptor_in(class, entry)
+    } else {
+        None
+    }
+}
+
+/// Returns whether a Class constant names `java/lang/invoke/MethodHandle`.
+fn is_method_handle(class: &ClassView, owner: ConstantIndex) -> bool
+    ensures { result ≡ is_method_handle class.now owner }
+{
+    match class.class_text(owner) {
+        Some(name) => same(b"java/lang/invoke/MethodHandle", name),
+        None => false,
+    }
+}
+
+/// Returns the descriptor of a NameAndType.
+fn descriptor_in(class: &ClassView, entry: ConstantIndex) -> Option<ConstantIndex>
+    ensures { result ≡ descriptor_in class.now entry }
+{
+    match class.constant(entry.0)? {
+        Constant::NameAndType(_, descriptor) => Some(descriptor),
+        _ => None,
+    }
+}
+
+/// Adds the descriptors of the members that method handles refer to.
+fn add_by_handles(descriptors: &mut Vec<ConstantIndex>, class: &ClassView) -> Result<(), NoMemory>
+    ensures { OnOk result (descriptors.new.items ≡ descriptors.old.items ++ by_constants (handle_descriptor class.now) class.now) }
+{
+    for index in 1..class.constant_count() {
+        push_some(descriptors, handle_descriptor(class, index))?;
+    }
+    Ok(())
+}
+
+/// Returns the descriptor of the member that the method handle at `index` refers to.
+fn handle_descriptor(class: &ClassView, index: u16) -> Option<ConstantIndex>
+    ensures { result ≡ option_and_then (handle_descriptor class.now) (constant_at class.now (record { 0 = index })) }
+{
+    match class.constant(index)? {
+        Constant::MethodHandle(_, reference) => member_descriptor(class, reference),
+        _ => None,
+    }
+}
+
+/// Returns the descriptor of the member that the constant at `index` refers to.
+fn member_descriptor(class: &ClassView, index: ConstantIndex) -> Option<ConstantIndex>
+    ensures { result ≡ option_and_then (descriptor_in class.now) (option_and_then signature_entry (constant_at class.now index)) }
+{
+    match class.constant(index.0)? {
+        Constant::Fieldref(_, entry)
+        | Constant::Methodref(_, entry)
+        | Constant::InterfaceMethodref(_, entry)
+        | Constant::InvokeDynamic(_, entry) => descriptor_in(class, entry),
+        _ => None,
+    }
+}
