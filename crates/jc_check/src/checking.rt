@@ -21,6 +21,7 @@ use jc_limits::{path_fault, room_fault, size_fault};
 use jc_link::{Meter, Outside};
 use jc_report::{AddError, Tree, TreeReport, write_errors, write_report};
 use std::alloc::Global;
+use thiserror::Error;
 
 /// What a check writes.
 #[derive(Drop)]
@@ -33,15 +34,19 @@ pub enum CheckForm {
 }
 
 /// Why a tree of files has no report, or why not all of it is written.
-#[derive(Clone, Copy, Debug)]
+#[derive(Clone, Copy, Debug, Error)]
 pub enum CheckError<'p> {
     /// The source hands over no bytes for this path.
+    #[error("a file can't be read")]
     Unread(&'p [u8]),
     /// The file at this path can't be added.
+    #[error("a file can't be added: {0}")]
     Refused(EditError, &'p [u8]),
     /// The output failed.
+    #[error("the output failed")]
     Write,
     /// Memory was refused.
+    #[error("memory was refused")]
     NoMemory,
 }
 

@@ -5,6 +5,10 @@ use Rattle.std.specs.Global.{Global}
 use Rattle.jc_input.specs.declared.source.SourceError.{SourceError}
 use Rattle.jc_input.specs.declared.source.SourceError.TheVariants as errors
 
+abbrev pub source_error_code : SourceError → ℕ
+source_error_code errors.Unread = 1
+source_error_code errors.NoMemory = 2
+
 -- what the calls of a source are answered, in order, each by the path that is asked
 abbrev pub SourceAnswers : Type 0
 SourceAnswers = List (List ℕ → Result (List ℕ) SourceError)

@@ -22,6 +22,20 @@ pub enum SourceError {
     NoMemory,
 }
 
+impl SourceError {
+    ghost use Rattle.jc_input.specs.Sources.{source_error_code};
+
+    /// Returns the number of the error, from 1, in the order of the variants.
+    pub fn code(&self) -> u8
+        ensures { result ≡ source_error_code self.now }
+    {
+        match self {
+            SourceError::Unread => 1,
+            SourceError::NoMemory => 2,
+        }
+    }
+}
+
 /// Hands over the bytes of files.
 pub trait Source {
     /// What the calls from here on are answered, each by its path, where that is known.

@@ -3,6 +3,7 @@ use Rattle.std.specs.Prelude.{◌≡◌, ℕ, ◌≤◌, ◌⊎◌, Bool, true, 
 use Rattle.std.specs.Prelude.{Option, Some, Result, Ok, Err, MatchOption}
 use Rattle.std.specs.FinMap as map
 use Rattle.std.specs.Io.KnownBytes.{Appends, Keeps}
+use Rattle.std.specs.List.Sorted.{IsStrictlySortedBy}
 use Rattle.jc_base.specs.Device.{MoreFaults, WritesFront}
 use Rattle.jc_input.specs.declared.run_error.Ended.{Ended}
 use Rattle.jc_input.specs.declared.run_error.RunError.{RunError}
@@ -16,13 +17,14 @@ use Rattle.jc_input.specs.EditErrors.{edit_code, edit_error_name}
 use Rattle.jc_check.specs.Checks.{Answer, CheckFault, ChecksAs, FileRefused, FileUnread, WriteFailed, added}
 use Rattle.jc_check.specs.Checks as checks
 use Rattle.jc_check.specs.declared.checking.CheckForm.{CheckForm}
+use Rattle.jc_classes.specs.Names.{name_cmp}
 use Rattle.jc_list.specs.Listing.{WritesBeginning}
 use Rattle.jc_lines.specs.ListedText.{file_text, is_faulty_file}
 use Rattle.jc_limits.specs.FileEdits.{size_fault}
-use Rattle.jc_edits.specs.SessionState.{HeldFiles}
+use Rattle.jc_edits.specs.SessionState.{Contents}
 use Rattle.jc_lines.specs.Runs.{RunsByAnswers, left_by}
 use Rattle.jc_report.specs.Reports.{IsReport, Report, is_wrong}
-use Rattle.jc_session.specs.Words.{AsksCheck, AsksListing, AsksRun, Word}
+use Rattle.jc_session.specs.Words.{AsksCheck, AsksListing, AsksRun, IsUsageError, Word}
 
 -- why the program ends with a line on standard error
 pub data Fault : Type 0 where
@@ -45,12 +47,12 @@ fault_of run_errors.Write = Output
 fault_of run_errors.NoMemory = NoMemory
 
 -- of a run, by the report held at its end
-abbrev pub IsOutcome : Result Ended RunError → HeldFiles → Outcome → Type 0
+abbrev pub IsOutcome : Result Ended RunError → Contents → Outcome → Type 0
 IsOutcome (Ok how) h outcome = (r : Report) × IsReport h.files h.prefixes r × (outcome ≡ Ok (is_wrong r))
 IsOutcome (Err e) h outcome = outcome ≡ Err (fault_of e)
 
 -- at first there are no files
-abbrev pub begun : List (List ℕ) → HeldFiles
+abbrev pub begun : List (List ℕ) → Contents
 begun prefixes = record { files = map.empty; prefixes = prefixes }
 
 -- a run over the input, with no files at first, by the prefixes that the words ask for and the answers that its source gave, had
@@ -58,7 +60,7 @@ begun prefixes = record { files = map.empty; prefixes = prefixes }
 abbrev pub RunsSession : (words : List Word) → Outcome → (input coming before now : Option (List ℕ)) → Type 0
 RunsSession words outcome input coming before now =
     (prefixes : List (List ℕ)) × AsksRun words prefixes
-    × (ending : Result Ended RunError) × (held : HeldFiles) × IsOutcome ending held outcome
+    × (ending : Result Ended RunError) × (held : Contents) × IsOutcome ending held outcome
     × RunsByAnswers (begun prefixes) input ending (left_by held (Some []) coming before now)
 
 -- the listing of a file was written, or why the bytes are none, or not all of it
@@ -91,11 +93,11 @@ abbrev pub Lists : (words : List Word) → Outcome → (before now : Option (Lis
 Lists words outcome before now =
     (path : List ℕ) × AsksListing words path × (answer : Result (List ℕ) SourceError) × ListsAs path answer outcome before now
 
--- the files at some paths were checked, as the words ask for it, by what was read at each
+-- the files at some paths, in ascending order and each once, were checked, as the words ask for it, by what was read at each
 abbrev pub ChecksFiles : (words : List Word) → Outcome → (before now : Option (List ℕ)) → Type 0
 ChecksFiles words outcome before now =
     (prefixes : List (List ℕ)) × (form : CheckForm) × (folder : List ℕ) × AsksCheck words prefixes form folder
-    × (paths : List (List ℕ)) × (answers : List Answer) × (checked : Result Bool CheckFault)
+    × (paths : List (List ℕ)) × IsStrictlySortedBy name_cmp paths × (answers : List Answer) × (checked : Result Bool CheckFault)
     × (outcome ≡ outcome_of_check checked)
     × ChecksAs prefixes form (added map.empty paths answers) checked before now
 
@@ -110,15 +112,23 @@ Checks words outcome before now =
 abbrev pub NamesCommand : (command : Word) → (words : List Word) → Type 0
 NamesCommand command words = (behind : List Word) × (words ≡ command ∷ behind)
 
--- the words were refused, or there was no memory for them; or the command that they name was done: a run, a listing
--- of a file, or a check of a tree. Nothing but a run touches the input, of which a function tells what is left
+-- the command that the first argument names was performed: a run, a listing of a file, or a check of a tree. Only a run reads
+-- the input, whose bytes to come a function returns
+abbrev pub PerformsCommand : {R : Type 0} → (remaining : R → Option (List ℕ)) → (words : List Word) → Outcome
+    → (input coming : R) → (before now : Option (List ℕ)) → Type 0
+PerformsCommand remaining words outcome input coming before now =
+    (NamesCommand (codes "session") words × RunsSession words outcome (remaining input) (remaining coming) before now)
+    ⊎ (NamesCommand (codes "list") words × (coming ≡ input) × Lists words outcome before now)
+    ⊎ (NamesCommand (codes "check") words × (coming ≡ input) × Checks words outcome before now)
+
+-- the arguments are a usage error, or no memory was left for them, and nothing was performed; or they are none, and their command
+-- was performed
 abbrev pub Performs : {R : Type 0} → (remaining : R → Option (List ℕ)) → (words : List Word) → Outcome
     → (input coming : R) → (before now : Option (List ℕ)) → Type 0
 Performs remaining words outcome input coming before now =
-    (((outcome ≡ Err Usage) ⊎ (outcome ≡ Err NoMemory)) × (coming ≡ input) × Keeps before now)
-    ⊎ (NamesCommand (codes "session") words × RunsSession words outcome (remaining input) (remaining coming) before now)
-    ⊎ (NamesCommand (codes "list") words × (coming ≡ input) × Lists words outcome before now)
-    ⊎ (NamesCommand (codes "check") words × (coming ≡ input) × Checks words outcome before now)
+    ((outcome ≡ Err Usage) × IsUsageError words × (coming ≡ input) × Keeps before now)
+    ⊎ ((outcome ≡ Err NoMemory) × (coming ≡ input) × Keeps before now)
+    ⊎ (¬ (IsUsageError words) × PerformsCommand remaining words outcome input coming before now)
 
 abbrev pub fault_status : Fault → ℕ
 fault_status Usage = 2

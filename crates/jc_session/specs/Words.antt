@@ -1,14 +1,17 @@
 -- What the words of the command line ask for, as `clap` finds it among them.
-use Rattle.std.specs.Prelude.{◌≡◌, ◌↔◌, ℕ, true, List, codes, IsSome, Option, Some, None}
+use Rattle.std.specs.Prelude.{◌≡◌, ◌↔◌, ◌⊎◌, ℕ, true, List, codes, IsSome, Option, Some, None}
 use Rattle.std.specs.List.{Contains}
+use Rattle.clap.specs.Faults.{fault_of}
+use Rattle.clap.specs.Kinds.{IsAmong}
 use Rattle.clap.specs.Simple.{App, new_app, new_rule, on_top, subcommand_of, with_rule, with_subcommand}
 use Rattle.clap.specs.Walk.{Row, Rule, all_of, first_of, one_of}
 use Rattle.clap.specs.declared.builder.action.ArgAction.TheVariants.{Append, SetTrue}
+use Rattle.clap.specs.declared.error.kind.ErrorKind.{ErrorKind}
 use Rattle.jc_check.specs.declared.checking.CheckForm.{CheckForm}
 use Rattle.jc_check.specs.declared.checking.CheckForm.TheVariants as forms
 use Rattle.jc_classes.specs.Names.{Name}
 use Rattle.jc_classes.specs.Numbers.{IsOnce}
-use Rattle.jc_link.specs.Prefixes.{standard_prefixes}
+use Rattle.jc_link.specs.Prefixes.{prefixes_fault, standard_prefixes}
 
 -- ---- the command line
 
@@ -62,6 +65,11 @@ abbrev pub HoldsGiven : Option (List Name) → List Name → Type 0
 HoldsGiven None held = held ≡ standard_prefixes
 HoldsGiven (Some texts) held = ((p : Name) → Contains held p ↔ Contains texts p) × IsOnce held
 
+-- the given prefixes are refused: one of them is empty or longer than 256 bytes, or more than 64 are given, repeats counted
+abbrev pub AreRefused : Option (List Name) → Type 0
+AreRefused None = ⊥
+AreRefused (Some texts) = IsSome (prefixes_fault texts)
+
 -- ---- the form of a check
 
 -- a flag that is given has the text `true`, and one that is not has `false`
@@ -78,8 +86,16 @@ TellsOnly named (Some held) = IsSome named × HoldsGiven named held
 
 -- without `--errors` the report is asked for, and with it what makes that wrong; `--only` is for errors alone
 abbrev pub AsksForm : List Row → CheckForm → Type 0
-AsksForm rows forms.Report = ¬ (IsGiven (codes "errors") rows) × (given (codes "only") rows ≡ None)
-AsksForm rows (forms.Errors held) = ¬ (IsLacking (codes "errors") rows) × TellsOnly (given (codes "only") rows) held
+AsksForm rows forms.Report = IsLacking (codes "errors") rows × (given (codes "only") rows ≡ None)
+AsksForm rows (forms.Errors held) = IsGiven (codes "errors") rows × TellsOnly (given (codes "only") rows) held
+
+-- the prefixes of `--only` are refused, or `--only` is given without `--errors`
+abbrev pub IsBadForm : List Row → Type 0
+IsBadForm rows = AreRefused (given (codes "only") rows) ⊎ (IsLacking (codes "errors") rows × IsSome (given (codes "only") rows))
+
+-- the prefixes of `--outside` are refused, or the form is bad
+abbrev pub IsBadCheck : List Row → Type 0
+IsBadCheck rows = AreRefused (given (codes "outside") rows) ⊎ IsBadForm rows
 
 -- ---- what is asked for
 
@@ -96,3 +112,16 @@ abbrev pub AsksCheck : List Word → (prefixes : List Name) → CheckForm → (f
 AsksCheck words prefixes form folder =
     (rows : List Row) × Finds words (codes "check") rows × HoldsGiven (given (codes "outside") rows) prefixes
     × AsksForm rows form × (Some folder ≡ first_of (codes "DIR") rows)
+
+-- ---- usage errors
+
+-- `clap` lists a kind of error for the arguments
+unfoldable pub HasFault : List Word → Type 0
+HasFault words = (kind : ErrorKind) × IsAmong kind (fault_of jclink_command words)
+
+-- the arguments are a usage error: `clap` finds a fault among them, or `session` or `check` refuses what its options were given
+abbrev pub IsUsageError : List Word → Type 0
+IsUsageError words =
+    HasFault words
+    ⊎ ((rows : List Row) × Finds words (codes "session") rows × AreRefused (given (codes "outside") rows))
+    ⊎ ((rows : List Row) × Finds words (codes "check") rows × IsBadCheck rows)

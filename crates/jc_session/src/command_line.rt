@@ -4,7 +4,7 @@ ghost use Rattle.std.specs.Prelude.{Bool, List, Result, map as map_each, ℕ};
 ghost use Rattle.std.specs.FinMap as map;
 ghost use Rattle.jc_classes.specs.Names.{names_of};
 ghost use Rattle.jc_input.specs.declared.source.SourceError.{SourceError};
-ghost use Rattle.jc_edits.specs.SessionState.{held_of};
+ghost use Rattle.jc_edits.specs.SessionState.{contents_of};
 ghost use Rattle.jc_check.specs.Checks.{Answer, CheckFault, ChecksAs, GivesAnswers, added};
 ghost use Rattle.jc_input.specs.Sources.{TakesAnswer, answer_of};
 ghost use Rattle.jc_session.specs.Statuses.{Checks, Concludes, CountsInput, CountsOutput, ListsAs, Outcome, Performs};
@@ -26,13 +26,13 @@ use jc_link::Outside;
 use std::alloc::Global;
 use std::rt::Files;
 
-/// Runs jclink: `words` are those after the program's name, and files are read from `rt`'s working
-/// folder. Gives the exit status.
+/// Runs jclink and returns the exit status. `words` are the arguments after the program's name. Files are read
+/// from `rt`'s working folder.
 ///
-/// 0: nothing wrong. 1: the report, or the one held at the end, is wrong, or the listed file is unreadable
-/// or has a fault. 2: usage, for words that are refused and for a call for help. 3: reading or writing
-/// failed, or a file to list or to check is refused. 4: no memory. At 2, 3 and 4 one line goes to `err`,
-/// whose failing changes nothing.
+/// 0: nothing is wrong. 1: the report, or the one held at the end, is wrong, or the listed file is unreadable
+/// or has a fault. 2: a usage error: `clap` finds a fault among the arguments, a call for help among them, or
+/// the command refuses the values of its options. 3: reading or writing failed, or a file to list or to check
+/// is refused. 4: out of memory. At 2, 3 and 4 one line goes to `err`. Write errors of `err` are ignored.
 pub fn program<F: Files + AllocGlobal, R: Input, W: Output, E: Output>(
     rt: &F,
     words: &[&str],
@@ -168,7 +168,7 @@ fn run_through<S: Source, R: Input, W: Output>(
     input: &mut R,
     out: &mut W,
 ) -> Result<bool, Fault<'static>>
-    ensures runs { Serves S.answers R.remaining W.written (held_of session.old) (outcome_lent result)
+    ensures runs { Serves S.answers R.remaining W.written (contents_of session.old) (outcome_lent result)
         source.old source.new input.old input.new out.old out.new }
     ensures reads { CountsInput (outcome_lent result) (R.failures input.old) (R.failures input.new) }
     ensures writes { CountsOutput (outcome_lent result) (W.failures out.old) (W.failures out.new) }

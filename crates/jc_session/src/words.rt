@@ -1,15 +1,16 @@
 //! What the words after the program's name ask for.
 
-ghost use Rattle.std.specs.Prelude.{◌≡◌, ◌⊎◌, ◌↔◌, IfErr, IfOk, None, OnErr, Some, codes, false, map};
+ghost use Rattle.std.specs.Prelude.{◌≡◌, ◌⊎◌, ◌↔◌, IfErr, IfOk, Some, codes, false, map};
 ghost use Rattle.clap.specs.Matches.{found_of};
 ghost use Rattle.clap.specs.Simple.{app_of, subcommand_rows_of};
 ghost use Rattle.clap.specs.Values.{kind_of};
-ghost use Rattle.clap.specs.Walk.{first_of, rows_of, rule_of};
+ghost use Rattle.clap.specs.Walk.{rows_of, rule_of};
 ghost use Rattle.jc_session.specs.Statuses.{NamesCommand, NoMemory, Usage};
 ghost use Rattle.jc_session.specs.Words as line;
-ghost use Rattle.jc_session.specs.Words.{AsksForm, HoldsGiven, given};
+ghost use Rattle.jc_session.specs.Words.{AreRefused, AsksForm, HoldsGiven, IsBadCheck, IsBadForm, IsUsageError, given};
 ghost use Rattle.jc_session.specs.inside.LentFaults.{fault_lent};
-ghost use Rattle.jc_session.specs.inside.Requests.{AreRefused, AsksAmong, AsksBy, AsksFor, HasLeaf, IsLeaf, command_of};
+ghost use Rattle.jc_session.specs.inside.Requests.{AsksAmong, AsksBy, AsksFor, FailsFor, HasFlag, HasLeaf, HasPath, IsComplete, IsLeaf};
+ghost use Rattle.jc_session.specs.inside.Requests.{IsRefusedBy, command_of};
 
 use crate::fault::Fault;
 use clap::error::ErrorKind;
@@ -28,73 +29,77 @@ pub(crate) enum Request<'w> {
     Check(Outside, CheckForm, &'w str),
 }
 
-/// What the words ask for: `session` and prefixes, `list` and a path, or `check`, its options and a folder.
+/// Returns what the arguments ask for: `session` and prefixes, `list` and a path, or `check`, its options and a folder.
+///
+/// # Errors
+///
+/// `Usage`: `clap` finds a fault among the arguments, or the command refuses what its options were given. `NoMemory`: an
+/// allocation failed.
 pub(crate) fn asked<'w>(alloc: Global, words: &'w [&'w str]) -> Result<Request<'w>, Fault<'w>>
     ensures command { IfOk result (λ request. NamesCommand (command_of request) (map (λ word. word.now) words.now)) }
     ensures asks { IfOk result (AsksFor (map (λ word. word.now) words.now)) }
-    ensures fault { IfErr result (λ fault. (fault_lent fault ≡ Usage) ⊎ (fault_lent fault ≡ NoMemory)) }
+    ensures proper { IfOk result (λ _. ¬ (IsUsageError (map (λ word. word.now) words.now))) }
+    ensures fault { IfErr result (FailsFor (IsUsageError (map (λ word. word.now) words.now))) }
 {
     let matches = match jclink_command(alloc)?.try_get_matches_from(words) {
         Ok(matches) => matches,
         Err(error) => return Err(words_fault(&error)),
     };
-    match words {
-        [command, ..] => request_of(alloc, command, &matches),
-        [] => Err(Fault::Usage),
-    }
+    request_of(alloc, &matches)
 }
 
-/// What the words that were taken ask for, of which the first is the command.
-fn request_of<'w>(
-    alloc: Global,
-    command: &str,
-    matches: &ArgMatches<'w>,
-) -> Result<Request<'w>, Fault<'w>>
-    ensures command { IfOk result (λ request. command.now ≡ command_of request) }
+/// Returns what the arguments ask for, from what `clap` found among them.
+fn request_of<'w>(alloc: Global, matches: &ArgMatches<'w>) -> Result<Request<'w>, Fault<'w>>
+    requires complete { IsComplete (subcommand_rows_of matches.now) }
     ensures asks { IfOk result (AsksBy (subcommand_rows_of matches.now)) }
-    ensures fault { IfErr result (λ fault. (fault_lent fault ≡ Usage) ⊎ (fault_lent fault ≡ NoMemory)) }
+    ensures proper { IfOk result (λ _. ¬ (IsRefusedBy (subcommand_rows_of matches.now))) }
+    ensures fault { IfErr result (FailsFor (IsRefusedBy (subcommand_rows_of matches.now))) }
 {
-    match (command, matches.subcommand()) {
-        ("list", Some(("list", matches))) => list_request(matches),
-        ("check", Some(("check", matches))) => check_request(alloc, matches),
-        ("session", Some(("session", matches))) => Ok(Request::Session(outside(alloc, matches)?)),
-        _ => Err(Fault::Usage),
+    match matches.subcommand() {
+        Some(("list", matches)) => Ok(list_request(matches)),
+        Some(("check", matches)) => check_request(alloc, matches),
+        Some(("session", matches)) => Ok(Request::Session(outside(alloc, matches)?)),
+        _ => unreachable!(),
     }
 }
 
-/// The file to list. None is usage.
-fn list_request<'w>(matches: &ArgMatches<'w>) -> Result<Request<'w>, Fault<'w>>
-    ensures command { IfOk result (λ request. command_of request ≡ codes "list") }
-    ensures asks { IfOk result (AsksAmong (rows_of (found_of matches.now))) }
-    ensures none { OnErr result (first_of (codes "FILE") (rows_of (found_of matches.now)) ≡ None) }
-    ensures fault { IfErr result (λ fault. (fault_lent fault ≡ Usage) ⊎ (fault_lent fault ≡ NoMemory)) }
+/// Returns the file to list.
+fn list_request<'w>(matches: &ArgMatches<'w>) -> Request<'w>
+    requires path { HasPath (codes "FILE") (rows_of (found_of matches.now)) }
+    ensures command { command_of result ≡ codes "list" }
+    ensures asks { AsksAmong (rows_of (found_of matches.now)) result }
 {
     match matches.get_str("FILE") {
-        Some(path) => Ok(Request::List(path)),
-        None => Err(Fault::Usage),
+        Some(path) => Request::List(path),
+        None => unreachable!(),
     }
 }
 
-/// The folder to check, the outside prefixes, and what is written of the report.
+/// Returns the folder to check, the outside prefixes, and what is written of the report.
 fn check_request<'w>(alloc: Global, matches: &ArgMatches<'w>) -> Result<Request<'w>, Fault<'w>>
+    requires path { HasPath (codes "DIR") (rows_of (found_of matches.now)) }
+    requires flag { HasFlag (codes "errors") (rows_of (found_of matches.now)) }
     ensures command { IfOk result (λ request. command_of request ≡ codes "check") }
     ensures asks { IfOk result (AsksAmong (rows_of (found_of matches.now))) }
-    ensures fault { IfErr result (λ fault. (fault_lent fault ≡ Usage) ⊎ (fault_lent fault ≡ NoMemory)) }
+    ensures proper { IfOk result (λ _. ¬ (IsBadCheck (rows_of (found_of matches.now)))) }
+    ensures fault { IfErr result (FailsFor (IsBadCheck (rows_of (found_of matches.now)))) }
 {
     match matches.get_str("DIR") {
         Some(folder) => {
             let form = form(alloc, matches)?;
             Ok(Request::Check(outside(alloc, matches)?, form, folder))
         }
-        None => Err(Fault::Usage),
+        None => unreachable!(),
     }
 }
 
-/// What is written of the report: with `--errors` what makes it wrong, of what each `--only` names. `--only` alone is
-/// usage.
+/// Returns what is written of the report: with `--errors` what makes it wrong, for each prefix of `--only`. `--only`
+/// without `--errors` is a usage error.
 fn form<'w>(alloc: Global, matches: &ArgMatches<'w>) -> Result<CheckForm, Fault<'w>>
+    requires { HasFlag (codes "errors") (rows_of (found_of matches.now)) }
     ensures asks { IfOk result (AsksForm (rows_of (found_of matches.now))) }
-    ensures fault { IfErr result (λ fault. (fault_lent fault ≡ Usage) ⊎ (fault_lent fault ≡ NoMemory)) }
+    ensures proper { IfOk result (λ _. ¬ (IsBadForm (rows_of (found_of matches.now)))) }
+    ensures fault { IfErr result (FailsFor (IsBadForm (rows_of (found_of matches.now)))) }
 {
     match (matches.get_flag("errors"), matches.get_strs("only")) {
         (false, None) => Ok(CheckForm::Report),
@@ -107,12 +112,11 @@ fn form<'w>(alloc: Global, matches: &ArgMatches<'w>) -> Result<CheckForm, Fault<
     }
 }
 
-/// The outside prefixes: those that are given, else the standard ones.
+/// Returns the outside prefixes: those that are given, else the standard ones.
 fn outside<'w>(alloc: Global, matches: &ArgMatches<'w>) -> Result<Outside, Fault<'w>>
     ensures held { IfOk result (HoldsGiven (given (codes "outside") (rows_of (found_of matches.now)))) }
-    ensures refused { IfErr result (λ fault. fault_lent fault ≡ Usage
-        → AreRefused (given (codes "outside") (rows_of (found_of matches.now)))) }
-    ensures fault { IfErr result (λ fault. (fault_lent fault ≡ Usage) ⊎ (fault_lent fault ≡ NoMemory)) }
+    ensures proper { IfOk result (λ _. ¬ (AreRefused (given (codes "outside") (rows_of (found_of matches.now))))) }
+    ensures fault { IfErr result (FailsFor (AreRefused (given (codes "outside") (rows_of (found_of matches.now))))) }
 {
     match matches.get_strs("outside") {
         Some(prefixes) => given_prefixes(alloc, prefixes),
@@ -120,11 +124,11 @@ fn outside<'w>(alloc: Global, matches: &ArgMatches<'w>) -> Result<Outside, Fault
     }
 }
 
-/// The prefixes that are given. One that is refused is usage.
+/// Returns the given prefixes. A list that `Outside::new` refuses is a usage error.
 fn given_prefixes<'w>(alloc: Global, prefixes: &[&'w str]) -> Result<Outside, Fault<'w>>
     ensures held { IfOk result (HoldsGiven (Some (map (λ prefix. prefix.now) prefixes.now))) }
-    ensures refused { IfErr result (λ fault. fault_lent fault ≡ Usage → AreRefused (Some (map (λ prefix. prefix.now) prefixes.now))) }
-    ensures fault { IfErr result (λ fault. (fault_lent fault ≡ Usage) ⊎ (fault_lent fault ≡ NoMemory)) }
+    ensures proper { IfOk result (λ _. ¬ (AreRefused (Some (map (λ prefix. prefix.now) prefixes.now)))) }
+    ensures fault { IfErr result (FailsFor (AreRefused (Some (map (λ prefix. prefix.now) prefixes.now)))) }
 {
     let mut texts = Vec::new(alloc);
     for prefix in prefixes {

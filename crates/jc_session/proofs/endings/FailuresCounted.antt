@@ -1,12 +1,18 @@
 -- What counts failures of a run counts them of the program.
-use Rattle.std.proofs.Common.{◌≡◌, ◌⊎◌, ℕ, Bool, Err, List, Ok, Option, Result, ⊎_elim, refl, sym, subst}
+use Rattle.std.proofs.Common.{◌≡◌, ◌⊎◌, ℕ, Bool, Err, List, MatchOption, None, Ok, Option, Result, Some, ⊎_elim, refl, sym, subst}
 use Rattle.jc_input.specs.declared.run_error.Ended.{Ended}
 use Rattle.jc_input.specs.declared.run_error.RunError.{RunError}
 use Rattle.jc_input.specs.declared.run_error.RunError.TheVariants as run_errors
 use Rattle.jc_input.specs.RunErrors.{CountsReads, CountsWrites}
+use Rattle.jc_input.specs.declared.edit.EditError.{EditError}
+use Rattle.jc_input.specs.declared.edit.EditError.TheVariants as errors
+use Rattle.jc_input.specs.declared.source.SourceError.{SourceError}
+use Rattle.jc_input.specs.declared.source.SourceError.TheVariants as sources
+use Rattle.jc_limits.specs.FileEdits.{size_fault}
+use Rattle.std.specs.Io.KnownBytes.{Keeps}
 use Rattle.jc_check.specs.Checks.{CheckFault, FileRefused, FileUnread, WriteFailed}
 use Rattle.jc_check.specs.Checks as checks
-use Rattle.jc_session.specs.Statuses.{Checks, Fault, NoMemory, Outcome, Usage, fault_of, outcome_of_check, CountsInput, CountsOutput}
+use Rattle.jc_session.specs.Statuses.{Checks, CountsInput, CountsOutput, Fault, ListsAs, ListsFile, NoMemory, Outcome, Refused, Usage, fault_of, outcome_of_check}
 use Rattle.jc_session.specs.Words.{Word}
 
 pub input_counts : (e : RunError) (old new : ℕ) → CountsReads {T = Ended} (Err e) old new → CountsInput (Err (fault_of e)) old new
@@ -37,4 +43,14 @@ counts_of_check (Err checks.NoMemory) n = refl
 pub input_unread : (words : List Word) (outcome : Outcome) (before now : Option (List ℕ)) (n : ℕ) → Checks words outcome before now → CountsInput outcome n n
 input_unread words outcome before now n =
     ⊎_elim (λ h. subst (λ x. CountsInput x n n) (sym h.0) refl)
-    (⊎_elim (λ h. subst (λ x. CountsInput x n n) (sym h.1) refl) (λ h. subst (λ x. CountsInput x n n) (sym h.7) (counts_of_check h.6 n)))
+    (⊎_elim (λ h. subst (λ x. CountsInput x n n) (sym h.1) refl) (λ h. subst (λ x. CountsInput x n n) (sym h.8) (counts_of_check h.7 n)))
+
+-- nor does a listing
+pub input_unlisted : (path : List ℕ) (answer : Result (List ℕ) SourceError) (outcome : Outcome) (before now : Option (List ℕ)) (n : ℕ) → ListsAs path answer outcome before now → CountsInput outcome n n
+input_unlisted path (Ok bytes) outcome before now n lists = sized (size_fault bytes) lists
+  where
+    sized : (o : Option EditError) → MatchOption o (ListsFile bytes outcome before now) (λ _. (outcome ≡ Err (Refused errors.TooLarge path)) × Keeps before now) → CountsInput outcome n n
+    sized None h = ⊎_elim (λ did. subst (λ x. CountsInput x n n) (sym did.0) refl) (⊎_elim (λ did. subst (λ x. CountsInput x n n) (sym did.0) refl) (λ did. subst (λ x. CountsInput x n n) (sym did.0) refl)) h
+    sized (Some e) h = subst (λ x. CountsInput x n n) (sym h.0) refl
+input_unlisted path (Err sources.Unread) outcome before now n lists = subst (λ x. CountsInput x n n) (sym lists.0) refl
+input_unlisted path (Err sources.NoMemory) outcome before now n lists = subst (λ x. CountsInput x n n) (sym lists.0) refl

@@ -1,23 +1,21 @@
 -- What the words ask for, from what the code holds.
-use Rattle.std.specs.Prelude.{◌≡◌, ℕ, List, codes, IfOk, IsSome, Option, Result, Some, None, false}
+use Rattle.std.specs.Prelude.{◌≡◌, ◌⊎◌, ℕ, List, codes, IfOk, Option, Result, Some, false}
 use Rattle.clap.specs.Simple.{App, app_of, with_subcommand}
 use Rattle.clap.specs.Walk.{Row, first_of}
 use Rattle.clap.specs.declared.builder.command.Command.{Command}
 use Rattle.clap.specs.declared.builder.command.Command.TheViews.{out-Command}
 use Rattle.jc_classes.specs.Names.{Name}
-use Rattle.jc_link.specs.Prefixes.{prefixes_fault}
+use Rattle.jc_session.specs.declared.fault.Fault.{Fault as LentFault}
 use Rattle.jc_session.specs.declared.words.Request.{Request}
 use Rattle.jc_session.specs.declared.words.Request.TheVariants as requests
-use Rattle.jc_session.specs.Words.{AsksCheck, AsksForm, AsksListing, AsksRun, HoldsGiven, Word, given}
+use Rattle.jc_session.specs.Statuses.{NoMemory, Usage}
+use Rattle.jc_session.specs.Words.{AreRefused, AsksCheck, AsksForm, AsksListing, AsksRun, HoldsGiven, IsBadCheck, IsGiven, IsLacking, Word, given}
+use Rattle.jc_session.specs.inside.LentFaults.{fault_lent}
 
 abbrev pub command_of : Request → List ℕ
 command_of (requests.Session outside) = codes "session"
 command_of (requests.List path) = codes "list"
 command_of (requests.Check outside form folder) = codes "check"
-
-abbrev pub AreRefused : Option (List Name) → Type 0
-AreRefused None = ⊥
-AreRefused (Some texts) = IsSome (prefixes_fault texts)
 
 -- a run and a check ask for the prefixes that were found behind their command, a listing and a check for the path
 abbrev pub AsksAmong : List Row → Request → Type 0
@@ -35,6 +33,35 @@ abbrev pub AsksFor : List Word → Request → Type 0
 AsksFor words (requests.Session outside) = AsksRun words outside
 AsksFor words (requests.List path) = AsksListing words path.now
 AsksFor words (requests.Check outside form folder) = AsksCheck words outside form folder.now
+
+-- ---- what `clap` finds where it finds no fault
+
+-- a path has a value
+abbrev pub HasPath : (name : Word) → List Row → Type 0
+HasPath name rows = (path : Word) × (first_of name rows ≡ Some path)
+
+-- a flag is given or not
+abbrev pub HasFlag : (name : Word) → List Row → Type 0
+HasFlag name rows = IsGiven name rows ⊎ IsLacking name rows
+
+-- one of the three commands is found, with the path that it requires and with its flag
+abbrev pub IsComplete : Option (Word × List Row) → Type 0
+IsComplete found =
+    ((rows : List Row) × (found ≡ Some (codes "session", rows)))
+    ⊎ ((rows : List Row) × (found ≡ Some (codes "list", rows)) × HasPath (codes "FILE") rows)
+    ⊎ ((rows : List Row) × (found ≡ Some (codes "check", rows)) × HasPath (codes "DIR") rows × HasFlag (codes "errors") rows)
+
+-- ---- usage errors
+
+-- the command that is found refuses what its options were given
+abbrev pub IsRefusedBy : Option (Word × List Row) → Type 0
+IsRefusedBy found =
+    ((rows : List Row) × (found ≡ Some (codes "session", rows)) × AreRefused (given (codes "outside") rows))
+    ⊎ ((rows : List Row) × (found ≡ Some (codes "check", rows)) × IsBadCheck rows)
+
+-- a usage error for this reason, or an allocation failed
+abbrev pub FailsFor : (reason : Type 0) → LentFault → Type 0
+FailsFor reason fault = ((fault_lent fault ≡ Usage) × reason) ⊎ (fault_lent fault ≡ NoMemory)
 
 -- ---- the command as `clap` has it
 

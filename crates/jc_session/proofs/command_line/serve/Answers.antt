@@ -2,7 +2,7 @@ use Rattle.std.proofs.Common.{◌∙◌, List, ℕ, Err, ap, refl, subst, inl}
 use Rattle.std.proofs.KnownBytes.{Keeps-refl}
 use Rattle.std.proofs.lemmas.Result.{err_from_is_err_and}
 use Rattle.jc_input.specs.declared.run_error.RunError.TheVariants as errors
-use Rattle.jc_edits.specs.SessionState.{HeldFiles, held_of}
+use Rattle.jc_edits.specs.SessionState.{Contents, contents_of}
 use Rattle.jc_lines.specs.Runs.{Left, RunsAs}
 use Rattle.jc_input.specs.Sources.{SourceAnswers}
 use Rattle.jc_session.specs.Statuses.{begun}
@@ -37,10 +37,10 @@ returns-in_err-session-clause-writes g c =
 
 pub returns-clause-runs : goal.returns-clause-runs
 returns-clause-runs g c =
-    let none = ap held_of c.in_ok-session.ensures in
+    let none = ap contents_of c.in_ok-session.ensures in
     let did = c.run_through.ensures.runs in
-    let as_begun : (s : SourceAnswers) → (bytes : List ℕ) → (left : Left) → RunsAs (held_of c.in_ok-session.session) s bytes did.0 left → RunsAs (begun c.args.outside) s bytes did.0 left =
-    λ s bytes left runs. subst (λ (h : HeldFiles). RunsAs h s bytes did.0 left) none runs in (
+    let as_begun : (s : SourceAnswers) → (bytes : List ℕ) → (left : Left) → RunsAs (contents_of c.in_ok-session.session) s bytes did.0 left → RunsAs (begun c.args.outside) s bytes did.0 left =
+    λ s bytes left runs. subst (λ (h : Contents). RunsAs h s bytes did.0 left) none runs in (
       did.0,
       did.1,
       did.2,
