@@ -3,9 +3,9 @@
 report, the parts that were made and the names asked for, the dependants of every name, and which prefixes are held.
 
 The judge (trials/check, trials/link) makes the whole report afresh from the files and prefixes that remain and shares
-no code with the library. An edit has to make just the parts of the classes behind it whose reach held a name that it
-touched, or that it brought, and may ask for their reaches' names, and two more. An edit of prefixes touches the names
-for which there is no class and which it puts outside, or no longer outside.
+no code with the library. An edit must make the parts of exactly the affected classes: those after it whose reach holds a
+name that it touches. It must ask for each name in their reaches exactly once. An edit of prefixes touches the names for
+which there is no class and which it puts outside, or no longer outside.
 
 Usage: run.py [SEED [COUNT]], seed 1 and 2,000 lists where none is given. It builds jc_asked.
 """
@@ -62,6 +62,10 @@ class Held:
                     waiting.append(parent)
         return found
 
+    def cost(self, affected):
+        """The number of parts to make of these classes, and the number of names to ask for."""
+        return len(affected), len(set().union(*(self.reaches[name] for name in affected)))
+
     def prefix_refusal(self, word, prefix):
         if not 0 < len(prefix) <= 256:
             return "BadPrefix"
@@ -79,8 +83,7 @@ class Held:
         self.prefixes = (*(one for one in old if one != prefix), *([prefix] if word == b"p" else []))
         self.made()
         turned = lambda name: name not in self.report.world.records and name.startswith(old) != name.startswith(self.prefixes)
-        affected = [name for name, reach in self.reaches.items() if any(map(turned, reach))]
-        return len(affected), 2 + sum(len(self.reaches[name]) for name in affected)
+        return self.cost([name for name, reach in self.reaches.items() if any(map(turned, reach))])
 
     def refusal(self, word, path, data):
         if not 0 < len(path) <= 4096:
@@ -92,7 +95,7 @@ class Held:
         return None
 
     def edit(self, word, path, data):
-        """The answer's line, or for an accepted edit how many parts have to be made and the most asks."""
+        """The answer's line, or for an accepted edit its cost."""
         if word in PREFIX_WORDS:
             return self.edit_prefixes(word, path)
         refusal = self.refusal(word, path, data)
@@ -107,7 +110,7 @@ class Held:
         affected = [name for name in self.reaches if self.reaches[name] & touched]
         again = [name for name in self.reaches if old_reaches.get(name, {name} & touched) & touched]
         assert sorted(affected) == sorted(again), (affected, again)
-        return len(affected), 2 + sum(len(self.reaches[name]) for name in affected)
+        return self.cost(affected)
 
     def dependants(self, name):
         return "".join(f" {links.shown(user)}" for user in sorted(self.reaches) if name in self.reaches[user])
@@ -188,7 +191,7 @@ def is_owed(line, owed):
     if isinstance(owed, str):
         return line == owed
     words = line.split()
-    return len(words) == 3 and words[0] == "ok" and int(words[1]) == owed[0] and int(words[2]) <= owed[1]
+    return len(words) == 3 and words[0] == "ok" and int(words[1]) == owed[0] and int(words[2]) == owed[1]
 
 
 def compare(number, lines, owed, told):
@@ -199,8 +202,7 @@ def compare(number, lines, owed, told):
         if not isinstance(want, str):
             told["edits"] += 1
             told["parts"] += want[0]
-            told["asks"] += int(lines[at].split()[2])
-            told["most asks"] += want[1]
+            told["asks"] += want[1]
         elif want.startswith("refused"):
             told[want] += 1
     return len(lines) == len(owed)

@@ -1,6 +1,5 @@
 pub mod ClassesPlaced
 pub mod ClassesRead
 pub mod EditPlaced
-pub mod FilesDiffer
+pub mod EditsDiffer
 pub mod HeldClasses
-pub mod TurnedDiffer

@@ -1,3 +1,2 @@
 pub mod FoundText
 pub mod HeldReport
-pub mod Looking

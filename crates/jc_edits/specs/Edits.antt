@@ -4,7 +4,7 @@ use Rattle.jc_classes.specs.Names.{Name}
 use Rattle.jc_input.specs.Changes.{PrefixChange, AddsPrefix, DropsPrefix, EditChange, OfFiles, OfPrefixes}
 use Rattle.jc_limits.specs.FileEdits.{after, judge, ◌or_else◌}
 use Rattle.jc_link.specs.Prefixes.{holds, is_bad_prefix, with_one, without}
-use Rattle.jc_edits.specs.SessionState.{HeldFiles}
+use Rattle.jc_edits.specs.SessionState.{Contents}
 use Rattle.jc_input.specs.declared.edit.EditError.{EditError}
 use Rattle.jc_input.specs.declared.edit.EditError.TheVariants as errors
 
@@ -32,10 +32,10 @@ after_prefix prefixes (DropsPrefix prefix) = without prefixes prefix
 
 -- ---- of both
 
-abbrev pub judge_edit : HeldFiles → EditChange → Option EditError
+abbrev pub judge_edit : Contents → EditChange → Option EditError
 judge_edit h (OfFiles change) = judge h.files change
 judge_edit h (OfPrefixes change) = judge_prefix h.prefixes change
 
-abbrev pub after_edit : HeldFiles → EditChange → HeldFiles
+abbrev pub after_edit : Contents → EditChange → Contents
 after_edit h (OfFiles change) = record { files = after h.files change; prefixes = h.prefixes }
 after_edit h (OfPrefixes change) = record { files = h.files; prefixes = after_prefix h.prefixes change }

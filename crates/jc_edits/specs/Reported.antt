@@ -4,16 +4,16 @@ use Rattle.jc_classes.specs.Names.{Name}
 use Rattle.jc_classes.specs.Parts.{Reach}
 use Rattle.jc_linkage.specs.Holders.{CountsHolders}
 use Rattle.jc_report.specs.Reports.{IsReport, Report, world_of}
-use Rattle.jc_edits.specs.SessionState.{HeldFiles}
+use Rattle.jc_edits.specs.SessionState.{Contents}
 use Rattle.jc_edits.specs.Touched.{gives}
 
-abbrev pub IsReportOf : HeldFiles → Report → Type 0
+abbrev pub IsReportOf : Contents → Report → Type 0
 IsReportOf h r = IsReport h.files h.prefixes r
 
 -- so many classes require the row at this place of those that are required
-abbrev pub CountsHoldersAt : HeldFiles → (place n : ℕ) → Type 0
+abbrev pub CountsHoldersAt : Contents → (place n : ℕ) → Type 0
 CountsHoldersAt h place n = (r : Report) → IsReportOf h r → CountsHolders r.classes (slice_get r.required place) n
 
 -- files give the class, and its reach holds the name
-abbrev pub IsDependant : HeldFiles → (name class : Name) → Type 0
+abbrev pub IsDependant : Contents → (name class : Name) → Type 0
 IsDependant h name class = (gives h.files class ≡ true) × Reach (world_of h.files h.prefixes) class name

@@ -1,10 +1,11 @@
 -- What contracts see of a session.
 use Rattle.std.specs.Prelude.{ℕ, List}
 use Rattle.jc_classes.specs.Names.{Name}
+use Rattle.jc_link.specs.Meters.{Counts}
 use Rattle.jc_report.specs.Files.{Files}
 
--- files and the prefixes of outside names
-pub record HeldFiles : Type 0 where
+-- what a session holds: files, and the prefixes of outside names
+pub record Contents : Type 0 where
   pub files : Files
   pub prefixes : List Name
 
@@ -16,5 +17,8 @@ pub record SessionState : Type 0 where
   pub made : ℕ
 
 -- without the counts
-abbrev pub held_of : SessionState → HeldFiles
-held_of s = record { files = s.files; prefixes = s.prefixes }
+abbrev pub contents_of : SessionState → Contents
+contents_of s = record { files = s.files; prefixes = s.prefixes }
+
+abbrev pub counts_in : SessionState → Counts
+counts_in s = record { asks = s.asks; made = s.made }

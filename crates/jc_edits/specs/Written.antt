@@ -7,14 +7,14 @@ use Rattle.jc_report.specs.ReportText.{report_text}
 use Rattle.jc_report.specs.Reports.{Report}
 use Rattle.jc_edits.specs.Reported.{IsReportOf}
 use Rattle.jc_edits.specs.SaidPart.{SaysPart}
-use Rattle.jc_edits.specs.SessionState.{HeldFiles}
+use Rattle.jc_edits.specs.SessionState.{Contents}
 
 -- it has the whole text of the report, or where it failed a proper beginning of it
-abbrev pub WritesReport : {T E : Type 0} → Result T E → (before behind : Option (List ℕ)) → HeldFiles → Type 0
+abbrev pub WritesReport : {T E : Type 0} → Result T E → (before behind : Option (List ℕ)) → Contents → Type 0
 WritesReport result before behind h = (r : Report) × IsReportOf h r
     × OnOk result (Appends before behind (report_text r)) × OnErr result (WritesFront before behind (report_text r))
 
 -- the same of what is said of the class of this name
-abbrev pub WritesPart : {T E : Type 0} → Result T E → (before behind : Option (List ℕ)) → HeldFiles → Name → Type 0
-WritesPart result before behind h name = (text : List ℕ) × SaysPart h.prefixes h.files name text
+abbrev pub WritesPart : {T E : Type 0} → Result T E → (before behind : Option (List ℕ)) → Contents → Name → Type 0
+WritesPart result before behind h name = (text : List ℕ) × SaysPart h.files h.prefixes name text
     × OnOk result (Appends before behind text) × OnErr result (WritesFront before behind text)

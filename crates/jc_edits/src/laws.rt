@@ -1,17 +1,17 @@
 //! Laws over the definitions alone.
-ghost use Rattle.jc_edits.specs.Touched.{AffectedEitherWay, FilesDiffer, TurnedDiffer};
+ghost use Rattle.jc_edits.specs.Touched.{AffectedEitherWay, EditsDiffer, ReachStays};
 
-/// What an edit of files doesn't touch stands as before.
-pub fn files_differ()
-    ensures { FilesDiffer }
+/// An edit changes nothing at a name that it does not touch.
+pub fn edits_differ()
+    ensures { EditsDiffer }
 {}
 
-/// What an edit of outside prefixes doesn't touch stands as before.
-pub fn turned_differ()
-    ensures { TurnedDiffer }
-{}
-
-/// A class is affected by an edit of files whether its reach before the edit is asked or the one behind it.
+/// The reach of a class holds a touched name before an edit if and only if it holds one after it.
 pub fn affected_either_way()
     ensures { AffectedEitherWay }
+{}
+
+/// The reach of a class does not depend on the outside prefixes.
+pub fn reach_stays()
+    ensures { ReachStays }
 {}

@@ -1,15 +1,17 @@
 //! The report that a session holds.
 
-ghost use Rattle.std.specs.Prelude.{◌≡◌, ◌≤◌, IfOk, None, OnErr, OnOk, option_and_then};
+ghost use Rattle.std.specs.Prelude.{◌≡◌, ◌≤◌, IfOk, IfSome, None, OnErr, OnOk, is_some, option_and_then};
 ghost use Rattle.std.specs.Option.{option_map};
 ghost use Rattle.std.specs.FinMap as map;
+ghost use Rattle.jc_classes.specs.Parts.{IsPart};
 ghost use Rattle.jc_report.specs.FileRows.{rows, winner};
 ghost use Rattle.jc_report.specs.Reports as reports;
-ghost use Rattle.jc_report.specs.Reports.{is_wrong};
+ghost use Rattle.jc_report.specs.Reports.{facts_at, is_wrong, world_of};
 ghost use Rattle.jc_input.specs.Changes.{OfFiles, OfPrefixes, change_lent, prefix_change};
 ghost use Rattle.jc_limits.specs.FileEdits.{after, judge};
 ghost use Rattle.jc_edits.specs.Edits.{after_prefix};
 ghost use Rattle.jc_edits.specs.Reported.{CountsHoldersAt, IsReportOf};
+ghost use Rattle.jc_edits.specs.Touched.{gives};
 ghost use Rattle.jc_edits.specs.inside.Metered.{MetersChange};
 
 use crate::changes::{Changes, changes_of};
@@ -18,8 +20,8 @@ use crate::rows::Rows;
 use jc_base::NoMemory;
 use jc_input::{LentEdit, PrefixEdit};
 use jc_link::{Meter, Outside};
-use jc_linkage::{HeldClasses, Linkage, Provided, Required};
-use jc_report::is_any_wrong;
+use jc_linkage::{Circular, HeldClasses, Linkage, Provided, Required};
+use jc_report::{LentClass, is_any_wrong};
 use std::alloc::Global;
 use std::marker::Model;
 
@@ -32,13 +34,13 @@ pub struct Report {
 }
 
 impl Model for Report {
-    ghost use Rattle.jc_edits.specs.SessionState.{HeldFiles};
+    ghost use Rattle.jc_edits.specs.SessionState.{Contents};
     ghost use Rattle.jc_edits.specs.inside.Reporting.{IsWhole};
-    ghost use Rattle.jc_edits.specs.inside.StateCode.{files_code};
+    ghost use Rattle.jc_edits.specs.inside.StateCode.{contents_code};
 
-    ghost Value = { HeldFiles };
+    ghost Value = { Contents };
 
-    ghost coded = { files_code };
+    ghost coded = { contents_code };
 
     ghost view = { λ a. record { files = a.held.files; prefixes = a.linkage.prefixes } };
 
@@ -68,7 +70,7 @@ impl Report {
         ensures ok { OnOk result (self.new.files ≡ after self.old.files (change_lent edit.entry)) }
         ensures err { OnErr result (self.new.files ≡ self.old.files) }
         ensures prefixes { self.new.prefixes ≡ self.old.prefixes }
-        ensures bounded { OnOk result (MetersChange self.old self.new (OfFiles (change_lent edit.entry)) meter.old meter.new) }
+        ensures counted { OnOk result (MetersChange self.old self.new (OfFiles (change_lent edit.entry)) meter.old meter.new) }
         ensures asks_rise { meter.old.asks ≤ meter.new.asks }
         ensures made_rise { meter.old.made ≤ meter.new.made }
     {
@@ -96,7 +98,7 @@ impl Report {
         ensures ok { OnOk result (self.new.prefixes ≡ after_prefix self.old.prefixes (prefix_change edit.entry)) }
         ensures err { OnErr result (self.new.prefixes ≡ self.old.prefixes) }
         ensures files { self.new.files ≡ self.old.files }
-        ensures bounded { OnOk result (MetersChange self.old self.new (OfPrefixes (prefix_change edit.entry)) meter.old meter.new) }
+        ensures counted { OnOk result (MetersChange self.old self.new (OfPrefixes (prefix_change edit.entry)) meter.old meter.new) }
         ensures asks_rise { meter.old.asks ≤ meter.new.asks }
         ensures made_rise { meter.old.made ≤ meter.new.made }
     {
@@ -107,8 +109,8 @@ impl Report {
         self.linkage.change_outside(outside, meter)
     }
 
-    /// Whether a file is unreadable, a class has a fault or does not load, or a reference is answered by
-    /// an error.
+    /// Returns whether a file is unreadable, a class has a fault or does not load, a reference is answered by an error,
+    /// or an instruction does not link.
     pub fn wrong(&self) -> bool
         ensures { (r : reports.Report) × IsReportOf self.now r × (result ≡ is_wrong r) }
     {
@@ -130,6 +132,22 @@ impl Report {
         ensures { (r : reports.Report) × IsReportOf self.now r × (result ≡ r.classes) }
     {
         self.linkage.classes()
+    }
+
+    /// Returns the class of a name, if files give it, with its part. No ask is counted. Does not allocate.
+    pub fn class(&self, name: &[u8]) -> Option<LentClass<'_>>
+        ensures given { is_some result ≡ gives self.now.files name.now }
+        ensures facts { option_map (λ class. class.facts.now) result ≡ facts_at self.now.files name.now }
+        ensures part { IfSome result (λ class. IsPart (world_of self.now.files self.now.prefixes) name.now class.part.now) }
+    {
+        self.linkage.class(name)
+    }
+
+    /// Returns the names of the circular classes, sorted. Does not allocate.
+    pub fn circular(&self) -> Circular<'_>
+        ensures { (r : reports.Report) → IsReportOf self.now r → result ≡ r.circular }
+    {
+        self.linkage.circular()
     }
 
     /// What the classes provide, in order.

@@ -6,7 +6,7 @@ ghost use Rattle.jc_report.specs.Reports as reports;
 ghost use Rattle.jc_text.specs.Sends.{Sends};
 ghost use Rattle.jc_edits.specs.Reported.{IsReportOf};
 ghost use Rattle.jc_edits.specs.Written.{WritesPart, WritesReport};
-ghost use Rattle.jc_edits.specs.inside.Reporting.{IsFound, found_text};
+ghost use Rattle.jc_edits.specs.inside.Reporting.{found_text};
 
 use crate::report::Report;
 use jc_base::Output;
@@ -52,7 +52,7 @@ pub fn write_part_of<W: Output>(report: &Report, name: &[u8], out: &mut W) -> Re
     ensures failures { CountsFault result (W.failures out.old) (W.failures out.new) }
 {
     let mut text = TextWriter::new(out);
-    write_found(&mut text, find(report, name));
+    write_found(&mut text, report.class(name));
     match text.finish() {
         Ok(()) => Ok(()),
         Err(_) => Err(WriteError),
@@ -66,16 +66,4 @@ fn write_found<W: Output>(text: &mut TextWriter<'_, W>, class: Option<LentClass<
         Some(class) => write_part(text, class.facts, class.part),
         None => text.text(b"none\n"),
     }
-}
-
-/// The class of a name that files give.
-fn find<'r>(report: &'r Report, name: &[u8]) -> Option<LentClass<'r>>
-    ensures { IsFound report.now.files report.now.prefixes name.now result }
-{
-    for class in report.classes() {
-        if class.facts.name() == name {
-            return Some(class);
-        }
-    }
-    None
 }

@@ -13,8 +13,8 @@ ghost use Rattle.jc_limits.specs.FileEdits.{after, judge};
 ghost use Rattle.jc_edits.specs.Edits.{after_edit, after_prefix, judge_edit, judge_prefix};
 ghost use Rattle.jc_edits.specs.Judged.{IsAnswered};
 ghost use Rattle.jc_edits.specs.Reported.{CountsHoldersAt, IsDependant};
-ghost use Rattle.jc_edits.specs.SessionState.{held_of};
-ghost use Rattle.jc_edits.specs.Touched.{IsBoundedStep, gives};
+ghost use Rattle.jc_edits.specs.SessionState.{contents_of};
+ghost use Rattle.jc_edits.specs.Touched.{IsCountedStep, gives};
 
 use crate::judge::{judge, judge_prefix};
 use crate::report::Report;
@@ -57,15 +57,15 @@ impl Session {
         })
     }
 
-    /// Makes an edit, or refuses it and changes neither a file nor a prefix. Parts are made of those classes alone whose reach
-    /// holds a name that the edit touches.
+    /// Makes an edit, or refuses it and changes neither a file nor a prefix. Recomputes only the parts of the classes
+    /// whose reach holds a name that the edit touches.
     pub fn edit(&mut self, edit: Edit) -> Result<Done, EditError>
-        ensures judged { IsAnswered result (judge_edit (held_of self.old) (change_of edit)) }
-        ensures ok { OnOk result (held_of self.new ≡ after_edit (held_of self.old) (change_of edit)) }
-        ensures err { OnErr result (held_of self.new ≡ held_of self.old) }
+        ensures judged { IsAnswered result (judge_edit (contents_of self.old) (change_of edit)) }
+        ensures ok { OnOk result (contents_of self.new ≡ after_edit (contents_of self.old) (change_of edit)) }
+        ensures err { OnErr result (contents_of self.new ≡ contents_of self.old) }
         ensures made { IfOk result (λ done. done.made ≡ self.new.made - self.old.made) }
         ensures asks { IfOk result (λ done. done.asks ≡ self.new.asks - self.old.asks) }
-        ensures bounded { IfOk result (IsBoundedStep self.old self.new (change_of edit)) }
+        ensures counted { OnOk result (IsCountedStep self.old self.new (change_of edit)) }
         ensures asks_rise { self.old.asks ≤ self.new.asks }
         ensures made_rise { self.old.made ≤ self.new.made }
     {
@@ -86,7 +86,7 @@ impl Session {
         ensures files { self.new.files ≡ self.old.files }
         ensures made { IfOk result (λ done. done.made ≡ self.new.made - self.old.made) }
         ensures asks { IfOk result (λ done. done.asks ≡ self.new.asks - self.old.asks) }
-        ensures bounded { IfOk result (IsBoundedStep self.old self.new (OfPrefixes (prefix_change edit.entry))) }
+        ensures counted { OnOk result (IsCountedStep self.old self.new (OfPrefixes (prefix_change edit.entry))) }
         ensures asks_rise { self.old.asks ≤ self.new.asks }
         ensures made_rise { self.old.made ≤ self.new.made }
     {
@@ -117,7 +117,7 @@ impl Session {
         ensures prefixes { self.new.prefixes ≡ self.old.prefixes }
         ensures made { IfOk result (λ done. done.made ≡ self.new.made - self.old.made) }
         ensures asks { IfOk result (λ done. done.asks ≡ self.new.asks - self.old.asks) }
-        ensures bounded { IfOk result (IsBoundedStep self.old self.new (OfFiles (change_lent edit.entry))) }
+        ensures counted { OnOk result (IsCountedStep self.old self.new (OfFiles (change_lent edit.entry))) }
         ensures asks_rise { self.old.asks ≤ self.new.asks }
         ensures made_rise { self.old.made ≤ self.new.made }
     {
@@ -152,7 +152,7 @@ impl Session {
     /// The classes that files give whose reach holds a name, rising, also of a name that no file gives.
     /// No memory.
     pub fn dependants(&self, name: &[u8]) -> &[Vec<u8>]
-        ensures { Lists (names_of result.now) (IsDependant (held_of self.now) name.now) }
+        ensures { Lists (names_of result.now) (IsDependant (contents_of self.now) name.now) }
     {
         self.report.linkage.dependants(name)
     }
@@ -160,7 +160,7 @@ impl Session {
     /// How many classes that files give require the row at a place of [`Report::required`], from 0; 0 beyond the
     /// last. No memory.
     pub fn holders(&self, place: usize) -> usize
-        ensures { CountsHoldersAt (held_of self.now) place result }
+        ensures { CountsHoldersAt (contents_of self.now) place result }
     {
         self.report.holders(place)
     }

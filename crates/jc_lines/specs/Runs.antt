@@ -9,7 +9,7 @@ use Rattle.jc_input.specs.declared.run_error.Ended.{Ended}
 use Rattle.jc_input.specs.declared.run_error.Ended.TheVariants as ended
 use Rattle.jc_input.specs.declared.source.SourceError.{SourceError}
 use Rattle.jc_input.specs.declared.source.SourceError.TheVariants as sources
-use Rattle.jc_edits.specs.SessionState.{HeldFiles, SessionState, held_of}
+use Rattle.jc_edits.specs.SessionState.{Contents, SessionState, contents_of}
 use Rattle.jc_input.specs.Changes.{Change, Adds, Replaces, Removes, AddsPrefix, DropsPrefix, OfFiles, OfPrefixes}
 use Rattle.jc_edits.specs.Edits.{judge_edit}
 use Rattle.jc_report.specs.FileRows.{winner}
@@ -21,13 +21,13 @@ use Rattle.jc_lines.specs.Answers.{Reply, Says, Lists, Ends, Lacks, Replies, Run
 -- what a run leaves: the files and prefixes, the source's answers to come and the input's bytes to come, and what was written
 -- before it and is now
 pub record Left : Type 0 where
-  pub held : HeldFiles
+  pub held : Contents
   pub source : Option SourceAnswers
   pub coming : Option (List ℕ)
   pub before : Option (List ℕ)
   pub now : Option (List ℕ)
 
-abbrev pub left_by : HeldFiles → Option SourceAnswers → (coming before now : Option (List ℕ)) → Left
+abbrev pub left_by : Contents → Option SourceAnswers → (coming before now : Option (List ℕ)) → Left
 left_by held source coming before now = record { held = held; source = source; coming = coming; before = before; now = now }
 
 -- the session and the source are left, and the output was written, as by the run over some lines, which ended so
@@ -60,7 +60,7 @@ abbrev pub has_end : List (List ℕ) → Bool
 has_end lines = list_any (λ line. is_end (command_of line)) lines
 
 -- all lines were answered, up to the first that is `end`, and the source answered none of them that it had no memory
-pub record EndsAs (h : HeldFiles) (s : SourceAnswers) (bytes : List ℕ) (how : Ended) (left : Left) : Type 0 where
+pub record EndsAs (h : Contents) (s : SourceAnswers) (bytes : List ℕ) (how : Ended) (left : Left) : Type 0 where
   pub run : Run
   pub runs : RunsTo h s (lines_of bytes) run
   pub done : IsDone run (ending_of how) left
@@ -69,7 +69,7 @@ pub record EndsAs (h : HeldFiles) (s : SourceAnswers) (bytes : List ℕ) (how : 
 -- ---- a run that stops
 
 -- the whole lines that were handed over were answered, none of them `end`
-abbrev pub StopsAtRead : HeldFiles → SourceAnswers → List ℕ → Left → Type 0
+abbrev pub StopsAtRead : Contents → SourceAnswers → List ℕ → Left → Type 0
 StopsAtRead h s bytes left =
     (front : List ℕ) × (coming : List ℕ) × (run : Run) × (bytes ≡ front ++ coming) × (left.coming ≡ Some coming)
     × RunsTo h s (whole_lines front) run × IsDone run AtEof left
@@ -86,20 +86,20 @@ BreaksOff Ends run left = ⊥
 BreaksOff (Lacks source) run left = ⊥
 
 -- the lines before some line were answered, none of them `end`, and it was done but not answered whole
-abbrev pub StopsAtWrite : HeldFiles → SourceAnswers → List ℕ → Left → Type 0
+abbrev pub StopsAtWrite : Contents → SourceAnswers → List ℕ → Left → Type 0
 StopsAtWrite h s bytes left =
     (lines : List (List ℕ)) × (line : List ℕ) × (rest : List (List ℕ)) × (run : Run) × (r : Reply)
     × (lines_of bytes ≡ lines ++ line ∷ rest)
     × RunsTo h s lines run × (run.ending ≡ AtEof) × Replies run.held run.source (command_of line) r × BreaksOff r run left
 
 -- an edit that is not refused may want memory, and so may the source
-abbrev pub MayLack : HeldFiles → (List ℕ → Change) → Result (List ℕ) SourceError → Type 0
+abbrev pub MayLack : Contents → (List ℕ → Change) → Result (List ℕ) SourceError → Type 0
 MayLack h change (Ok bytes) = judge_edit h (OfFiles (change bytes)) ≡ None
 MayLack h change (Err sources.Unread) = ⊥
 MayLack h change (Err sources.NoMemory) = ⊤
 
 -- a listing may too, and no other line
-abbrev pub LineMayLack : HeldFiles → SourceAnswers → Command → Type 0
+abbrev pub LineMayLack : Contents → SourceAnswers → Command → Type 0
 LineMayLack h s (Add path) = MayLack h (Adds path) (next_answer s path)
 LineMayLack h s (Replace path) = MayLack h (Replaces path) (next_answer s path)
 LineMayLack h s (Remove path) = judge_edit h (OfFiles (Removes path)) ≡ None
@@ -112,7 +112,7 @@ LineMayLack h s End = ⊥
 LineMayLack h s Bad = ⊥
 
 -- nothing was done
-pub record IsNotBegun (h : HeldFiles) (s : SourceAnswers) (bytes : List ℕ) (left : Left) : Type 0 where
+pub record IsNotBegun (h : Contents) (s : SourceAnswers) (bytes : List ℕ) (left : Left) : Type 0 where
   pub held : left.held ≡ h
   pub source : left.source ≡ Some s
   pub coming : left.coming ≡ Some bytes
@@ -127,30 +127,30 @@ GivesUp Ends run left = ⊥
 GivesUp (Lacks source) run left = IsDone (record run { source = source }) AtEof left
 
 -- the lines before some line were answered, none of them `end`, and it wanted memory
-abbrev pub StopsForMemory : HeldFiles → SourceAnswers → List ℕ → Left → Type 0
+abbrev pub StopsForMemory : Contents → SourceAnswers → List ℕ → Left → Type 0
 StopsForMemory h s bytes left =
     (lines : List (List ℕ)) × (line : List ℕ) × (rest : List (List ℕ)) × (run : Run) × (r : Reply)
     × (lines_of bytes ≡ lines ++ line ∷ rest)
     × RunsTo h s lines run × Replies run.held run.source (command_of line) r × GivesUp r run left
     × LineMayLack run.held run.source (command_of line)
 
-abbrev pub StopsAs : HeldFiles → SourceAnswers → List ℕ → RunError → Left → Type 0
+abbrev pub StopsAs : Contents → SourceAnswers → List ℕ → RunError → Left → Type 0
 StopsAs h s bytes run_errors.Read left = StopsAtRead h s bytes left
 StopsAs h s bytes run_errors.Write left = StopsAtWrite h s bytes left
 StopsAs h s bytes run_errors.NoMemory left = IsNotBegun h s bytes left ⊎ StopsForMemory h s bytes left
 
 -- the run over the input ended so, or stopped so
-abbrev pub RunsAs : HeldFiles → SourceAnswers → List ℕ → Result Ended RunError → Left → Type 0
+abbrev pub RunsAs : Contents → SourceAnswers → List ℕ → Result Ended RunError → Left → Type 0
 RunsAs h s bytes (Ok how) left = EndsAs h s bytes how left
 RunsAs h s bytes (Err e) left = StopsAs h s bytes e left
 
 -- the same by the answers that the source has to come
-abbrev pub RunsFrom : HeldFiles → Option SourceAnswers → (input : Option (List ℕ)) → Result Ended RunError → Left → Type 0
+abbrev pub RunsFrom : Contents → Option SourceAnswers → (input : Option (List ℕ)) → Result Ended RunError → Left → Type 0
 RunsFrom h source input ending left =
     (bytes : List ℕ) (s : SourceAnswers) → input ≡ Some bytes → source ≡ Some s → RunsAs h s bytes ending left
 
 -- of any source: by the answers that it gave
-abbrev pub RunsByAnswers : HeldFiles → (input : Option (List ℕ)) → Result Ended RunError → Left → Type 0
+abbrev pub RunsByAnswers : Contents → (input : Option (List ℕ)) → Result Ended RunError → Left → Type 0
 RunsByAnswers h input ending left =
     (bytes : List ℕ) → input ≡ Some bytes → (s : SourceAnswers) × RunsAs h s bytes ending left
 
@@ -159,11 +159,11 @@ RunsByAnswers h input ending left =
 abbrev pub RunsOver : {S R W : Type 0} → (S → Option SourceAnswers) → (R → Option (List ℕ)) → (W → Option (List ℕ)) → Result Ended RunError
     → (old new : SessionState) (source source_now : S) (input input_now : R) (out out_now : W) → Type 0
 RunsOver answers remaining written ending old new source source_now input input_now out out_now =
-    RunsFrom (held_of old) (answers source) (remaining input) ending
-    (left_by (held_of new) (answers source_now) (remaining input_now) (written out) (written out_now))
+    RunsFrom (contents_of old) (answers source) (remaining input) ending
+    (left_by (contents_of new) (answers source_now) (remaining input_now) (written out) (written out_now))
 
 abbrev pub RunsOverByAnswers : {R W : Type 0} → (R → Option (List ℕ)) → (W → Option (List ℕ)) → Result Ended RunError
     → (old new : SessionState) (input input_now : R) (out out_now : W) → Type 0
 RunsOverByAnswers remaining written ending old new input input_now out out_now =
-    RunsByAnswers (held_of old) (remaining input) ending
-    (left_by (held_of new) (Some []) (remaining input_now) (written out) (written out_now))
+    RunsByAnswers (contents_of old) (remaining input) ending
+    (left_by (contents_of new) (Some []) (remaining input_now) (written out) (written out_now))

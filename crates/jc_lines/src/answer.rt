@@ -3,7 +3,7 @@ ghost use Rattle.std.specs.Prelude.{◌≡◌, ◌≤◌, ◌≢◌, IfErr, IsSo
 ghost use Rattle.jc_input.specs.declared.run_error.RunError.TheVariants.{NoMemory, Read};
 ghost use Rattle.jc_input.specs.Changes.{EditChange, change_lent};
 ghost use Rattle.jc_edits.specs.Edits.{judge_edit};
-ghost use Rattle.jc_edits.specs.SessionState.{HeldFiles, held_of};
+ghost use Rattle.jc_edits.specs.SessionState.{Contents, contents_of};
 ghost use Rattle.jc_report.specs.FileRows.{winner};
 ghost use Rattle.jc_input.specs.RunErrors.{CountsWrites};
 ghost use Rattle.jc_lines.specs.Runs.{LineMayLack};
@@ -54,7 +54,7 @@ pub(crate) fn answer<S: Source, W: Output>(
 ) -> Result<Next, RunError>
     ensures gives { AnswersLine S.answers W.written (command_lent command.entry) result
         session.old session.new source.old source.new out.old out.new }
-    ensures lacks { LacksOnlyIf (S.answers source.old) (λ s. LineMayLack (held_of session.old) s (command_lent command.entry)) result }
+    ensures lacks { LacksOnlyIf (S.answers source.old) (λ s. LineMayLack (contents_of session.old) s (command_lent command.entry)) result }
     ensures any { AnswersLineByAnswers W.written (command_lent command.entry) result session.old session.new out.old out.new }
     ensures failures { CountsWrites result (W.failures out.old) (W.failures out.new) }
     ensures err { IfErr result (λ e. e ≢ Read) }
@@ -91,7 +91,7 @@ fn answer_sourced<S: Source, W: Output>(
 ) -> Result<Next, RunError>
     ensures gives { AnswersPlacing S.answers W.written placing path.now result
         session.old session.new source.old source.new out.old out.new }
-    ensures lacks { LacksOnlyIf (S.answers source.old) (PlacingMayLack (held_of session.old) placing path.now) result }
+    ensures lacks { LacksOnlyIf (S.answers source.old) (PlacingMayLack (contents_of session.old) placing path.now) result }
     ensures any { AnswersPlacingByAnswers W.written placing path.now result session.old session.new out.old out.new }
     ensures failures { CountsWrites result (W.failures out.old) (W.failures out.new) }
     ensures err { IfErr result (λ e. e ≢ Read) }
@@ -108,7 +108,7 @@ fn answer_sourced<S: Source, W: Output>(
 /// Says that an edit was made, or why it is refused.
 fn answer_edit<W: Output>(edited: Result<Done, EditError>, out: &mut W) -> Result<Next, RunError>
     ensures gives { SaysEdit edited result (W.written out.old) (W.written out.new) }
-    ensures lacks { (h g : HeldFiles) (change : EditChange) → IsEdited h g change edited
+    ensures lacks { (h g : Contents) (change : EditChange) → IsEdited h g change edited
         → result ≡ Err NoMemory → judge_edit h change ≡ None }
     ensures failures { CountsWrites result (W.failures out.old) (W.failures out.new) }
     ensures err { IfErr result (λ e. e ≢ Read) }

@@ -3,7 +3,7 @@ ghost use Rattle.std.specs.Prelude.{◌≡◌, ◌≤◌, ◌≢◌, true, IfErr
 ghost use Rattle.jc_input.specs.declared.run_error.RunError.TheVariants.{Read};
 ghost use Rattle.jc_input.specs.Lines.{command_of};
 ghost use Rattle.jc_input.specs.RunErrors.{CountsReads, CountsWrites};
-ghost use Rattle.jc_edits.specs.SessionState.{held_of};
+ghost use Rattle.jc_edits.specs.SessionState.{contents_of};
 ghost use Rattle.jc_lines.specs.Runs.{LineMayLack, RunsOver, RunsOverByAnswers};
 ghost use Rattle.jc_lines.specs.inside.Replies.{AnswersLast, AnswersLastByAnswers, LacksOnlyIf};
 
@@ -57,7 +57,7 @@ fn answer_last<S: Source, W: Output>(
 ) -> Result<Ended, RunError>
     ensures gives { AnswersLast S.answers W.written line.now result
         session.old session.new source.old source.new out.old out.new }
-    ensures lacks { LacksOnlyIf (S.answers source.old) (λ s. LineMayLack (held_of session.old) s (command_of line.now)) result }
+    ensures lacks { LacksOnlyIf (S.answers source.old) (λ s. LineMayLack (contents_of session.old) s (command_of line.now)) result }
     ensures any { AnswersLastByAnswers W.written line.now result session.old session.new out.old out.new }
     ensures failures { CountsWrites result (W.failures out.old) (W.failures out.new) }
     ensures err { IfErr result (λ e. e ≢ Read) }

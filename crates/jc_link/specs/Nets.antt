@@ -1,5 +1,5 @@
 -- Classes with all that they reach.
-use Rattle.std.specs.Prelude.{◌≡◌, List, map}
+use Rattle.std.specs.Prelude.{◌≡◌, ◌↔◌, List, map}
 use Rattle.std.specs.List.{Contains}
 use Rattle.jc_classes.specs.Facts.{Facts}
 use Rattle.jc_classes.specs.Names.{Name}
@@ -22,13 +22,16 @@ IsIn m n = n.stands ≡ map m n.names
 abbrev pub IsReached : World → (classes : List Name) → Name → Type 0
 IsReached m classes x = (d : Name) × Contains classes d × Reach m d x
 
--- it is gathered in this world, and where there is a class, a class reaches each name
+-- it is gathered in this world: its names are those that its classes reach; without a class it may have others
 pub record IsAround (m : World) (n : Net) : Type 0 where
   pub stands : IsIn m n
   pub once : IsOnce n.names
   pub reached : (d x : Name) → Contains n.classes d → Contains n.names x → IsReached m n.classes x
+  pub whole : (x : Name) → IsReached m n.classes x → Contains n.names x
 
--- it is gathered for these classes in this world
-pub record IsNetOf (classes : List Facts) (m : World) (n : Net) : Type 0 where
-  pub stands : IsIn m n
-  pub names : (f : Facts) → Contains classes f → Contains n.classes f.name
+-- its classes are those of these names
+abbrev pub IsOfClasses : Net → (names : List Name) → Type 0
+IsOfClasses n names = (d : Name) → Contains n.classes d ↔ Contains names d
+
+abbrev pub names_of_classes : List Facts → List Name
+names_of_classes classes = map (λ (f : Facts). f.name) classes

@@ -5,7 +5,7 @@ use Rattle.std.specs.Borrow.{Bor}
 use Rattle.std.specs.List.{filter, list_any, starts_with}
 use Rattle.jc_classes.specs.Names.{Name, same_name}
 use Rattle.jc_link.specs.declared.outside.OutsideError.{OutsideError}
-use Rattle.jc_link.specs.declared.outside.OutsideError.TheVariants.{BadPrefix, TooManyPrefixes}
+use Rattle.jc_link.specs.declared.outside.OutsideError.TheVariants.{BadPrefix, NoMemory, TooManyPrefixes}
 
 abbrev pub standard_prefixes : List (List ℕ)
 standard_prefixes = codes "java/" ∷ codes "javax/" ∷ []
@@ -18,6 +18,11 @@ abbrev pub prefixes_fault : List (List ℕ) → Option OutsideError
 prefixes_fault prefixes =
     if list_any is_bad_prefix prefixes then Some BadPrefix
     else if nat_lt 64 (length prefixes) then Some TooManyPrefixes else None
+
+abbrev pub outside_error_code : OutsideError → ℕ
+outside_error_code BadPrefix = 1
+outside_error_code TooManyPrefixes = 2
+outside_error_code NoMemory = 3
 
 -- it is the first fault of prefixes that are lent
 abbrev pub HasFault : List (Bor (List ℕ)) → OutsideError → Type 0

@@ -15,9 +15,10 @@ mod table;
 pub use closure::Closure;
 pub use gathering::gather;
 pub use jc_classes::{
-    Facts, Key, LinkageError, Reference, ReferenceKind, affected_by_either, locality, part_is_one,
+    Facts, Key, LinkageError, Member, Reference, ReferenceKind, affected_by_either,
+    links_are_exact, locality, part_is_one,
 };
-pub use jc_resolve::{Answer, Answers, Loading};
+pub use jc_resolve::{Answer, AnswerKind, Answers, Link, Links, Loading};
 pub use laws::{places_change, prefixes_differ, reach_stays, worlds_differ};
 pub use meter::Meter;
 pub use net::{Net, PartMaker};

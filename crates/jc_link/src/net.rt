@@ -1,6 +1,6 @@
 //! Classes with all that they reach, by numbers, and the part of each.
 
-ghost use Rattle.std.specs.Prelude.{◌≡◌, ◌<◌, ◌≤◌, ◌++◌, ◌↔◌, ℕ, List, [], IfOk, IfSome, OnOk, length, map};
+ghost use Rattle.std.specs.Prelude.{◌≡◌, ◌<◌, ◌≤◌, ◌++◌, ◌↔◌, ℕ, List, [], IfOk, IfSome, OnErr, OnOk, length, map};
 ghost use Rattle.std.specs.List.{All, Contains, flat_map};
 ghost use Rattle.std.specs.Option.{option_copied, option_to_list};
 ghost use Rattle.jc_graph.specs.Seen.{SeenNodes};
@@ -12,10 +12,10 @@ ghost use Rattle.jc_classes.specs.Parts.{IsPart, Reach};
 ghost use Rattle.jc_classes.specs.Worlds.{World};
 ghost use Rattle.jc_link.specs.Closures.{facts_standing};
 ghost use Rattle.jc_link.specs.Meters.{counted};
-ghost use Rattle.jc_link.specs.Nets.{IsAround, IsIn, IsNetOf};
+ghost use Rattle.jc_link.specs.Nets.{IsOfClasses, IsAround, IsIn, names_of_classes};
 ghost use Rattle.jc_link.specs.Tables.{classes_of, world};
 ghost use Rattle.jc_link.specs.inside.NetAsked.{AddsNames, AreFirst, AreReferredIn, IsAskedBy, asked_count};
-ghost use Rattle.jc_link.specs.inside.NetShown.{AllReached, AreKept, AreNumbered, AreNumbersOf, AreStarts, HasRoom, IsHierarchyOf, nodes_in};
+ghost use Rattle.jc_link.specs.inside.NetShown.{AllReached, AreKept, AreNumbersOf, AreStarts, HasRoom, IsHierarchyOf, nodes_in};
 
 use crate::gathering::{Reached, stand_at};
 use crate::meter::Meter;
@@ -87,7 +87,8 @@ impl<'t> Net<'t> {
         outside: &Outside,
         meter: &mut Meter,
     ) -> Result<Net<'t>, NoMemory>
-        ensures net { IfOk result (IsNetOf (classes_of table.now) (world table.now outside.now)) }
+        ensures around { IfOk result (IsAround (world table.now outside.now)) }
+        ensures classes { IfOk result (λ n. IsOfClasses n (names_of_classes (classes_of table.now))) }
         ensures asks { IfOk result (λ n. meter.new.asks ≡ counted meter.old.asks (length n.names)) }
         ensures asks_rise { meter.old.asks ≤ meter.new.asks }
         ensures made { meter.new.made ≡ meter.old.made }
@@ -109,8 +110,7 @@ impl<'t> Net<'t> {
         meter: &mut Meter,
     ) -> Result<Net<'t>, NoMemory>
         ensures around { IfOk result (IsAround (world table.now outside.now)) }
-        ensures classes { IfOk result (λ n. (d : Name)
-            → Contains n.classes d ↔ Contains (names_of names.now ++ option_to_list (option_copied more.entry)) d) }
+        ensures classes { IfOk result (λ n. IsOfClasses n (names_of names.now ++ option_to_list (option_copied more.entry))) }
         ensures asks { IfOk result (λ n. meter.new.asks ≡ counted meter.old.asks (length n.names)) }
         ensures asks_rise { meter.old.asks ≤ meter.new.asks }
         ensures made { meter.new.made ≡ meter.old.made }
@@ -126,9 +126,7 @@ impl<'t> Net<'t> {
 /// Numbers the classes of a table.
 fn number_classes(alloc: Global, table: &Table, numbers: &mut Numbers) -> Result<(), NoMemory>
     requires { IsOnce numbers.old }
-    ensures once { OnOk result (IsOnce numbers.new) }
-    ensures kept { OnOk result (AreKept numbers.old numbers.new) }
-    ensures numbered { OnOk result (AreNumbered numbers.new (classes_of table.now)) }
+    ensures { OnOk result (AddsNames numbers.old numbers.new (names_of_classes (classes_of table.now))) }
 {
     for facts in table.classes() {
         numbers.number(alloc, facts.name())?;
@@ -260,12 +258,13 @@ impl<'n, 't> PartMaker<'n, 't> {
         })
     }
 
-    /// Makes the part of the class of a name.
+    /// Makes the part of the class of a name. An error counts no part.
     pub fn part(&mut self, alloc: Global, name: &[u8], meter: &mut Meter) -> Result<Part, NoMemory>
         requires { Contains self.old.classes name.now }
         ensures part { (m : World) → IsIn m self.old → IfOk result (IsPart m name.now) }
         ensures net { self.new ≡ self.old }
         ensures made { OnOk result (meter.new.made ≡ counted meter.old.made 1) }
+        ensures unmade { OnErr result (meter.new.made ≡ meter.old.made) }
         ensures made_rise { meter.old.made ≤ meter.new.made }
         ensures asks { meter.new.asks ≡ meter.old.asks }
     {
@@ -311,6 +310,7 @@ fn part_at(
     ensures part { (m : World) → IsIn m net.now → IfOk result (IsPart m name.now) }
     ensures same { hierarchy.new ≡ hierarchy.old }
     ensures made { OnOk result (meter.new.made ≡ counted meter.old.made 1) }
+    ensures unmade { OnErr result (meter.new.made ≡ meter.old.made) }
     ensures made_rise { meter.old.made ≤ meter.new.made }
     ensures asks { meter.new.asks ≡ meter.old.asks }
 {

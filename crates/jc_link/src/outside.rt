@@ -42,6 +42,21 @@ pub enum OutsideError {
     NoMemory,
 }
 
+impl OutsideError {
+    ghost use Rattle.jc_link.specs.Prefixes.{outside_error_code};
+
+    /// Returns the number of the error, from 1, in the order of the variants.
+    pub fn code(&self) -> u8
+        ensures { result ≡ outside_error_code self.now }
+    {
+        match self {
+            OutsideError::BadPrefix => 1,
+            OutsideError::TooManyPrefixes => 2,
+            OutsideError::NoMemory => 3,
+        }
+    }
+}
+
 impl From<NoMemory> for OutsideError {
     ghost from_gives = { λ _ e. e ≡ errors.NoMemory };
 

@@ -64,9 +64,19 @@ impl Table {
         ensures made { meter.new.made ≡ meter.old.made }
     {
         meter.count_ask();
+        match self.class(name) {
+            Some(facts) => Some(facts),
+            None => self.built_in(name),
+        }
+    }
+
+    /// Returns the record that a file gives of a name. No ask is counted. Does not allocate.
+    pub fn class(&self, name: &[u8]) -> Option<&Facts>
+        ensures { option_copied result ≡ class_at self.now name.now }
+    {
         match self.places.get(name) {
             Some(Some(facts)) => Some(facts),
-            _ => self.built_in(name),
+            _ => None,
         }
     }
 

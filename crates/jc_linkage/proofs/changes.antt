@@ -1,5 +1,6 @@
 pub mod AnyChange
-pub mod FewPartsMade
+pub mod CountsBounded
 pub mod NamesChanged
-pub mod PrefixesTurned
+pub mod PartsCounted
+pub mod PrefixesSwitched
 pub mod SameClasses

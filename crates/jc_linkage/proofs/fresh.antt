@@ -1,4 +1,4 @@
 pub mod Counts
-pub mod FewAsks
 pub mod FreshLists
+pub mod NamesAsked
 pub mod NewcomersReady

@@ -1,10 +1,13 @@
--- The classes that an edit affects, and how many parts it may make.
-use Rattle.std.specs.Prelude.{◌≡◌, ◌≤◌, ℕ, ◌+◌, Bool, true, false, List, [], ◌∷◌, length}
+-- The classes that an edit affects, the parts that it makes, and the names that it asks for.
+use Rattle.std.specs.Prelude.{◌≡◌, ◌≤◌, ℕ, ◌+◌, ◌-◌, Bool, true, false, List, [], ◌∷◌, length}
 use Rattle.jc_classes.specs.Laws.{Hits}
 use Rattle.jc_classes.specs.NameLists.{has, Lists}
 use Rattle.jc_classes.specs.Names.{Name}
 use Rattle.jc_classes.specs.Parts.{Reach}
 use Rattle.jc_classes.specs.Worlds.{World}
+use Rattle.jc_link.specs.Meters.{Counts, counted}
+use Rattle.jc_link.specs.Nets.{IsReached}
+use Rattle.jc_link.specs.declared.meter.Meter.{Meter}
 
 abbrev pub NoRepeat : List Name → Type 0
 NoRepeat [] = Unit {0}
@@ -31,6 +34,24 @@ abbrev pub sum_of_lengths : List (List Name) → ℕ
 sum_of_lengths [] = 0
 sum_of_lengths (r ∷ rs) = length r + sum_of_lengths rs
 
+-- ---- what an edit costs
+
+abbrev pub counts_of : Meter → Counts
+counts_of meter = record { asks = meter.asks; made = meter.made }
+
+-- a part was made of each affected class, and the table was asked for each name that they reach, once
+pub record IsCounted (given : Name → Bool) (m : World) (touched : Name → Bool) (old new : Counts) : Type 0 where
+  pub affected : List Name
+  pub reaches : List (List Name)
+  pub reached : List Name
+  pub are_affected : Enumerates affected (IsAffected given m touched)
+  pub are_reaches : AreReaches m affected reaches
+  pub are_reached : Enumerates reached (IsReached m affected)
+  pub made : new.made ≡ counted old.made (length affected)
+  pub asks : new.asks ≡ counted old.asks (length reached)
+
+-- ---- what follows
+
 -- no more parts are made than classes are affected, and the table is asked no more often than their reaches have names, and twice
 pub record IsBounded (given : Name → Bool) (m : World) (touched : Name → Bool) (made asks : ℕ) : Type 0 where
   pub affected : List Name
@@ -39,3 +60,8 @@ pub record IsBounded (given : Name → Bool) (m : World) (touched : Name → Boo
   pub are_reaches : AreReaches m affected reaches
   pub made_few : made ≤ length affected
   pub asked_few : asks ≤ 2 + sum_of_lengths reaches
+
+-- exact counts keep the bounds
+abbrev pub CountsAreBounded : Type 0
+CountsAreBounded = (given : Name → Bool) (m : World) (touched : Name → Bool) (old new : Counts)
+    → IsCounted given m touched old new → IsBounded given m touched (new.made - old.made) (new.asks - old.asks)

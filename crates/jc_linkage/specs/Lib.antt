@@ -2,5 +2,5 @@ pub mod Affected
 pub mod Holders
 pub mod Linkages
 pub mod Steps
-pub mod Turns
+pub mod Switches
 pub mod inside

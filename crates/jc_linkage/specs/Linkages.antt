@@ -1,5 +1,5 @@
 -- The classes that are held, and the world that they make with the prefixes of outside names.
-use Rattle.std.specs.Prelude.{◌≡◌, ◌-◌, Bool, List, Some, is_some, map}
+use Rattle.std.specs.Prelude.{◌≡◌, Bool, List, Some, is_some, map}
 use Rattle.std.specs.List.{All, Contains}
 use Rattle.std.specs.List.Sorted.{IsStrictlySortedBy}
 use Rattle.jc_classes.specs.Facts.{Facts}
@@ -10,8 +10,7 @@ use Rattle.jc_link.specs.Tables.{Places, class_at, world}
 use Rattle.jc_link.specs.declared.meter.Meter.{Meter}
 use Rattle.jc_report.specs.Reports.{Class, GivesRow, name_of}
 use Rattle.jc_report.specs.Rows.{AreRows, Row}
-use Rattle.jc_linkage.specs.Affected.{IsBounded}
-use Rattle.jc_linkage.specs.Turns.{turns}
+use Rattle.jc_linkage.specs.Affected.{IsCounted, counts_of}
 
 pub record Linkage : Type 0 where
   pub classes : Places
@@ -24,13 +23,9 @@ given a n = is_some (class_at a.classes n)
 abbrev pub world_held : Linkage → World
 world_held a = world a.classes a.prefixes
 
--- the names that other prefixes turn
-abbrev pub turned : (old new : Linkage) → Name → Bool
-turned old new = turns old.classes old.prefixes new.prefixes
-
--- the meter has counted few parts and asks between the two
-abbrev pub IsBoundedIn : Linkage → (touched : Name → Bool) → (old new : Meter) → Type 0
-IsBoundedIn a touched old new = IsBounded (given a) (world_held a) touched (new.made - old.made) (new.asks - old.asks)
+-- the meter counted the parts and the asks of an edit that touched these names
+abbrev pub IsCountedIn : Linkage → (touched : Name → Bool) → (old new : Meter) → Type 0
+IsCountedIn a touched old new = IsCounted (given a) (world_held a) touched (counts_of old) (counts_of new)
 
 -- the class is what is held of its name, with the part that it has over all classes
 pub record IsHeldClass (a : Linkage) (c : Class) : Type 0 where

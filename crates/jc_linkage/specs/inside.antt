@@ -4,5 +4,5 @@ pub mod Lending
 pub mod LinkSets
 pub mod Prepared
 pub mod Stepping
-pub mod Turning
+pub mod SwitchedNames
 pub mod Users

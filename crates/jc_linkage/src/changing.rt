@@ -8,7 +8,7 @@ ghost use Rattle.jc_link.specs.Tables.{class_at};
 ghost use Rattle.jc_linkage.specs.Affected.{NoRepeat};
 ghost use Rattle.jc_linkage.specs.Steps as steps;
 ghost use Rattle.jc_linkage.specs.inside.Holding as holding;
-ghost use Rattle.jc_linkage.specs.inside.Holding.{AreBack, AreNamed, AreThere, CountsStep, Holds, IsBoundedOver, IsHeld, PutsClass};
+ghost use Rattle.jc_linkage.specs.inside.Holding.{AreBack, AreNamed, AreThere, CountsStep, Holds, IsCountedOver, IsHeld, PutsClass};
 ghost use Rattle.jc_linkage.specs.inside.Holding.{at_either, at_step, given_in, stepped_by};
 ghost use Rattle.jc_linkage.specs.inside.Kept.{AreLinked, fresh_at, fresh_names};
 ghost use Rattle.jc_linkage.specs.inside.LinkSets.{AreLinks, TakesOut, held_and_fresh, links_gone};
@@ -71,7 +71,7 @@ pub(crate) fn change_classes(
     ensures ok { OnOk result ((n : Name) → class_at table.new n ≡ stepped_by second (stepped_by first (class_at table.old)) n) }
     ensures err { OnErr result ((n : Name) → class_at table.new n ≡ class_at table.old n) }
     ensures held { IsHeld table.new outside.now kept.new links.new }
-    ensures bounded { OnOk result (IsBoundedOver table.new outside.now (at_either first second) meter.old meter.new) }
+    ensures counted { OnOk result (IsCountedOver table.new outside.now (at_either first second) meter.old meter.new) }
     ensures asks_rise { meter.old.asks ≤ meter.new.asks }
     ensures made_rise { meter.old.made ≤ meter.new.made }
     ensures taken { NoneVacant table.new }

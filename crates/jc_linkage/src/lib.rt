@@ -4,18 +4,22 @@
 
 mod affected;
 mod changing;
+mod circular;
 mod classes;
 mod kept;
+mod laws;
 mod linkage;
 mod linking;
 mod links;
+mod prefixes;
 mod preparing;
 mod rows;
 mod step;
-mod turning;
 
+pub use circular::Circular;
 pub use classes::HeldClasses;
 pub use jc_required::Required;
+pub use laws::counts_are_bounded;
 pub use linkage::Linkage;
 pub use rows::Provided;
 pub use step::Step;

@@ -1,27 +1,31 @@
 //! The classes of files, each with its part, and which of them depend on a name.
 
-ghost use Rattle.std.specs.Prelude.{◌≡◌, ◌≤◌, IfOk, IfSome, OnErr, OnOk, is_some, true};
+ghost use Rattle.std.specs.Prelude.{◌≡◌, ◌≤◌, IfOk, IfSome, List, OnErr, OnOk, is_some, option_map, true};
 ghost use Rattle.std.specs.FinMap as map;
 ghost use Rattle.jc_classes.specs.NameLists.{Lists};
 ghost use Rattle.jc_classes.specs.Names.{Name, names_of};
 ghost use Rattle.jc_classes.specs.Parts.{IsPart, Reach};
 ghost use Rattle.jc_link.specs.Tables.{class_at};
 ghost use Rattle.jc_linkage.specs.Holders.{CountsHoldersAt};
-ghost use Rattle.jc_linkage.specs.Linkages.{AreHeldClasses, AreRowsHeld, IsBoundedIn, given, turned, world_held};
+ghost use Rattle.jc_linkage.specs.Linkages.{AreHeldClasses, AreRowsHeld, IsCountedIn, given, world_held};
+ghost use Rattle.jc_linkage.specs.Switches.{switches};
 ghost use Rattle.jc_report.specs.ClassRows.{provided_rows, required_rows};
+ghost use Rattle.jc_report.specs.Reports.{Class, circular_names};
 ghost use Rattle.jc_linkage.specs.Steps.{changed, is_touched};
 ghost use Rattle.jc_linkage.specs.inside.Holding as holding;
 
 use crate::changing::{change_classes, counting};
+use crate::circular::Circular;
 use crate::classes::HeldClasses;
 use crate::kept::Kept;
 use crate::links::Links;
+use crate::prefixes::remake_switched;
 use crate::rows::Provided;
 use crate::step::Step;
-use crate::turning::remake_turned;
 use jc_base::{ByteMap, NoMemory};
 use jc_classes::Facts;
 use jc_link::{Meter, Outside, Part, Table};
+use jc_report::LentClass;
 use jc_required::Required;
 use std::alloc::Global;
 use std::marker::Model;
@@ -72,8 +76,8 @@ impl Linkage {
     }
 
     /// Changes what stands at the name of a step, and puts a class. The step counts only where a class
-    /// stands at its name and the class that is put is another. Parts are made of those classes alone
-    /// whose reach holds one of the two names. At want of memory all classes stand as before.
+    /// stands at its name and the class that is put is another. Recomputes only the parts of the classes
+    /// whose reach holds one of the two names. If an allocation fails, all classes stay as they were.
     pub fn change(
         &mut self,
         first: Option<Step>,
@@ -83,7 +87,7 @@ impl Linkage {
         ensures ok { OnOk result ((n : Name) → class_at self.new.classes n ≡ changed (class_at self.old.classes) first put n) }
         ensures err { OnErr result ((n : Name) → class_at self.new.classes n ≡ class_at self.old.classes n) }
         ensures prefixes { self.new.prefixes ≡ self.old.prefixes }
-        ensures bounded { OnOk result (IsBoundedIn self.new (is_touched (class_at self.old.classes) first put) meter.old meter.new) }
+        ensures counted { OnOk result (IsCountedIn self.new (is_touched (class_at self.old.classes) first put) meter.old meter.new) }
         ensures asks_rise { meter.old.asks ≤ meter.new.asks }
         ensures made_rise { meter.old.made ≤ meter.new.made }
     {
@@ -101,18 +105,17 @@ impl Linkage {
         )
     }
 
-    /// Takes other prefixes of the names that are outside. Parts are made of those classes alone whose reach holds a
-    /// name without a record that is outside by one of the two lists, and not by the other. At want of memory all
-    /// stands as before.
+    /// Replaces the outside prefixes. Recomputes only the parts of the classes whose reach holds a name without a
+    /// record that becomes outside or inside. If an allocation fails, nothing changes.
     pub fn change_outside(&mut self, outside: Outside, meter: &mut Meter) -> Result<(), NoMemory>
         ensures ok { OnOk result (self.new.prefixes ≡ outside) }
         ensures err { OnErr result (self.new.prefixes ≡ self.old.prefixes) }
         ensures classes { self.new.classes ≡ self.old.classes }
-        ensures bounded { OnOk result (IsBoundedIn self.new (turned self.old self.new) meter.old meter.new) }
+        ensures counted { OnOk result (IsCountedIn self.new (switches self.old.classes self.old.prefixes self.new.prefixes) meter.old meter.new) }
         ensures asks_rise { meter.old.asks ≤ meter.new.asks }
         ensures made_rise { meter.old.made ≤ meter.new.made }
     {
-        remake_turned(
+        remake_switched(
             self.alloc,
             &self.table,
             &self.outside,
@@ -148,6 +151,16 @@ impl Linkage {
         Some(&kept.part)
     }
 
+    /// Returns the class of a name, if files give it, with its part. No ask is counted. Does not allocate.
+    pub fn class(&self, name: &[u8]) -> Option<LentClass<'_>>
+        ensures facts { option_map (λ class. class.facts.now) result ≡ class_at self.now.classes name.now }
+        ensures part { IfSome result (λ class. IsPart (world_held self.now) name.now class.part.now) }
+    {
+        let facts = self.table.class(name)?;
+        let part = self.part(name)?;
+        Some(LentClass { facts, part })
+    }
+
     /// The classes that files give, in the order of their names, with their parts. No memory.
     pub fn classes(&self) -> HeldClasses<'_>
         ensures { AreHeldClasses self.now result }
@@ -155,6 +168,15 @@ impl Linkage {
         HeldClasses {
             classes: self.table.classes(),
             kept: self.kept.iter(),
+        }
+    }
+
+    /// Returns the names of the circular classes, sorted. Does not allocate.
+    pub fn circular(&self) -> Circular<'_>
+        ensures { (classes : List Class) × AreHeldClasses self.now classes × (result ≡ circular_names classes) }
+    {
+        Circular {
+            classes: self.classes(),
         }
     }
 

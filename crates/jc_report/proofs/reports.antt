@@ -6,4 +6,5 @@ pub mod GivenRows
 pub mod GoneOver
 pub mod OneReport
 pub mod ProvidedByClass
+pub mod ReferencesByIndex
 pub mod RowsByClass

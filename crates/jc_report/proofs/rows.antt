@@ -5,6 +5,8 @@ pub mod SortedRows
 pub mod SameRows
 pub mod InsertedRows
 pub mod ReferenceRows
+pub mod RequiredLeft
+pub mod AnswersByIndex
 pub mod RisingLists
 pub mod KeysInOrder
 pub mod ProvidedInOrder

@@ -1,3 +1,4 @@
+pub mod ClassAnswers
 pub mod ClassLent
 pub mod ClassRows
 pub mod ErrorsText

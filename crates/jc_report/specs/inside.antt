@@ -8,6 +8,8 @@ pub mod Naming
 pub mod NumberedRows
 pub mod Outcomes
 pub mod ProvidedInOrder
+pub mod ReferencePlaces
 pub mod ReportShown
+pub mod RequiredLeft
 pub mod RowSets
 pub mod TreeCode

@@ -3,7 +3,7 @@
 ghost use Rattle.std.specs.Prelude.{◌≡◌, ◌↔◌, ℕ, List, Some, None};
 ghost use Rattle.jc_report.specs.Files.{Files};
 ghost use Rattle.jc_report.specs.FileRows.{winner};
-ghost use Rattle.jc_report.specs.ReportLaws.{ErrorsAreTold, ReportIsOne, WrongAmongAll};
+ghost use Rattle.jc_report.specs.ReportLaws.{ErrorsAreTold, ReferencesAreByIndex, ReportIsOne, WrongAmongAll};
 ghost use Rattle.jc_report.specs.RowKeyLaws.{KeysKeepOrder};
 ghost use Rattle.jc_report.specs.Winners.{NamesAt, IsWinner};
 
@@ -28,4 +28,9 @@ pub fn errors_are_told()
 /// Keys stand in the order of their rows.
 pub fn keys_keep_order()
     ensures { KeysKeepOrder }
+{}
+
+/// The references of a class that files give are in ascending order of index.
+pub fn references_are_by_index()
+    ensures { ReferencesAreByIndex }
 {}

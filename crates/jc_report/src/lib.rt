@@ -12,20 +12,25 @@ mod member_rows;
 mod outcome;
 mod part_text;
 mod provided_rows;
+mod reference_place;
 mod report;
 mod report_lists;
 mod report_text;
 mod required_references;
 mod required_row;
+mod required_rows;
 mod row;
 mod row_set;
 mod tree;
+mod tree_circular;
 mod tree_provided;
 
 pub use errors_text::write_errors;
 pub use file_row::{FileRow, FileState};
 pub use file_row_text::write_refusal;
-pub use laws::{errors_are_told, keys_keep_order, report_is_one, winners_are_least};
+pub use laws::{
+    errors_are_told, keys_keep_order, references_are_by_index, report_is_one, winners_are_least,
+};
 pub use lent_class::{LentClass, LentClasses};
 pub use part_text::write_part;
 pub use provided_rows::{ProvidedRows, provided_in_order};
@@ -34,6 +39,8 @@ pub use report_lists::ReportLists;
 pub use report_text::{write_lists, write_report};
 pub use required_references::{RequiredReferences, required_of};
 pub use required_row::RequiredRow;
+pub use required_rows::RequiredRows;
 pub use row::Row;
 pub use tree::{AddError, Tree};
+pub use tree_circular::TreeCircular;
 pub use tree_provided::TreeProvided;

@@ -32,6 +32,7 @@ use crate::lent_class::{LentClass, LentClasses};
 use crate::row::Row;
 use crate::row_set::RowSet;
 use crate::tree::Tree;
+use crate::tree_circular::TreeCircular;
 use crate::tree_provided::TreeProvided;
 use jc_base::NoMemory;
 use jc_classes::Facts;
@@ -190,6 +191,15 @@ impl<'t> TreeReport<'t> {
     {
         LentClasses {
             classes: self.classes.iter(),
+        }
+    }
+
+    /// Returns the names of the circular classes, sorted. Does not allocate.
+    pub fn circular(&self) -> TreeCircular<'_, 't>
+        ensures { result ≡ self.now.circular }
+    {
+        TreeCircular {
+            classes: self.lent_classes(),
         }
     }
 

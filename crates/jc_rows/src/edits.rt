@@ -35,11 +35,12 @@ fn told_of_line(
     line: &str,
 ) -> Result<Option<String>> {
     let (tokens, wanted) = tokens_of(alloc, line)?;
-    let (wanted, bound) = split_bound(without_comment(wanted.unwrap_or("")))?;
+    let (wanted, wanted_asks) = split_asks(without_comment(wanted.unwrap_or("")))?;
     let mut output = output_for(alloc, None, wanted.as_bytes())?;
     let asks = answer(alloc, names, session, &tokens, &mut output)?;
     let found = output.bytes();
-    told_of_answer(alloc, line, wanted.as_bytes(), found, asks <= bound)
+    let is_counted = wanted_asks.is_none() || wanted_asks == Some(asks);
+    told_of_answer(alloc, line, wanted.as_bytes(), found, is_counted)
 }
 
 /// Makes the call of these words into an output, and tells how often it asked.
@@ -56,11 +57,11 @@ fn answer(
     Ok(asks)
 }
 
-/// What has to be answered, and how often an edit may ask where that is told.
-fn split_bound(wanted: &str) -> Result<(&str, u64)> {
-    match wanted.split_once(", asks at most ") {
-        Some((wanted, bound)) => Ok((wanted, bound.parse::<u64>()?)),
-        None => Ok((wanted, u64::MAX)),
+/// Splits a wanted answer into its text and the number of names that the edit asks for, if the row has one.
+fn split_asks(wanted: &str) -> Result<(&str, Option<u64>)> {
+    match wanted.split_once(", asks ") {
+        Some((wanted, asks)) => Ok((wanted, Some(asks.parse::<u64>()?))),
+        None => Ok((wanted, None)),
     }
 }
 
@@ -69,13 +70,13 @@ fn told_of_answer(
     line: &str,
     wanted: &[u8],
     found: &[u8],
-    is_bounded: bool,
+    is_counted: bool,
 ) -> Result<Option<String>> {
     if wanted != found {
         return Ok(Some(difference(alloc, line, wanted, found)?));
     }
-    if !is_bounded {
-        return Ok(Some(format!(in alloc; "{line}: it asks more often")?));
+    if !is_counted {
+        return Ok(Some(format!(in alloc; "{line}: it asks for another number of names")?));
     }
     Ok(None)
 }

@@ -4,18 +4,19 @@ use Rattle.std.specs.FinMap as fin
 use Rattle.jc_base.proofs.maps.FiniteMaps.{eq_by_cmp-bytes_cmp, get-remove_same, insert-remove}
 use Rattle.jc_classes.specs.Facts.{Facts}
 use Rattle.jc_classes.specs.Names.{Name, same_name}
-use Rattle.jc_linkage.specs.Affected.{IsBounded}
+use Rattle.jc_linkage.specs.Affected.{IsCounted}
 use Rattle.jc_linkage.specs.Steps as steps
 use Rattle.jc_linkage.specs.Steps.{Classes, changed, class_by, counts, is_class, is_first, is_step, step_class, step_name}
 use Rattle.jc_linkage.specs.declared.step.Step.{Step}
 use Rattle.jc_report.specs.Files.{Files}
 use Rattle.jc_report.specs.FileRows.{winner}
 use Rattle.jc_report.specs.Reports.{facts_at, world_of}
+use Rattle.jc_link.specs.Meters.{Counts}
 use Rattle.jc_link.specs.Prefixes.{is_covered}
 use Rattle.jc_link.specs.Tables.{or_built_in, stands_by}
 use Rattle.jc_input.specs.Changes.{Change, Adds, Replaces, Removes, path_of, bytes_of}
 use Rattle.jc_limits.specs.FileEdits as edits
-use Rattle.jc_edits.specs.Touched.{gives, is_path, is_touched}
+use Rattle.jc_edits.specs.Touched.{gives, is_path, is_taken}
 use Rattle.jc_edits.specs.inside.Changing.{AreChanges, won}
 use Rattle.jc_edits.specs.inside.Growth.{put_at}
 use Rattle.jc_edits.proofs.placing.ClassesPlaced.{Placed, exact, lost_name, others_with, placed_at, same_here, with_at}
@@ -136,7 +137,7 @@ module _ (f : Files) (path : List ℕ) (o : Option (List ℕ)) (first : Option S
   classes_after = after_edit.class ∙ ap (λ x. cond (is_class x n) x (facts_at others n)) (sym changes.put) ∙ as_steps.class
 
   -- and what it touches is what they touch
-  pub touched_alike : is_touched f (put_at f path o) path n ≡ steps.is_touched (facts_at f) first put n
+  pub touched_alike : is_taken f (put_at f path o) path n ≡ steps.is_touched (facts_at f) first put n
   touched_alike =
       ap (λ b. b || is_path (winner (put_at f path o) n) path) (before_edit n).taken
       ∙ ap (λ b. is_class old n || b) (after_edit.taken ∙ ap (λ x. is_class x n) (sym changes.put))
@@ -161,15 +162,16 @@ module _ (f after : Files) (path : List ℕ) (o : Option (List ℕ)) (first : Op
   same_after : new ≡ facts_at after
   same_after = λ i n. held_after n i
 
-  touched_at : (n : Name) → steps.is_touched old first put n ≡ is_touched f after path n
-  touched_at n = ap (λ m. steps.is_touched m first put n) same_before ∙ sym (touched_alike f path o first put changes n) ∙ ap (λ g. is_touched f g path n) (sym stand)
+  touched_at : (n : Name) → steps.is_touched old first put n ≡ is_taken f after path n
+  touched_at n = ap (λ m. steps.is_touched m first put n) same_before ∙ sym (touched_alike f path o first put changes n) ∙ ap (λ g. is_taken f g path n) (sym stand)
 
-  same_touched : steps.is_touched old first put ≡ is_touched f after path
+  same_touched : steps.is_touched old first put ≡ is_taken f after path
   same_touched = λ i n. touched_at n i
 
-  -- and the steps' bound is the edit's
-  pub bounded_after : (prefixes : List Name) (made asks : ℕ) → IsBounded (λ n. is_some (new n)) (λ n. stands_by (or_built_in (new n) n) (is_covered prefixes n)) (steps.is_touched old first put) made asks
-      → IsBounded (gives after) (world_of after prefixes) (is_touched f after path) made asks
-  bounded_after prefixes made asks h =
-      subst (λ t. IsBounded (gives after) (world_of after prefixes) t made asks) same_touched
-      (subst (λ (m : Classes). IsBounded (λ n. is_some (m n)) (λ n. stands_by (or_built_in (m n) n) (is_covered prefixes n)) (steps.is_touched old first put) made asks) same_after h)
+  -- and what is counted of the steps is counted of the edit
+  pub counted_after : (prefixes : List Name) (before behind : Counts)
+      → IsCounted (λ n. is_some (new n)) (λ n. stands_by (or_built_in (new n) n) (is_covered prefixes n)) (steps.is_touched old first put) before behind
+      → IsCounted (gives after) (world_of after prefixes) (is_taken f after path) before behind
+  counted_after prefixes before behind h =
+      subst (λ t. IsCounted (gives after) (world_of after prefixes) t before behind) same_touched
+      (subst (λ (m : Classes). IsCounted (λ n. is_some (m n)) (λ n. stands_by (or_built_in (m n) n) (is_covered prefixes n)) (steps.is_touched old first put) before behind) same_after h)

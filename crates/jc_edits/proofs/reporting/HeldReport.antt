@@ -103,7 +103,7 @@ module _ (rows_by : Facts → Part → List Row) (classes : List Class) where
 -- ---- a linkage whose classes are those of files
 
 module _ (f : Files) (a : Linkage) (meets : (name : Name) → class_at a.classes name ≡ facts_at f name) where
-  worlds : world_held a ≡ world_of f a.prefixes
+  pub worlds : world_held a ≡ world_of f a.prefixes
   worlds = λ i name. stands_by (or_built_in (meets name i) name) (is_covered a.prefixes name)
 
   class_of : (c : Class) → IsHeldClass a c → IsClassOf f a.prefixes c

@@ -1,11 +1,9 @@
 -- What holds of a report that is held.
 use Rattle.std.specs.Prelude.{◌≡◌, ℕ, List, Option, Some, None, codes}
 use Rattle.jc_classes.specs.Names.{Name}
-use Rattle.jc_classes.specs.Parts.{IsPart}
 use Rattle.jc_link.specs.Tables.{class_at}
-use Rattle.jc_report.specs.Files.{Files}
 use Rattle.jc_report.specs.PartText.{part_text}
-use Rattle.jc_report.specs.Reports.{facts_at, world_of}
+use Rattle.jc_report.specs.Reports.{facts_at}
 use Rattle.jc_report.specs.declared.lent_class.LentClass.{LentClass}
 use Rattle.jc_edits.specs.declared.report.Report.TheInside.{Inside}
 use Rattle.jc_edits.specs.inside.Claims.{AreClaims}
@@ -14,11 +12,6 @@ use Rattle.jc_edits.specs.inside.Claims.{AreClaims}
 pub record IsWhole (a : Inside) : Type 0 where
   pub claims : AreClaims a.held.claims a.held.files
   pub classes : (name : Name) → class_at a.linkage.classes name ≡ facts_at a.held.files name
-
--- the class of the name, or none where files give none
-abbrev pub IsFound : Files → List Name → Name → Option LentClass → Type 0
-IsFound f prefixes name None = facts_at f name ≡ None
-IsFound f prefixes name (Some c) = (facts_at f name ≡ Some c.facts.now) × IsPart (world_of f prefixes) name c.part.now
 
 abbrev pub found_text : Option LentClass → List ℕ
 found_text None = codes "none\n"

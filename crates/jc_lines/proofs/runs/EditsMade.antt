@@ -11,37 +11,37 @@ use Rattle.jc_input.specs.Sources.{SourceAnswers}
 use Rattle.jc_limits.specs.FileEdits.{after, judge}
 use Rattle.jc_edits.specs.Edits.{after_prefix, judge_edit, judge_prefix}
 use Rattle.jc_edits.specs.Judged.{IsJudged}
-use Rattle.jc_edits.specs.SessionState.{HeldFiles, SessionState, held_of}
+use Rattle.jc_edits.specs.SessionState.{Contents, SessionState, contents_of}
 use Rattle.jc_lines.specs.AnswerText.{refused_text}
 use Rattle.jc_lines.specs.Answers.{Says, edit_reply, judged_reply}
 use Rattle.jc_lines.specs.inside.EditText.{edit_text}
 use Rattle.jc_lines.specs.inside.Replies.{IsEdited}
 
 pub same_held : (files new_files : Files) (prefixes new_prefixes : List Name) → new_files ≡ files → new_prefixes ≡ prefixes
-    → (let g : HeldFiles = record { files = new_files; prefixes = new_prefixes } in g) ≡ record { files = files; prefixes = prefixes }
+    → (let g : Contents = record { files = new_files; prefixes = new_prefixes } in g) ≡ record { files = files; prefixes = prefixes }
 same_held files new_files prefixes new_prefixes e d = cc
 
 pub files_edited : (old new : SessionState) (change : Change) (edited : Result Done EditError)
     → MatchResult edited (λ _. judge old.files change ≡ None) (λ e. IsJudged e (judge old.files change))
     → OnOk edited (new.files ≡ after old.files change) → OnErr edited (new.files ≡ old.files) → new.prefixes ≡ old.prefixes
-    → IsEdited (held_of old) (held_of new) (OfFiles change) edited
+    → IsEdited (contents_of old) (contents_of new) (OfFiles change) edited
 files_edited old new change (Ok done) judged ok err same = (judged, same_held (after old.files change) new.files old.prefixes new.prefixes ok same)
 files_edited old new change (Err e) judged ok err same = (judged, same_held old.files new.files old.prefixes new.prefixes err same)
 
 pub prefixes_edited : (old new : SessionState) (change : PrefixChange) (edited : Result Done EditError)
     → MatchResult edited (λ _. judge_prefix old.prefixes change ≡ None) (λ e. IsJudged e (judge_prefix old.prefixes change))
     → OnOk edited (new.prefixes ≡ after_prefix old.prefixes change) → OnErr edited (new.prefixes ≡ old.prefixes) → new.files ≡ old.files
-    → IsEdited (held_of old) (held_of new) (OfPrefixes change) edited
+    → IsEdited (contents_of old) (contents_of new) (OfPrefixes change) edited
 prefixes_edited old new change (Ok done) judged ok err same = (judged, same_held old.files new.files (after_prefix old.prefixes change) new.prefixes same ok)
 prefixes_edited old new change (Err e) judged ok err same = (judged, same_held old.files new.files old.prefixes new.prefixes same err)
 
-refused : (h g : HeldFiles) (change : EditChange) (t : SourceAnswers) (e : EditError) → judge_edit h change ≡ Some e → g ≡ h → edit_reply h t change ≡ Says (refused_text e) g t
-refused h g change t e judged is = ap (judged_reply h t change) judged ∙ ap (λ (k : HeldFiles). Says (refused_text e) k t) (sym is)
+refused : (h g : Contents) (change : EditChange) (t : SourceAnswers) (e : EditError) → judge_edit h change ≡ Some e → g ≡ h → edit_reply h t change ≡ Says (refused_text e) g t
+refused h g change t e judged is = ap (judged_reply h t change) judged ∙ ap (λ (k : Contents). Says (refused_text e) k t) (sym is)
 
 -- an edit that did not want memory is answered by its text
-pub reply_said : (edited : Result Done EditError) (h g : HeldFiles) (change : EditChange) (t : SourceAnswers) → edited ≢ Err errors.NoMemory → IsEdited h g change edited
+pub reply_said : (edited : Result Done EditError) (h g : Contents) (change : EditChange) (t : SourceAnswers) → edited ≢ Err errors.NoMemory → IsEdited h g change edited
     → edit_reply h t change ≡ Says (edit_text edited) g t
-reply_said (Ok done) h g change t other (judged, is) = ap (judged_reply h t change) judged ∙ ap (λ (k : HeldFiles). Says (codes "ok\n") k t) (sym is)
+reply_said (Ok done) h g change t other (judged, is) = ap (judged_reply h t change) judged ∙ ap (λ (k : Contents). Says (codes "ok\n") k t) (sym is)
 reply_said (Err errors.AlreadyThere) h g change t other (judged, is) = refused h g change t errors.AlreadyThere judged is
 reply_said (Err errors.NoSuchFile) h g change t other (judged, is) = refused h g change t errors.NoSuchFile judged is
 reply_said (Err errors.TooLarge) h g change t other (judged, is) = refused h g change t errors.TooLarge judged is

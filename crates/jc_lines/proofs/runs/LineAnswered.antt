@@ -7,7 +7,7 @@ use Rattle.jc_input.specs.declared.run_error.Ended.{Ended}
 use Rattle.jc_input.specs.declared.run_error.Ended.TheVariants as ended
 use Rattle.jc_input.specs.declared.run_error.RunError.{RunError}
 use Rattle.jc_input.specs.declared.run_error.RunError.TheVariants as errors
-use Rattle.jc_edits.specs.SessionState.{HeldFiles}
+use Rattle.jc_edits.specs.SessionState.{Contents}
 use Rattle.jc_input.specs.Lines.{command_of, lines_of}
 use Rattle.jc_input.specs.Sources.{SourceAnswers}
 use Rattle.jc_lines.specs.Answers.{Reply, Says, Lists, Ends, Lacks, Replies, Run, RunsTo, AtEnd, AtEof}
@@ -17,9 +17,9 @@ use Rattle.jc_lines.specs.inside.Replies.{Gives, GivesOwed, next_of}
 use Rattle.jc_lines.proofs.runs.RunsOverLines.{IsAnswered, run_so_far, answered_more, joined, by_end}
 
 -- the line was answered, and a run goes on behind it
-pub gave_line : (h : HeldFiles) (s : SourceAnswers) (line : List ℕ) (r : Reply) (new : HeldFiles) (source : Option SourceAnswers) (before now : Option (List ℕ))
+pub gave_line : (h : Contents) (s : SourceAnswers) (line : List ℕ) (r : Reply) (new : Contents) (source : Option SourceAnswers) (before now : Option (List ℕ))
     → Replies h s (command_of line) r → Gives h s r (Ok next.Line) new source before now
-    → (text : List ℕ) × (held : HeldFiles) × (t : SourceAnswers) × IsAnswered h s (line ∷ []) text held t × (new ≡ held) × (source ≡ Some t) × Appends before now text
+    → (text : List ℕ) × (held : Contents) × (t : SourceAnswers) × IsAnswered h s (line ∷ []) text held t × (new ≡ held) × (source ≡ Some t) × Appends before now text
 gave_line h s line (Says text held t) new source before now owed gives = (
   text,
   held,
@@ -41,14 +41,14 @@ gave_line h s line (Lists text) new source before now owed gives = (
 gave_line h s line Ends new source before now owed gives = absurd gives
 gave_line h s line (Lacks t) new source before now owed gives = absurd gives
 
-gave_nothing : (h : HeldFiles) (s : SourceAnswers) (r : Reply) (new : HeldFiles) (source : Option SourceAnswers) (before now : Option (List ℕ)) → Gives h s r (Ok next.Nothing) new source before now
+gave_nothing : (h : Contents) (s : SourceAnswers) (r : Reply) (new : Contents) (source : Option SourceAnswers) (before now : Option (List ℕ)) → Gives h s r (Ok next.Nothing) new source before now
     → (r ≡ Ends) × (new ≡ h) × (source ≡ Some s) × Keeps before now
 gave_nothing h s (Says text held t) new source before now gives = absurd gives
 gave_nothing h s (Lists text) new source before now gives = absurd gives
 gave_nothing h s Ends new source before now gives = (refl, gives.0, gives.1, gives.2)
 gave_nothing h s (Lacks t) new source before now gives = absurd gives
 
-gave_front : (run : Run) (r : Reply) (new : HeldFiles) (source : Option SourceAnswers) (coming before now later : Option (List ℕ)) → Appends before now run.text
+gave_front : (run : Run) (r : Reply) (new : Contents) (source : Option SourceAnswers) (coming before now later : Option (List ℕ)) → Appends before now run.text
     → Gives run.held run.source r (Err errors.Write) new source now later → BreaksOff r run (record { held = new; source = source; coming = coming; before = before; now = later })
 gave_front run (Says said held t) new source coming before now later written gives =
     (gives.0, gives.1, (gives.2.0, gives.2.1, Appends-trans before now later run.text (take gives.2.0 said) written gives.2.2))
@@ -58,7 +58,7 @@ gave_front run Ends new source coming before now later written gives = absurd gi
 gave_front run (Lacks t) new source coming before now later written gives = absurd gives
 
 -- memory was refused
-gave_up : (run : Run) (r : Reply) (new : HeldFiles) (source : Option SourceAnswers) (coming before now later : Option (List ℕ)) → run.ending ≡ AtEof → Appends before now run.text
+gave_up : (run : Run) (r : Reply) (new : Contents) (source : Option SourceAnswers) (coming before now later : Option (List ℕ)) → run.ending ≡ AtEof → Appends before now run.text
     → Gives run.held run.source r (Err errors.NoMemory) new source now later → GivesUp r run (record { held = new; source = source; coming = coming; before = before; now = later })
 gave_up run (Says said held t) new source coming before now later goes written gives =
     record { ends = goes; held = gives.0; source = gives.1; text = Appends-kept before now later run.text written gives.2 }
@@ -73,9 +73,9 @@ gave_up run (Lacks t) new source coming before now later goes written gives =
 
 -- ---- the line after them
 
-module _ (h : HeldFiles) (s : SourceAnswers) (bytes : List ℕ) (lines : List (List ℕ)) (line : List ℕ) (rest : List (List ℕ)) (text : List ℕ) (held : HeldFiles) (source : SourceAnswers)
+module _ (h : Contents) (s : SourceAnswers) (bytes : List ℕ) (lines : List (List ℕ)) (line : List ℕ) (rest : List (List ℕ)) (text : List ℕ) (held : Contents) (source : SourceAnswers)
     (cut : lines_of bytes ≡ lines ++ line ∷ rest) (owed : IsAnswered h s lines text held source) (before now : Option (List ℕ)) (said : Appends before now text)
-    (new : HeldFiles) (left : Option SourceAnswers) (coming later : Option (List ℕ)) where
+    (new : Contents) (left : Option SourceAnswers) (coming later : Option (List ℕ)) where
   pub line_ends : GivesOwed held source (command_of line) (Ok next.Nothing) new left now later
       → EndsAs h s bytes ended.End (record { held = new; source = left; coming = coming; before = before; now = later })
   line_ends (r, replies, gives) =

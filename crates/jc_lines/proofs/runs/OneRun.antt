@@ -3,7 +3,7 @@ use Rattle.std.proofs.Common.{◌≡◌, ◌∙◌, ℕ, List, [], ◌∷◌, Op
 use Rattle.jc_classes.specs.Facts.{Facts}
 use Rattle.jc_classes.specs.Names.{Name}
 use Rattle.jc_classes.proofs.worlds.Parts.{part_one}
-use Rattle.jc_edits.specs.SessionState.{HeldFiles}
+use Rattle.jc_edits.specs.SessionState.{Contents}
 use Rattle.jc_report.specs.PartText.{part_text}
 use Rattle.jc_report.specs.ReportText.{report_text}
 use Rattle.jc_report.specs.Reports.{facts_at, world_of}
@@ -16,16 +16,16 @@ use Rattle.jc_lines.specs.Answers.RunsTo.{at_eof, says, lists, ends, lacks}
 
 -- ---- one reply
 
-report_texts : (h : HeldFiles) (one other : List ℕ) → SaysReport h one → SaysReport h other → one ≡ other
+report_texts : (h : Contents) (one other : List ℕ) → SaysReport h one → SaysReport h other → one ≡ other
 report_texts h one other (q, is_q, says_q) (r, is_r, says_r) = says_q ∙ ap report_text (report_one h.files h.prefixes q r is_q is_r) ∙ sym says_r
 
-part_texts : (h : HeldFiles) (name : Name) (facts : Option Facts) (one other : List ℕ)
-    → SaysPartBy h.prefixes h.files name facts one → SaysPartBy h.prefixes h.files name facts other → one ≡ other
+part_texts : (h : Contents) (name : Name) (facts : Option Facts) (one other : List ℕ)
+    → SaysPartBy h.files h.prefixes name facts one → SaysPartBy h.files h.prefixes name facts other → one ≡ other
 part_texts h name None one other says_one says_other = says_one ∙ sym says_other
 part_texts h name (Some facts) one other (p, is_p, says_p) (q, is_q, says_q) =
     says_p ∙ ap (part_text facts) (part_one (world_of h.files h.prefixes) name p q is_p is_q) ∙ sym says_q
 
-pub one_reply : (h : HeldFiles) (s : SourceAnswers) (command : Command) (q r : Reply) → Replies h s command q → Replies h s command r → q ≡ r
+pub one_reply : (h : Contents) (s : SourceAnswers) (command : Command) (q r : Reply) → Replies h s command q → Replies h s command r → q ≡ r
 one_reply h s (Add path) q r a b = a ∙ sym b
 one_reply h s (Replace path) q r a b = a ∙ sym b
 one_reply h s (Remove path) q r a b = a ∙ sym b
@@ -40,13 +40,13 @@ one_reply h s Bad q r a b = a ∙ sym b
 -- ---- one run
 
 -- a run from a reply on
-abbrev GoesOn : HeldFiles → SourceAnswers → List (List ℕ) → Reply → Run → Type 0
+abbrev GoesOn : Contents → SourceAnswers → List (List ℕ) → Reply → Run → Type 0
 GoesOn h s lines (Says text g t) run = (rest : Run) × RunsTo g t lines rest × (run ≡ after_text text rest)
 GoesOn h s lines (Lists text) run = (rest : Run) × RunsTo h s lines rest × (run ≡ after_text text rest)
 GoesOn h s lines Ends run = run ≡ record { text = []; held = h; source = s; ending = AtEnd }
 GoesOn h s lines (Lacks t) run = run ≡ record { text = []; held = h; source = t; ending = WithoutMemory }
 
-first_line : {h : HeldFiles} {s : SourceAnswers} {line : List ℕ} {lines : List (List ℕ)} {run : Run}
+first_line : {h : Contents} {s : SourceAnswers} {line : List ℕ} {lines : List (List ℕ)} {run : Run}
     → RunsTo h s (line ∷ lines) run → (r : Reply) × Replies h s (command_of line) r × GoesOn h s lines r run
 first_line (says h g s t line lines text run owed rest) = (Says text g t, owed, (run, rest, refl))
 first_line (lists h s line lines text run owed rest) = (Lists text, owed, (run, rest, refl))
@@ -54,13 +54,13 @@ first_line (ends h s line lines owed) = (Ends, owed, refl)
 first_line (lacks h s t line lines owed) = (Lacks t, owed, refl)
 
 -- the same from the reply that the line is owed
-goes_on : (h : HeldFiles) (s : SourceAnswers) (line : List ℕ) (lines : List (List ℕ)) (r : Reply) (run : Run)
+goes_on : (h : Contents) (s : SourceAnswers) (line : List ℕ) (lines : List (List ℕ)) (r : Reply) (run : Run)
     → Replies h s (command_of line) r → RunsTo h s (line ∷ lines) run → GoesOn h s lines r run
 goes_on h s line lines r run owed d =
     let first = first_line d in
     subst (λ x. GoesOn h s lines x run) (one_reply h s (command_of line) first.0 r first.1 owed) first.2
 
-pub one_run : {h : HeldFiles} {s : SourceAnswers} {lines : List (List ℕ)} {q r : Run} → RunsTo h s lines q → RunsTo h s lines r → q ≡ r
+pub one_run : {h : Contents} {s : SourceAnswers} {lines : List (List ℕ)} {q r : Run} → RunsTo h s lines q → RunsTo h s lines r → q ≡ r
 one_run (at_eof h s) (at_eof g t) = refl
 one_run {r = r} (says h g s t line lines text run owed rest) d =
     let more = goes_on h s line lines (Says text g t) r owed d in

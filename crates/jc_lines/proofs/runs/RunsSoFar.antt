@@ -9,7 +9,7 @@ use Rattle.jc_input.specs.declared.run_error.Ended.{Ended}
 use Rattle.jc_input.specs.declared.run_error.Ended.TheVariants as ended
 use Rattle.jc_input.specs.declared.run_error.RunError.{RunError}
 use Rattle.jc_input.specs.declared.run_error.RunError.TheVariants as errors
-use Rattle.jc_edits.specs.SessionState.{HeldFiles}
+use Rattle.jc_edits.specs.SessionState.{Contents}
 use Rattle.jc_input.specs.Lines.{command_of, lines_of, whole_lines}
 use Rattle.jc_input.specs.Sources.{SourceAnswers}
 use Rattle.jc_lines.specs.Answers.{Run, RunsTo}
@@ -21,7 +21,7 @@ use Rattle.jc_input.proofs.cutting.LinesCut.{lines_of-feed, whole_lines-feed, li
 use Rattle.jc_lines.proofs.runs.RunsOverLines.{IsAnswered, run_so_far, answered_more, by_end}
 use Rattle.jc_lines.proofs.runs.LineAnswered.{gave_line, line_ends, line_breaks, line_lacks, line_last}
 
-pub record IsSoFar (h : HeldFiles) (s : SourceAnswers) (bytes : List ℕ) (held : List ℕ) (coming : Option (List ℕ)) (answers : Option SourceAnswers) (state : HeldFiles) (before now : Option (List ℕ)) : Type 0 where
+pub record IsSoFar (h : Contents) (s : SourceAnswers) (bytes : List ℕ) (held : List ℕ) (coming : Option (List ℕ)) (answers : Option SourceAnswers) (state : Contents) (before now : Option (List ℕ)) : Type 0 where
   pub lines : List (List ℕ)
   pub front : List ℕ
   pub left : List ℕ
@@ -35,7 +35,7 @@ pub record IsSoFar (h : HeldFiles) (s : SourceAnswers) (bytes : List ℕ) (held 
   pub said : Appends before now text
   pub owed : IsAnswered h s lines text state source
 
-pub so_far_begins : (h : HeldFiles) (s : SourceAnswers) (bytes : List ℕ) (coming : Option (List ℕ)) (answers : Option SourceAnswers) (before : Option (List ℕ))
+pub so_far_begins : (h : Contents) (s : SourceAnswers) (bytes : List ℕ) (coming : Option (List ℕ)) (answers : Option SourceAnswers) (before : Option (List ℕ))
     → coming ≡ Some bytes → answers ≡ Some s → IsSoFar h s bytes [] coming answers h before before
 so_far_begins h s bytes coming answers before all known = record {
   lines = [];
@@ -75,7 +75,7 @@ taken old kept (Some new) (line, lacks, split, is) = record {
 joined : (front line rest : List ℕ) → (front ++ (line ++ 10 ∷ [])) ++ rest ≡ front ++ (line ++ 10 ∷ rest)
 joined front line rest = append_assoc front (line ++ 10 ∷ []) rest ∙ ap (λ l. front ++ l) (append_assoc line (10 ∷ []) rest)
 
-module _ (h : HeldFiles) (s : SourceAnswers) (bytes : List ℕ) (held : List ℕ) (coming : Option (List ℕ)) (answers : Option SourceAnswers) (state : HeldFiles) (before now : Option (List ℕ))
+module _ (h : Contents) (s : SourceAnswers) (bytes : List ℕ) (held : List ℕ) (coming : Option (List ℕ)) (answers : Option SourceAnswers) (state : Contents) (before now : Option (List ℕ))
     (so_far : IsSoFar h s bytes held coming answers state before now) where
   take_next : (kept : List ℕ) (new : Option (List ℕ)) → TakesLine (bytes_left held coming) true kept new → IsTaken so_far.left kept new
   take_next kept new takes = taken so_far.left kept new (subst (λ o. TakesLine o true kept new) so_far.known_left takes)
@@ -84,14 +84,14 @@ module _ (h : HeldFiles) (s : SourceAnswers) (bytes : List ℕ) (held : List ℕ
   next_cut kept new t =
       ap lines_of so_far.split ∙ so_far.cut so_far.left ∙ ap (λ l. so_far.lines ++ l) (ap lines_of t.split ∙ lines_of-feed t.line t.rest t.lacks)
 
-  next_gives : (kept : List ℕ) (rest : Option (List ℕ)) (t : IsTaken so_far.left kept rest) (result : Result Next RunError) (new : HeldFiles) (left : Option SourceAnswers) (later : Option (List ℕ))
+  next_gives : (kept : List ℕ) (rest : Option (List ℕ)) (t : IsTaken so_far.left kept rest) (result : Result Next RunError) (new : Contents) (left : Option SourceAnswers) (later : Option (List ℕ))
       → ((u : SourceAnswers) → answers ≡ Some u → GivesOwed state u (command_of kept) result new left now later)
       → GivesOwed state so_far.source (command_of t.line) result new left now later
   next_gives kept rest t result new left later gives =
       subst (λ c. GivesOwed state so_far.source c result new left now later) t.same (gives so_far.source so_far.known)
 
   -- one more line was answered
-  pub so_far_goes_on : (kept rest_held : List ℕ) (rest_coming : Option (List ℕ)) (new : HeldFiles) (left : Option SourceAnswers) (later : Option (List ℕ))
+  pub so_far_goes_on : (kept rest_held : List ℕ) (rest_coming : Option (List ℕ)) (new : Contents) (left : Option SourceAnswers) (later : Option (List ℕ))
       → TakesLine (bytes_left held coming) true kept (bytes_left rest_held rest_coming)
       → ((u : SourceAnswers) → answers ≡ Some u → GivesOwed state u (command_of kept) (Ok next.Line) new left now later)
       → IsSoFar h s bytes rest_held rest_coming left new before later
@@ -119,7 +119,7 @@ module _ (h : HeldFiles) (s : SourceAnswers) (bytes : List ℕ) (held : List ℕ
       }
 
   -- the line `end` was read
-  pub so_far_ends : (kept : List ℕ) (rest : Option (List ℕ)) (new : HeldFiles) (left : Option SourceAnswers) (later last : Option (List ℕ))
+  pub so_far_ends : (kept : List ℕ) (rest : Option (List ℕ)) (new : Contents) (left : Option SourceAnswers) (later last : Option (List ℕ))
       → TakesLine (bytes_left held coming) true kept rest
       → ((u : SourceAnswers) → answers ≡ Some u → GivesOwed state u (command_of kept) (Ok next.Nothing) new left now later)
       → EndsAs h s bytes ended.End (record { held = new; source = left; coming = last; before = before; now = later })
@@ -129,7 +129,7 @@ module _ (h : HeldFiles) (s : SourceAnswers) (bytes : List ℕ) (held : List ℕ
       (next_gives kept rest t (Ok next.Nothing) new left later gives)
 
   -- the output failed, or memory was refused, in the answer to a line
-  pub so_far_stops : (kept : List ℕ) (rest : Option (List ℕ)) (e : RunError) (new : HeldFiles) (left : Option SourceAnswers) (later last : Option (List ℕ)) → e ≢ errors.Read
+  pub so_far_stops : (kept : List ℕ) (rest : Option (List ℕ)) (e : RunError) (new : Contents) (left : Option SourceAnswers) (later last : Option (List ℕ)) → e ≢ errors.Read
       → TakesLine (bytes_left held coming) true kept rest
       → ((u : SourceAnswers) → answers ≡ Some u → GivesOwed state u (command_of kept) (Err e) new left now later)
       → ((u : SourceAnswers) → answers ≡ Some u → e ≡ errors.NoMemory → LineMayLack state u (command_of kept))
@@ -166,7 +166,7 @@ module _ (h : HeldFiles) (s : SourceAnswers) (bytes : List ℕ) (held : List ℕ
           )
 
   -- nothing stands behind the last LF
-  pub so_far_eof : (new : HeldFiles) (left : Option SourceAnswers) (later last : Option (List ℕ)) → so_far.left ≡ [] → new ≡ state → left ≡ Some so_far.source → Keeps now later
+  pub so_far_eof : (new : Contents) (left : Option SourceAnswers) (later last : Option (List ℕ)) → so_far.left ≡ [] → new ≡ state → left ≡ Some so_far.source → Keeps now later
       → EndsAs h s bytes ended.Eof (record { held = new; source = left; coming = last; before = before; now = later })
   so_far_eof new left later last none same known keeps =
       let lines : lines_of bytes ≡ so_far.lines =
@@ -181,7 +181,7 @@ module _ (h : HeldFiles) (s : SourceAnswers) (bytes : List ℕ) (held : List ℕ
       }
 
   -- or a line that no LF ends
-  so_far_rest : (x : ℕ) (line : List ℕ) (result : Result Ended RunError) (new : HeldFiles) (left : Option SourceAnswers) (later last : Option (List ℕ)) → IfErr result (λ e. e ≢ errors.Read)
+  so_far_rest : (x : ℕ) (line : List ℕ) (result : Result Ended RunError) (new : Contents) (left : Option SourceAnswers) (later last : Option (List ℕ)) → IfErr result (λ e. e ≢ errors.Read)
       → so_far.left ≡ x ∷ line → LacksFeed (x ∷ line)
       → GivesOwed state so_far.source (command_of (x ∷ line)) (next_of result) new left now later
       → (result ≡ Err errors.NoMemory → LineMayLack state so_far.source (command_of (x ∷ line)))
@@ -190,7 +190,7 @@ module _ (h : HeldFiles) (s : SourceAnswers) (bytes : List ℕ) (held : List ℕ
       let cut = ap lines_of so_far.split ∙ so_far.cut so_far.left ∙ ap (λ l. so_far.lines ++ l) (ap lines_of is ∙ lines_of-last x line feed) in
       line_last h s bytes so_far.lines (x ∷ line) [] so_far.text state so_far.source cut so_far.owed before now so_far.said new left last later result other refl gives lacks
 
-  so_far_left : (rest_left kept : List ℕ) (result : Result Ended RunError) (new : HeldFiles) (left : Option SourceAnswers) (later last : Option (List ℕ)) → IfErr result (λ e. e ≢ errors.Read)
+  so_far_left : (rest_left kept : List ℕ) (result : Result Ended RunError) (new : Contents) (left : Option SourceAnswers) (later last : Option (List ℕ)) → IfErr result (λ e. e ≢ errors.Read)
       → so_far.left ≡ rest_left → LacksFeed rest_left → kept ≡ kept_of rest_left
       → GivesLast state so_far.source kept result new left now later
       → (result ≡ Err errors.NoMemory → LineMayLack state so_far.source (command_of kept))
@@ -209,7 +209,7 @@ module _ (h : HeldFiles) (s : SourceAnswers) (bytes : List ℕ) (held : List ℕ
       (λ e. subst (λ c. LineMayLack state so_far.source c) (ap command_of same ∙ command_of-kept (x ∷ line)) (lacks e))
 
   -- what stands behind the last LF was answered, if it is a line
-  pub so_far_last : (kept : List ℕ) (rest : Option (List ℕ)) (result : Result Ended RunError) (new : HeldFiles) (left : Option SourceAnswers) (later last : Option (List ℕ)) → IfErr result (λ e. e ≢ errors.Read)
+  pub so_far_last : (kept : List ℕ) (rest : Option (List ℕ)) (result : Result Ended RunError) (new : Contents) (left : Option SourceAnswers) (later last : Option (List ℕ)) → IfErr result (λ e. e ≢ errors.Read)
       → TakesLine (bytes_left held coming) false kept rest
       → ((u : SourceAnswers) → answers ≡ Some u → GivesLast state u kept result new left now later)
       → ((u : SourceAnswers) → answers ≡ Some u → result ≡ Err errors.NoMemory → LineMayLack state u (command_of kept))

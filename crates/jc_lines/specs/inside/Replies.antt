@@ -11,7 +11,7 @@ use Rattle.jc_input.specs.declared.run_error.RunError.{RunError}
 use Rattle.jc_input.specs.declared.run_error.RunError.TheVariants as run_errors
 use Rattle.jc_input.specs.declared.run_error.Ended.{Ended}
 use Rattle.jc_input.specs.declared.run_error.Ended.TheVariants as ended
-use Rattle.jc_edits.specs.SessionState.{HeldFiles, SessionState, held_of}
+use Rattle.jc_edits.specs.SessionState.{Contents, SessionState, contents_of}
 use Rattle.jc_input.specs.Changes.{Change, Adds, Replaces, EditChange}
 use Rattle.jc_input.specs.declared.edit.Done.{Done}
 use Rattle.jc_input.specs.declared.edit.EditError.{EditError}
@@ -29,7 +29,7 @@ placed placings.New path bytes = Adds path bytes
 placed placings.Other path bytes = Replaces path bytes
 
 -- the edit was made, from files and prefixes to others, or refused
-abbrev pub IsEdited : HeldFiles → HeldFiles → EditChange → Result Done EditError → Type 0
+abbrev pub IsEdited : Contents → Contents → EditChange → Result Done EditError → Type 0
 IsEdited h g change (Ok done) = (judge_edit h change ≡ None) × (g ≡ after_edit h change)
 IsEdited h g change (Err e) = IsJudged e (judge_edit h change) × (g ≡ h)
 
@@ -40,8 +40,8 @@ said_by (Err fault) = Err run_errors.Write
 
 -- the reply was given to files and prefixes h and answers to come s: they are new now, the source's answers to come are
 -- source, and what was written grew from before to after
-abbrev pub Gives : HeldFiles → SourceAnswers → Reply → Result Next RunError
-    → (new : HeldFiles) (source : Option SourceAnswers) (before after : Option (List ℕ)) → Type 0
+abbrev pub Gives : Contents → SourceAnswers → Reply → Result Next RunError
+    → (new : Contents) (source : Option SourceAnswers) (before after : Option (List ℕ)) → Type 0
 Gives h s (Says text held t) (Ok next.Line) new source before after = (new ≡ held) × (source ≡ Some t) × Appends before after text
 Gives h s (Says text held t) (Ok next.Nothing) new source before after = ⊥
 Gives h s (Says text held t) (Err run_errors.Read) new source before after = ⊥
@@ -69,13 +69,13 @@ next_of (Ok ended.End) = Ok next.Nothing
 next_of (Err e) = Err e
 
 -- a reply that is owed was given
-abbrev pub GivesOwed : HeldFiles → SourceAnswers → Command → Result Next RunError
-    → (new : HeldFiles) (source : Option SourceAnswers) (before after : Option (List ℕ)) → Type 0
+abbrev pub GivesOwed : Contents → SourceAnswers → Command → Result Next RunError
+    → (new : Contents) (source : Option SourceAnswers) (before after : Option (List ℕ)) → Type 0
 GivesOwed h s command result new source before after = (r : Reply) × Replies h s command r × Gives h s r result new source before after
 
 -- the same for what stands behind the last LF
-abbrev pub GivesLast : HeldFiles → SourceAnswers → List ℕ → Result Ended RunError
-    → (new : HeldFiles) (source : Option SourceAnswers) (before after : Option (List ℕ)) → Type 0
+abbrev pub GivesLast : Contents → SourceAnswers → List ℕ → Result Ended RunError
+    → (new : Contents) (source : Option SourceAnswers) (before after : Option (List ℕ)) → Type 0
 GivesLast h s [] result new source before after = (result ≡ Ok ended.Eof) × (new ≡ h) × (source ≡ Some s) × Keeps before after
 GivesLast h s (x ∷ line) result new source before after = GivesOwed h s (command_of (x ∷ line)) (next_of result) new source before after
 
@@ -85,31 +85,31 @@ LacksOnlyIf source may_lack_by result = (s : SourceAnswers) → source ≡ Some 
 
 -- ---- of a line that places bytes of the source
 
-abbrev pub placing_reply : HeldFiles → Placing → (path : List ℕ) → SourceAnswers → Reply
+abbrev pub placing_reply : Contents → Placing → (path : List ℕ) → SourceAnswers → Reply
 placing_reply h placing path s = sourced_reply h s path (placed placing path)
 
-abbrev pub PlacingMayLack : HeldFiles → Placing → (path : List ℕ) → SourceAnswers → Type 0
+abbrev pub PlacingMayLack : Contents → Placing → (path : List ℕ) → SourceAnswers → Type 0
 PlacingMayLack h placing path s = MayLack h (placed placing path) (next_answer s path)
 
 -- ---- whatever the source is: by the answers that it gave, and with any later ones
 
-abbrev pub GivesByAnswers : HeldFiles → Command → Result Next RunError
-    → (new : HeldFiles) (before after : Option (List ℕ)) → Type 0
+abbrev pub GivesByAnswers : Contents → Command → Result Next RunError
+    → (new : Contents) (before after : Option (List ℕ)) → Type 0
 GivesByAnswers h command result new before after =
     (given : SourceAnswers) × ((later : SourceAnswers) →
     GivesOwed h (given ++ later) command result new (Some later) before after
     × (result ≡ Err run_errors.NoMemory → LineMayLack h (given ++ later) command))
 
-abbrev pub GivesLastByAnswers : HeldFiles → List ℕ → Result Ended RunError
-    → (new : HeldFiles) (before after : Option (List ℕ)) → Type 0
+abbrev pub GivesLastByAnswers : Contents → List ℕ → Result Ended RunError
+    → (new : Contents) (before after : Option (List ℕ)) → Type 0
 GivesLastByAnswers h line result new before after =
     (given : SourceAnswers) × ((later : SourceAnswers) →
     GivesLast h (given ++ later) line result new (Some later) before after
     × (result ≡ Err run_errors.NoMemory → LineMayLack h (given ++ later) (command_of line)))
 
 -- the same of a line that is owed one reply
-abbrev pub GivesByReply : HeldFiles → (SourceAnswers → Reply) → (SourceAnswers → Type 0) → Result Next RunError
-    → (new : HeldFiles) (before after : Option (List ℕ)) → Type 0
+abbrev pub GivesByReply : Contents → (SourceAnswers → Reply) → (SourceAnswers → Type 0) → Result Next RunError
+    → (new : Contents) (before after : Option (List ℕ)) → Type 0
 GivesByReply h reply_by may_lack_by result new before after =
     (given : SourceAnswers) × ((later : SourceAnswers) →
     Gives h (given ++ later) (reply_by (given ++ later)) result new (Some later) before after
@@ -122,21 +122,21 @@ abbrev pub AnswersLine : {S W : Type 0} → (S → Option SourceAnswers) → (W 
     → (old new : SessionState) (source source_now : S) (out out_now : W) → Type 0
 AnswersLine answers written command result old new source source_now out out_now =
     (s : SourceAnswers) → answers source ≡ Some s
-    → GivesOwed (held_of old) s command result (held_of new) (answers source_now) (written out) (written out_now)
+    → GivesOwed (contents_of old) s command result (contents_of new) (answers source_now) (written out) (written out_now)
 
 -- and for what stands behind the last LF
 abbrev pub AnswersLast : {S W : Type 0} → (S → Option SourceAnswers) → (W → Option (List ℕ)) → List ℕ → Result Ended RunError
     → (old new : SessionState) (source source_now : S) (out out_now : W) → Type 0
 AnswersLast answers written line result old new source source_now out out_now =
     (s : SourceAnswers) → answers source ≡ Some s
-    → GivesLast (held_of old) s line result (held_of new) (answers source_now) (written out) (written out_now)
+    → GivesLast (contents_of old) s line result (contents_of new) (answers source_now) (written out) (written out_now)
 
 -- and for a line that places bytes of the source
 abbrev pub AnswersPlacing : {S W : Type 0} → (S → Option SourceAnswers) → (W → Option (List ℕ)) → Placing → List ℕ → Result Next RunError
     → (old new : SessionState) (source source_now : S) (out out_now : W) → Type 0
 AnswersPlacing answers written placing path result old new source source_now out out_now =
     (s : SourceAnswers) → answers source ≡ Some s
-    → Gives (held_of old) s (placing_reply (held_of old) placing path s) result (held_of new) (answers source_now)
+    → Gives (contents_of old) s (placing_reply (contents_of old) placing path s) result (contents_of new) (answers source_now)
     (written out) (written out_now)
 
 -- the same whatever the source is
@@ -144,26 +144,26 @@ AnswersPlacing answers written placing path result old new source source_now out
 abbrev pub AnswersLineByAnswers : {W : Type 0} → (W → Option (List ℕ)) → Command → Result Next RunError
     → (old new : SessionState) (out out_now : W) → Type 0
 AnswersLineByAnswers written command result old new out out_now =
-    GivesByAnswers (held_of old) command result (held_of new) (written out) (written out_now)
+    GivesByAnswers (contents_of old) command result (contents_of new) (written out) (written out_now)
 
 abbrev pub AnswersLastByAnswers : {W : Type 0} → (W → Option (List ℕ)) → List ℕ → Result Ended RunError
     → (old new : SessionState) (out out_now : W) → Type 0
 AnswersLastByAnswers written line result old new out out_now =
-    GivesLastByAnswers (held_of old) line result (held_of new) (written out) (written out_now)
+    GivesLastByAnswers (contents_of old) line result (contents_of new) (written out) (written out_now)
 
 abbrev pub AnswersPlacingByAnswers : {W : Type 0} → (W → Option (List ℕ)) → Placing → List ℕ → Result Next RunError
     → (old new : SessionState) (out out_now : W) → Type 0
 AnswersPlacingByAnswers written placing path result old new out out_now =
-    GivesByReply (held_of old) (placing_reply (held_of old) placing path) (PlacingMayLack (held_of old) placing path)
-    result (held_of new) (written out) (written out_now)
+    GivesByReply (contents_of old) (placing_reply (contents_of old) placing path) (PlacingMayLack (contents_of old) placing path)
+    result (contents_of new) (written out) (written out_now)
 
 -- it was said that an edit was made, whatever the files and prefixes were before and behind it, or why it is refused
 abbrev pub SaysEdit : Result Done EditError → Result Next RunError → (before after : Option (List ℕ)) → Type 0
 SaysEdit edited result before after =
-    (h g : HeldFiles) (change : EditChange) → IsEdited h g change edited → (s t : SourceAnswers)
+    (h g : Contents) (change : EditChange) → IsEdited h g change edited → (s t : SourceAnswers)
     → Gives h s (edit_reply h t change) result g (Some t) before after
 
 -- the file that a class is taken from was listed
 abbrev pub SaysListing : SessionState → List ℕ → Result Next RunError → (before after : Option (List ℕ)) → Type 0
 SaysListing session name result before after =
-    (s : SourceAnswers) → Gives (held_of session) s (Lists (listed_text session.files name)) result (held_of session) (Some s) before after
+    (s : SourceAnswers) → Gives (contents_of session) s (Lists (listed_text session.files name)) result (contents_of session) (Some s) before after

@@ -1,6 +1,6 @@
--- The classes of a table have numbers.
+-- Names and the classes of a table have numbers.
 use Rattle.std.proofs.Common.{◌≡◌, ◌∙◌, ◌<◌, ◌⊎◌, ⊎_elim, inl, inr, ℕ, zero, suc, ◌++◌, List, [], ◌∷◌, length, take, arith, refl, ap, sym, subst}
-use Rattle.std.proofs.lemmas.List.{get_or_default}
+use Rattle.std.proofs.lemmas.List.{append_assoc, append-nil, get_or_default, map-append}
 use Rattle.std.specs.List.{Contains}
 use Rattle.jc_classes.specs.Facts.{Facts}
 use Rattle.jc_classes.specs.Names.{Name}
@@ -8,7 +8,8 @@ use Rattle.jc_classes.specs.Numbers.{Grows, IsOnce, name_at}
 use Rattle.jc_classes.proofs.numbering.NumberLemmas.{grows_more, grows_same}
 use Rattle.jc_link.specs.inside.NetAsked.{AddsNames}
 use Rattle.std.proofs.lemmas.List.Elements.{Contains-append_cases}
-use Rattle.jc_link.specs.inside.NetShown.{AreKept, AreNumbered}
+use Rattle.jc_link.specs.Nets.{names_of_classes}
+use Rattle.jc_link.specs.inside.NetShown.{AreKept}
 
 pub contained_at : (names : List Name) (n : Name) (i : ℕ) → i < length names → name_at names i ≡ n → Contains names n
 contained_at names n i l e = (i, l, get_or_default names i n [] l ∙ e)
@@ -56,37 +57,6 @@ kept_name a b n k c =
     let l = k.longer in
     contained_at b n c.0 (omega (arith, c.1, l)) (k.same c.0 c.1 ∙ get_or_default a c.0 [] n c.1 ∙ c.2)
 
--- ---- one class after another
-
-head_or_rest : (x : Facts) (rest : List Facts) (f : Facts) → Contains (x ∷ rest) f → (x ≡ f) ⊎ Contains rest f
-head_or_rest x rest f (zero, l, e) = inl e
-head_or_rest x rest f (suc i, l, e) = inr (i, omega (arith, l), e)
-
--- each is left or numbered
-abbrev pub AreLeftOrNumbered : List Facts → List Facts → List Name → Type 0
-AreLeftOrNumbered classes left names = (f : Facts) → Contains classes f → Contains left f ⊎ Contains names f.name
-
-pub one_numbered : (classes left rest : List Facts) (x : Facts) (a b : List Name) (i : ℕ)
-    → AreLeftOrNumbered classes left a → left ≡ x ∷ rest → Grows a b (x.name ∷ []) → (i < length b) × (name_at b i ≡ x.name)
-    → AreLeftOrNumbered classes rest b
-one_numbered classes left rest x a b i so_far is grows at = λ f h.
-    let kept = kept_by_growth a a b (x.name ∷ []) (kept_all a) grows in
-    ⊎_elim
-    (λ (there : Contains left f).
-    ⊎_elim
-    (λ (e : x ≡ f). inr (subst (λ (g : Facts). Contains b g.name) e (contained_at b x.name i at.0 at.1)))
-    (λ (later : Contains rest f). inl later)
-    (head_or_rest x rest f (subst (λ (l : List Facts). Contains l f) is there)))
-    (λ (done : Contains a f.name). inr (kept_name a b f.name kept done))
-    (so_far f h)
-
-pub all_numbered : (classes left : List Facts) (names : List Name) → AreLeftOrNumbered classes left names → left ≡ [] → AreNumbered names classes
-all_numbered classes left names so_far none = λ f h.
-    ⊎_elim
-    (λ (there : Contains left f). absurd (omega (arith, (subst (λ (l : List Facts). Contains l f) none there).1)))
-    (λ (done : Contains names f.name). done)
-    (so_far f h)
-
 -- ---- one name after another
 
 pub adds_no_names : (ns : List Name) → IsOnce ns → AddsNames ns ns []
@@ -120,3 +90,28 @@ adds_to_none a c zs none g d = (
   λ k. subst (Contains zs) (get_or_default c k.0 [] d k.1 ∙ k.2) (g.grows.only k.0 (omega (arith, ap length none)) k.1),
   λ k. g.all d k,
 )
+
+-- ---- one class after another
+
+-- the classes before those that are left have numbers
+pub record AreNumberedBut (classes left : List Facts) (old names : List Name) : Type 0 where
+  pub done : List Facts
+  pub split : classes ≡ done ++ left
+  pub adds : AddsNames old names (names_of_classes done)
+
+pub none_numbered : (classes left : List Facts) (names : List Name) → IsOnce names → left ≡ classes → AreNumberedBut classes left names names
+none_numbered classes left names once whole = record { done = []; split = sym whole; adds = adds_no_names names once }
+
+pub one_numbered : (classes left rest : List Facts) (x : Facts) (old a b : List Name) (i : ℕ)
+    → AreNumberedBut classes left old a → left ≡ x ∷ rest → Grows a b (x.name ∷ []) → (i < length b) × (name_at b i ≡ x.name)
+    → AreNumberedBut classes rest old b
+one_numbered classes left rest x old a b i so_far is grows at = record {
+  done = so_far.done ++ x ∷ [];
+  split = so_far.split ∙ ap (λ l. so_far.done ++ l) is ∙ sym (append_assoc so_far.done (x ∷ []) rest);
+  adds = subst (AddsNames old b) (sym (map-append (λ (f : Facts). f.name) so_far.done (x ∷ [])))
+      (adds_a_name old a b (names_of_classes so_far.done) x.name i so_far.adds grows at);
+}
+
+pub all_numbered : (classes left : List Facts) (old names : List Name) → AreNumberedBut classes left old names → left ≡ [] → AddsNames old names (names_of_classes classes)
+all_numbered classes left old names so_far none =
+    subst (AddsNames old names) (ap names_of_classes (sym (so_far.split ∙ ap (λ l. so_far.done ++ l) none ∙ append-nil so_far.done))) so_far.adds

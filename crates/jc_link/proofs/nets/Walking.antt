@@ -1,5 +1,5 @@
 -- What a class reaches, by the numbers of a net.
-use Rattle.std.proofs.Common.{◌≡◌, ◌∙◌, ◌<◌, ◌⊎◌, ⊎_elim, inl, inr, ℕ, zero, suc, Bool, true, List, [], ◌∷◌, ◌++◌, Option, Some, None, map, option_map, get_or, length, arith, refl, ap, sym, subst}
+use Rattle.std.proofs.Common.{◌≡◌, ◌∙◌, ◌<◌, ◌⊎◌, ⊎_elim, inl, inr, ℕ, zero, suc, Bool, true, List, [], ◌∷◌, ◌++◌, Option, Some, None, map, option_map, get_or, length, take, arith, refl, ap, sym, subst}
 use Rattle.std.proofs.lemmas.List.{get_or-map, get_or_default}
 use Rattle.std.proofs.lemmas.List.Elements.{Contains-append_right}
 use Rattle.std.specs.List.{All, Contains, flat_map}
@@ -16,7 +16,9 @@ use Rattle.jc_classes.specs.Parts.{Reach, class_in, class_of, names_in}
 use Rattle.jc_classes.specs.Worlds.{Stands, World, references_of, supertypes_of}
 use Rattle.jc_classes.specs.Worlds.Stands.{Nothing}
 use Rattle.jc_link.specs.inside.Gathering.{IsNet, stand_at, supertypes_at}
-use Rattle.jc_link.specs.inside.NetShown.{AreNumbersOf, AreStarts}
+use Rattle.jc_link.specs.inside.NetShown.{AreNumbersOf, AreReferred, AreStarts, nodes_at}
+use Rattle.jc_resolve.specs.Numbered.{NumberReferences}
+use Rattle.jc_link.proofs.nets.ClassesNumbered.{contained_at, take_at}
 use Rattle.jc_link.proofs.reaches.Gathered.{map_out, named_in}
 
 contained : {X : Type 0} (xs : List X) (x : X) → Contains (x ∷ xs) x
@@ -173,3 +175,19 @@ module _ (m : World) (d : Name) (ns : List Name) (st : List Stands) (rs : List (
               let q = reach_walked r in
               (q.0, seen.all.listed q.0 (⊎_elim (λ (k : Contains starts q.0). more.added q.0 k) (λ (k : AboveSome next starts q.0). more.kept q.0 ((above.tells q.0).1 k)) q.1), q.2);
         }
+
+-- ---- each name that a class reaches has a number
+
+pub reach_numbered : (m : World) (ns : List Name) (st : List Stands) (rs : List (List ℕ)) (at_object : ℕ) (references : List (List (Option ℕ)))
+    → IsNet ns st rs at_object → AreReferred ns st references → st ≡ map m ns
+    → (d x : Name) → Contains (take (length references) ns) d → Reach m d x → Contains ns x
+reach_numbered m ns st rs at_object references net referred all d x first r =
+    let class = take_at (length references) ns d first in
+    let nodes = nodes_at references class.0 in
+    let here : stand_at st class.0 ≡ m d = ap (λ z. stand_at z class.0) all ∙ get_or-map m ns class.0 [] Nothing class.2 ∙ ap m class.3 in
+    let named = subst (λ (s : Stands). NumberReferences ns nodes (references_of s)) here (referred.named class.0 class.1) in
+    let starts = class.0 ∷ at_object ∷ flat_map option_to_list nodes in
+    let from = are_starts m d ns class.0 at_object nodes class.3 net.object.1 named in
+    let within = starts_within (length ns) class.0 at_object nodes class.2 net.object.0 (λ v h. referred.within class.0 v class.1 h) in
+    let walked = reach_walked m d ns st rs at_object net all starts within from r in
+    contained_at ns x walked.0 (walked_within m d ns st rs at_object net all starts within from walked.0 walked.1) walked.2

@@ -7,7 +7,7 @@ use Rattle.jc_classes.specs.Parts.{Reach, names_in}
 use Rattle.jc_classes.specs.Parts.Reach.{itself, always, reference, upward}
 use Rattle.jc_classes.specs.Worlds.{references_of, supertypes_of}
 use Rattle.jc_link.specs.Prefixes.{is_covered}
-use Rattle.jc_link.specs.Tables.{Places, class_found, stands_by, world}
+use Rattle.jc_link.specs.Tables.{stands_by}
 
 -- what is outside has no supertypes and no references, and neither has what is nowhere
 supers_stay : (o : Option Facts) (a b : Bool) → supertypes_of (stands_by o a) ≡ supertypes_of (stands_by o b)
@@ -24,10 +24,11 @@ references_stay None true false = refl
 references_stay None false true = refl
 references_stay None false false = refl
 
-pub reach_stays : (places : Places) (old new : List Name) {d n : Name} → Reach (world places old) d n → Reach (world places new) d n
-reach_stays places old new itself = itself
-reach_stays places old new always = always
-reach_stays places old new {d = d} (reference {n = n} found) =
-    reference (subst (λ (rs : List Reference). Contains (names_in rs) n) (references_stay (class_found places d) (is_covered old d) (is_covered new d)) found)
-reach_stays places old new (upward {mid = mid} {n = n} reached found) =
-    upward (reach_stays places old new reached) (subst (λ (ns : List Name). Contains ns n) (supers_stay (class_found places mid) (is_covered old mid) (is_covered new mid)) found)
+pub reach_stays : (found : Name → Option Facts) (old new : List Name) {d n : Name}
+    → Reach (λ x. stands_by (found x) (is_covered old x)) d n → Reach (λ x. stands_by (found x) (is_covered new x)) d n
+reach_stays found old new itself = itself
+reach_stays found old new always = always
+reach_stays found old new {d = d} (reference {n = n} named) =
+    reference (subst (λ (rs : List Reference). Contains (names_in rs) n) (references_stay (found d) (is_covered old d) (is_covered new d)) named)
+reach_stays found old new (upward {mid = mid} {n = n} reached above) =
+    upward (reach_stays found old new reached) (subst (λ (ns : List Name). Contains ns n) (supers_stay (found mid) (is_covered old mid) (is_covered new mid)) above)

@@ -4,7 +4,6 @@ use Rattle.std.specs.List.{Contains}
 use Rattle.std.specs.declared.vec.Vec.{Vec}
 use Rattle.std.specs.declared.alloc.Global.{Global}
 use Rattle.jc_graph.specs.Seen.{SeenNodes}
-use Rattle.jc_classes.specs.Facts.{Facts}
 use Rattle.jc_classes.specs.Names.{Name, object as java_lang_object}
 use Rattle.jc_classes.specs.Numbers.{name_at}
 use Rattle.jc_classes.specs.Parts.{Reach, names_in}
@@ -36,10 +35,6 @@ pub record AreReferred (names : List Name) (stands : List Stands) (references : 
 pub record IsWhole (a : Inside) : Type 0 where
   pub net : IsNet a.numbers (stands_in a.standing.items) (supertypes_in a.supertypes.items) a.object
   pub referred : AreReferred a.numbers (stands_in a.standing.items) (nodes_in a.references.items)
-
--- the names of these classes have numbers
-abbrev pub AreNumbered : List Name → List Facts → Type 0
-AreNumbered names classes = (f : Facts) → Contains classes f → Contains names f.name
 
 -- a class reaches each of these names
 abbrev pub AllReached : World → (classes names : List Name) → Type 0

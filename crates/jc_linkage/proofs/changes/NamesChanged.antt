@@ -1,5 +1,5 @@
 -- An edit of one name or two, as an instance of any edit.
-use Rattle.std.proofs.Common.{◌≡◌, ℕ, ◌+◌, ◌≤◌, Bool, true, false, not, ◌&&◌, ◌||◌, cond, List, ◌++◌, length, Option, Some, None, IsSome, is_some, refl, sym, ap, ◌∙◌, subst, ⊎_elim}
+use Rattle.std.proofs.Common.{◌≡◌, Bool, true, false, not, ◌&&◌, ◌||◌, cond, List, ◌++◌, length, Option, Some, None, IsSome, is_some, refl, sym, ap, ◌∙◌, subst, ⊎_elim}
 use Rattle.std.proofs.lemmas.Bool.{cases_Bool, false≢true}
 use Rattle.std.proofs.lemmas.List.Folds.{list_any-append}
 use Rattle.std.specs.FinMap as map
@@ -8,18 +8,19 @@ use Rattle.jc_classes.specs.Laws.{Differ}
 use Rattle.jc_classes.specs.NameLists.{has}
 use Rattle.jc_classes.specs.Names.{Name, same_name}
 use Rattle.jc_classes.proofs.worlds.NameTests.{same_is, same_self}
+use Rattle.jc_link.specs.Meters.{counted}
 use Rattle.jc_link.specs.Tables.{Places, class_at, world}
 use Rattle.jc_link.proofs.tables.Changes.{worlds_differ}
 use Rattle.jc_link.specs.declared.meter.Meter.{Meter}
-use Rattle.jc_linkage.specs.Affected.{IsAffected, IsBounded, NoRepeat}
+use Rattle.jc_linkage.specs.Affected.{IsAffected, IsCounted, NoRepeat, counts_of}
 use Rattle.jc_linkage.specs.Steps.{step_name}
 use Rattle.jc_linkage.specs.declared.kept.Fresh.{Fresh}
 use Rattle.jc_linkage.specs.declared.links.Links.{Links}
 use Rattle.jc_linkage.specs.declared.step.Step.{Step}
 use Rattle.jc_linkage.specs.inside.Holding.{IsHeld, at_step, comer, given_in, name_of}
-use Rattle.jc_linkage.specs.inside.Kept.{AllFresh, AreLinked, KeptHits, KeptMap, fresh_at, fresh_names, held_in, reach_sum}
+use Rattle.jc_linkage.specs.inside.Kept.{AllFresh, AreLinked, KeptHits, KeptMap, fresh_at, fresh_names, held_in}
 use Rattle.jc_linkage.specs.inside.Kept.Relation.{Reaches}
-use Rattle.jc_linkage.specs.inside.Prepared.{IsPrepared, one_of}
+use Rattle.jc_linkage.specs.inside.Prepared.{HasAskedFor, IsPrepared, one_of}
 use Rattle.jc_linkage.specs.inside.Users.{is_name, users_at}
 use Rattle.jc_linkage.proofs.equations.Booleans.{or_right, or_left, or_split, and_no, and_not, not_and}
 use Rattle.jc_linkage.proofs.equations.Options.{some_by, not_some}
@@ -29,7 +30,7 @@ use Rattle.jc_linkage.proofs.held.KeptMaps.{kept_by}
 use Rattle.jc_linkage.proofs.held.UserNames.{once_joined}
 use Rattle.jc_linkage.proofs.steps.ClassesStepped.{comer_is}
 use Rattle.jc_linkage.proofs.changes.AnyChange.{holds_after, listed}
-use Rattle.jc_linkage.proofs.changes.FewPartsMade.{bounded_after}
+use Rattle.jc_linkage.proofs.changes.PartsCounted.{counted_after}
 
 -- ---- tests
 
@@ -228,7 +229,8 @@ module _ {prefixes : List Name} {old new : Places} {first second : Option Step} 
     linked = linked;
   }
 
-  pub bounded_then : (parts asks : ℕ) → parts ≤ length (fresh_names (fresh ++ last)) → asks ≤ 2 + reach_sum (fresh ++ last)
-      → IsBounded (given_in new) (world new prefixes) touches parts asks
-  bounded_then parts asks few fewer =
-      bounded_after touches (given_in new) (world new prefixes) (fresh ++ last) parts asks made.parts all_once (λ d. (exact d).0) (λ d. (exact d).1) few fewer
+  pub counted_then : (before behind : Meter) → behind.made ≡ counted before.made (length (fresh_names (fresh ++ last)))
+      → HasAskedFor (world new prefixes) (fresh_names (fresh ++ last)) before behind
+      → IsCounted (given_in new) (world new prefixes) touches (counts_of before) (counts_of behind)
+  counted_then before behind parts asked =
+      counted_after touches (given_in new) (world new prefixes) (fresh ++ last) before behind made.parts all_once (λ d. (exact d).0) (λ d. (exact d).1) parts asked

@@ -1,10 +1,11 @@
 -- Tables of the same classes.
-use Rattle.std.proofs.Common.{◌≡◌, ℕ, Bool, List, is_some, sym, subst}
+use Rattle.std.proofs.Common.{◌≡◌, Bool, List, is_some, sym, subst}
 use Rattle.jc_classes.specs.Names.{Name}
 use Rattle.jc_classes.specs.Worlds.{World}
+use Rattle.jc_link.specs.Meters.{Counts}
 use Rattle.jc_link.specs.Prefixes.{is_covered}
 use Rattle.jc_link.specs.Tables.{Places, class_at, or_built_in, stands_by, world}
-use Rattle.jc_linkage.specs.Affected.{IsBounded}
+use Rattle.jc_linkage.specs.Affected.{IsCounted}
 use Rattle.jc_linkage.specs.declared.links.Links.{Links}
 use Rattle.jc_linkage.specs.inside.Holding.{IsHeld, given_in}
 use Rattle.jc_linkage.specs.inside.Kept.{IsKept, KeptMap}
@@ -21,11 +22,11 @@ held_same a b prefixes kept links h held = record {
   linked = held.linked;
 }
 
-pub bounded_same : (a b : Places) (prefixes : List Name) (touched : Name → Bool) (made asks : ℕ) → ((n : Name) → class_at b n ≡ class_at a n)
-    → IsBounded (given_in a) (world a prefixes) touched made asks → IsBounded (given_in b) (world b prefixes) touched made asks
-bounded_same a b prefixes touched made asks h bounded =
-    subst (λ g. IsBounded g (world b prefixes) touched made asks) (same_given a b h) (subst (λ w. IsBounded (given_in a) w touched made asks) (same_world a b prefixes h) bounded)
+pub counted_same : (a b : Places) (prefixes : List Name) (touched : Name → Bool) (before behind : Counts) → ((n : Name) → class_at b n ≡ class_at a n)
+    → IsCounted (given_in a) (world a prefixes) touched before behind → IsCounted (given_in b) (world b prefixes) touched before behind
+counted_same a b prefixes touched before behind h counted =
+    subst (λ g. IsCounted g (world b prefixes) touched before behind) (same_given a b h) (subst (λ w. IsCounted (given_in a) w touched before behind) (same_world a b prefixes h) counted)
 
-pub bounded_touch : (given : Name → Bool) (w : World) (touched other : Name → Bool) (made asks : ℕ) → ((n : Name) → touched n ≡ other n)
-    → IsBounded given w touched made asks → IsBounded given w other made asks
-bounded_touch given w touched other made asks h bounded = subst (λ z. IsBounded given w z made asks) (λ i n. h n i) bounded
+pub counted_touch : (given : Name → Bool) (w : World) (touched other : Name → Bool) (before behind : Counts) → ((n : Name) → touched n ≡ other n)
+    → IsCounted given w touched before behind → IsCounted given w other before behind
+counted_touch given w touched other before behind h counted = subst (λ z. IsCounted given w z before behind) (λ i n. h n i) counted

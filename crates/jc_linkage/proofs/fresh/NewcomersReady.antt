@@ -1,5 +1,5 @@
 -- One that comes, among what is made ready.
-use Rattle.std.proofs.Common.{◌≡◌, ◌≤◌, ◌+◌, ◌++◌, ℕ, arith, is_some, true, false, Bool, ◌&&◌, ◌||◌, List, [], ◌∷◌, length, Option, None, refl, sym, ap, ◌∙◌, Some}
+use Rattle.std.proofs.Common.{◌≡◌, ◌+◌, ◌++◌, ℕ, arith, is_some, true, false, Bool, ◌&&◌, ◌||◌, List, [], ◌∷◌, length, Option, None, refl, sym, ap, ◌∙◌, Some}
 use Rattle.std.proofs.lemmas.List.{length-append, map-append}
 use Rattle.std.specs.FinMap as map
 use Rattle.std.specs.List.{Contains}
@@ -13,11 +13,12 @@ use Rattle.jc_classes.specs.Names.{names_of}
 use Rattle.jc_classes.specs.Names.{Name, same_name}
 use Rattle.jc_classes.specs.Worlds.{World}
 use Rattle.jc_link.specs.Meters.{counted}
+use Rattle.jc_link.specs.Tables.{Places, world}
 use Rattle.jc_link.specs.declared.meter.Meter.{Meter}
 use Rattle.jc_linkage.specs.declared.kept.Fresh.{Fresh}
 use Rattle.jc_linkage.specs.declared.kept.Kept.{Kept}
-use Rattle.jc_linkage.specs.inside.Kept.{AllFresh, KeptMap, Relation, fresh_names, held_in, names_by, reach_sum}
-use Rattle.jc_linkage.specs.inside.Prepared.{IsPrepared, one_of}
+use Rattle.jc_linkage.specs.inside.Kept.{AllFresh, KeptMap, Relation, fresh_names, held_in, names_by}
+use Rattle.jc_linkage.specs.inside.Prepared.{HasAskedFor, IsPrepared, IsPreparedOver, one_of}
 use Rattle.jc_linkage.specs.inside.Users.{is_name}
 use Rattle.jc_classes.specs.NameLists.{has}
 use Rattle.jc_linkage.specs.Affected.{NoRepeat}
@@ -36,14 +37,13 @@ ready_none m comes kept meter none = record {
   parts = tt;
   at = λ d. refl;
   made = counted_none meter.made meter.made_fit;
-  asks = omega arith;
 }
 
 -- what is made ready of the one that comes, behind the others
 pub ready_behind : (m : World) (names : List Name) (comes : Option Name) (kept now : KeptMap) (fresh : List Fresh) (old mid new : Meter)
-    → fresh_names fresh ≡ names → AllFresh m fresh → mid.made ≡ counted old.made (length names) → new.asks ≡ old.asks
+    → fresh_names fresh ≡ names → AllFresh m fresh → mid.made ≡ counted old.made (length names)
     → IsPrepared m [] comes kept now [] mid new → IsPrepared m names comes kept now fresh old new
-ready_behind m names comes kept now fresh old mid new others parts made asks ready = record {
+ready_behind m names comes kept now fresh old mid new others parts made ready = record {
   last = ready.last;
   others = others;
   newcomer = ready.newcomer;
@@ -53,21 +53,6 @@ ready_behind m names comes kept now fresh old mid new others parts made asks rea
       ready.made ∙ ap (λ a. counted a (length (fresh_names ready.last))) made ∙ counted_add old.made (length names) (length (fresh_names ready.last))
       ∙ ap (counted old.made)
       (ap (λ z. length z + length (fresh_names ready.last)) (sym others) ∙ sym (ap length (map-append (λ (x : Fresh). x.name.items) fresh ready.last) ∙ length-append (fresh_names fresh) (fresh_names ready.last)));
-  asks = omega (arith, asks);
-}
-
--- the same of a meter before, which counts few asks
-pub ready_from : (m : World) (names : List Name) (comes : Option Name) (kept now : KeptMap) (fresh : List Fresh) (old mid new : Meter)
-    → mid.made ≡ old.made → (ready : IsPrepared m names comes kept now fresh mid new) → new.asks ≤ old.asks + reach_sum (fresh ++ ready.last)
-    → IsPrepared m names comes kept now fresh old new
-ready_from m names comes kept now fresh old mid new made ready asks = record {
-  last = ready.last;
-  others = ready.others;
-  newcomer = ready.newcomer;
-  parts = ready.parts;
-  at = ready.at;
-  made = ready.made ∙ ap (λ a. counted a (length (fresh_names (fresh ++ ready.last)))) made;
-  asks = asks;
 }
 
 pub one_has : (o : Option Name) (d : Name) → has (one_of o) d ≡ is_name o d
@@ -77,6 +62,29 @@ one_has (Some n) d = or_none (same_name d n)
 pub one_is : (o : Option Name) → one_of o ≡ option_to_list o
 one_is None = refl
 one_is (Some n) = refl
+
+-- where nothing is made, nothing is asked for
+pub asked_none : (m : World) (classes : List Name) (meter : Meter) → classes ≡ [] → HasAskedFor m classes meter meter
+asked_none m classes meter none = record {
+  reached = [];
+  are_reached = record {
+    once = tt;
+    sound = λ n e. absurd (false≢true e);
+    complete = λ n r. absurd (omega (arith, r.1.1, ap length none));
+  };
+  asks = counted_none meter.asks meter.asks_fit;
+}
+
+-- where there are no names and none comes, nothing is made and nothing is asked for
+pub none_over : (table : Places) (outside : List Name) (vs : List (Vec ℕ Global)) (o : Option (Bor (List ℕ))) (kept : KeptMap) (meter : Meter)
+    → length vs ≡ 0 → is_some o ≡ false → IsPreparedOver table outside vs o kept kept [] meter meter
+unfolding ready_none
+none_over table outside [] None kept meter e f = record {
+  ready = ready_none (world table outside) None kept meter refl;
+  asked = asked_none (world table outside) [] meter refl;
+}
+none_over table outside (v ∷ vs) o kept meter e f = absurd (omega (arith, e))
+none_over table outside [] (Some x) kept meter e f = absurd (false≢true (sym f))
 
 -- there is one
 pub one_of_both : (names : List Name) (o : Option Name) → (names ≡ [] → o ≡ None → ⊥) → (d : Name) × Contains (names ++ one_of o) d

@@ -9,7 +9,7 @@ use Rattle.jc_classes.specs.NameLists.{has}
 use Rattle.jc_classes.specs.Names.{Name, same_name}
 use Rattle.jc_classes.proofs.worlds.NameTests.{same_is}
 use Rattle.jc_index.specs.Indexes.{UserLists, is_key, users_of}
-use Rattle.jc_linkage.specs.inside.Turning.{AreUsers, IsUser, Names}
+use Rattle.jc_linkage.specs.inside.SwitchedNames.{AreUsers, IsUser, Names}
 use Rattle.jc_linkage.proofs.equations.Booleans.{or_right, or_left, or_split, or_none}
 
 -- ---- names in a set

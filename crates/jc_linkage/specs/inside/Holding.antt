@@ -1,5 +1,5 @@
 -- What is held of classes.
-use Rattle.std.specs.Prelude.{◌≡◌, ◌-◌, Bool, true, false, ◌&&◌, ◌||◌, not, if◌then◌else◌}
+use Rattle.std.specs.Prelude.{◌≡◌, Bool, true, false, ◌&&◌, ◌||◌, not, if◌then◌else◌}
 use Rattle.std.specs.Prelude.{List, Option, Some, None, IsSome, is_some, refl, OnOk, Result}
 use Rattle.std.specs.FinMap as fin
 use Rattle.std.specs.Coded.{Coded, code_by, coded×}
@@ -7,7 +7,7 @@ use Rattle.jc_classes.specs.Facts.{Facts}
 use Rattle.jc_classes.specs.Names.{Name, same_name}
 use Rattle.jc_link.specs.Tables.{Places, class_at, world}
 use Rattle.jc_link.specs.declared.meter.Meter.{Meter}
-use Rattle.jc_linkage.specs.Affected.{IsBounded}
+use Rattle.jc_linkage.specs.Affected.{IsCounted, counts_of}
 use Rattle.jc_linkage.specs.Linkages.{Linkage}
 use Rattle.jc_linkage.specs.Steps.{Classes, is_class, step_class, step_name}
 use Rattle.jc_linkage.specs.declared.links.Links.{Links}
@@ -24,10 +24,10 @@ pub record IsHeld (places : Places) (prefixes : List Name) (kept : KeptMap) (lin
   pub parts : IsKept (given_in places) (world places prefixes) kept
   pub linked : AreLinked kept links
 
--- the meter has counted few parts and asks between the two
-abbrev pub IsBoundedOver : Places → (prefixes : List Name) → (touched : Name → Bool) → (old new : Meter) → Type 0
-IsBoundedOver places prefixes touched old new =
-    IsBounded (given_in places) (world places prefixes) touched (new.made - old.made) (new.asks - old.asks)
+-- the meter counted the parts and the asks of an edit that touched these names
+abbrev pub IsCountedOver : Places → (prefixes : List Name) → (touched : Name → Bool) → (old new : Meter) → Type 0
+IsCountedOver places prefixes touched old new =
+    IsCounted (given_in places) (world places prefixes) touched (counts_of old) (counts_of new)
 
 -- a class stands at its name
 abbrev pub AreNamed : Places → Type 0
@@ -95,11 +95,11 @@ AreThere None places = Unit {0}
 AreThere (Some s) places = IsThere s places
 
 -- whatever classes stood before two steps, of which the first is at the name of one: what was held of them is, where a
--- call answers `Ok`, held of what stands now, for few parts and asks
+-- call answers `Ok`, held of what stands now, and the parts and asks are counted
 abbrev pub Holds : {T E : Type 0} → Result T E → (first second : Option Step) → (prefixes : List Name) → (stepped now : Places)
     → (kept kept_now : KeptMap) → (links links_now : Links) → (before behind : Meter) → Type 0
 Holds result first second prefixes stepped now kept kept_now links links_now before behind = OnOk result (
     (old : Places) → IsHeld old prefixes kept links
     → ((n : Name) → at_step first n ≡ true → given_in old n ≡ true)
     → ((n : Name) → at_either first second n ≡ false → class_at stepped n ≡ class_at old n)
-    → IsHeld now prefixes kept_now links_now × IsBoundedOver now prefixes (at_either first second) before behind)
+    → IsHeld now prefixes kept_now links_now × IsCountedOver now prefixes (at_either first second) before behind)

@@ -1,6 +1,6 @@
 -- What is kept of each class.
-use Rattle.std.specs.Prelude.{◌≡◌, ℕ, ◌+◌, Bool, true, false, ◌&&◌, ◌||◌, if◌then◌else◌}
-use Rattle.std.specs.Prelude.{List, [], ◌∷◌, map, length, Option, Some, None, IsSome}
+use Rattle.std.specs.Prelude.{◌≡◌, Bool, true, false, ◌&&◌, ◌||◌, if◌then◌else◌}
+use Rattle.std.specs.Prelude.{List, [], ◌∷◌, map, Option, Some, None, IsSome}
 use Rattle.std.specs.FinMap as fin
 use Rattle.std.specs.List.Sorted.{IsStrictlySortedBy}
 use Rattle.jc_classes.specs.Facts.{Facts}
@@ -94,11 +94,6 @@ fresh_has r (x ∷ xs) d n = (same_name d x.name.items && has (names_by r x.kept
 abbrev pub AllFresh : World → List Fresh → Type 0
 AllFresh m [] = Unit {0}
 AllFresh m (x ∷ xs) = IsKeptOf m x.name.items x.kept × AllFresh m xs
-
--- how many names their reaches have
-abbrev pub reach_sum : List Fresh → ℕ
-reach_sum [] = 0
-reach_sum (x ∷ xs) = length x.kept.reach + reach_sum xs
 
 -- what is fresh of a class, else o
 abbrev pub fresh_at : List Fresh → Name → Option Kept → Option Kept

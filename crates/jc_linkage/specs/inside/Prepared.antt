@@ -1,5 +1,5 @@
 -- Parts that are made before an edit is committed.
-use Rattle.std.specs.Prelude.{◌≡◌, ◌≤◌, ◌+◌, ℕ, List, [], ◌∷◌, ◌++◌, length, IfOk, Option, Result, Some, None}
+use Rattle.std.specs.Prelude.{◌≡◌, ℕ, List, [], ◌∷◌, ◌++◌, length, IfOk, Option, Result, Some, None}
 use Rattle.std.specs.Borrow.{Bor}
 use Rattle.std.specs.FinMap as map
 use Rattle.std.specs.Option.{option_copied}
@@ -8,10 +8,12 @@ use Rattle.std.specs.declared.vec.Vec.{Vec}
 use Rattle.jc_classes.specs.Names.{Name, names_of}
 use Rattle.jc_classes.specs.Worlds.{World}
 use Rattle.jc_link.specs.Meters.{counted}
+use Rattle.jc_link.specs.Nets.{IsReached}
 use Rattle.jc_link.specs.Tables.{Places, world}
 use Rattle.jc_link.specs.declared.meter.Meter.{Meter}
+use Rattle.jc_linkage.specs.Affected.{Enumerates}
 use Rattle.jc_linkage.specs.declared.kept.Fresh.{Fresh}
-use Rattle.jc_linkage.specs.inside.Kept.{AllFresh, KeptMap, fresh_at, fresh_names, reach_sum}
+use Rattle.jc_linkage.specs.inside.Kept.{AllFresh, KeptMap, fresh_at, fresh_names}
 
 abbrev pub one_of : Option Name → List Name
 one_of None = []
@@ -26,12 +28,18 @@ pub record IsPrepared (m : World) (names : List Name) (comes : Option Name) (kep
   pub parts : AllFresh m (fresh ++ last)
   pub at : (d : Name) → map.get now d ≡ fresh_at last d (map.get kept d)
   pub made : new.made ≡ counted old.made (length (fresh_names (fresh ++ last)))
-  pub asks : new.asks ≤ old.asks + reach_sum (fresh ++ last)
 
--- the same over a table, for names and one that comes as they are lent
-abbrev pub IsPreparedOver : (table : Places) → (outside : List Name) → List (Vec ℕ Global) → (comes : Option (Bor (List ℕ)))
-    → (kept now : KeptMap) → (fresh : List Fresh) → (old new : Meter) → Type 0
-IsPreparedOver table outside names comes = IsPrepared (world table outside) (names_of names) (option_copied comes)
+-- a table was asked for each name that these classes reach, once
+pub record HasAskedFor (m : World) (classes : List Name) (old new : Meter) : Type 0 where
+  pub reached : List Name
+  pub are_reached : Enumerates reached (IsReached m classes)
+  pub asks : new.asks ≡ counted old.asks (length reached)
+
+-- parts were made over a table, which was asked for what they reach
+pub record IsPreparedOver (table : Places) (outside : List Name) (names : List (Vec ℕ Global)) (comes : Option (Bor (List ℕ)))
+    (kept now : KeptMap) (fresh : List Fresh) (old new : Meter) : Type 0 where
+  pub ready : IsPrepared (world table outside) (names_of names) (option_copied comes) kept now fresh old new
+  pub asked : HasAskedFor (world table outside) (fresh_names (fresh ++ ready.last)) old new
 
 -- what a call answers is so
 abbrev pub Prepares : {E : Type 0} → Result (Vec Fresh Global) E → (table : Places) → (outside : List Name)

@@ -1,4 +1,4 @@
-use Rattle.jc_edits.proofs.placing.FilesDiffer.{affected_either_way}
+use Rattle.jc_edits.proofs.placing.EditsDiffer.{affected_either_way}
 use Rattle.jc_edits.proofs.laws.affected_either_way.Goals as goal
 
 pub returns : goal.returns

@@ -2,7 +2,7 @@ use Rattle.std.proofs.Common.{◌≡◌, ◌∙◌, Err, ap, sym, refl, arith}
 use Rattle.std.proofs.lemmas.Result.{err_from_is_err_and}
 use Rattle.jc_input.specs.Lines.{command_of}
 use Rattle.jc_input.specs.LentCommands.{command_lent}
-use Rattle.jc_edits.specs.SessionState.{held_of}
+use Rattle.jc_edits.specs.SessionState.{contents_of}
 use Rattle.jc_lines.proofs.runs.RunsSoFar.{so_far_begins, so_far_goes_on, so_far_ends, so_far_stops, so_far_fails, so_far_last}
 use Rattle.jc_lines.proofs.runs.ByAnswers.{by_answers_begins, by_answers_goes_on, by_answers_ends, by_answers_stops, by_answers_fails, by_answers_last, not_begun}
 use Rattle.jc_lines.proofs.running.run.Goals as goal
@@ -29,7 +29,7 @@ returns-in_err-answer-clause-runs g c bytes s all known =
     let exit = err_from_is_err_and c.from_residual-in_err-answer.result c.from_residual-in_err-answer.ensures.1 in
     let same : command_lent c.parse_line.result ≡ command_of c.read_line.new.line = c.parse_line.ensures ∙ ap command_of c.bytes.ensures in
     let takes = rw c.if-branch.true at c.in_ok-read_line.ensures.takes in
-    let stops = so_far_stops _ _ _ _ _ _ _ _ _ (c.loop-line.invariant.so_far bytes s all known) c.read_line.new.line _ c.in_err-answer.field-0.0 (held_of c.answer.new.session)
+    let stops = so_far_stops _ _ _ _ _ _ _ _ _ (c.loop-line.invariant.so_far bytes s all known) c.read_line.new.line _ c.in_err-answer.field-0.0 (contents_of c.answer.new.session)
     (g.S.Source.answers c.answer.new.source) (g.W.Output.written c.answer.new.out) (g.R.Input.remaining c.read_line.new.input) c.in_err-answer.ensures.err takes
     (λ u left. rw (sym same) (c.in_err-answer.ensures.gives u left)) (λ u left lacks. rw (sym same) (c.in_err-answer.ensures.lacks u left (ap Err lacks))) in
     rw (exit.1, exit.2) stops
@@ -71,7 +71,7 @@ returns-clause-runs g c bytes s all known =
 pub returns-in_err-line-clause-by_answers : goal.returns-in_err-line-clause-by_answers
 returns-in_err-line-clause-by_answers g c bytes all =
     let exit = err_from_is_err_and c.from_residual.result c.from_residual.ensures.1 in
-    rw (exit.1, exit.2) (not_begun (held_of c.args.session.now) bytes (g.R.Input.remaining c.args.input.now) (g.W.Output.written c.args.out.now) all)
+    rw (exit.1, exit.2) (not_begun (contents_of c.args.session.now) bytes (g.R.Input.remaining c.args.input.now) (g.W.Output.written c.args.out.now) all)
 
 pub returns-in_err-read_line-clause-by_answers : goal.returns-in_err-read_line-clause-by_answers
 returns-in_err-read_line-clause-by_answers g c bytes all =
@@ -84,7 +84,7 @@ returns-in_err-answer-clause-by_answers g c bytes all =
     let exit = err_from_is_err_and c.from_residual-in_err-answer.result c.from_residual-in_err-answer.ensures.1 in
     let same : command_lent c.parse_line.result ≡ command_of c.read_line.new.line = c.parse_line.ensures ∙ ap command_of c.bytes.ensures in
     let takes = rw c.if-branch.true at c.in_ok-read_line.ensures.takes in
-    let stops = by_answers_stops _ _ _ _ _ _ _ (c.loop-line.invariant.by_answers bytes all) c.read_line.new.line _ c.in_err-answer.field-0.0 (held_of c.answer.new.session)
+    let stops = by_answers_stops _ _ _ _ _ _ _ (c.loop-line.invariant.by_answers bytes all) c.read_line.new.line _ c.in_err-answer.field-0.0 (contents_of c.answer.new.session)
     (g.W.Output.written c.answer.new.out) (g.R.Input.remaining c.read_line.new.input) c.in_err-answer.ensures.err takes (rw (sym same) c.in_err-answer.ensures.any) in
     rw (exit.1, exit.2) stops
 

@@ -10,6 +10,7 @@ use Rattle.jc_link.specs.inside.NetShown.{nodes_in}
 use Rattle.jc_link.proofs.meters.Counting.{counted_none}
 use Rattle.jc_link.proofs.nets.ClassesNumbered.{contained_at, kept_all, kept_by_growth, kept_on, take_kept}
 use Rattle.jc_link.proofs.nets.Reaching.{reached_first, referred_kept, referred_there}
+use Rattle.jc_link.proofs.nets.Walking.{reach_numbered}
 use Rattle.jc_link.proofs.reaches.Closing.{all_asked, all_stand, net_of}
 use Rattle.jc_link.proofs.reaches.Gathered.{asked_as, asked_none}
 use Rattle.jc_link.proofs.net.gather_net.Goals as goal
@@ -71,6 +72,10 @@ returns-clause-around c =
           let three = c.in_ok-references.ensures.reached m n0 c.in_ok-ask_all.ensures.asked front two in
           let four = c.in_ok-ask_all-2.ensures.reached n0 three in
           subst (λ cs. IsReached m cs x) (sym same) (subst (IsReached m n0) (get_or_default ns among.0 [] x among.1 ∙ among.2) (four among.0 among.1));
+      whole = λ x from.
+          let is = invariant_of-result c in
+          reach_numbered m ns (stands_in r.standing.items) (supertypes_in r.supertypes.items) c.in_ok-object.object (nodes_in c.in_ok-references.references.items)
+          is.net is.referred (all_stand m ns (stands_in r.standing.items) (supertypes_in r.supertypes.items) asked c.in_ok-ask_all-2.ensures.whole) from.0 x from.1 from.2;
     }
 
 pub returns-clause-asks : goal.returns-clause-asks

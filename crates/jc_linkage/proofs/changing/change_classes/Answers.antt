@@ -1,12 +1,13 @@
-use Rattle.std.proofs.Common.{◌-◌, ◌||◌, Bool, cond, None, ap, sym, subst, ◌∙◌}
+use Rattle.std.proofs.Common.{◌||◌, Bool, cond, None, ap, sym, subst, ◌∙◌}
 use Rattle.jc_classes.specs.Names.{Name}
 use Rattle.jc_link.specs.Tables.{class_at, world}
 use Rattle.jc_linkage.specs.inside.Holding.{IsHeld, at_step, given_in, name_of}
 use Rattle.jc_linkage.specs.inside.Users.{is_name}
 use Rattle.jc_linkage.specs.inside.Stepping.{AreTaken}
-use Rattle.jc_linkage.proofs.changes.SameClasses.{bounded_touch, held_same}
+use Rattle.jc_linkage.proofs.changes.SameClasses.{counted_touch, held_same}
 use Rattle.jc_linkage.proofs.steps.ClassesStepped.{backs_apart, backs_stay, backs_touch, both_of, both_undone, first_stood, gone_then, second_stands}
 use Rattle.jc_linkage.proofs.changing.change_classes.Goals as goal
+use Rattle.jc_linkage.specs.Affected.{counts_of}
 
 pub returns-in_err-first-clause-held : goal.returns-in_err-first-clause-held
 returns-in_err-first-clause-held c =
@@ -60,13 +61,13 @@ returns-in-Ok-clause-held c =
     c.requires.first c.requires.second c.in_ok-first.ensures.ok c.in_ok-first.ensures.first c.in_ok-first.ensures.second in
     (c.in-Ok.ensures.held c.args.table.now c.requires.held (first_stood both) (backs_stay both)).0
 
-pub returns-in-Ok-clause-bounded : goal.returns-in-Ok-clause-bounded
-returns-in-Ok-clause-bounded c =
+pub returns-in-Ok-clause-counted : goal.returns-in-Ok-clause-counted
+returns-in-Ok-clause-counted c =
     let both = both_of c.args.first c.args.second c.in_ok-first.first c.in_ok-first.second c.args.table.now c.make_both.new.table
     c.requires.first c.requires.second c.in_ok-first.ensures.ok c.in_ok-first.ensures.first c.in_ok-first.ensures.second in
-    bounded_touch (given_in c.remake.new.table) (world c.remake.new.table c.args.outside.now)
+    counted_touch (given_in c.remake.new.table) (world c.remake.new.table c.args.outside.now)
     (λ n. at_step c.in_ok-first.first n || at_step c.in_ok-first.second n) (λ n. at_step c.args.first n || at_step c.args.second n)
-    (c.remake.new.meter.made - c.args.meter.now.made) (c.remake.new.meter.asks - c.args.meter.now.asks) (backs_touch both)
+    (counts_of c.args.meter.now) (counts_of c.remake.new.meter) (backs_touch both)
     (c.in-Ok.ensures.held c.args.table.now c.requires.held (first_stood both) (backs_stay both)).1
 
 -- no place is vacant

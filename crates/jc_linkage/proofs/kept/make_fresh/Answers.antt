@@ -1,9 +1,6 @@
-use Rattle.std.proofs.Common.{◌≡◌, ◌++◌, ◌∷◌, [], length, take, get_or, refl, sym, ap, subst, ◌∙◌, arith}
-use Rattle.std.proofs.lemmas.List.{get_or-map, length-map}
+use Rattle.std.proofs.Common.{◌≡◌, ◌++◌, ◌∷◌, [], take, refl, sym, ap, subst, ◌∙◌, arith}
 use Rattle.std.specs.List.{Contains}
-use Rattle.std.specs.declared.vec.Vec.{Vec}
-use Rattle.std.specs.declared.alloc.Global.{Global}
-use Rattle.jc_classes.specs.Names.{Name, names_of}
+use Rattle.jc_classes.specs.Names.{names_of}
 use Rattle.jc_link.specs.Meters.{counted}
 use Rattle.jc_link.specs.Nets.{IsIn, Net}
 use Rattle.jc_linkage.specs.inside.Kept.{AllFresh, IsKeptOf, fresh_names}

@@ -1,8 +1,7 @@
-use Rattle.std.proofs.Common.{sym, subst, ◌∙◌}
-use Rattle.std.specs.List.{Contains}
+use Rattle.std.proofs.Common.{sym, subst}
 use Rattle.jc_classes.specs.NameLists.{Lists}
 use Rattle.jc_classes.specs.Parts.{Reach}
-use Rattle.jc_link.specs.Nets.{IsIn, Net}
+use Rattle.jc_link.specs.Nets.{IsIn}
 use Rattle.jc_linkage.specs.inside.Kept.{AreKeys, required_by}
 use Rattle.jc_linkage.proofs.kept.make_one.Goals as goal
 

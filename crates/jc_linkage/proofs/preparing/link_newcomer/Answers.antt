@@ -1,4 +1,4 @@
-use Rattle.std.proofs.Common.{◌∙◌, [], ◌∷◌, Result, Ok, Err, OnErr, refl, ap, sym, subst, arith}
+use Rattle.std.proofs.Common.{◌∙◌, [], ◌∷◌, Result, Ok, Err, OnErr, refl, ap, sym, subst}
 use Rattle.std.specs.FinMap as map
 use Rattle.jc_linkage.specs.inside.Kept.{IsKeptOf}
 use Rattle.jc_linkage.proofs.held.KeptMaps.{kept_at}
@@ -28,5 +28,4 @@ returns-in-Ok-clause-ready c = λ m lies.
       parts = (subst (λ k. IsKeptOf m k x.kept) (sym name) (c.in_ok-newcomer.ensures.kept m lies), tt);
       at = λ d. ap (λ z. map.get z d) c.in-Ok.ensures.kept_ok ∙ kept_at c.args.kept.now x.name.items x.kept d;
       made = c.in_ok-newcomer.ensures.made;
-      asks = omega (arith, c.make_one.ensures.asks);
     }

@@ -1,17 +1,17 @@
-use Rattle.std.proofs.Common.{◌≡◌, ◌∙◌, ◌≤◌, ◌++◌, [], true, None, ap, arith, length, refl, sym, subst}
+use Rattle.std.proofs.Common.{◌≡◌, ◌∙◌, ◌==◌, ◌++◌, List, [], None, ap, false, is_some, length, sym, subst, true}
+use Rattle.std.proofs.lemmas.Bool.{eqb-true}
 use Rattle.std.specs.List.{Contains}
 use Rattle.std.specs.Option.{option_copied}
-use Rattle.jc_classes.specs.NameLists.{has}
 use Rattle.jc_classes.specs.Names.{Name, names_of}
-use Rattle.jc_classes.proofs.numbering.Rising.{has_of}
 use Rattle.jc_link.specs.Meters.{counted}
 use Rattle.jc_link.specs.Nets.{IsIn, Net}
 use Rattle.jc_link.specs.Tables.{world}
-use Rattle.jc_linkage.specs.inside.Kept.{fresh_names, reach_sum}
-use Rattle.jc_linkage.specs.inside.Prepared.{one_of}
-use Rattle.jc_linkage.proofs.fresh.FewAsks.{few_asked}
+use Rattle.jc_linkage.specs.inside.Kept.{fresh_names}
+use Rattle.jc_linkage.specs.declared.kept.Fresh.{Fresh}
+use Rattle.jc_linkage.specs.inside.Prepared.{IsPreparedOver, one_of}
 use Rattle.jc_linkage.proofs.fresh.FreshLists.{names_append}
-use Rattle.jc_linkage.proofs.fresh.NewcomersReady.{no_names, one_is, one_of_both, ready_from, some_comes}
+use Rattle.jc_linkage.proofs.fresh.NamesAsked.{net_asked}
+use Rattle.jc_linkage.proofs.fresh.NewcomersReady.{no_names, none_over, one_is, one_of_both, some_comes}
 use Rattle.jc_linkage.proofs.preparing.prepare.Goals as goal
 use Rattle.jc_linkage.proofs.preparing.prepare.Goals.{else-is_empty-via-then-is_empty+else-is_none, else-is_empty-via-else-is_empty}
 
@@ -32,14 +32,34 @@ returns-clause-ready c =
     let ready = c.in_ok-fresh.ensures.ready m (subst (IsIn m) (sym c.in_ok-maker.ensures) c.in_ok-net.ensures.around.stands) in
     let named : fresh_names (fresh ++ ready.last) ≡ xs ++ one_of o =
     names_append fresh ready.last ∙ ap (λ ys. ys ++ fresh_names ready.last) ready.others ∙ ap (λ ys. xs ++ ys) ready.newcomer in
-    let among : (k : Name) → Contains net.classes k → has (fresh_names (fresh ++ ready.last)) k ≡ true =
-    λ k h. ap (λ ys. has ys k) named ∙ has_of (xs ++ one_of o) k (subst (λ ys. Contains (xs ++ ys) k) (sym (one_is o)) ((c.in_ok-net.ensures.classes k).0 h)) in
+    let among : (k : Name) → Contains net.classes k → Contains (fresh_names (fresh ++ ready.last)) k =
+    λ k h. subst (λ ys. Contains ys k) (sym named) (subst (λ ys. Contains (xs ++ ys) k) (sym (one_is o)) ((c.in_ok-net.ensures.classes k).0 h)) in
     let none : xs ≡ [] → o ≡ None → ⊥ = elim c.else-is_empty.branch [
       | else-is_empty-via-then-is_empty+else-is_none w ↦ λ e f. some_comes c.args.comes w.if-is_none.ensures f
       | else-is_empty-via-else-is_empty w ↦ λ e f. no_names c.args.names.now e w.if-is_empty.ensures
     ] in
     let some = one_of_both xs o none in
     let there : Contains net.classes some.0 = (c.in_ok-net.ensures.classes some.0).1 (subst (λ ys. Contains (xs ++ ys) some.0) (one_is o) some.1) in
-    let few = few_asked m net (fresh ++ ready.last) some.0 c.in_ok-net.ensures.around ready.parts among there in
-    ready_from m xs o c.args.kept.now c.prepare_all.new.kept fresh c.args.meter.now c.around.new.meter c.prepare_all.new.meter c.around.ensures.made ready
-    (omega (arith, c.prepare_all.ensures.asks, c.in_ok-net.ensures.asks, few))
+    let back : (k : Name) → Contains (fresh_names (fresh ++ ready.last)) k → Contains net.classes k =
+    λ k h. (c.in_ok-net.ensures.classes k).1 (subst (λ ys. Contains (xs ++ ys) k) (one_is o) (subst (λ ys. Contains ys k) named h)) in
+    record {
+      ready = record {
+        last = ready.last;
+        others = ready.others;
+        newcomer = ready.newcomer;
+        parts = ready.parts;
+        at = ready.at;
+        made = ready.made ∙ ap (λ a. counted a (length (fresh_names (fresh ++ ready.last)))) c.around.ensures.made;
+      };
+      asked = net_asked m net (fresh_names (fresh ++ ready.last)) some.0 c.args.meter.now c.prepare_all.new.meter c.in_ok-net.ensures.around among back there
+          (c.prepare_all.ensures.asks ∙ c.in_ok-net.ensures.asks);
+    }
+
+pub returns-then-is_none-clause-ready : goal.returns-then-is_none-clause-ready
+returns-then-is_none-clause-ready c =
+    let a = c.args in
+    let empty : true ≡ (length a.names.now == 0) = c.if-is_empty.ensures in
+    let none : is_some a.comes ≡ false = c.if-is_none.ensures in
+    subst (λ (fresh : List Fresh). IsPreparedOver a.table.now a.outside.now a.names.now a.comes a.kept.now a.kept.now fresh a.meter.now a.meter.now)
+    (sym c.new.ensures.items)
+    (none_over a.table.now a.outside.now a.names.now a.comes a.kept.now a.meter.now (eqb-true (length a.names.now) 0 (sym empty)) none)

@@ -20,4 +20,4 @@ returns-clause-ready c = λ m lies.
     ready_behind m (names_of c.args.names.now) (option_copied c.args.comes) c.args.kept.now c.link_all.new.kept c.in_ok-fresh.fresh.items
     c.args.meter.now c.make_fresh.new.meter c.link_all.new.meter
     c.in_ok-fresh.ensures.names (c.in_ok-fresh.ensures.kept m lies) (c.in_ok-fresh.ensures.made ∙ ap (counted c.args.meter.now.made) (sym (names_length c.args.names.now)))
-    (c.link_all.ensures.asks ∙ c.make_fresh.ensures.asks) (c.in_ok-link_all.ensures.ready m (subst (IsIn m) (sym c.make_fresh.ensures.net) lies))
+    (c.in_ok-link_all.ensures.ready m (subst (IsIn m) (sym c.make_fresh.ensures.net) lies))

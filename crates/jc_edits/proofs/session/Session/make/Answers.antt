@@ -26,5 +26,5 @@ returns-clause-made c = grind (arith, common_steps)
 pub returns-clause-asks : goal.returns-clause-asks
 returns-clause-asks c = grind (arith, common_steps)
 
-pub returns-clause-bounded : goal.returns-clause-bounded
-returns-clause-bounded c = grind (arith, common_steps)
+pub returns-clause-counted : goal.returns-clause-counted
+returns-clause-counted c = grind (arith, common_steps)

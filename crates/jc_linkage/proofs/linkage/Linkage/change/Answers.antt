@@ -1,9 +1,9 @@
-use Rattle.std.proofs.Common.{◌≡◌, ◌∙◌, ◌-◌, Bool, subst}
+use Rattle.std.proofs.Common.{◌≡◌, ◌∙◌, Bool, subst}
 use Rattle.std.specs.Prelude.{OnErr, OnOk}
 use Rattle.std.proofs.lemmas.Result.{on_ok_weaker}
 use Rattle.jc_classes.specs.Names.{Name}
 use Rattle.jc_link.specs.Tables.{class_at, world}
-use Rattle.jc_linkage.specs.Affected.{IsBounded}
+use Rattle.jc_linkage.specs.Affected.{IsCounted, counts_of}
 use Rattle.jc_linkage.specs.Linkages.{Linkage}
 use Rattle.jc_linkage.specs.Steps.{changed, is_touched}
 use Rattle.jc_linkage.specs.inside.Holding.{given_in}
@@ -49,8 +49,8 @@ returns-clause-err c =
     let behind = class_at c.change_classes.new.table in
     subst (λ (a : Linkage). OnErr c.change_classes.result ((n : Name) → behind n ≡ class_at a.classes n)) c.self.view_is c.change_classes.ensures.err
 
-pub returns-clause-bounded : goal.returns-clause-bounded
-returns-clause-bounded c =
+pub returns-clause-counted : goal.returns-clause-counted
+returns-clause-counted c =
     let old : Linkage = record { classes = c.self.inside.table; prefixes = c.self.inside.outside } in
     let kept = c.self.inside.kept in
     let new = c.change_classes.new in
@@ -58,6 +58,6 @@ returns-clause-bounded c =
     let first = c.args.first in
     let put = c.args.put in
     let touched = made_touched (class_at old.classes) kept (given_kept old kept c.self.invariant.0.parts) first put c.counting-first.result c.putting-second.result c.counting-first.ensures c.putting-second.ensures in
-    let bounded : (Name → Bool) → Type 0 = λ t. IsBounded (given_in new.table) (world new.table outside) t (new.meter.made - c.args.meter.now.made) (new.meter.asks - c.args.meter.now.asks) in
-    subst (λ (a : Linkage). OnOk c.change_classes.result (bounded (is_touched (class_at a.classes) first put))) c.self.view_is
-    (on_ok_weaker c.change_classes.result (subst bounded (λ i n. touched n i)) c.change_classes.ensures.bounded)
+    let counted : (Name → Bool) → Type 0 = λ t. IsCounted (given_in new.table) (world new.table outside) t (counts_of c.args.meter.now) (counts_of new.meter) in
+    subst (λ (a : Linkage). OnOk c.change_classes.result (counted (is_touched (class_at a.classes) first put))) c.self.view_is
+    (on_ok_weaker c.change_classes.result (subst counted (λ i n. touched n i)) c.change_classes.ensures.counted)
