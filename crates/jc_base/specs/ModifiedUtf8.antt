@@ -2,6 +2,8 @@
 use Rattle.std.specs.Prelude.{◌≡◌, ℕ, ◌+◌, ◌/◌, ◌%◌, ◌^◌, ◌<◌, ◌≤◌}
 use Rattle.std.specs.Prelude.{List, [], ◌∷◌, length, take, if◌then◌else◌, ◌&&◌, nat_lt}
 use Rattle.std.specs.List.{flat_map, AllByRecursion}
+use Rattle.jc_base.specs.declared.modified_utf8.UnitsError.{UnitsError}
+use Rattle.jc_base.specs.declared.modified_utf8.UnitsError.TheVariants.{Bad, NoMemory}
 
 -- a UTF-16 code unit
 abbrev pub IsUnit : ℕ → Type 0
@@ -32,3 +34,7 @@ pub record IsLongestFront (b : List ℕ) (n : ℕ) : Type 0 where
   pub within : n < length b
   pub front : IsWellSpelled (take n b)
   pub longest : (m : ℕ) → n < m → m ≤ length b → ¬ IsWellSpelled (take m b)
+
+abbrev pub units_error_code : UnitsError → ℕ
+units_error_code (Bad place) = 1
+units_error_code NoMemory = 2

@@ -85,6 +85,20 @@ pub enum UnitsError {
     NoMemory,
 }
 
+impl UnitsError {
+    ghost use Rattle.jc_base.specs.ModifiedUtf8.{units_error_code};
+
+    /// Returns the number of the error, from 1, in the order of the variants.
+    pub fn code(&self) -> u8
+        ensures { result ≡ units_error_code self.now }
+    {
+        match self {
+            UnitsError::Bad(_) => 1,
+            UnitsError::NoMemory => 2,
+        }
+    }
+}
+
 impl From<AllocError> for UnitsError {
     ghost from_gives = { λ _ error. error ≡ NoMemory };
 
