@@ -1,5 +1,5 @@
 //! Numbers for names.
-ghost use Rattle.std.specs.Prelude.{◌≡◌, ◌<◌, ◌∷◌, [], ℕ, length, IfOk, OnErr, OnOk, None};
+ghost use Rattle.std.specs.Prelude.{◌≡◌, ◌⊎◌, ◌<◌, ◌∷◌, [], ℕ, length, IfOk, OnErr, OnOk, None};
 ghost use Rattle.std.specs.Option.{IfSome};
 ghost use Rattle.std.specs.List.{All};
 ghost use Rattle.jc_classes.specs.NameLists.{IsRisingOf};
@@ -154,7 +154,7 @@ impl Numbers {
         Err(NoMemory)
     }
 
-    /// Adds the number of a name to a list.
+    /// Adds the number of a name to a list. After an error the list is as it was, but the names may have gained this one.
     pub fn number_into(
         &mut self,
         alloc: Global,
@@ -162,7 +162,9 @@ impl Numbers {
         name: &[u8],
     ) -> Result<(), NoMemory>
         requires { All (λ v. v < length self.old) list.old.items }
-        ensures { OnOk result (AddsNumbers self.old list.old.items self.new list.new.items (name.now ∷ [])) }
+        ensures adds { OnOk result (AddsNumbers self.old list.old.items self.new list.new.items (name.now ∷ [])) }
+        ensures list_err { OnErr result (list.new.items ≡ list.old.items) }
+        ensures names_err { OnErr result ((self.new ≡ self.old) ⊎ Grows self.old self.new (name.now ∷ [])) }
     {
         let node = self.number(alloc, name)?;
         list.push(node)?;

@@ -1,9 +1,9 @@
 -- The answers to the references of a class, by the indexes of their constants.
-use Rattle.std.specs.Prelude.{ℕ, List, map, Option, option_map}
+use Rattle.std.specs.Prelude.{◌≡◌, ℕ, List, map}
 use Rattle.std.specs.List.Sorted.{IsStrictlySortedBy}
 use Rattle.std.specs.Ordering.{nat_cmp}
 use Rattle.jc_classes.specs.Facts.{Reference}
-use Rattle.jc_classes.specs.LinkErrors.{answered}
+use Rattle.jc_classes.specs.LinkLaws.{HasAnswer}
 use Rattle.jc_classes.specs.Resolution.{Answer}
 use Rattle.jc_report.specs.Reports.{Class}
 
@@ -11,6 +11,6 @@ use Rattle.jc_report.specs.Reports.{Class}
 abbrev pub AreByIndex : List Reference → Type 0
 AreByIndex references = IsStrictlySortedBy nat_cmp (map (λ r. r.index) references)
 
--- the answer to the reference of a constant, if the class has one of this index
-abbrev pub answer_at : Class → (index : ℕ) → Option Answer
-answer_at c index = option_map (λ pair. pair.1) (answered index c.facts.references c.part.answers)
+-- an answer to the reference of the constant at an index
+abbrev pub HasAnswerAt : Class → (index : ℕ) → Answer → Type 0
+HasAnswerAt c index a = (r : Reference) × (r.index ≡ index) × HasAnswer c.facts.references c.part.answers r a

@@ -1,10 +1,11 @@
 //! Classes with their parts, lent.
 
-ghost use Rattle.std.specs.Prelude.{◌≡◌, option_map, slice_get};
+ghost use Rattle.std.specs.Prelude.{◌≡◌, ◌↔◌, Some, option_map, slice_get};
 ghost use Rattle.std.specs.Iterator.{YieldsFirstBy, item_count};
 ghost use Rattle.std.specs.List.{Contains};
+ghost use Rattle.jc_classes.specs.Resolution as spec;
 ghost use Rattle.jc_resolve.specs.Answers.{answer_of};
-ghost use Rattle.jc_report.specs.ClassAnswers.{AreByIndex, answer_at};
+ghost use Rattle.jc_report.specs.ClassAnswers.{AreByIndex, HasAnswerAt};
 ghost use Rattle.jc_report.specs.ClassLent.{class_lent};
 ghost use Rattle.jc_report.specs.ClassRows.{provided_rows, required_rows};
 ghost use Rattle.jc_report.specs.Rows.{AreRows};
@@ -31,7 +32,8 @@ impl<'a> LentClass<'a> {
     /// index. Does not allocate. The references of a class file are in ascending order of index, so this is a binary
     /// search.
     pub fn answer(self, index: u16) -> Option<Answer<'a>>
-        ensures { AreByIndex self.entry.facts.now.references → option_map answer_of result ≡ answer_at (class_lent self.entry) index }
+        ensures { AreByIndex self.entry.facts.now.references → (a : spec.Answer) →
+            (option_map answer_of result ≡ Some a) ↔ HasAnswerAt (class_lent self.entry) index a }
     {
         let number = place_of(self.facts, index);
         let reference = self.facts.reference(number)?;

@@ -7,7 +7,7 @@ ghost use Rattle.jc_classes.specs.Names.{Name};
 ghost use Rattle.jc_numbered.specs.inside.Indexed.{indexed_name};
 ghost use Rattle.jc_numbered.specs.inside.Shown.{indexed_of};
 ghost use Rattle.jc_resolve.specs.Answers.{answer_of, kind_of};
-ghost use Rattle.jc_classes.specs.inside.ClassTexts.{IsFront};
+ghost use Rattle.jc_code.specs.inside.Fronts.{BeginsWith};
 ghost use Rattle.jc_classes.specs.inside.FactsShown.{text_at};
 ghost use Rattle.jc_resolve.specs.inside.Entries.{IsSame, IsWithin, entries_shown, entry_shown};
 ghost use Rattle.jc_resolve.specs.inside.Naming.{AreNames, AreSame, IsNumberOf, references_in};
@@ -108,7 +108,7 @@ impl Naming {
     ) -> Result<u32, NoMemory>
         requires { AreNames (indexed_name (indexed_of classes.now)) self.old }
         ensures names { OnOk result (AreNames (indexed_name (indexed_of classes.now)) self.new) }
-        ensures front { OnOk result (IsFront self.old.texts self.new.texts) }
+        ensures front { OnOk result (BeginsWith self.new.texts self.old.texts) }
         ensures number { IfOk result (IsNumberOf self.new.texts (indexed_name (indexed_of classes.now) node)) }
     {
         match known(numbers, self.nodes.as_slice(), node) {
@@ -129,7 +129,7 @@ impl Naming {
     ) -> Result<u32, NoMemory>
         requires { AreNames (indexed_name (indexed_of classes.now)) self.old }
         ensures names { OnOk result (AreNames (indexed_name (indexed_of classes.now)) self.new) }
-        ensures front { OnOk result (IsFront self.old.texts self.new.texts) }
+        ensures front { OnOk result (BeginsWith self.new.texts self.old.texts) }
         ensures number { IfOk result (IsNumberOf self.new.texts (indexed_name (indexed_of classes.now) node)) }
     {
         let number = self.texts.len();
@@ -149,7 +149,7 @@ impl Naming {
     ) -> Result<Entry<u32>, NoMemory>
         requires { AreNames (indexed_name (indexed_of classes.now)) self.old }
         ensures names { OnOk result (AreNames (indexed_name (indexed_of classes.now)) self.new) }
-        ensures front { OnOk result (IsFront self.old.texts self.new.texts) }
+        ensures front { OnOk result (BeginsWith self.new.texts self.old.texts) }
         ensures within { IfOk result (IsWithin (length self.new.texts)) }
         ensures same { IfOk result (λ named. IsSame (text_at self.new.texts) (indexed_name (indexed_of classes.now)) named entry) }
     {

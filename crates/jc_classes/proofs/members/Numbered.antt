@@ -4,46 +4,47 @@ use Rattle.std.specs.List.{All, flat_map}
 use Rattle.std.specs.Option.{option_to_list}
 use Rattle.std.proofs.lemmas.Bool.{cases_lt}
 use Rattle.std.proofs.lemmas.List.{get_or-append_right, get_or-map, get_or-replicate, get_or_past, length-append, length-map}
+use Rattle.jc_code.specs.inside.Fronts.{BeginsWith}
+use Rattle.jc_code.proofs.appended.Fronts.{begins_whole}
 use Rattle.jc_classes.specs.Facts.{Member}
 use Rattle.jc_classes.specs.Names.{Name}
 use Rattle.jc_classes.specs.MemberOrder.{IsOrder}
 use Rattle.jc_classes.specs.declared.facts.MemberEntry.{MemberEntry}
-use Rattle.jc_classes.specs.inside.ClassTexts.{IsFront}
 use Rattle.jc_classes.specs.inside.FactsShown.{member_shown, text_at}
 use Rattle.jc_classes.specs.inside.Ranks.{AreBelow}
-use Rattle.jc_classes.proofs.texts.AskedTexts.{front_refl, text_stays}
+use Rattle.jc_classes.proofs.texts.AskedTexts.{text_stays}
 
 empty_is_not : (text : List ℕ) → [] ≡ text → 1 ∷ [] ≡ text → ⊥
 empty_is_not text e f = cc
 
 -- else another text could get the number
-pub number_below : (texts : List (List ℕ)) (number : ℕ) (text : List ℕ) → ((ts : List (List ℕ)) → IsFront texts ts → text_at ts number ≡ text) → number < length texts
+pub number_below : (texts : List (List ℕ)) (number : ℕ) (text : List ℕ) → ((ts : List (List ℕ)) → BeginsWith ts texts → text_at ts number ≡ text) → number < length texts
 number_below texts number text h = ⊎_elim
     (λ l. l)
     (λ l.
     let other : List ℕ = 1 ∷ [] in
     let more = replicate (suc number) other in
     let past = get_or-append_right texts more (length texts) number [] refl l ∙ get_or-replicate (suc number) (number - length texts) other [] (omega arith) in
-    absurd (empty_is_not text (sym (get_or_past texts number [] l) ∙ h texts (front_refl texts)) (sym past ∙ h (texts ++ more) (more, refl))))
+    absurd (empty_is_not text (sym (get_or_past texts number [] l) ∙ h texts (begins_whole texts)) (sym past ∙ h (texts ++ more) (more, refl))))
     (cases_lt number (length texts))
 
 abbrev no_member : Member
 no_member = record { name = []; descriptor = []; flags = 0 }
 
-pub members_below : (texts : List (List ℕ)) (entries : List MemberEntry) (members : List Member) → ((ts : List (List ℕ)) → IsFront texts ts → map (member_shown ts) entries ≡ members) → AreBelow (length texts) entries
+pub members_below : (texts : List (List ℕ)) (entries : List MemberEntry) (members : List Member) → ((ts : List (List ℕ)) → BeginsWith ts texts → map (member_shown ts) entries ≡ members) → AreBelow (length texts) entries
 members_below texts entries members h k d l =
-    let at = λ (ts : List (List ℕ)) (f : IsFront texts ts). sym (get_or-map (member_shown ts) entries k d no_member l) ∙ ap (λ (ms : List Member). slice_index_or ms k no_member) (h ts f) in (
+    let at = λ (ts : List (List ℕ)) (f : BeginsWith ts texts). sym (get_or-map (member_shown ts) entries k d no_member l) ∙ ap (λ (ms : List Member). slice_index_or ms k no_member) (h ts f) in (
       number_below texts (slice_index_or entries k d).name (slice_index_or members k no_member).name (λ ts f. ap (λ (m : Member). m.name) (at ts f)),
       number_below texts (slice_index_or entries k d).descriptor (slice_index_or members k no_member).descriptor (λ ts f. ap (λ (m : Member). m.descriptor) (at ts f)),
     )
 
-pub names_below : (texts : List (List ℕ)) (numbers : List ℕ) (names : List Name) → ((ts : List (List ℕ)) → IsFront texts ts → map (text_at ts) numbers ≡ names) → All (λ n. n < length texts) numbers
+pub names_below : (texts : List (List ℕ)) (numbers : List ℕ) (names : List Name) → ((ts : List (List ℕ)) → BeginsWith ts texts → map (text_at ts) numbers ≡ names) → All (λ n. n < length texts) numbers
 names_below texts numbers names h k d l =
     number_below texts (slice_index_or numbers k d) (slice_index_or names k [])
     (λ ts f. sym (get_or-map (text_at ts) numbers k d [] l) ∙ ap (λ (ns : List Name). slice_index_or ns k []) (h ts f))
 
 -- texts behind them change no name
-pub names_stay : (texts all : List (List ℕ)) → IsFront texts all → (numbers : List ℕ) → All (λ n. n < length texts) numbers → map (text_at all) numbers ≡ map (text_at texts) numbers
+pub names_stay : (texts all : List (List ℕ)) → BeginsWith all texts → (numbers : List ℕ) → All (λ n. n < length texts) numbers → map (text_at all) numbers ≡ map (text_at texts) numbers
 names_stay texts all f [] h = refl
 names_stay texts all f (n ∷ numbers) h = λ i. text_stays texts all n f (h 0 0 (omega arith)) i ∷ names_stay texts all f numbers (λ k d l. h (suc k) d (omega (arith, l))) i
 

@@ -9,7 +9,9 @@ use Rattle.std.proofs.Math.ListN.{get_or-append}
 use Rattle.std.proofs.Math.Seq.{get_or-append_seam}
 use Rattle.jc_view.specs.ClassFile.{ClassFile, all_slots}
 use Rattle.jc_view.specs.Lookups.{utf8_at}
-use Rattle.jc_classes.specs.inside.ClassTexts.{AreNumbered, IsFront, KeptTexts, Tells, count_numbered}
+use Rattle.jc_code.specs.inside.Fronts.{BeginsWith}
+use Rattle.jc_code.proofs.appended.Fronts.{begins_through, begins_whole}
+use Rattle.jc_classes.specs.inside.ClassTexts.{AreNumbered, KeptTexts, Tells, count_numbered}
 use Rattle.jc_classes.specs.inside.ConstantTexts.{text_or_empty, texts_of}
 use Rattle.jc_classes.specs.inside.FactsShown.{text_at}
 use Rattle.jc_classes.proofs.texts.ConstantTexts.{length_texts_of, text_there, text_within}
@@ -17,13 +19,7 @@ use Rattle.jc_classes.proofs.texts.Entries.{shown_some}
 
 -- ---- texts in front of others
 
-pub front_refl : (a : List (List ℕ)) → IsFront a a
-front_refl a = ([], sym (append-nil a))
-
-front_trans : (a b d : List (List ℕ)) → IsFront a b → IsFront b d → IsFront a d
-front_trans a b d p q = (p.0 ++ q.0, q.1 ∙ ap (λ x. x ++ q.0) p.1 ∙ append_assoc a p.0 q.0)
-
-pub text_stays : (a b : List (List ℕ)) (number : ℕ) → IsFront a b → number < length a → text_at b number ≡ text_at a number
+pub text_stays : (a b : List (List ℕ)) (number : ℕ) → BeginsWith b a → number < length a → text_at b number ≡ text_at a number
 text_stays a b number f l = ap (λ x. text_at x number) f.1 ∙ get_or-append a f.0 [] number l
 
 pub index_within : (c : ClassFile) (index : ℕ) (text : List ℕ) → utf8_at c (record { 0 = index }) ≡ Some text → index < 1 + all_slots c.constants
@@ -102,14 +98,14 @@ module _ (c : ClassFile) (numbers : List (Option ℕ)) (texts : List (List ℕ))
   pub told_none : utf8_at c (record { 0 = index }) ≡ None → Tells (record { class = c; texts = texts }) (record { class = c; texts = texts }) (λ ts. text_at ts 0 ≡ text_at (texts_of c) index)
   told_none e = record {
     class = refl;
-    front = front_refl texts;
+    front = begins_whole texts;
     holds = λ ts f. text_stays texts ts 0 f (omega (arith, h.count)) ∙ h.empty ∙ sym (text_absent c index e);
   }
 
   pub told_known : (number : ℕ) → slice_index_or numbers index None ≡ Some number → Tells (record { class = c; texts = texts }) (record { class = c; texts = texts }) (λ ts. text_at ts number ≡ text_at (texts_of c) index)
   told_known number e = record {
     class = refl;
-    front = front_refl texts;
+    front = begins_whole texts;
     holds = λ ts f. text_stays texts ts number f (h.text index number e).0 ∙ (h.text index number e).1;
   }
 
@@ -145,18 +141,18 @@ module _ (c : ClassFile) (numbers : List (Option ℕ)) (texts : List (List ℕ))
 pub both : {a b d : KeptTexts} {P Q : List (List ℕ) → Type 0} → Tells a b P → Tells b d Q → Tells a d (λ ts. P ts × Q ts)
 both {a} {b} {d} p q = record {
   class = q.class ∙ p.class;
-  front = front_trans a.texts b.texts d.texts p.front q.front;
-  holds = λ ts f. (p.holds ts (front_trans b.texts d.texts ts q.front f), q.holds ts f);
+  front = begins_through a.texts b.texts d.texts p.front q.front;
+  holds = λ ts f. (p.holds ts (begins_through b.texts d.texts ts q.front f), q.holds ts f);
 }
 
 pub so : {a b : KeptTexts} {P Q : List (List ℕ) → Type 0} → Tells a b P → ((ts : List (List ℕ)) → P ts → Q ts) → Tells a b Q
 so p g = record { class = p.class; front = p.front; holds = λ ts f. g ts (p.holds ts f) }
 
-pub with_front : {a b : KeptTexts} {P : List (List ℕ) → Type 0} → Tells a b P → Tells a b (λ ts. P ts × IsFront b.texts ts)
+pub with_front : {a b : KeptTexts} {P : List (List ℕ) → Type 0} → Tells a b P → Tells a b (λ ts. P ts × BeginsWith ts b.texts)
 with_front p = record { class = p.class; front = p.front; holds = λ ts f. (p.holds ts f, f) }
 
 pub at_once : (a : KeptTexts) {P : List (List ℕ) → Type 0} → ((ts : List (List ℕ)) → P ts) → Tells a a P
-at_once a g = record { class = refl; front = front_refl a.texts; holds = λ ts f. g ts }
+at_once a g = record { class = refl; front = begins_whole a.texts; holds = λ ts f. g ts }
 
 -- one more of a list, where there is one: before what is left, and behind what is done
 module _ {X Y : Type 0} (shown : List (List ℕ) → X → Y) {a b d : KeptTexts} (made new : List X) (x y : Option X) (o : Option Y) (is : option_map (shown (texts_of a.class)) x ≡ o)

@@ -1,10 +1,11 @@
 -- The texts of a class file that were asked for, by number.
 use Rattle.std.specs.Prelude.{◌≡◌, ℕ, suc, ◌+◌, ◌<◌, List, [], ◌∷◌}
-use Rattle.std.specs.Prelude.{◌++◌, length, map, Option, Some, None, option_map, slice_index_or, ◌^◌}
+use Rattle.std.specs.Prelude.{length, map, Option, Some, None, option_map, slice_index_or, ◌^◌}
 use Rattle.std.specs.List.{flat_map}
 use Rattle.std.specs.Option.{option_to_list}
 use Rattle.jc_view.specs.ClassFile.{ClassFile, all_slots}
 use Rattle.jc_view.specs.Places.{PlacedMember}
+use Rattle.jc_code.specs.inside.Fronts.{BeginsWith}
 use Rattle.jc_classes.specs.declared.facts.MemberEntry.{MemberEntry}
 use Rattle.jc_classes.specs.declared.facts.ReferenceEntry.{ReferenceEntry}
 use Rattle.jc_classes.specs.FactsOf.{member_of}
@@ -30,14 +31,11 @@ pub record AreNumbered (c : ClassFile) (numbers : List (Option ℕ)) (texts : Li
   pub text : (index number : ℕ) → slice_index_or numbers index None ≡ Some number
       → (number < length texts) × (text_at texts number ≡ text_at (texts_of c) index)
 
-abbrev pub IsFront : List (List ℕ) → List (List ℕ) → Type 0
-IsFront front texts = (more : List (List ℕ)) × (texts ≡ front ++ more)
-
 -- no text goes and no number changes, and something holds of the texts, however many more there will be
 pub record Tells (old new : KeptTexts) (Holds : List (List ℕ) → Type 0) : Type 0 where
   pub class : new.class ≡ old.class
-  pub front : IsFront old.texts new.texts
-  pub holds : (texts : List (List ℕ)) → IsFront new.texts texts → Holds texts
+  pub front : BeginsWith new.texts old.texts
+  pub holds : (texts : List (List ℕ)) → BeginsWith texts new.texts → Holds texts
 
 -- ---- what is by number among the texts as it is by index in the class file
 

@@ -1,4 +1,4 @@
--- The rows of the references from a number on: that of the reference of the number, if it is required, and those behind it.
+-- The rows of the references from a number on: that of the reference of the number, if it is required, and those after it.
 use Rattle.std.proofs.Common.{◌≡◌, ◌∙◌, ◌≤◌, ℕ, zero, suc, ◌+◌, Bool, true, false, List, [], ◌∷◌, ◌++◌, drop, length, Some, None, refl, sym, ap, arith}
 use Rattle.std.specs.Prelude.{if◌then◌else◌}
 use Rattle.std.specs.Option.{option_to_list}
@@ -14,7 +14,7 @@ one : (b : Bool) (row : Row) (rows : List Row) → (if b then row ∷ rows else 
 one true row rows = refl
 one false row rows = refl
 
--- none behind the last answer
+-- none after the last answer
 pub none_from : (rs : List Reference) (answers : List Answer) (n : ℕ) → length answers ≤ n → rows_from rs answers n ≡ []
 none_from rs answers n past = ap (rows_required (drop n rs)) (drop_all n answers past) ∙ no_answers (drop n rs)
 

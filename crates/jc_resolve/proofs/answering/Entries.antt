@@ -18,7 +18,7 @@ use Rattle.jc_resolve.specs.declared.answers.AnswerKind.{AnswerKind}
 use Rattle.jc_resolve.specs.declared.entry.Entry.{Entry}
 use Rattle.jc_resolve.specs.declared.entry.Entry.TheVariants as entry
 use Rattle.jc_resolve.specs.inside.Answered.{IsAnsweredAt, IsAnsweredBy}
-use Rattle.jc_classes.specs.inside.ClassTexts.{IsFront}
+use Rattle.jc_code.specs.inside.Fronts.{BeginsWith}
 use Rattle.jc_classes.specs.inside.FactsShown.{text_at}
 use Rattle.jc_resolve.specs.inside.Entries.{IsWithin, entries_shown, entry_shown}
 use Rattle.jc_resolve.specs.inside.Naming.{AreSame}
@@ -66,10 +66,10 @@ answered_set x loads class rs es number r e got new at old = by (same_or at numb
 
 -- ---- as names come behind
 
-stays : (a b : List Name) (n : ℕ) → IsFront a b → n < length a → text_at b n ≡ text_at a n
+stays : (a b : List Name) (n : ℕ) → BeginsWith b a → n < length a → text_at b n ≡ text_at a n
 stays a b n f l = ap (λ x. text_at x n) f.1 ∙ get_or-append a f.0 [] n l
 
-entry_stays : (a b : List Name) (r : Reference) (e : Entry ℕ) → IsFront a b → IsWithin (length a) e → entry_shown (text_at b) r e ≡ entry_shown (text_at a) r e
+entry_stays : (a b : List Name) (r : Reference) (e : Entry ℕ) → BeginsWith b a → IsWithin (length a) e → entry_shown (text_at b) r e ≡ entry_shown (text_at a) r e
 entry_stays a b r (entry.ToClass flags) f l = refl
 entry_stays a b r (entry.ToMember flags n) f l = ap (λ z. answer.ToMember z (record { name = r.key.name; descriptor = r.key.descriptor; flags = flags })) (stays a b n f l)
 entry_stays a b r (entry.ToPolymorphic flags n) f l = ap (λ z. answer.ToMember z (record { name = r.key.name; descriptor = polymorphic_descriptor; flags = flags })) (stays a b n f l)
@@ -78,7 +78,7 @@ entry_stays a b r entry.NotLoaded f l = refl
 entry_stays a b r (entry.Error e n) f l = ap (answer.Error e) (stays a b n f l)
 entry_stays a b r (entry.OwnError e) f l = refl
 
-pub within_more : (a b : List Name) (e : Entry ℕ) → IsFront a b → IsWithin (length a) e → IsWithin (length b) e
+pub within_more : (a b : List Name) (e : Entry ℕ) → BeginsWith b a → IsWithin (length a) e → IsWithin (length b) e
 within_more a b (entry.ToClass flags) f l = tt
 within_more a b (entry.ToMember flags n) f l = omega (arith, l, ap length f.1, length-append a f.0)
 within_more a b (entry.ToPolymorphic flags n) f l = omega (arith, l, ap length f.1, length-append a f.0)
@@ -94,7 +94,7 @@ AreNamed g texts (a ∷ as1) (b ∷ bs) = (IsWithin (length texts) a × ((r : Re
 AreNamed g texts [] (b ∷ bs) = ⊥
 AreNamed g texts (a ∷ as1) [] = ⊥
 
-pub named_push : (g : ℕ → Name) (a b : List Name) (as1 bs : List (Entry ℕ)) (e f : Entry ℕ) → IsFront a b → AreNamed g a as1 bs
+pub named_push : (g : ℕ → Name) (a b : List Name) (as1 bs : List (Entry ℕ)) (e f : Entry ℕ) → BeginsWith b a → AreNamed g a as1 bs
     → IsWithin (length b) e → ((r : Reference) → entry_shown (text_at b) r e ≡ entry_shown g r f) → AreNamed g b (as1 ++ e ∷ []) (bs ++ f ∷ [])
 named_push g a b [] [] e f front h l s = ((l, s), tt)
 named_push g a b [] (y ∷ bs) e f front h l s = absurd h

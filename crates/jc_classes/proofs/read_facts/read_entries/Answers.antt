@@ -11,7 +11,8 @@ use Rattle.jc_classes.specs.FactsOf.{interfaces_in, member_of, once, references_
 use Rattle.jc_classes.specs.inside.ConstantTexts.{texts_of}
 use Rattle.jc_classes.specs.inside.FactsShown.{text_at}
 use Rattle.jc_classes.specs.inside.Ranks.{AreBelow}
-use Rattle.jc_classes.proofs.texts.AskedTexts.{both, front_refl, so, with_front}
+use Rattle.jc_code.proofs.appended.Fronts.{begins_whole}
+use Rattle.jc_classes.proofs.texts.AskedTexts.{both, so, with_front}
 use Rattle.jc_classes.proofs.members.Numbered.{members_below, names_below, names_stay, order_of, shown_few}
 use Rattle.jc_classes.proofs.texts.Entries.{members_placed}
 use Rattle.jc_classes.proofs.read_facts.read_entries.Goals as goal
@@ -36,7 +37,7 @@ returns c =
     -- the orders are of the texts up to the methods
     let told = both interfaces (both fields methods) in
     let first = c.members-2.new.self.texts in
-    let shown = told.holds first (front_refl first) in
+    let shown = told.holds first (begins_whole first) in
     so (both name (both superclass (both interfaces (both fields (both methods references))))) (λ texts h. record {
       name = h.0 ∙ ap (λ k. text_at (texts_of k) c.own_name_index.result) of_texts ∙ c.own_name_index.ensures;
       superclass = h.1.0 ∙ ap (λ k. option_map (text_at (texts_of k)) c.name_index.result) of_name ∙ c.name_index.ensures ∙ ap (class_text_at class) c.super_class.ensures;
@@ -51,7 +52,7 @@ returns c =
 pub order-requires-clause-few : goal.order-requires-clause-few
 order-requires-clause-few c =
     let texts = c.members.new.self.texts in
-    let shown = c.in_ok-fields.ensures.holds texts (front_refl texts) in
+    let shown = c.in_ok-fields.ensures.holds texts (begins_whole texts) in
     omega (arith, shown_few texts c.in_ok-fields.fields.items (λ (m : PlacedMember). member_of c.interfaces.new.self.class m.member) c.fields.result.left shown, c.fields.ensures.few, c.fields.ensures.all, ap length c.deref.ensures.value)
 
 pub order-requires-clause-below : goal.order-requires-clause-below
@@ -63,7 +64,7 @@ order-requires-clause-below c =
 pub order-requires-2-clause-few : goal.order-requires-2-clause-few
 order-requires-2-clause-few c =
     let texts = c.members-2.new.self.texts in
-    let shown = c.in_ok-methods.ensures.holds texts (front_refl texts) in
+    let shown = c.in_ok-methods.ensures.holds texts (begins_whole texts) in
     omega (arith, shown_few texts c.in_ok-methods.methods.items (λ (m : PlacedMember). member_of c.members.new.self.class m.member) c.methods.result.left shown, c.methods.ensures.few, c.methods.ensures.all, ap length c.deref-2.ensures.value)
 
 pub order-requires-2-clause-below : goal.order-requires-2-clause-below

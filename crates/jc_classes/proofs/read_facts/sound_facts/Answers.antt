@@ -3,7 +3,7 @@ use Rattle.jc_classes.specs.MemberOrder.{IsOrder}
 use Rattle.std.specs.Prelude.{option_map}
 use Rattle.jc_classes.specs.FactsOf.{sound_facts}
 use Rattle.jc_classes.specs.inside.FactsShown.{member_shown, reference_shown, text_at}
-use Rattle.jc_classes.proofs.texts.AskedTexts.{front_refl}
+use Rattle.jc_code.proofs.appended.Fronts.{begins_whole}
 use Rattle.jc_classes.proofs.texts.Entries.{facts_eta}
 use Rattle.jc_classes.proofs.read_facts.sound_facts.Goals as goal
 
@@ -11,7 +11,7 @@ pub returns : goal.returns
 returns c =
     let class = c.args.class.now in
     let e = c.in_ok-entries.entries in
-    let h = c.in_ok-entries.ensures.holds _ (front_refl _) in
+    let h = c.in_ok-entries.ensures.holds _ (begins_whole _) in
     let t = c.in_ok-texts_shared.ensures.ok ∙ c.into_list.ensures in
     let r = c.in_ok-references.ensures.ok in
     let f = c.in_ok-faults.ensures in
@@ -32,7 +32,7 @@ returns c =
 pub invariant_of-result : goal.invariant_of-result
 invariant_of-result c =
     let e = c.in_ok-entries.entries in
-    let h = c.in_ok-entries.ensures.holds _ (front_refl _) in
+    let h = c.in_ok-entries.ensures.holds _ (begins_whole _) in
     let t = sym (c.in_ok-texts_shared.ensures.ok ∙ c.into_list.ensures) in
     record {
       fields = subst (λ ts. IsOrder (map (member_shown ts) e.fields.items) e.field_order.items) t h.field_order;

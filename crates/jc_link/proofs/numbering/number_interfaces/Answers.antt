@@ -16,7 +16,7 @@ loop-number-preserved c =
     let names = c.args.facts.now.interfaces in
     let at = c.loop-number.number in
     let less : at < length names = omega (arith, c.loop-number-test.true, c.interface_count-number-end.ensures) in
-    let step = subst (λ z. AddsNumbers b c.loop-number.direct.items d c.number_into.new.list.items (z ∷ [])) c.interface_name-name.ensures c.in_ok-number_into.ensures in
+    let step = subst (λ z. AddsNumbers b c.loop-number.direct.items d c.number_into.new.list.items (z ∷ [])) c.interface_name-name.ensures c.in_ok-number_into.ensures.adds in
     subst (AddsNumbers a direct d c.number_into.new.list.items) (sym (take_more names at [] less))
     (adds_more a b d direct c.loop-number.direct.items c.number_into.new.list.items (take at names) (name_at names at ∷ []) c.loop-number.invariant step)
 
