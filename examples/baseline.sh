@@ -1,26 +1,34 @@
 #!/usr/bin/env bash
 # Compares what a tree of class files provides, what it requires and what is wrong in it with a baseline.
 #
-#     baseline.sh BASELINE DIR [OPTION]...
-#     baseline.sh --write BASELINE DIR [OPTION]...
+#     baseline.sh [--errors-only] BASELINE DIR [OPTION]...
+#     baseline.sh --write [--errors-only] BASELINE DIR [OPTION]...
 #
-# BASELINE is a folder, under version control say, with the files provided.txt, required.txt and errors.txt; --write
-# writes them, and without it they are compared and what differs is printed. OPTION is one of `jclink check`, as
-# --outside=org/, or --only=PREFIX, which only the errors go by. Errors are kept once each, without the indexes of
-# constants, the numbers of methods and the places, which change with each build.
+# BASELINE is a folder, for example under version control, with the files provided.txt, required.txt and errors.txt.
+# --write writes them. Without it they are compared, and the differences are printed. With --errors-only the only file is
+# errors.txt, and the others are neither read nor written. OPTION is an option of `jclink check`, for example
+# --outside=org/ or --only=PREFIX. --only applies to errors.txt only.
 #
-# Status 0: written, or as the baseline. 1: something differs, or a file of the baseline is missing. 2 to 4 and 70: as
-# jclink ended; then nothing is written. 3 also where a file can't be written. The environment's JCLINK may name the
-# program.
+# errors.txt has the lines of `jclink check --errors` without the parts that change with each build: the indexes of
+# constants, the numbers of methods, offsets and places. Lines that are then equal are one line, which begins with their
+# number.
+#
+# Status 0: written, or equal to the baseline. 1: something differs, or a file of the baseline is missing. 2: usage, or as
+# jclink ended. 3, 4 and 70: as jclink ended; then nothing is written. 3 also if a file cannot be written. The
+# environment's JCLINK may name the program.
 set -u -o pipefail
 export LC_ALL=C
 jclink=${JCLINK:-$(dirname "$(readlink -f "$0")")/../jclink}
 
-write=
-if [ "${1-}" = --write ]; then
-  write=yes
+write='' files=(provided.txt required.txt errors.txt)
+while true; do
+  case ${1-} in
+    --write) write=yes ;;
+    --errors-only) files=(errors.txt) ;;
+    *) break ;;
+  esac
   shift
-fi
+done
 if [ $# -lt 2 ]; then
   sed -n '4,5s/^#  *//p' "$0" >&2
   exit 2
@@ -39,26 +47,33 @@ for option in "$@"; do
   esac
 done
 
-# Runs jclink into a file, and ends as it does where it made no report.
+# Runs jclink into a file. Ends as jclink does if it makes no report.
 check() {
   local status=0
   "$jclink" check "${@:2}" >"$new/$1" || status=$?
   [ "$status" -le 1 ] || exit "$status"
 }
 
-check report "${outside[@]}" -- "$tree"
+# Removes from lines of `check --errors` what changes with each build.
+normalize() {
+  sed -e 's/: #[0-9]* /: /' -e 's/: link [0-9]* [0-9]* /: link /' -e 's/: \(code S[0-9]*\) .*/: \1/' \
+    -e 's/: \(format F[0-9]*\) .*/: \1/' -e 's/\(: unreadable [0-9] [A-Z][A-Za-z]*\)([0-9]*)$/\1/'
+}
+
 check lines --errors "${outside[@]}" "${only[@]}" -- "$tree"
-sed -n '/^\[provided\]$/,/^\[required\]$/{/^\[/!p}' "$new/report" >"$new/provided.txt"
-sed -n '/^\[required\]$/,${/^\[/!p}' "$new/report" >"$new/required.txt"
-sed -e 's/: #[0-9]* /: /; s/: link [0-9]* [0-9]* /: link /' -e 's/: \(code S[0-9]*\) .*/: \1/; s/: \(format F[0-9]*\) .*/: \1/' \
-  "$new/lines" | sort -u >"$new/errors.txt"
+normalize <"$new/lines" | sort | uniq -c | sed 's/^ *//' >"$new/errors.txt"
+if [ "${#files[@]}" -gt 1 ]; then
+  check report "${outside[@]}" -- "$tree"
+  sed -n '/^\[provided\]$/,/^\[required\]$/{/^\[/!p}' "$new/report" >"$new/provided.txt"
+  sed -n '/^\[required\]$/,${/^\[/!p}' "$new/report" >"$new/required.txt"
+fi
 
 if [ -n "$write" ]; then
-  mkdir -p "$baseline" && cp "$new"/{provided,required,errors}.txt "$baseline" || exit 3
+  mkdir -p "$baseline" && cp "${files[@]/#/"$new/"}" "$baseline" || exit 3
   exit 0
 fi
 differs=0
-for file in provided.txt required.txt errors.txt; do
+for file in "${files[@]}"; do
   diff -u --label "$baseline/$file" --label "$tree" "$baseline/$file" "$new/$file" || differs=1
 done
 exit "$differs"
