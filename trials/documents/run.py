@@ -1,6 +1,6 @@
 #!/usr/bin/env python3
-"""Runs the commands that README.md, docs/USAGE.md and docs/REPORT.md show, and compares what they print with what
-stands there; and examples/hold.py, over a folder that changes.
+"""Runs the commands that README.md, docs/USAGE.md, docs/REPORT.md and docs/COMPATIBILITY.md show, and compares what they
+print with what the documents show; and runs examples/hold.py over a folder that changes.
 
 Usage: run.py [--netty FOLDER], once ./jclink is built; the environment's JCLINK may name another program. It needs a JDK.
 
@@ -27,7 +27,7 @@ sys.dont_write_bytecode = True
 sys.path.insert(0, str(pathlib.Path(__file__).resolve().parent.parent))
 import common
 
-DOCUMENTS = ("README.md", "docs/USAGE.md", "docs/REPORT.md")
+DOCUMENTS = ("README.md", "docs/USAGE.md", "docs/REPORT.md", "docs/COMPATIBILITY.md")
 # What a build makes.
 MADE = {"crates/jclink/out/jclink", "crates/jclink/out/MANIFEST"}
 DOWNLOAD = "apt-get download libnetty-java"
