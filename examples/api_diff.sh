@@ -13,12 +13,13 @@
 # What differs between the two texts is printed as a unified diff. A PROTECTED nested class is PUBLIC in its class file. The
 # flags that no client depends on are left out: SUPER, SYNCHRONIZED, NATIVE, STRICT, VOLATILE and TRANSIENT. So are generic
 # signatures, throws clauses and annotations. Of a jar, the class files of newer versions of Java are left out:
-# META-INF/versions and module-info.class. Standard error tells how many other class files are not read.
+# META-INF/versions and module-info.class. Standard error says how many other class files are not read.
 #
 # The text comes from what `list` prints in a session, so that jclink starts once and not for each class file.
 #
-# Status 0: the texts are equal. 1: they differ. 2: usage. 3: a version cannot be read, or has no class file of version 51
-# or 52. 3, 4 and 70: as jclink ended, too. The environment's JCLINK may name the program. It needs unzip for jars.
+# Status 0: the texts are equal. 1: they differ. 2: a usage error. 3: a version cannot be read, or has no class file of version
+# 51 or 52. 3, 4 and 70 are also the statuses of jclink if it makes no report. The environment's JCLINK may name the program.
+# Jars need unzip.
 set -u -o pipefail
 export LC_ALL=C
 jclink=${JCLINK:-$(dirname "$(readlink -f "$0")")/../jclink}
@@ -95,7 +96,7 @@ api() {
     END { end_class() }' "$1"
 }
 
-# Writes the API of a version, and tells how many of its class files are not read.
+# Writes the API of a version, and says how many of its class files are not read.
 write_api() {
   local status=0
   lay_out "$1" "$work/$2"

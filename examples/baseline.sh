@@ -13,9 +13,9 @@
 # constants, the numbers of methods, offsets and places. Lines that are then equal are one line, which begins with their
 # number.
 #
-# Status 0: written, or equal to the baseline. 1: something differs, or a file of the baseline is missing. 2: usage, or as
-# jclink ended. 3, 4 and 70: as jclink ended; then nothing is written. 3 also if a file cannot be written. The
-# environment's JCLINK may name the program.
+# Status 0: written, or equal to the baseline. 1: something differs, or a file of the baseline is missing. 2: a usage error.
+# 3: a file cannot be written. 2, 3, 4 and 70 are also the statuses of jclink if it makes no report; then nothing is written.
+# The environment's JCLINK may name the program.
 set -u -o pipefail
 export LC_ALL=C
 jclink=${JCLINK:-$(dirname "$(readlink -f "$0")")/../jclink}

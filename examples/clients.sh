@@ -11,12 +11,11 @@
 # Other libraries that the client needs can be in the folder of CLIENT. So can the API of Java 8 (api.py): without it, a
 # missing member of a class with a supertype in java/ or javax/ is no error.
 #
-# Of a jar or folder, META-INF/versions and module-info.class are left out. Standard error tells how many other class files
-# are not read.
+# META-INF/versions and module-info.class are left out. Standard error says how many other class files are not read.
 #
-# Status 0: no such errors. 1: they are printed. 2: usage, or as jclink ended. 3: a jar or folder cannot be read, or has no
-# class file of version 51 or 52. 3, 4 and 70: as jclink ended, too. The environment's JCLINK may name the program. It needs
-# unzip for jars.
+# Status 0: there are no such errors. 1: they are printed. 2: a usage error. 3: a jar or folder cannot be read, or has no class
+# file of version 51 or 52. 2, 3, 4 and 70 are also the statuses of jclink if it makes no report. The environment's JCLINK may
+# name the program. Jars need unzip.
 set -u -o pipefail
 export LC_ALL=C
 jclink=${JCLINK:-$(dirname "$(readlink -f "$0")")/../jclink}
@@ -53,7 +52,7 @@ check() {
   [ "$status" -le 1 ] || exit "$status"
 }
 
-# Fails if a report has no class of a version or of the client, whose paths begin with a digit. Tells how many of its class
+# Fails if a report has no class of a version or of the client, whose paths begin with a digit. Says how many of its class
 # files are not read.
 count() {
   sed -n "1,/^\[parts\]\$/{/^$2\//p}" "$work/$1" >"$work/files"

@@ -54,7 +54,7 @@ def run(script, *arguments, program=None):
     return done.returncode, done.stdout
 
 
-def tell(name, right, found):
+def passes(name, right, found):
     """Whether a run is right; prints the run if it is not."""
     if not right:
         print(f"{name}: status {found[0]}", *found[1].splitlines()[:20], sep="\n  ")
@@ -89,7 +89,7 @@ def try_api_diff(work, old, new):
         found = run("api_diff.sh", *versions)
         lines = found[1].splitlines(keepends=True)
         right = found[0] == 1 and lines[:2] == [f"--- {versions[0]}\n", f"+++ {versions[1]}\n"] and "".join(lines[3:]) == API_DIFF
-        yield tell("api_diff.sh", right, found)
+        yield passes("api_diff.sh", right, found)
     for name, status, arguments in (
         ("the same version", 0, (old, old)),
         ("one argument", 2, (old,)),
@@ -98,13 +98,13 @@ def try_api_diff(work, old, new):
         ("a corrupt jar", 3, (old, work / "corrupt.jar")),
     ):
         found = run("api_diff.sh", *arguments)
-        yield tell(f"api_diff.sh, {name}", found[0] == status and bool(found[1]) == (status != 0), found)
+        yield passes(f"api_diff.sh, {name}", found[0] == status and bool(found[1]) == (status != 0), found)
     found = run("api_diff.sh", old, old, program="/none")
-    yield tell("api_diff.sh without a program", found[0] > 3, found)
+    yield passes("api_diff.sh without a program", found[0] > 3, found)
     letters = compile_to(work / "letters", {"Größe": "public class Größe { public static final String T = \"€\\n\"; public int größe; }"}, "-encoding", "UTF-8")
     found = run("api_diff.sh", old, letters)
     lines = ("+class Gr\\u00f6\\u00dfe: PUBLIC extends java/lang/Object", '+field Gr\\u00f6\\u00dfe.T:Ljava/lang/String;: PUBLIC STATIC FINAL = "\\u20ac\\u000a"')
-    yield tell("api_diff.sh of other letters", found[0] == 1 and all(line in found[1].splitlines() for line in lines), found)
+    yield passes("api_diff.sh of other letters", found[0] == 1 and all(line in found[1].splitlines() for line in lines), found)
 
 
 def try_clients(work, old, new):
@@ -116,7 +116,7 @@ def try_clients(work, old, new):
     for arguments in ((old, new, client), (jar(old), jar(new), jar(client))):
         found = run("clients.sh", *arguments)
         classes = {re.match(r"[^.:]+", line)[0] for line in found[1].splitlines()}
-        yield tell("clients.sh", found[0] == 1 and classes == {"Main", "Main$Mine"}, found)
+        yield passes("clients.sh", found[0] == 1 and classes == {"Main", "Main$Mine"}, found)
     later = compile_to(work / "later", {"Later": "class Later {}"}, "--release", "11")
     for name, status, text, arguments in (
         ("the same version", 0, "", (old, old, client)),
@@ -129,23 +129,40 @@ def try_clients(work, old, new):
         ("a client of Java 11", 3, "no class file", (old, new, later)),
     ):
         found = run("clients.sh", *arguments)
-        yield tell(f"clients.sh, {name}", found[0] == status and text in found[1] and bool(found[1]) == bool(text), found)
+        yield passes(f"clients.sh, {name}", found[0] == status and text in found[1] and bool(found[1]) == bool(text), found)
     shutil.copy(later / "Later.class", client)
     found = run("clients.sh", old, old, client)
-    yield tell("clients.sh, a file of Java 11", found == (0, f"clients.sh: 1 class files of {client} are not read\n"), found)
+    yield passes("clients.sh, a file of Java 11", found == (0, f"clients.sh: 1 class files of {client} are not read\n"), found)
 
 
 def store(modifier, reads, more=""):
-    """A library's class whose field has a modifier, and a client that reads the field in each of some methods."""
+    """A library's class whose field has a modifier, and a client that reads the field in each of some methods and names Lost."""
     methods = "".join(f" int read{number}(Store store) {{ return store.size; }}" for number in range(reads))
-    return {"Store": f"public class Store {{ public {modifier} int size; }}", "App": f"class App {{ {more}{methods} }}"}
+    client = f"class App {{ {more}{methods} Object lost() {{ return new Lost(); }} }}"
+    return {"Store": f"public class Store {{ public {modifier} int size; }}", "App": client, "Lost": "class Lost {}"}
 
 
-def build(work, reads, more=""):
-    """A tree whose class App has an error for each read: it is compiled while the field is not static."""
+def faulty(place):
+    """Class files with a fault of the format and a fault of code, at places that grow with a number. The attribute of the first
+    has no name, and the method of the second reads a local variable that it does not have."""
+    code = bytes(place) + b"\x1a\xb1"
+    attribute = common.number(2, 5) + common.number(4, 12 + len(code)) + bytes(4) + common.number(4, len(code)) + code + bytes(4)
+    method = b"\0\x09\0\6\0\7\0\1" + attribute
+    texts = [common.utf8(text) for text in (b"Code", b"of", b"()V")]
+    yield "Format.class", common.class_file(b"Format", [common.utf8(b"a" * place)], attributes=[bytes(6)])
+    yield "Local.class", common.class_file(b"Local", texts, methods=[method])
+
+
+def build(work, reads, more="", place=1):
+    """A tree with errors of each kind. Its class App has one for each read: it is compiled while the field is not static."""
     tree = compile_to(work / "tree", store("", reads, more))
     compiled = compile_to(work / "static", store("static", 0))
     shutil.copy(compiled / "Store.class", tree)
+    (tree / "Lost.class").unlink()
+    for name, data in faulty(place):
+        (tree / name).write_bytes(data)
+    # A tag of a constant that no class file has.
+    (tree / "Tag.class").write_bytes(b"\xca\xfe\xba\xbe\0\0\0\x34\0\x05" + b"\x03\0\0\0\0" * place + b"\x63\0")
     return tree
 
 
@@ -158,55 +175,50 @@ def try_baseline(work):
     """Yields whether baseline.sh writes, finds nothing new in another build, and finds a new error and a second equal one."""
     kept, tree = work / "kept", build(work, 1)
     found = run("baseline.sh", "--write", kept, tree)
-    yield tell("baseline.sh --write", found == (0, "") and sorted(os.listdir(kept)) == ["errors.txt", "provided.txt", "required.txt"], found)
-    first = (kept / "errors.txt").read_text().splitlines()
-    yield tell("baseline.sh, errors.txt", len(first) == 1 and first[0].startswith("1 App"), (0, "\n".join(first)))
+    yield passes("baseline.sh --write", found == (0, "") and sorted(os.listdir(kept)) == ["errors.txt", "provided.txt", "required.txt"], found)
+    text = (kept / "errors.txt").read_text()
+    kinds = ("4 Incompatible", "1 NoClass Lost", "format F28", "code S22", "unreadable 4 Tag")
+    yield passes("baseline.sh, errors.txt", all(kind in text for kind in kinds) and not re.search(r"^(?!1 )", text.rstrip(), re.M), (0, text))
     found = run("baseline.sh", kept, tree)
-    yield tell("baseline.sh, unchanged", found == (0, ""), found)
-    # Other constants, offsets and numbers of methods.
-    build(work, 1, "static final float F = Float.parseFloat(\"1\"); static int more(int n) { return n + 70000; }")
+    yield passes("baseline.sh, unchanged", found == (0, ""), found)
+    build(work, 1, "static final float F = Float.parseFloat(\"1\"); static int more(int n) { return n + 70000; }", 2)
     found = run("baseline.sh", "--errors-only", kept, tree)
-    yield tell("baseline.sh, another build", found == (0, ""), found)
+    yield passes("baseline.sh, another build", found == (0, ""), found)
     build(work, 2)
     found = run("baseline.sh", "--errors-only", kept, tree)
-    right = found[0] == 1 and changes(found) == [f"-{first[0]}", f"+2{first[0][1:]}"]
-    yield tell("baseline.sh, a second equal error", right, found)
-    build(work, 1, "Object lost() { return new Lost(); } static class Lost {}")
-    (tree / "App$Lost.class").unlink()
+    equal = [line[1:] for line in text.splitlines() if "4 Incompatible" in line]
+    yield passes("baseline.sh, a second equal error", found[0] == 1 and changes(found) == [f"-1{equal[0]}", f"+2{equal[0]}"], found)
+    build(work, 1, "Object gone() { return new Gone(); } static class Gone {}")
+    (tree / "App$Gone.class").unlink()
     found = run("baseline.sh", "--errors-only", kept, tree)
     lines = changes(found)
-    right = found[0] == 1 and bool(lines) and all(line.startswith("+") and "1 NoClass App$Lost" in line for line in lines)
-    yield tell("baseline.sh, a new error", right, found)
+    right = found[0] == 1 and bool(lines) and all(line.startswith("+1 App") and "1 NoClass App$Gone" in line for line in lines)
+    yield passes("baseline.sh, a new error", right, found)
     found = run("baseline.sh", "--errors-only", kept, tree, "--only=Store")
-    yield tell("baseline.sh --only", found[0] == 1 and changes(found) == [f"-{first[0]}"], found)
+    yield passes("baseline.sh --only", found[0] == 1 and changes(found) == [f"-{line}" for line in text.splitlines()], found)
 
 
 def try_errors_only(work):
     """Yields whether --errors-only reads and writes errors.txt only, and the other statuses of baseline.sh."""
     kept, tree = work / "errors", build(work, 1)
     found = run("baseline.sh", "--errors-only", "--write", kept, tree)
-    yield tell("baseline.sh --errors-only --write", found == (0, "") and os.listdir(kept) == ["errors.txt"], found)
+    yield passes("baseline.sh --errors-only --write", found == (0, "") and os.listdir(kept) == ["errors.txt"], found)
     compiled = compile_to(work / "more", {"More": "public class More {}"})
     shutil.copy(compiled / "More.class", tree)
     found = run("baseline.sh", "--errors-only", kept, tree)
-    yield tell("baseline.sh --errors-only, another class", found == (0, ""), found)
+    yield passes("baseline.sh --errors-only, another class", found == (0, ""), found)
     found = run("baseline.sh", kept, tree)
-    yield tell("baseline.sh, missing files", found[0] == 1, found)
+    yield passes("baseline.sh, missing files", found[0] == 1, found)
     run("baseline.sh", "--write", kept, tree)
     (tree / "More.class").unlink()
     found = run("baseline.sh", kept, tree)
-    yield tell("baseline.sh, a class less", found[0] == 1 and "-class More" in changes(found), found)
+    yield passes("baseline.sh, a class less", found[0] == 1 and "-class More" in changes(found), found)
     for status, arguments in ((2, (kept,)), (2, ("--none", kept, tree)), (2, (kept, tree, "--none")), (3, (kept, work / "none"))):
         found = run("baseline.sh", *arguments)
-        yield tell(f"baseline.sh, status {status}", found[0] == status, found)
+        yield passes(f"baseline.sh, status {status}", found[0] == status, found)
     files = {path: path.read_text() for path in kept.iterdir()}
     found = run("baseline.sh", "--write", kept, work / "none")
-    yield tell("baseline.sh --write, status 3", found[0] == 3 and files == {path: path.read_text() for path in kept.iterdir()}, found)
-    (tree / "Cut.class").write_bytes(b"\xca\xfe\xba\xbe\0\0\0\x34\0\x05\x63\0")
-    run("baseline.sh", "--errors-only", "--write", kept, tree)
-    (tree / "Cut.class").write_bytes(b"\xca\xfe\xba\xbe\0\0\0\x34\0\x05\x03\0\0\0\0\x63\0")
-    found = run("baseline.sh", "--errors-only", kept, tree)
-    yield tell("baseline.sh, another place of a refusal", found == (0, "") and "unreadable" in (kept / "errors.txt").read_text(), found)
+    yield passes("baseline.sh --write, status 3", found[0] == 3 and files == {path: path.read_text() for path in kept.iterdir()}, found)
 
 
 def tries():
