@@ -40,7 +40,7 @@ fail() {
 lay_out() {
   mkdir "$2" || exit 3
   if [ -d "$1" ]; then
-    (cd "$1" && find . -name '*.class' -type f ! -path './META-INF/versions/*' ! -name module-info.class -print0 |
+    (cd -- "$1" && find . -name '*.class' -type f ! -path './META-INF/versions/*' ! -name module-info.class -print0 |
       tar -c --null -T - -f -) | tar -x -C "$2" -f - || fail "cannot read $1"
   else
     local status=0
@@ -61,7 +61,7 @@ requests() {
 # The lines of the API, from listings.
 api() {
   awk '
-    function flags(line, left) {
+    function flags(line) {
       sub(/.* 0x[0-9a-f]+/, "", line)
       gsub(/ (SUPER|SYNCHRONIZED|NATIVE|STRICT|VOLATILE|TRANSIENT)/, "", line)
       return line

@@ -36,7 +36,7 @@ fail() {
 lay_out() {
   mkdir -p "$2" || exit 3
   if [ -d "$1" ]; then
-    (cd "$1" && find . -name '*.class' -type f ! -path './META-INF/versions/*' ! -name module-info.class -print0 |
+    (cd -- "$1" && find . -name '*.class' -type f ! -path './META-INF/versions/*' ! -name module-info.class -print0 |
       tar -c --null -T - -f -) | tar -x -C "$2" -f - || fail "cannot read $1"
   else
     local status=0

@@ -8,9 +8,9 @@ version 17, and zip and unzip.
 Each pair of pairs.txt is a library in two versions and a client. javac compiles both versions, and the client with the
 old one. The class files of the client stay as they are. For each pair the trial sees
 
-- what java prints or throws where the client runs with each version;
+- what java prints or throws when the client runs with each version;
 - whether the [provided] sections of both versions differ;
-- which errors `jclink check --errors` prints of the client beside each version;
+- which errors `jclink check --errors` prints of the client beside each version, also with the API of Java 8 in the tree;
 - whether api_diff.sh finds a difference.
 
 With the old version the client runs to its end and has no errors. What the trial sees with the new version decides in
