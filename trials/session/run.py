@@ -50,6 +50,7 @@ def prefix_talk(given, lines_of):
         ("remove a", ["ok"]),
         ("add c", ["ok"]),
         ("report", lines_of(files)),
+        ("dependants org/Base", ["C"]),
         ("outside add org/", ["ok"]),
         ("outside add org/", ["refused 8 PrefixThere"]),
         ("report", lines_of(files, (*judge.STANDARD, b"org/"))),
@@ -76,6 +77,8 @@ def coprocess(folder):
     talk = [
         ("add a", ["ok"]),
         ("add a", ["refused 1 AlreadyThere"]),
+        ("dependants A", ["A"]),
+        ("dependants org/Base", ["none"]),
         ("report", lines_of({b"a": a})),
         ("replace a", ["ok"]),
         ("add b", ["ok"]),

@@ -1,7 +1,7 @@
 -- What a line asks for, from what the code holds.
 use Rattle.jc_input.specs.declared.command.Command.{Command as LentCommand}
 use Rattle.jc_input.specs.declared.command.Command.TheVariants as lent
-use Rattle.jc_input.specs.Lines.{Command, Add, Replace, Remove, AddPrefix, DropPrefix, Report, Part, Listing, End, Bad}
+use Rattle.jc_input.specs.Lines.{Command, Add, Replace, Remove, AddPrefix, DropPrefix, Report, Part, Listing, Dependants, End, Bad}
 
 -- a borrowed command, with its path, prefix or name as bytes
 abbrev pub command_lent : LentCommand → Command
@@ -13,5 +13,6 @@ command_lent (lent.DropPrefix prefix) = DropPrefix prefix.now
 command_lent lent.Report = Report
 command_lent (lent.Part name) = Part name.now
 command_lent (lent.List name) = Listing name.now
+command_lent (lent.Dependants name) = Dependants name.now
 command_lent lent.End = End
 command_lent lent.Bad = Bad

@@ -31,6 +31,7 @@ pub data Command : Type 0 where
   Report : Command
   Part : (name : List ℕ) → Command
   Listing : (name : List ℕ) → Command
+  Dependants : (name : List ℕ) → Command
   End : Command
   Bad : Command
 
@@ -49,5 +50,6 @@ command_of line =
     else (if same_bytes line (codes "report") then Report
     else (if begins_with_word (codes "part ") line then Part (drop 5 line)
     else (if begins_with_word (codes "list ") line then Listing (drop 5 line)
+    else (if begins_with_word (codes "dependants ") line then Dependants (drop 11 line)
     else (if same_bytes line (codes "end") then End
-    else Bad)))))))))
+    else Bad))))))))))

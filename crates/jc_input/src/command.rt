@@ -25,6 +25,8 @@ pub enum Command<'a> {
     Part(&'a [u8]),
     /// The listing of the file that the class of a name is taken from.
     List(&'a [u8]),
+    /// The names of the classes whose report depends on a name.
+    Dependants(&'a [u8]),
     /// The end of the session.
     End,
     /// Nothing that is known.
@@ -53,6 +55,8 @@ pub fn parse_line(line: &[u8]) -> Command<'_>
         Command::Part(name)
     } else if let Some(name) = after(line, b"list ") {
         Command::List(name)
+    } else if let Some(name) = after(line, b"dependants ") {
+        Command::Dependants(name)
     } else if line == b"end".as_slice() {
         Command::End
     } else {

@@ -1,1 +1,2 @@
+pub mod NameLines
 pub mod TextListed

@@ -12,7 +12,8 @@ use Rattle.jc_report.specs.Reports.{IsReport}
 use Rattle.jc_edits.specs.SaidPart.{SaysPart}
 use Rattle.jc_lines.specs.AnswerText.{refused_text, unread_text}
 use Rattle.jc_lines.specs.ListedText.{listed_text}
-use Rattle.jc_input.specs.Lines.{Command, Add, Replace, Remove, AddPrefix, DropPrefix, Report, Part, Listing, End, Bad, command_of}
+use Rattle.jc_lines.specs.SaidDependants.{SaysDependants}
+use Rattle.jc_input.specs.Lines.{Command, Add, Replace, Remove, AddPrefix, DropPrefix, Report, Part, Listing, Dependants, End, Bad, command_of}
 use Rattle.jc_input.specs.Sources.{SourceAnswers, next_answer}
 
 -- what one line is answered, and what is then
@@ -58,6 +59,7 @@ Replies h s (DropPrefix prefix) r = r ≡ edit_reply h s (OfPrefixes (DropsPrefi
 Replies h s Report r = (text : List ℕ) × SaysReport h text × (r ≡ Says text h s)
 Replies h s (Part name) r = (text : List ℕ) × SaysPart h.files h.prefixes name text × (r ≡ Says text h s)
 Replies h s (Listing name) r = r ≡ Lists (listed_text h.files name)
+Replies h s (Dependants name) r = (text : List ℕ) × SaysDependants h name text × (r ≡ Says text h s)
 Replies h s End r = r ≡ Ends
 Replies h s Bad r = r ≡ Says (codes "bad line\n") h s
 

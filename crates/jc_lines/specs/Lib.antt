@@ -2,6 +2,7 @@ pub mod AnswerText
 pub mod Answers
 pub mod ListedText
 pub mod Runs
+pub mod SaidDependants
 pub mod inside
 pub use Rattle.jc_base.specs.Bytes
 pub use Rattle.jc_base.specs.CodeUnits

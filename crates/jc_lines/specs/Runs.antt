@@ -13,7 +13,7 @@ use Rattle.jc_edits.specs.SessionState.{Contents, SessionState, contents_of}
 use Rattle.jc_input.specs.Changes.{Change, Adds, Replaces, Removes, AddsPrefix, DropsPrefix, OfFiles, OfPrefixes}
 use Rattle.jc_edits.specs.Edits.{judge_edit}
 use Rattle.jc_report.specs.FileRows.{winner}
-use Rattle.jc_input.specs.Lines.{Command, Add, Replace, Remove, AddPrefix, DropPrefix, Report, Part, Listing, End, Bad}
+use Rattle.jc_input.specs.Lines.{Command, Add, Replace, Remove, AddPrefix, DropPrefix, Report, Part, Listing, Dependants, End, Bad}
 use Rattle.jc_input.specs.Lines.{command_of, lines_of, whole_lines}
 use Rattle.jc_input.specs.Sources.{SourceAnswers, next_answer}
 use Rattle.jc_lines.specs.Answers.{Reply, Says, Lists, Ends, Lacks, Replies, Run, RunsTo, Ending, AtEnd, AtEof}
@@ -52,6 +52,7 @@ is_end (DropPrefix prefix) = false
 is_end Report = false
 is_end (Part name) = false
 is_end (Listing name) = false
+is_end (Dependants name) = false
 is_end End = true
 is_end Bad = false
 
@@ -108,6 +109,7 @@ LineMayLack h s (DropPrefix prefix) = judge_edit h (OfPrefixes (DropsPrefix pref
 LineMayLack h s Report = ⊥
 LineMayLack h s (Part name) = ⊥
 LineMayLack h s (Listing name) = IsSome (winner h.files name)
+LineMayLack h s (Dependants name) = ⊥
 LineMayLack h s End = ⊥
 LineMayLack h s Bad = ⊥
 

@@ -11,7 +11,7 @@ ghost use Rattle.jc_input.specs.LentCommands.{command_lent};
 ghost use Rattle.jc_lines.specs.inside.Replies.{AnswersLine, AnswersLineByAnswers, AnswersPlacing, AnswersPlacingByAnswers};
 ghost use Rattle.jc_lines.specs.inside.Replies.{IsEdited, LacksOnlyIf, PlacingMayLack, SaysEdit, SaysListing, placed, said_by};
 
-use crate::answer_text::{write_bad_line, write_edit_answer, write_unread};
+use crate::answer_text::{write_bad_line, write_edit_answer, write_names, write_unread};
 use crate::file_listing::list_winner;
 use jc_base::Output;
 use jc_edits::{Done, EditError, LentEdit, PrefixEdit, Session, write_part_of, write_report};
@@ -76,6 +76,7 @@ pub(crate) fn answer<S: Source, W: Output>(
         Command::Report => said(write_report(session.report(), out)),
         Command::Part(name) => said(write_part_of(session.report(), name, out)),
         Command::List(name) => answer_listing(alloc, session, name, out),
+        Command::Dependants(name) => said(write_names(out, session.dependants(name))),
         Command::Bad => said(write_bad_line(out)),
         Command::End => Ok(Next::Nothing),
     }

@@ -4,11 +4,13 @@ ghost use Rattle.std.specs.Prelude.{codes, OnOk, OnErr};
 ghost use Rattle.std.specs.Io.KnownBytes.{Appends};
 ghost use Rattle.jc_base.specs.Device.{CountsFault, WritesFront};
 ghost use Rattle.jc_text.specs.Sends.{Sends};
-ghost use Rattle.jc_lines.specs.AnswerText.{refused_text, unread_text};
+ghost use Rattle.jc_classes.specs.Names.{names_of};
+ghost use Rattle.jc_lines.specs.AnswerText.{names_text, refused_text, unread_text};
 ghost use Rattle.jc_lines.specs.inside.EditText.{edit_text};
 
 use jc_base::{DeviceFault, Output};
 use jc_edits::{Done, EditError};
+use jc_report::write_name;
 use jc_text::TextWriter;
 
 /// Writes what an edit is answered: `ok`, or why it is refused.
@@ -66,4 +68,27 @@ pub(crate) fn write_bad_line<W: Output>(out: &mut W) -> Result<(), DeviceFault>
     let mut text = TextWriter::new(out);
     text.text(b"bad line\n");
     text.finish()
+}
+
+/// Writes each name on its line, or `none` if there is none.
+pub(crate) fn write_names<W: Output>(out: &mut W, names: &[Vec<u8>]) -> Result<(), DeviceFault>
+    ensures ok { OnOk result (Appends (W.written out.old) (W.written out.new) (names_text (names_of names.now))) }
+    ensures front { OnErr result (WritesFront (W.written out.old) (W.written out.new) (names_text (names_of names.now))) }
+    ensures failures { CountsFault result (W.failures out.old) (W.failures out.new) }
+{
+    let mut text = TextWriter::new(out);
+    write_name_lines(&mut text, names);
+    text.finish()
+}
+
+fn write_name_lines<W: Output>(text: &mut TextWriter<'_, W>, names: &[Vec<u8>])
+    ensures { Sends W.written W.failures text.old text.new (names_text (names_of names.now)) }
+{
+    if names.is_empty() {
+        text.text(b"none\n");
+        return;
+    }
+    for name in names {
+        write_name(text, name.as_slice());
+    }
 }

@@ -14,9 +14,9 @@ use jc_input::{Ahead, Ended, Line, RunError, Source, parse_line, read_line};
 use std::alloc::Global;
 
 /// Answers the lines of an input one by one: `add PATH`, `replace PATH`, `remove PATH`,
-/// `outside add PREFIX`, `outside drop PREFIX`, `report`, `part NAME`, `list NAME` and `end`. A line's
-/// answer is written before more of the input is read, and nothing is read behind the end of the input.
-/// An edit is made before it is answered.
+/// `outside add PREFIX`, `outside drop PREFIX`, `report`, `part NAME`, `list NAME`,
+/// `dependants NAME` and `end`. A line's answer is written before more of the input is read, and
+/// nothing is read after the end of the input. An edit is made before it is answered.
 pub fn run<S: Source, R: Input, W: Output>(
     alloc: Global,
     session: &mut Session,

@@ -121,8 +121,8 @@ fn write_circular<'a, W: Output, I: Iterator<Item = LentClass<'a>> + Drop>(
     }
 }
 
-/// Writes a name and LF.
-fn write_name<W: Output>(text: &mut TextWriter<'_, W>, name: &[u8])
+/// Writes the name of a class and LF.
+pub fn write_name<W: Output>(text: &mut TextWriter<'_, W>, name: &[u8])
     ensures { Sends W.written W.failures text.old text.new (name_line name.now) }
 {
     text.shown(name);

@@ -2,15 +2,19 @@
 use Rattle.std.proofs.Common.{◌≡◌, ◌∙◌, ℕ, List, [], ◌∷◌, Option, Some, None, refl, sym, ap, subst}
 use Rattle.jc_classes.specs.Facts.{Facts}
 use Rattle.jc_classes.specs.Names.{Name}
+use Rattle.jc_classes.proofs.numbering.Rising.{contains_of, has_of}
 use Rattle.jc_classes.proofs.worlds.Parts.{part_one}
 use Rattle.jc_edits.specs.SessionState.{Contents}
 use Rattle.jc_report.specs.PartText.{part_text}
 use Rattle.jc_report.specs.ReportText.{report_text}
 use Rattle.jc_report.specs.Reports.{facts_at, world_of}
 use Rattle.jc_report.proofs.reports.OneReport.{report_one}
-use Rattle.jc_input.specs.Lines.{Command, Add, Replace, Remove, AddPrefix, DropPrefix, Report, Part, Listing, End, Bad, command_of}
+use Rattle.jc_report.proofs.rows.RowsAreOne.{sorted_names_one}
+use Rattle.jc_input.specs.Lines.{Command, Add, Replace, Remove, AddPrefix, DropPrefix, Report, Part, Listing, Dependants, End, Bad, command_of}
 use Rattle.jc_input.specs.Sources.{SourceAnswers}
 use Rattle.jc_edits.specs.SaidPart.{SaysPartBy}
+use Rattle.jc_lines.specs.AnswerText.{names_text}
+use Rattle.jc_lines.specs.SaidDependants.{SaysDependants}
 use Rattle.jc_lines.specs.Answers.{Reply, Says, Lists, Ends, Lacks, SaysReport, Replies, Run, RunsTo, AtEnd, WithoutMemory, after_text}
 use Rattle.jc_lines.specs.Answers.RunsTo.{at_eof, says, lists, ends, lacks}
 
@@ -25,6 +29,15 @@ part_texts h name None one other says_one says_other = says_one ∙ sym says_oth
 part_texts h name (Some facts) one other (p, is_p, says_p) (q, is_q, says_q) =
     says_p ∙ ap (part_text facts) (part_one (world_of h.files h.prefixes) name p q is_p is_q) ∙ sym says_q
 
+dependants_texts : (h : Contents) (name : Name) (one other : List ℕ) → SaysDependants h name one → SaysDependants h name other → one ≡ other
+dependants_texts h name one other (ns, are_n, says_n) (ms, are_m, says_m) =
+    says_n
+    ∙ ap names_text
+    (sorted_names_one ns ms are_n.rises are_m.rises
+    (λ n c. contains_of ms n (are_m.complete n (are_n.sound n (has_of ns n c))))
+    (λ n c. contains_of ns n (are_n.complete n (are_m.sound n (has_of ms n c)))))
+    ∙ sym says_m
+
 pub one_reply : (h : Contents) (s : SourceAnswers) (command : Command) (q r : Reply) → Replies h s command q → Replies h s command r → q ≡ r
 one_reply h s (Add path) q r a b = a ∙ sym b
 one_reply h s (Replace path) q r a b = a ∙ sym b
@@ -34,6 +47,7 @@ one_reply h s (DropPrefix prefix) q r a b = a ∙ sym b
 one_reply h s Report q r a b = a.2 ∙ ap (λ text. Says text h s) (report_texts h a.0 b.0 a.1 b.1) ∙ sym b.2
 one_reply h s (Part name) q r a b = a.2 ∙ ap (λ text. Says text h s) (part_texts h name (facts_at h.files name) a.0 b.0 a.1 b.1) ∙ sym b.2
 one_reply h s (Listing name) q r a b = a ∙ sym b
+one_reply h s (Dependants name) q r a b = a.2 ∙ ap (λ text. Says text h s) (dependants_texts h name a.0 b.0 a.1 b.1) ∙ sym b.2
 one_reply h s End q r a b = a ∙ sym b
 one_reply h s Bad q r a b = a ∙ sym b
 

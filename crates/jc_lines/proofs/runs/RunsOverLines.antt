@@ -8,7 +8,7 @@ use Rattle.jc_input.specs.declared.source.SourceError.TheVariants as sources
 use Rattle.jc_edits.specs.SessionState.{Contents}
 use Rattle.jc_input.specs.Changes.{Change, Adds, Replaces, Removes, AddsPrefix, DropsPrefix, EditChange, OfFiles, OfPrefixes}
 use Rattle.jc_edits.specs.Edits.{judge_edit}
-use Rattle.jc_input.specs.Lines.{Command, Add, Replace, Remove, AddPrefix, DropPrefix, Report, Part, Listing, End, Bad, command_of}
+use Rattle.jc_input.specs.Lines.{Command, Add, Replace, Remove, AddPrefix, DropPrefix, Report, Part, Listing, Dependants, End, Bad, command_of}
 use Rattle.jc_input.specs.Sources.{SourceAnswers, next_answer}
 use Rattle.jc_lines.specs.Answers.{Says, Lists, Ends, Lacks, judged_reply, told_reply, Replies, Run, RunsTo, AtEnd, AtEof, WithoutMemory, after_text}
 use Rattle.jc_lines.specs.Answers.RunsTo.{at_eof, says, lists, ends, lacks}
@@ -89,6 +89,7 @@ ends_by h s (DropPrefix prefix) owed = judged_not_ends h s (OfPrefixes (DropsPre
 ends_by h s Report owed = says_not_ends (sym owed.2)
 ends_by h s (Part name) owed = says_not_ends (sym owed.2)
 ends_by h s (Listing name) owed = lists_not_ends (sym owed)
+ends_by h s (Dependants name) owed = says_not_ends (sym owed.2)
 ends_by h s End owed = refl
 ends_by h s Bad owed = says_not_ends (sym owed)
 
@@ -101,6 +102,7 @@ says_goes_on h s (DropPrefix prefix) text g t owed = refl
 says_goes_on h s Report text g t owed = refl
 says_goes_on h s (Part name) text g t owed = refl
 says_goes_on h s (Listing name) text g t owed = refl
+says_goes_on h s (Dependants name) text g t owed = refl
 says_goes_on h s End text g t owed = says_not_ends owed
 says_goes_on h s Bad text g t owed = refl
 
@@ -113,6 +115,7 @@ lists_goes_on h s (DropPrefix prefix) text owed = refl
 lists_goes_on h s Report text owed = refl
 lists_goes_on h s (Part name) text owed = refl
 lists_goes_on h s (Listing name) text owed = refl
+lists_goes_on h s (Dependants name) text owed = refl
 lists_goes_on h s End text owed = lists_not_ends owed
 lists_goes_on h s Bad text owed = refl
 

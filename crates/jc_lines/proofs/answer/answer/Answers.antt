@@ -4,8 +4,11 @@ use Rattle.std.proofs.KnownBytes.{Keeps-refl}
 use Rattle.jc_report.specs.ReportText.{report_text}
 use Rattle.jc_lines.specs.declared.answer.Placing.TheVariants as placings
 use Rattle.jc_input.specs.Changes.{Removes, AddsPrefix, DropsPrefix, OfFiles, OfPrefixes}
-use Rattle.jc_input.specs.Lines.{Add, Replace, Remove, AddPrefix, DropPrefix, Report, Part, Bad}
+use Rattle.jc_input.specs.Lines.{Add, Replace, Remove, AddPrefix, DropPrefix, Report, Part, Dependants, Bad}
+use Rattle.jc_classes.specs.Names.{names_of}
+use Rattle.jc_lines.specs.AnswerText.{names_text}
 use Rattle.jc_lines.specs.ListedText.{listed_text}
+use Rattle.jc_lines.specs.SaidDependants.{SaysDependants}
 use Rattle.jc_input.specs.Sources.{next_answer}
 use Rattle.jc_edits.specs.SaidPart.{SaysPart}
 use Rattle.jc_edits.specs.SessionState.{contents_of}
@@ -164,6 +167,26 @@ returns-in-List-clause-gives g c s known =
 pub returns-in-List-clause-any : goal.returns-in-List-clause-any
 returns-in-List-clause-any g c =
     rw c.in-List.is ([], λ later. ((Lists (listed_text c.args.session.now.files c.in-List.name.now), refl, c.answer_listing.ensures.gives later), λ e. c.answer_listing.ensures.lacks e))
+
+pub returns-in-Dependants-clause-gives : goal.returns-in-Dependants-clause-gives
+returns-in-Dependants-clause-gives g c s known =
+    let h = contents_of c.args.session.now in
+    let name = c.in-Dependants.name.now in
+    let names = names_of c.dependants.result.now in
+    let says : SaysDependants h name (names_text names) = (names, c.dependants.ensures, refl) in
+    rw (c.in-Dependants.is, known)
+    (said_owed c.write_names.result c.said-in-Dependants.result h (Dependants name) (names_text names) (g.W.Output.written c.args.out.now) (g.W.Output.written c.write_names.new.out)
+    (λ t. (names_text names, says, refl)) c.said-in-Dependants.ensures c.write_names.ensures.ok c.write_names.ensures.front s)
+
+pub returns-in-Dependants-clause-any : goal.returns-in-Dependants-clause-any
+returns-in-Dependants-clause-any g c =
+    let h = contents_of c.args.session.now in
+    let name = c.in-Dependants.name.now in
+    let names = names_of c.dependants.result.now in
+    let says : SaysDependants h name (names_text names) = (names, c.dependants.ensures, refl) in
+    rw c.in-Dependants.is
+    (said_by_none c.write_names.result c.said-in-Dependants.result h (Dependants name) (names_text names) (g.W.Output.written c.args.out.now) (g.W.Output.written c.write_names.new.out)
+    (λ t. (names_text names, says, refl)) c.said-in-Dependants.ensures c.write_names.ensures.ok c.write_names.ensures.front)
 
 pub returns-in-Bad-clause-gives : goal.returns-in-Bad-clause-gives
 returns-in-Bad-clause-gives g c s known =
