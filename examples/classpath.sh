@@ -1,0 +1,127 @@
+#!/usr/bin/env bash
+# Prints the linkage errors of a class path.
+#
+#     classpath.sh [--java FILE] [--only PREFIX]... [--outside PREFIX]... [--keep DIR] CLASSPATH
+#
+# CLASSPATH is written as for `java -cp`: folders and jars, separated by colons, for example app/classes:lib/*:x.jar.
+# `lib/*` stands for the files of lib whose names end in .jar or .JAR. They are taken in the order of their names; the order
+# of a virtual machine is unspecified. An empty element is the working folder, but an empty CLASSPATH is a usage error. What the
+# manifest of a jar names in Class-Path follows the jar if it is there; what is not there is listed. Each entry counts once.
+#
+# --java FILE         resolves against the API of Java 8, which comes first: lib/ct.sym of a JDK of version 12 or later, rt.jar
+#                     of a JDK 8, or a folder of class files. Errors of its own classes are not printed. Without it the packages
+#                     of Java 8 are outside. If FILE has no sun/misc/Unsafe, such as ct.sym, sun/ and com/sun/ are outside.
+# --only PREFIX       prints only the errors of classes and of unreadable files whose names, or paths in their entries, begin
+#                     with PREFIX
+# --outside PREFIX    names that begin with PREFIX are outside too
+# --keep DIR          keeps the tree that is checked in DIR, which is empty or new. DIR/entries says which entry each numbered
+#                     folder is, DIR/outside has the outside prefixes.
+#
+# Each line is an error of `jclink check --errors` without the mark (unused). The path of an unreadable file is shown in its
+# entry, such as lib/x.jar!a/B.class. Standard error says how many class files there are. Of two files of one path the first is
+# read, and the others are shadowed. Class files below META-INF/versions/ and module-info.class do not count.
+#
+# Class files of other versions than 51 and 52 are skipped. They are counted for each entry, and their packages are outside.
+# A prefix never covers a class that is read. If 64 prefixes are too few, longer ones are replaced by what they have in common,
+# and what is left is named.
+#
+# A class has the name that is written in its file, wherever in its entry the file is. A virtual machine finds only a
+# file whose path is that name. It needs python3.
+#
+# Status 0: nothing is wrong. 1: a line was printed. 2: a usage error. 3: an entry is missing or damaged, no class file is
+# read, or the tree can't be written. 2, 3, 4 and 70: as jclink ended, too. The environment's JCLINK may name the program.
+set -u -o pipefail
+export LC_ALL=C
+here=$(dirname "$(readlink -f "$0")")
+jclink=${JCLINK:-$here/../jclink}
+
+usage() {
+  sed -n '4s/^#  *//p' "$0" >&2
+  exit 2
+}
+
+fail() {
+  echo "classpath.sh: $1" >&2
+  exit 3
+}
+
+java=() only=() outside=() keep=
+while [ $# -gt 0 ]; do
+  case $1 in
+    --java=* | --only=* | --outside=* | --keep=*) set -- "${1%%=*}" "${1#*=}" "${@:2}" ;;
+  esac
+  case $1 in
+    --java | --only | --outside | --keep) if [ -z "${2-}" ]; then usage; fi ;;&
+    --java) java=("--java=$2") ;;
+    --only) only+=("$2") ;;
+    --outside) outside+=("--outside=$2") ;;
+    --keep) keep=$2 ;;
+    --) shift && break ;;
+    -*) usage ;;
+    *) break ;;
+  esac
+  shift 2
+done
+if [ $# -ne 1 ] || [ -z "$1" ]; then usage; fi
+
+work=$(mktemp -d) || exit 3
+trap 'rm -rf "$work"' EXIT
+tree=$work/tree copy=()
+if [ -n "$keep" ]; then
+  tree=$keep copy=(--copy)
+fi
+mkdir -p -- "$tree" || exit 3
+[ -z "$(ls -A -- "$tree")" ] || fail "$keep is not empty"
+python3 "$here/entries.py" "${java[@]}" "${outside[@]}" "${copy[@]}" -- "$tree" "$1"
+status=$?
+if [ "$status" -ne 0 ]; then
+  find "$tree/" -mindepth 1 -delete
+  exit "$status"
+fi
+
+# Succeeds if the path of a file in its entry, as jclink prints it, begins with a prefix of --only.
+is_asked() {
+  local path prefix
+  printf -v path %b "$1"
+  for prefix in "${only[@]}"; do
+    [[ $path != "$prefix"* ]] || return 0
+  done
+  [ ${#only[@]} -eq 0 ]
+}
+
+# Succeeds if the class of this name is of the API that --java gives.
+is_of_java() {
+  [ ${#java[@]} -gt 0 ] && [ -e "$tree/$first/$1.class" ]
+}
+
+# Copies the lines that are errors of the class path and that code can meet, with paths as they were given.
+select_lines() {
+  local line path number
+  while IFS= read -r line; do
+    path=${line#*/} number=${line%%/*}
+    case $line in
+      *' (unused)') continue ;;
+      [0-9]*/*': unreadable '*)
+        [ ${#java[@]} -eq 0 ] || [ "$((10#$number))" -ne 0 ] || continue
+        ! is_asked "${path%: unreadable *}" || printf '%s\n' "${entries[10#$number]}$path" ;;
+      *)
+        # The name of a class ends before the first `:` or `.` of its line.
+        is_of_java "${line%%[.:]*}" || printf '%s\n' "$line" ;;
+    esac
+  done
+}
+
+mapfile -t entries <"$tree/entries"
+mapfile -t prefixes <"$tree/outside"
+folders=("$tree"/[0-9]*)
+first=${folders[0]##*/} options=("${prefixes[@]/#/--outside=}" "${only[@]/#/--only=}")
+if [ ${#only[@]} -gt 0 ]; then
+  # The path of an unreadable file begins with the number of its entry.
+  mapfile -t digits < <(printf '%s\n' "${folders[@]##*/}" | cut -c1 | sort -u)
+  options+=("${digits[@]/#/--only=}")
+fi
+"$jclink" check --errors "${options[@]}" -- "$tree" >"$work/lines" || status=$?
+[ "$status" -le 1 ] || exit "$status"
+select_lines <"$work/lines" >"$work/selected" || exit 3
+cat "$work/selected" || exit 3
+[ ! -s "$work/selected" ]
