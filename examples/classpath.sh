@@ -9,24 +9,26 @@
 # manifest of a jar names in Class-Path follows the jar if it is there; what is not there is listed. Each entry counts once.
 #
 # --java FILE         resolves against the API of Java 8, which comes first: lib/ct.sym of a JDK of version 12 or later, rt.jar
-#                     of a JDK 8, or a folder of class files. Errors of its own classes are not printed. Without it the packages
-#                     of Java 8 are outside. If FILE has no sun/misc/Unsafe, such as ct.sym, sun/ and com/sun/ are outside.
+#                     of a JDK 8, or a folder of class files. Errors of its own classes are not printed. Without --java the
+#                     packages of Java 8 are outside. If FILE has no sun/misc/Unsafe, as ct.sym has none, sun/ and com/sun/ are
+#                     outside.
 # --only PREFIX       prints only the errors of classes and of unreadable files whose names, or paths in their entries, begin
-#                     with PREFIX
+#                     with PREFIX; up to 54 times
 # --outside PREFIX    names that begin with PREFIX are outside too
 # --keep DIR          keeps the tree that is checked in DIR, which is empty or new. DIR/entries says which entry each numbered
 #                     folder is, DIR/outside has the outside prefixes.
 #
 # Each line is an error of `jclink check --errors` without the mark (unused). The path of an unreadable file is shown in its
-# entry, such as lib/x.jar!a/B.class. Standard error says how many class files there are. Of two files of one path the first is
-# read, and the others are shadowed. Class files below META-INF/versions/ and module-info.class do not count.
+# entry, for example lib/x.jar!a/B.class. Standard error says how many class files there are. Of several files of one path the
+# first is read, and the others are shadowed; within a jar the last is read. Class files below META-INF/versions/ and
+# module-info.class do not count.
 #
 # Class files of other versions than 51 and 52 are skipped. They are counted for each entry, and their packages are outside.
-# A prefix never covers a class that is read. If 64 prefixes are too few, longer ones are replaced by what they have in common,
-# and what is left is named.
+# No prefix covers a class that is read. If 64 prefixes are too few, those with the longest common prefixes are replaced by
+# these, and packages that are still left are named.
 #
-# A class has the name that is written in its file, wherever in its entry the file is. A virtual machine finds only a
-# file whose path is that name. It needs python3.
+# A class has the name that its file gives, wherever in its entry the file is. A virtual machine finds only files whose paths
+# are the names of their classes. The script needs python3.
 #
 # Status 0: nothing is wrong. 1: a line was printed. 2: a usage error. 3: an entry is missing or damaged, no class file is
 # read, or the tree can't be written. 2, 3, 4 and 70: as jclink ended, too. The environment's JCLINK may name the program.
@@ -94,13 +96,17 @@ is_of_java() {
   [ ${#java[@]} -gt 0 ] && [ -e "$tree/$first/$1.class" ]
 }
 
-# Copies the lines that are errors of the class path and that code can meet, with paths as they were given.
-select_lines() {
+# Copies the lines of references that code uses.
+select_used() {
+  sed '/ (unused)$/d'
+}
+
+# Copies the lines that are errors of the class path, with paths in their entries.
+select_own() {
   local line path number
   while IFS= read -r line; do
     path=${line#*/} number=${line%%/*}
     case $line in
-      *' (unused)') continue ;;
       [0-9]*/*': unreadable '*)
         [ ${#java[@]} -eq 0 ] || [ "$((10#$number))" -ne 0 ] || continue
         ! is_asked "${path%: unreadable *}" || printf '%s\n' "${entries[10#$number]}$path" ;;
@@ -122,6 +128,6 @@ if [ ${#only[@]} -gt 0 ]; then
 fi
 "$jclink" check --errors "${options[@]}" -- "$tree" >"$work/lines" || status=$?
 [ "$status" -le 1 ] || exit "$status"
-select_lines <"$work/lines" >"$work/selected" || exit 3
+select_used <"$work/lines" | select_own >"$work/selected" || exit 3
 cat "$work/selected" || exit 3
 [ ! -s "$work/selected" ]

@@ -23,14 +23,14 @@ import zipfile
 
 READ = {51, 52}
 MAX_PREFIXES, MAX_PREFIX, MAX_FILES, MAX_FILE = 64, 256, 65535, 16777216
-# The packages of Java 8: those of its API, by the index of its documentation and by ct.sym, and the JDK's own.
+# The packages of Java 8: those of its API, by its documentation and by what ct.sym has of it, and sun/, com/sun/, jdk/.
 JAVA = """java/ javax/accessibility/ javax/activation/ javax/activity/ javax/annotation/ javax/crypto/ javax/imageio/ javax/jws/
     javax/lang/model/ javax/management/ javax/naming/ javax/net/ javax/print/ javax/rmi/ javax/script/ javax/security/auth/
     javax/security/cert/ javax/security/sasl/ javax/smartcardio/ javax/sound/ javax/sql/ javax/swing/ javax/tools/
     javax/transaction/ javax/xml/ org/ietf/jgss/ org/omg/ org/w3c/dom/ org/xml/sax/ sun/ com/sun/ jdk/""".split()
 # The packages of Java 8 that its ct.sym lacks.
 NOT_IN_CT_SYM = ["sun/", "com/sun/", "jdk/net/", "javax/smartcardio/"]
-# The jars that a JDK 8 has beside rt.jar, and that it also takes classes from first.
+# The jars beside rt.jar in which a JDK 8 has other classes of its own.
 BESIDE_RT = ["jsse.jar", "jce.jar", "charsets.jar", "jfr.jar"]
 
 
@@ -278,10 +278,10 @@ def without_covered(prefixes):
 
 
 def prefixes_of(unread, read, room):
-    """At most `room` prefixes that cover classes which are not read and none that is read, and the classes that are left.
+    """At most `room` prefixes that cover classes which are not read and none that is read; and the classes that are left.
 
-    A package is covered by itself if no class below it is read, else by the names of its classes. If these are too many, those
-    that have the longest prefixes in common are covered by what they have in common."""
+    The prefix of a package covers its classes if no class below it is read, else each class has its own. If these are too many,
+    those with the longest common prefixes are replaced by these."""
     read, found = sorted(read), []
     for name in unread:
         package = name[:name.rfind("/") + 1]
@@ -327,7 +327,7 @@ def lay_out(options):
     width = max(3, len(str(len(entries))))
     if options.java is not None:
         outside = put_java(tree, options.java, "0" * width)
-        shown.append(options.java + "!")
+        shown.append(options.java)
     java = len(tree.read)
     for entry in entries:
         guarded(entry.name, lambda entry=entry: tree.put(entry, f"{len(shown):0{width}}"))
@@ -343,11 +343,12 @@ def lay_out(options):
 
 def escaped(path):
     """A path as jclink prints it."""
-    return "".join(chr(byte) if 0x20 <= byte <= 0x7e and byte != 0x5c else "\\\\" if byte == 0x5c else f"\\x{byte:02x}" for byte in os.fsencode(path))
+    plain = re.sub(rb"[^\x20-\x7e]", lambda found: b"\\x%02x" % found[0][0], os.fsencode(path).replace(b"\\", b"\\\\"))
+    return plain.decode()
 
 
 def outside_of(tree, given):
-    """The outside prefixes: those given, and those of the classes that are not read. One that covers nothing stands for none."""
+    """The outside prefixes: those given, and those of the classes that are not read; or one that covers nothing."""
     given = without_covered(given)
     if len(given) > MAX_PREFIXES:
         sys.exit(print(f"classpath.sh: more than {MAX_PREFIXES} outside prefixes", file=sys.stderr) or 2)

@@ -145,7 +145,8 @@ def try_wildcards(place):
     place.store("e/store.Jar", "old")
     place.jar("c/none.jar")
     place.jar("e/none.jar")
-    for class_path in ("classes:a/*", "b/*:classes", "classes:c/*", "classes:d/*", "classes:e/*", "new:a/*:classes", "a/*:new:classes"):
+    for class_path in ("classes:a/*", "b/*:classes", "classes:c/*", "classes:d/*", "classes:e/*", "new:a/*:classes",
+                       "a/*:new:classes"):
         yield place.agrees(class_path)
     place.store("f/1.jar", "new")
     place.store("f/2.jar", "old")
@@ -173,8 +174,8 @@ def try_names(place):
     yield is_so(place.run("", place="my app/classes"), 2, "", "[--java FILE]")
     yield is_so(place.run(":", place="my app/classes"), 1, r"\./app/Cut\.class: unreadable \d \w+\n")
     place.jar("my lib/cut.jar", ("app/Cut.class", b"no class file"))
-    line = r"my app/classes/app/Cut\.class: unreadable \d \w+\n"
-    yield is_so(place.run("my app/classes:my lib/cut.jar"), 1, line + r"my lib/cut\.jar!app/Cut\.class: unreadable 1 Magic\n", "1 shadowed")
+    lines = r"my app/classes/app/Cut\.class: unreadable \d \w+\nmy lib/cut\.jar!app/Cut\.class: unreadable 1 Magic\n"
+    yield is_so(place.run("my app/classes:my lib/cut.jar"), 1, lines, "1 shadowed")
     yield is_so(place.run("my lib/cut.jar:classes:old/"), 1, r"my lib/cut\.jar!app/Cut\.class: unreadable 1 Magic\n")
     place.path("links/app").mkdir(parents=True)
     place.path("links/app/Main.class").symlink_to(place.folder / "classes/app/Main.class")
@@ -207,8 +208,8 @@ def try_damaged(place):
 def try_escapes(place):
     """Entries of a jar that would leave the folder are refused, and nothing is written there."""
     data = place.bytes("classes/app/Main")
-    for path in ("../Out.class", "../../../../../../../../tmp/jclink-out/Out.class", "/tmp/jclink-out/Out.class", "a/../../Out.class",
-                 "a/../Out.class", "./Out.class", "a//Out.class"):
+    for path in ("../Out.class", "../../../../../../../../tmp/jclink-out/Out.class", "/tmp/jclink-out/Out.class",
+                 "a/../../Out.class", "a/../Out.class", "./Out.class", "a//Out.class"):
         place.jar("bad.jar", ("app/Main.class", data), (path, data))
         yield fails(place.run("--keep", "kept/tree", "old:bad.jar"), "bad.jar: ", path)
         yield not list(place.folder.rglob("Out.class")) and not pathlib.Path("/tmp/jclink-out").exists()
@@ -262,8 +263,8 @@ def try_prefixes(place):
         found, err = covered_by(place, names)
         left = {name for name in names if not name.startswith(tuple(found))}
         right = len(found) <= 64 and set(usual) <= set(found) and not any(name.startswith(tuple(found)) for name in read)
-        right &= left <= {"app/Mai", "lib/Othe", names[0] if len(names[0]) > 256 else ""} and bool(left) == ("no prefix is left" in err)
-        right &= all(name[:name.rfind("/") + 1] in err for name in left)
+        right &= left <= {"app/Mai", "lib/Othe", names[0] if len(names[0]) > 256 else ""}
+        right &= bool(left) == ("no prefix is left" in err) and all(name[:name.rfind("/") + 1] in err for name in left)
         if not right:
             print(names[:9], found, left, err)
         yield right
@@ -280,7 +281,8 @@ def try_prefixes(place):
 def try_empty(place):
     place.path("empty").mkdir()
     place.jar("none.jar", ("readme.txt", b""))
-    multi = [("META-INF/versions/9/lib/Store.class", place.bytes("old/lib/Store", 53)), ("module-info.class", place.bytes("old/lib/Store", 53))]
+    of_9 = place.bytes("old/lib/Store", 53)
+    multi = [("META-INF/versions/9/lib/Store.class", of_9), ("module-info.class", of_9)]
     place.jar("multi.jar", *multi)
     yield is_so(place.run("classes:old:empty:none.jar"), 0, "", "4 entries, 2 class files: 2 read")
     for class_path in ("empty", "none.jar", "empty:none.jar", "multi.jar"):
@@ -300,8 +302,8 @@ def try_manifests(place):
     place.store("dep/old.jar", "old")
     place.store("dep/a new.jar", "new")
     shutil.copytree(place.folder / "old", place.folder / "dep" / "tree")
-    for at, urls in enumerate(["old.jar", "a%20new.jar old.jar", "old.jar a%20new.jar", "missing.jar tree/", "tree", "../old/", "old.jar\r\n  a%20new.jar",
-                               "a%20new.j\n ar", f"{place.folder}/dep/old.jar"]):
+    for at, urls in enumerate(["old.jar", "a%20new.jar old.jar", "old.jar a%20new.jar", "missing.jar tree/", "tree", "../old/",
+                               "old.jar\r\n  a%20new.jar", "a%20new.j\n ar", f"{place.folder}/dep/old.jar"]):
         place.jar(f"dep/names{at}.jar", manifest=f"Class-Path: {urls}")
         yield place.agrees(f"classes:dep/names{at}.jar")
         yield place.agrees(f"dep/names{at}.jar:new:classes")
@@ -344,8 +346,8 @@ def try_java(place):
 
 def try_outside(place):
     """Without --java the packages of Java 8 are outside, and no others."""
-    names = ["java/lang/X", "javax/swing/X", "javax/xml/parsers/X", "org/w3c/dom/X", "org/xml/sax/X", "org/ietf/jgss/X", "org/omg/X",
-             "sun/misc/X", "com/sun/X", "jdk/X", "javax/crypto/X", "javax/security/auth/X"]
+    names = ["java/lang/X", "javax/swing/X", "javax/xml/parsers/X", "javax/crypto/X", "javax/security/auth/X", "org/w3c/dom/X",
+             "org/xml/sax/X", "org/ietf/jgss/X", "org/omg/X", "sun/misc/X", "com/sun/X", "jdk/X"]
     others = ["javax/servlet/X", "javax/inject/X", "javax/ejb/X", "org/w3c/X", "com/X", "org/X", "javax/security/jacc/X"]
     place.path("many/app").mkdir(parents=True)
     for at, name in enumerate(names + others):
@@ -365,14 +367,16 @@ def try_only(place):
     place.jar("cut.jar", ("app/Cut2.class", b"no class file"))
     both = "classes:user:other:bad:cut.jar"
     main, user = r"(app/Main.* NoClass lib/Store\n){2}", r"(app/User.* NoClass lib/Lost\n){2}"
-    app, lib, jar = (rf"{path}: unreadable 1 Magic\n" for path in (r"bad/app/Cut\.class", r"bad/lib/Cut\.class", r"cut\.jar!app/Cut2\.class"))
-    for words, out in (((), app + lib + jar + main + user), (("--only", "app/"), app + jar + main + user), (("--only=lib/",), lib),
-                       (("--only", "app/Main"), main), (("--only", "lib/", "--only", "app/U"), lib + user), (("--only", "none/"), ""),
-                       (("--only", "0"), ""), (("--only", "app/Cut."), app), (("--only", "app/", "--outside", "lib/"), app + jar)):
-        yield is_so(place.run(*words, both), 1 if out else 0, out)
+    paths = (r"bad/app/Cut\.class", r"bad/lib/Cut\.class", r"cut\.jar!app/Cut2\.class")
+    app, lib, jar = (rf"{path}: unreadable 1 Magic\n" for path in paths)
+    for words, out in (("", app + lib + jar + main + user), ("--only app/", app + jar + main + user), ("--only=lib/", lib),
+                       ("--only app/Main", main), ("--only lib/ --only app/U", lib + user), ("--only none/", ""),
+                       ("--only 0", ""), ("--only app/Cut.", app), ("--only app/ --outside lib/", app + jar)):
+        yield is_so(place.run(*words.split(), both), 1 if out else 0, out)
     # A reference that no code uses is not printed.
     place.path("outer/app/Outer$Inner.class").unlink()
-    unused = subprocess.run([common.JCLINK, "check", "--errors", "outer"], cwd=place.folder, capture_output=True, text=True, check=False)
+    command = [common.JCLINK, "check", "--errors", place.folder / "outer"]
+    unused = subprocess.run(command, capture_output=True, text=True, check=False)
     yield is_so((unused.returncode, unused.stdout, ""), 1, r"app/Outer.* \(unused\)\n")
     yield is_so(place.run("outer"), 0, "")
 
@@ -383,12 +387,14 @@ def try_keep(place):
     yield is_so(found, 0, "")
     yield place.path("kept/tree/entries").read_text() == "classes/\nlib/old.jar!\nnew/\n"
     report = subprocess.run([common.JCLINK, "check", "kept/tree"], cwd=place.folder, capture_output=True, text=True, check=False)
-    files = "000/app/Main.class: class app/Main\n001/lib/Store.class: class lib/Store\n002/lib/Store.class: shadowed lib/Store by 001/lib/Store.class\n"
-    yield report.stdout.startswith("[files]\n" + files + "[parts]\n")
+    files = "000/app/Main.class: class app/Main\n001/lib/Store.class: class lib/Store\n"
+    shadowed = "002/lib/Store.class: shadowed lib/Store by 001/lib/Store.class\n"
+    yield report.stdout.startswith("[files]\n" + files + shadowed + "[parts]\n")
     yield not place.path("kept/tree/000/app/Main.class").samefile(place.path("classes/app/Main.class"))
     yield fails(place.run("--keep", "kept/tree", "classes"), "kept/tree")
     place.path("empty").mkdir()
-    yield is_so(place.run("--keep", "empty", "new:classes"), 1, ".* NoMethod .*\n") and (place.folder / "empty/001/app/Main.class").is_file()
+    yield is_so(place.run("--keep", "empty", "new:classes"), 1, ".* NoMethod .*\n")
+    yield (place.folder / "empty/001/app/Main.class").is_file()
     temporary = place.path("temporary")
     temporary.mkdir()
     yield is_so(place.run("new:classes", TMPDIR=str(temporary)), 1, ".* NoMethod .*\n") and not list(temporary.iterdir())
@@ -398,8 +404,8 @@ def try_keep(place):
 
 def try_arguments(place):
     usage = "classpath.sh [--java FILE] [--only PREFIX]... [--outside PREFIX]... [--keep DIR] CLASSPATH\n"
-    for words in ((), ("--java",), ("--only", "a/"), ("--unknown", "classes"), ("classes", "old"), ("--only=", "classes"), ("--outside", "", "classes"),
-                  ("--keep=", "classes"), ("-x", "classes"), ("--",)):
+    for words in ((), ("--java",), ("--only", "a/"), ("--unknown", "classes"), ("classes", "old"), ("--only=", "classes"),
+                  ("--outside", "", "classes"), ("--keep=", "classes"), ("-x", "classes"), ("--",), ("",)):
         yield is_so(place.run(*words), 2, "", usage)
     yield is_so(place.run("--", "classes:old"), 0, "")
     yield is_so(place.run("--outside", "x" * 257, "classes:old"), 2, "", "jclink: usage")
