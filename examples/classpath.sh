@@ -91,9 +91,9 @@ is_asked() {
   [ ${#only[@]} -eq 0 ]
 }
 
-# Succeeds if the class of this name is of the API that --java gives.
+# Succeeds if the class of this name, or the class that it is nested in, is of the API that --java gives.
 is_of_java() {
-  [ ${#java[@]} -gt 0 ] && [ -e "$tree/$first/$1.class" ]
+  [ ${#java[@]} -gt 0 ] && [ -e "$tree/$first/${1%%\$*}.class" ]
 }
 
 # Copies the lines of references that code uses.

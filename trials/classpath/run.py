@@ -336,6 +336,11 @@ def try_java(place):
     yield is_so(place.run("--java", "jdk/rt.jar", "flip:unsafe"), 1, line + no_method)
     yield is_so(place.run("--java", api, "user:other"), 1, "(app/User.* NoClass lib/Lost\n)+")
     yield is_so(place.run("--java", "jdk/rt.jar", "user:other"), 0, "")
+    # A class that is nested in a class of Java counts as Java's own.
+    nested = [(f"{name}.class", place.bytes("user/app/User").replace(b"\0\x08app/User", bytes([0, len(name)]) + name.encode()))
+              for name in ("java/nio/file/Path$X", "java/nio/file/Road$X")]
+    place.jar("nested.jar", *nested)
+    yield is_so(place.run("--java", CT_SYM, "nested.jar:flip"), 1, line + r"(java/nio/file/Road\$X.* NoClass lib/Lost\n)+")
     # A class of the class path that Java has too is shadowed.
     place.jar("own.jar", ("java/nio/ByteBuffer.class", common.class_file(b"java/nio/ByteBuffer")))
     yield is_so(place.run("--java", CT_SYM, "own.jar:flip"), 1, line, "2 entries, 2 class files: 1 read, 1 shadowed, 0 skipped")
