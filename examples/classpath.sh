@@ -5,13 +5,15 @@
 #
 # CLASSPATH is written as for `java -cp`: folders and jars, separated by colons, for example app/classes:lib/*:x.jar.
 # `lib/*` stands for the files of lib whose names end in .jar or .JAR. They are taken in the order of their names; the order
-# of a virtual machine is unspecified. An empty element is the working folder, but an empty CLASSPATH is a usage error. What the
-# manifest of a jar names in Class-Path follows the jar if it is there; what is not there is listed. Each entry counts once.
+# of a virtual machine is unspecified. An empty element is the working folder, but an empty CLASSPATH is a usage error. The jars
+# and folders in the Class-Path of a jar's manifest follow the jar. Those that are not there are listed on standard error. Each
+# entry counts once.
 #
 # --java FILE         resolves against the API of Java 8, which comes first: lib/ct.sym of a JDK of version 12 or later, rt.jar
-#                     of a JDK 8, or a folder of class files. Errors of its own classes are not printed. Without --java the
-#                     packages of Java 8 are outside. If FILE has no sun/misc/Unsafe, as ct.sym has none, sun/ and com/sun/ are
-#                     outside.
+#                     of a JDK 8, or a folder of class files. Errors of its own classes are not printed. If FILE has no
+#                     sun/misc/Unsafe, as ct.sym has none, sun/ and com/sun/ are outside. Without --java all packages of Java 8
+#                     are outside: those of its API specification, and sun/, com/sun/ and jdk/. These prefixes hide some
+#                     libraries, such as com/sun/jna/ and the annotations of JSR 305 in javax/annotation/.
 # --only PREFIX       prints only the errors of classes and of unreadable files whose names, or paths in their entries, begin
 #                     with PREFIX; up to 54 times
 # --outside PREFIX    names that begin with PREFIX are outside too

@@ -15,6 +15,7 @@ import bisect
 import os
 import pathlib
 import re
+import resource
 import shutil
 import subprocess
 import sys
@@ -23,7 +24,8 @@ import zipfile
 
 READ = {51, 52}
 MAX_PREFIXES, MAX_PREFIX, MAX_FILES, MAX_FILE = 64, 256, 65535, 16777216
-# The packages of Java 8: those of its API, by its documentation and by what ct.sym has of it, and sun/, com/sun/, jdk/.
+# The packages of Java 8. Those of java/, javax/ and org/ are in the API specification of Java SE 8, and in lib/ct.sym for
+# --release 8. javax/smartcardio/, sun/, com/sun/ and jdk/ are the JDK's own.
 JAVA = """java/ javax/accessibility/ javax/activation/ javax/activity/ javax/annotation/ javax/crypto/ javax/imageio/ javax/jws/
     javax/lang/model/ javax/management/ javax/naming/ javax/net/ javax/print/ javax/rmi/ javax/script/ javax/security/auth/
     javax/security/cert/ javax/security/sasl/ javax/smartcardio/ javax/sound/ javax/sql/ javax/swing/ javax/tools/
@@ -44,9 +46,6 @@ class Folder:
     def __init__(self, shown):
         self.path, self.shown, self.name = shown, shown.rstrip("/") + "/", shown
         self.hidden = 0
-
-    def class_path(self):
-        return []
 
     def class_files(self):
         return self.below("", ())
@@ -117,7 +116,7 @@ class Jar:
         return file[0].file_size
 
     def put(self, file, to, _):
-        with open(to, "xb", buffering=0) as opened:
+        with open(to, "xb") as opened:
             opened.write(file[1])
 
 
@@ -372,8 +371,12 @@ def main():
     parser.add_argument("--copy", action="store_true")
     parser.add_argument("tree")
     parser.add_argument("class_path")
+    options = parser.parse_args()
+    # All jars are open at once.
+    _, most = resource.getrlimit(resource.RLIMIT_NOFILE)
+    resource.setrlimit(resource.RLIMIT_NOFILE, (most, most))
     try:
-        lay_out(parser.parse_args())
+        lay_out(options)
     except (Failure, OSError) as error:
         sys.exit(print(f"classpath.sh: {error}", file=sys.stderr) or 3)
 

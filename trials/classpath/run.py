@@ -350,7 +350,17 @@ def try_java(place):
 
 
 def try_outside(place):
-    """Without --java the packages of Java 8 are outside, and no others."""
+    """Without --java the packages of Java 8 are outside, as its ct.sym has them, and no others."""
+    packages = set()
+    for name in zipfile.ZipFile(CT_SYM).namelist():
+        releases, *path = name.split("/")
+        if "8" in releases and name.endswith(".sig"):
+            packages.add("/".join(path[1 if "." in path[0] else 0:-1]) + "/")
+    place.run("--keep", "kept", "classes:old")
+    prefixes = place.path("kept/outside").read_text().splitlines()
+    own = {"javax/smartcardio/", "sun/"}
+    yield all(package.startswith(tuple(prefixes)) for package in packages - {"org/"})
+    yield {prefix for prefix in prefixes if not any(package.startswith(prefix) for package in packages)} == own
     names = ["java/lang/X", "javax/swing/X", "javax/xml/parsers/X", "javax/crypto/X", "javax/security/auth/X", "org/w3c/dom/X",
              "org/xml/sax/X", "org/ietf/jgss/X", "org/omg/X", "sun/misc/X", "com/sun/X", "jdk/X"]
     others = ["javax/servlet/X", "javax/inject/X", "javax/ejb/X", "org/w3c/X", "com/X", "org/X", "javax/security/jacc/X"]
