@@ -8,6 +8,8 @@ use crate::row::without_comment;
 use crate::tokens::{Token, tokens_of};
 use anyhow::{Context, Result, bail};
 use jc_base::{MemOutput, Output};
+use jc_link::Answer;
+use jc_report::Row;
 use jc_session::{Done, Edit, EditError, Session};
 use jc_text::TextWriter;
 use std::alloc::{AllocError, Global};
@@ -98,6 +100,10 @@ fn call<W: Output>(
         "dependants" => write_dependants(out, session, argument),
         "holders" => write_holders(out, session, argument)?,
         "part" => write_part(out, session, argument),
+        "answer" => write_answer_at(out, session, argument, rest)?,
+        "provided" => write_provided(out, session, argument),
+        "required" => write_required(out, session, argument),
+        "report" => write_circular(out, session),
         "meter" => out.decimal(session.meter().made()),
         "outside" => return call_outside(alloc, session, argument, rest, out),
         _ => {
@@ -171,6 +177,85 @@ fn write_part<W: Output>(out: &mut TextWriter<'_, W>, session: &Session, name: &
     match session.part(name.as_bytes()) {
         Some(part) => out.decimal(part.answers().len()),
         None => out.text(b"none"),
+    }
+}
+
+/// Writes the answer of a class to the reference of a constant, by the constant's index.
+fn write_answer_at<W: Output>(
+    out: &mut TextWriter<'_, W>,
+    session: &Session,
+    name: &str,
+    words: &[Token<'_>],
+) -> Result<()> {
+    let [Token::Word(index)] = words else {
+        bail!("an answer without an index");
+    };
+    let index = index.parse::<u16>()?;
+    match session.report().class(name.as_bytes()) {
+        Some(class) => write_answer(out, class.answer(index)),
+        None => out.text(b"no class"),
+    }
+    Ok(())
+}
+
+fn write_answer<W: Output>(out: &mut TextWriter<'_, W>, answer: Option<Answer<'_>>) {
+    match answer {
+        Some(Answer::ToClass(class, _)) => write_after(out, b"To ", class),
+        Some(Answer::ToMember(class, member)) => {
+            write_after(out, b"To ", class);
+            write_after(out, b".", member.name);
+            write_after(out, b":", member.descriptor);
+        }
+        Some(Answer::Outside(name)) => write_after(out, b"Outside ", name),
+        Some(Answer::NotLoaded) => out.text(b"NotLoaded"),
+        Some(Answer::Error(error, name)) => {
+            out.text(b"error ");
+            out.decimal(error.code());
+            write_after(out, b" ", name);
+        }
+        None => out.text(b"none"),
+    }
+}
+
+/// Writes a name after a text.
+fn write_after<W: Output>(out: &mut TextWriter<'_, W>, text: &[u8], name: &[u8]) {
+    out.text(text);
+    out.path(name);
+}
+
+/// Writes the rows that a class provides, a blank before each.
+fn write_provided<W: Output>(out: &mut TextWriter<'_, W>, session: &Session, name: &str) {
+    out.text(b"rows");
+    if let Some(class) = session.report().class(name.as_bytes()) {
+        for row in class.provided() {
+            write_row(out, row);
+        }
+    }
+}
+
+/// Writes the rows that a class requires, a blank before each.
+fn write_required<W: Output>(out: &mut TextWriter<'_, W>, session: &Session, name: &str) {
+    out.text(b"rows");
+    if let Some(class) = session.report().class(name.as_bytes()) {
+        for row in class.required() {
+            write_row(out, row);
+        }
+    }
+}
+
+fn write_row<W: Output>(out: &mut TextWriter<'_, W>, row: Row<'_>) {
+    write_after(out, b" ", row.class);
+    if !row.name.is_empty() {
+        write_after(out, b".", row.name);
+        write_after(out, b":", row.descriptor);
+    }
+}
+
+/// Writes the names of the circular classes, a blank before each.
+fn write_circular<W: Output>(out: &mut TextWriter<'_, W>, session: &Session) {
+    out.text(b"names");
+    for name in session.report().circular() {
+        write_after(out, b" ", name);
     }
 }
 
