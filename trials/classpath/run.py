@@ -208,11 +208,12 @@ def try_damaged(place):
 def try_escapes(place):
     """Entries of a jar that would leave the folder are refused, and nothing is written there."""
     data = place.bytes("classes/app/Main")
-    for path in ("../Out.class", "../../../../../../../../tmp/jclink-out/Out.class", "/tmp/jclink-out/Out.class",
+    outside = place.folder.parent / f"{place.folder.name}-outside"
+    for path in ("../Out.class", "../" * 12 + f"{outside}/Out.class".lstrip("/"), f"{outside}/Out.class",
                  "a/../../Out.class", "a/../Out.class", "./Out.class", "a//Out.class"):
         place.jar("bad.jar", ("app/Main.class", data), (path, data))
         yield fails(place.run("--keep", "kept/tree", "old:bad.jar"), "bad.jar: ", path)
-        yield not list(place.folder.rglob("Out.class")) and not pathlib.Path("/tmp/jclink-out").exists()
+        yield not list(place.folder.rglob("Out.class")) and not outside.exists()
         yield not list((place.folder / "kept" / "tree").iterdir())
     place.jar("text.jar", ("../Out.txt", b""), ("lib/Store.class", place.bytes("old/lib/Store")))
     yield is_so(place.run("classes:text.jar"), 0, "")
