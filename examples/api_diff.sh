@@ -22,7 +22,9 @@
 # Jars need unzip.
 set -u -o pipefail
 export LC_ALL=C
-jclink=${JCLINK:-$(dirname "$(readlink -f "$0")")/../jclink}
+here=$(dirname "$(readlink -f "$0")")
+jclink=${JCLINK:-$here/../jclink}
+. "$here/class_files.sh" || exit 3
 
 if [ $# -ne 2 ]; then
   sed -n '4s/^#  *//p' "$0" >&2
@@ -34,19 +36,6 @@ trap 'rm -rf "$work"' EXIT
 fail() {
   echo "api_diff.sh: $1" >&2
   exit 3
-}
-
-# Puts the class files of a jar or a folder into a new folder. A jar without class files is status 11 of unzip.
-lay_out() {
-  mkdir "$2" || exit 3
-  if [ -d "$1" ]; then
-    (cd -- "$1" && find . -name '*.class' -type f ! -path './META-INF/versions/*' ! -name module-info.class -print0 |
-      tar -c --null -T - -f -) | tar -x -C "$2" -f - || fail "cannot read $1"
-  else
-    local status=0
-    unzip -q -o "$1" '*.class' -x 'META-INF/versions/*' module-info.class -d "$2" 2>/dev/null || status=$?
-    [ "$status" -eq 0 ] || [ "$status" -eq 11 ] || fail "cannot read $1"
-  fi
 }
 
 # The lines of a session that lists the classes of a report, one after another. A report escapes names and paths, and a
@@ -99,7 +88,7 @@ api() {
 # Writes the API of a version, and says how many of its class files are not read.
 write_api() {
   local status=0
-  lay_out "$1" "$work/$2"
+  lay_out "$1" "$work/$2" || fail "cannot read $1"
   "$jclink" check -- "$work/$2" >"$work/report" || status=$?
   [ "$status" -le 1 ] || exit "$status"
   requests "$work/report" "$work/$2" >"$work/requests"

@@ -7,11 +7,10 @@
 # BASELINE is a folder, for example under version control, with the files provided.txt, required.txt and errors.txt.
 # --write writes them. Without it they are compared, and the differences are printed. With --errors-only the only file is
 # errors.txt, and the others are neither read nor written. OPTION is an option of `jclink check`, for example
-# --outside=org/ or --only=PREFIX. --only applies to errors.txt only.
+# --outside=org/ or --only=PREFIX. --only and --used apply to errors.txt only.
 #
-# errors.txt has the lines of `jclink check --errors` without the parts that change with each build: the indexes of
-# constants, the numbers of methods, offsets and places. Lines that are then equal are one line, which begins with their
-# number.
+# errors.txt has the lines of `jclink check --errors` without the parts that change with each build: offsets and places.
+# Lines that are then equal are one line, which begins with their number.
 #
 # Status 0: written, or equal to the baseline. 1: something differs, or a file of the baseline is missing. 2: a usage error.
 # 3: a file cannot be written. 2, 3, 4 and 70 are also the statuses of jclink if it makes no report; then nothing is written.
@@ -39,10 +38,10 @@ shift 2
 new=$(mktemp -d) || exit 3
 trap 'rm -rf "$new"' EXIT
 
-outside=() only=()
+outside=() of_errors=()
 for option in "$@"; do
   case $option in
-    --only=*) only+=("$option") ;;
+    --only=* | --used) of_errors+=("$option") ;;
     *) outside+=("$option") ;;
   esac
 done
@@ -54,13 +53,15 @@ check() {
   [ "$status" -le 1 ] || exit "$status"
 }
 
-# Removes from lines of `check --errors` what changes with each build.
+# Removes from lines of `check --errors` what changes with each build: the offset of an instruction, the place of a fault, and
+# the place in the refusal of an unreadable file. Names may have blanks and colons, so a pattern also matches what surrounds
+# the number.
 normalize() {
-  sed -e 's/: #[0-9]* /: /' -e 's/: link [0-9]* [0-9]* /: link /' -e 's/: \(code S[0-9]*\) .*/: \1/' \
-    -e 's/: \(format F[0-9]*\) .*/: \1/' -e 's/\(: unreadable [0-9] [A-Z][A-Za-z]*\)([0-9]*)$/\1/'
+  sed -E -e 's/: [0-9]+: ([a-z]+ (class|field|i?method) .* -> error [1-8] )/: \1/' -e 's/(: (code S|format F)[0-9]+) [0-9]+$/\1/' \
+    -e 's/(: unreadable [1-8] [A-Z][A-Za-z]*)\([0-9]+\)$/\1/'
 }
 
-check lines --errors "${outside[@]}" "${only[@]}" -- "$tree"
+check lines --errors "${outside[@]}" "${of_errors[@]}" -- "$tree"
 normalize <"$new/lines" | sort | uniq -c | sed 's/^ *//' >"$new/errors.txt"
 if [ "${#files[@]}" -gt 1 ]; then
   check report "${outside[@]}" -- "$tree"

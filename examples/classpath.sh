@@ -20,10 +20,10 @@
 # --keep DIR          keeps the tree that is checked in DIR, which is empty or new. DIR/entries says which entry each numbered
 #                     folder is, DIR/outside has the outside prefixes.
 #
-# Each line is an error of `jclink check --errors` without the mark (unused). The path of an unreadable file is shown in its
-# entry, for example lib/x.jar!a/B.class. Standard error says how many class files there are. Of several files of one path the
-# first is read, and the others are shadowed; within a jar the last is read. Class files below META-INF/versions/ and
-# module-info.class do not count.
+# Each line is an error of `jclink check --errors --used`. The path of an unreadable file is shown in its entry, for example
+# lib/x.jar!a/B.class. Standard error says how many class files there are. Of several files of one path the first is read, and
+# the others are shadowed; within a jar the last is read. Class files below META-INF/versions/ and module-info.class do not
+# count.
 #
 # Class files of other versions than 51 and 52 are skipped. They are counted for each entry, and their packages are outside.
 # No prefix covers a class that is read. If 64 prefixes are too few, those with the longest common prefixes are replaced by
@@ -98,11 +98,6 @@ is_of_java() {
   [ ${#java[@]} -gt 0 ] && [ -e "$tree/$first/${1%%\$*}.class" ]
 }
 
-# Copies the lines of references that code uses.
-select_used() {
-  sed '/ (unused)$/d'
-}
-
 # Copies the lines that are errors of the class path, with paths in their entries.
 select_own() {
   local line path number
@@ -128,8 +123,8 @@ if [ ${#only[@]} -gt 0 ]; then
   mapfile -t digits < <(printf '%s\n' "${folders[@]##*/}" | cut -c1 | sort -u)
   options+=("${digits[@]/#/--only=}")
 fi
-"$jclink" check --errors "${options[@]}" -- "$tree" >"$work/lines" || status=$?
+"$jclink" check --errors --used "${options[@]}" -- "$tree" >"$work/lines" || status=$?
 [ "$status" -le 1 ] || exit "$status"
-select_used <"$work/lines" | select_own >"$work/selected" || exit 3
+select_own <"$work/lines" >"$work/selected" || exit 3
 cat "$work/selected" || exit 3
 [ ! -s "$work/selected" ]

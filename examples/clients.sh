@@ -4,8 +4,8 @@
 #     clients.sh OLD NEW CLIENT [OPTION]...
 #
 # OLD and NEW are the library's versions. Each of the three is a jar or a folder of class files. OPTION is an option of
-# `jclink check`, for example --outside=org/ or --only=PREFIX. The lines are those of `jclink check --errors` for the
-# client's classes. The library's own errors are left out. A class that both the library and the client give is the
+# `jclink check --errors`, for example --used, --outside=org/ or --only=PREFIX. The lines are those of `jclink check --errors`
+# for the client's classes. The library's own errors are left out. A class that both the library and the client give is the
 # library's.
 #
 # Other libraries that the client needs can be in the folder of CLIENT. So can the API of Java 8 (api.py): without it, a
@@ -18,7 +18,9 @@
 # name the program. Jars need unzip.
 set -u -o pipefail
 export LC_ALL=C
-jclink=${JCLINK:-$(dirname "$(readlink -f "$0")")/../jclink}
+here=$(dirname "$(readlink -f "$0")")
+jclink=${JCLINK:-$here/../jclink}
+. "$here/class_files.sh" || exit 3
 
 if [ $# -lt 3 ]; then
   sed -n '4s/^#  *//p' "$0" >&2
@@ -30,19 +32,6 @@ trap 'rm -rf "$work"' EXIT
 fail() {
   echo "clients.sh: $1" >&2
   exit 3
-}
-
-# Puts the class files of a jar or a folder into a new folder. A jar without class files is status 11 of unzip.
-lay_out() {
-  mkdir -p "$2" || exit 3
-  if [ -d "$1" ]; then
-    (cd -- "$1" && find . -name '*.class' -type f ! -path './META-INF/versions/*' ! -name module-info.class -print0 |
-      tar -c --null -T - -f -) | tar -x -C "$2" -f - || fail "cannot read $1"
-  else
-    local status=0
-    unzip -q -o "$1" '*.class' -x 'META-INF/versions/*' module-info.class -d "$2" 2>/dev/null || status=$?
-    [ "$status" -eq 0 ] || [ "$status" -eq 11 ] || fail "cannot read $1"
-  fi
 }
 
 # Runs jclink into a file. Ends as jclink does if it makes no report.
@@ -68,9 +57,9 @@ of_client() {
 }
 
 # The paths of the library are less than those of the client, so the library's classes win.
-lay_out "$1" "$work/old/0"
-lay_out "$2" "$work/new/0"
-lay_out "$3" "$work/old/1"
+lay_out "$1" "$work/old/0" || fail "cannot read $1"
+lay_out "$2" "$work/new/0" || fail "cannot read $2"
+lay_out "$3" "$work/old/1" || fail "cannot read $3"
 cp -al "$work/old/1" "$work/new/1" || exit 3
 check old.report -- "$work/old"
 check new.report -- "$work/new"

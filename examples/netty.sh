@@ -17,6 +17,7 @@ set -u -o pipefail
 export LC_ALL=C
 here=$(dirname "$(readlink -f "$0")")
 jclink=${JCLINK:-$here/../jclink}
+. "$here/class_files.sh" || exit 3
 
 if [ $# -ne 2 ]; then
   sed -n '4s/^#  *//p' "$0" >&2
@@ -31,17 +32,11 @@ fail() {
   exit 3
 }
 
-# The class files of a jar, without those of newer versions. A jar that has none is status 11 of unzip.
-unpack() {
-  local status=0
-  unzip -q -o "$1" '*.class' -x 'META-INF/versions/*' 'module-info.class' -d "$2" 2>/dev/null || status=$?
-  [ "$status" -eq 0 ] || [ "$status" -eq 11 ] || fail "cannot unpack $1"
-}
-
-# The class files of a folder likewise.
-copy() {
-  (cd "$1" && find . -name '*.class' -type f ! -path './META-INF/versions/*' ! -name module-info.class -print0 |
-    tar -c --null -T - -f -) | tar -x -C "$2" -f - || fail "cannot copy $1"
+# Copies the class files of a jar or a folder into a folder, or ends the script.
+put() {
+  local how=unpack
+  [ ! -d "$1" ] || how=copy
+  lay_out "$1" "$2" || fail "cannot $how $1"
 }
 
 count() {
@@ -50,29 +45,29 @@ count() {
 
 mkdir "$work/netty" "$work/tree" || exit 3
 if [ -d "$netty" ]; then
-  copy "$netty" "$work/netty"
+  put "$netty" "$work/netty"
   jars=$(find "$netty" -name 'netty*.jar' -type f | sort) || fail "cannot read $netty"
 else
   jars=$netty
 fi
 while IFS= read -r jar; do
-  [ -z "$jar" ] || unpack "$jar" "$work/netty"
+  [ -z "$jar" ] || put "$jar" "$work/netty"
 done <<<"$jars"
 [ -d "$work/netty/io/netty" ] || fail "no class of Netty in $netty"
 
 case $api in
   *.sym) python3 "$here/api.py" 8 "$api" "$work/tree" || fail "no API of Java 8 in $api" ;;
-  *) if [ -d "$api" ]; then copy "$api" "$work/tree"; else unpack "$api" "$work/tree"; fi ;;
+  *) put "$api" "$work/tree" ;;
 esac
 [ -f "$work/tree/java/lang/Object.class" ] || fail "no API of Java 8 in $api"
 echo "$(count "$work/netty") class files of Netty, $(count "$work/tree") of Java 8"
-copy "$work/netty" "$work/tree"
+put "$work/netty" "$work/tree"
 
 status=0
 "$jclink" check --errors --only io/netty/ "$work/tree" >"$work/errors" || status=$?
 [ "$status" -le 1 ] || exit "$status"
 # Of each line what is wrong, then the methods.
-sed -n -e 's/.*: unreadable \([1-7] [A-Z][a-zA-Z]*\).*/unreadable \1/p; t' -e 's/.*: \(format F[0-9]*\|code S[0-9]*\) .*/\1/p; t' \
+sed -n -e 's/.*: unreadable \([1-8] [A-Z][a-zA-Z]*\).*/unreadable \1/p; t' -e 's/.*: \(format F[0-9]*\|code S[0-9]*\) [0-9]*$/\1/p; t' \
   -e 's/.* error \([1-8] [A-Z][a-zA-Z]*\) .*/error \1/p' "$work/errors" | sort | uniq -c
-sed -n 's/.*: #[0-9]* method \(java\/nio\/.*\) -> error 7 NoMethod .*/\1/p' "$work/errors" | sort | uniq -c
+sed -n 's/.*: method \(java\/nio\/.*\) -> error 7 NoMethod .*/\1/p' "$work/errors" | sort | uniq -c
 exit "$status"

@@ -21,6 +21,8 @@ links, reader = common.load("link/judge.py"), common.load("parse/reader.py")
 STANDARD = (b"java/", b"javax/")
 CLASS, FIELD, METHOD = 7, 9, 10
 MISSING = ("NoClass", "NoField", "NoMethod")
+MNEMONICS = {178: "getstatic", 179: "putstatic", 180: "getfield", 181: "putfield", 182: "invokevirtual", 183: "invokespecial",
+             184: "invokestatic", 185: "invokeinterface", 187: "new"}
 
 
 def path_text(path):
@@ -69,10 +71,32 @@ class Report:
         for _, tag, text, key in self.loaded[name].references if name in self.loaded else ():
             yield (text, tag, key or ()), self.world.resolve(name, tag, text, key)
 
-    def mark(self, name, line):
-        """What stands behind a line that begins with the index of a reference."""
-        used = self.loaded[name].used
-        return "" if int(line.removeprefix("  #").split(" ", 1)[0]) in used else " (unused)"
+    def method(self, name, number):
+        """A method by its class, its name and its descriptor."""
+        return f"{links.shown(name)}{links.member(self.world.given[name].methods[number][:2])}"
+
+    def instruction(self, name, number, offset):
+        """The mnemonic and the reference of the instruction at an offset of a method."""
+        record = self.world.given[name]
+        opcode, index = next(use[2:] for use in record.uses if use[:2] == (number, offset))
+        reference = next(one[1:] for one in record.references if one[0] == index)
+        return f"{MNEMONICS[opcode]} {row(reference[1], reference[0], reference[2])}"
+
+    def errors_of(self, name, line):
+        """The line of `--errors` for a line of the class's part, and whether it is marked."""
+        kind, *words = line.removeprefix("  ").split(" ")
+        if kind == "code":
+            return f"{self.method(name, int(words[1]))}: code {words[0]} {words[2]}", False
+        if kind == "link":
+            number, offset = int(words[0]), int(words[1])
+            return f"{self.method(name, number)}: {offset}: {self.instruction(name, number, offset)} -> {' '.join(words[2:])}", False
+        if not kind.startswith("#"):
+            return f"{links.shown(name)}: {line.removeprefix('  ')}", False
+        record, index = self.loaded[name], int(kind[1:])
+        first = record.first.get(index)
+        is_marked = first is None and index not in record.used
+        where = links.shown(name) if first is None else self.method(name, first)
+        return f"{where}: {' '.join(words)}{' (unused)' if is_marked else ''}", is_marked
 
     def described(self):
         """How many lines of `--errors` lack the mark for a descriptor's sake alone."""
@@ -90,8 +114,9 @@ class Report:
                  "[provided]", *rows(self.provided()), "[required]", *rows(self.required())]
         return "".join(line + "\n" for line in lines)
 
-    def errors(self, only):
-        """What makes the report wrong, a line each: of paths and names that begin with one of the prefixes, or of all."""
+    def errors(self, only, used_only=False):
+        """What makes the report wrong, a line each: of paths and names that begin with one of the prefixes, or of all; with
+        `used_only` without the lines that are marked."""
         is_asked = lambda text: only is None or text.startswith(tuple(only))
         for path, answer in self.answers.items():
             if path not in self.names and is_asked(path):
@@ -104,8 +129,9 @@ class Report:
             for line in lines if is_asked(name) else ():
                 is_answer = line.startswith("  #")
                 if not is_answer or name in self.loaded and next(answers)[1][0] == "error":
-                    mark = self.mark(name, line) if is_answer else ""
-                    yield f"{links.shown(name)}: {line.removeprefix('  ')}{mark}"
+                    text, is_marked = self.errors_of(name, line)
+                    if not (used_only and is_marked):
+                        yield text
 
     def is_wrong(self, name):
         record = self.world.given[name]
@@ -146,16 +172,16 @@ def class_files(files):
     return {path: data for path, data in files.items() if data is not None and path.endswith(b".class")}
 
 
-def owed(files, prefixes, folder, only=False):
+def owed(files, prefixes, folder, only=False, used_only=False):
     """What `jclink check` owes for the files of a folder: output, status and standard error. With `only`, prefixes or None
-    for all, what `--errors` does."""
+    for all, what `--errors` does, and with `used_only` besides what `--used` does."""
     unread = unread_folder(files)
     if unread is not None:
         return "", 3, f"jclink: cannot read {path_text(unread) or folder}\n"
     made = Report(class_files(files), prefixes or STANDARD)
     if only is False:
         return made.text(), int(made.wrong()), ""
-    lines = list(made.errors(only))
+    lines = list(made.errors(only, used_only))
     return "".join(line + "\n" for line in lines), int(bool(lines)), ""
 
 

@@ -3,7 +3,8 @@
 
 Each world is written as a folder and `jclink check` is run on it; standard output, standard error and the status
 are compared, also where a name is no UTF-8 and there is no report, and of a folder in which something may not be
-read; then the same with --errors, and with --only and some prefixes. The last lines tell how often each sort of row was owed, and which sorts never were.
+read; then the same with --errors, with --used or without, and with --only and some prefixes. The last lines tell how
+often each sort of row was owed, and which sorts never were.
 
 Usage: run.py [--tree DIR]... [--keep FOLDER] [SEED [COUNT]], seed 1 and 2,000 worlds where none is given, once ./jclink
 is built; the environment's JCLINK may name another program. --tree compares a folder of class files too, and --keep
@@ -48,8 +49,8 @@ EXPECTED = [
     *(f"parts link {ERRORS[at]}" for at in (3, 4, 6, 7)),
     "circular", *(f"provided {kind}" for kind in ("class", "field", "method")),
     *(f"required {kind}" for kind in ("class", "field", "method", "imethod")), *ENDS.values(),
-    *(f"errors of {what} {end}" for what in ("all", "some") for end in ENDS.values()), "errors used", "errors unused",
-    "errors used by a descriptor alone",
+    *(f"errors of {what}{used} {end}" for what in ("all", "some") for used in ("", " used") for end in ENDS.values()),
+    "errors used by a method", "errors used", "errors unused", "errors of instructions", "errors used by a descriptor alone",
 ]
 
 
@@ -113,24 +114,26 @@ def compare(what, words, folder, wanted, told):
     return ours == wanted
 
 
-def compare_errors(what, words, folder, only, files, prefixes, told):
+def compare_errors(what, words, folder, only, used_only, files, prefixes, told):
     """The same of what makes the report wrong."""
-    ours, wanted = printed([b"--errors", *words], folder), judge.owed(files, prefixes, folder, only)
-    told[f"errors {'of all' if only is None else 'of some'} {ENDS[wanted[1]]}"] += 1
-    if only is None and wanted[1] == 1:
+    flags = [b"--errors", b"--used"] if used_only else [b"--errors"]
+    ours, wanted = printed([*flags, *words], folder), judge.owed(files, prefixes, folder, only, used_only)
+    told[f"errors {'of all' if only is None else 'of some'}{' used' if used_only else ''} {ENDS[wanted[1]]}"] += 1
+    if only is None and not used_only and wanted[1] == 1:
         told["errors used by a descriptor alone"] += judge.Report(judge.class_files(files), prefixes or judge.STANDARD).described()
     for line in wanted[0].splitlines():
-        if re.match(r"\S+: #", line):
-            told["errors unused" if line.endswith(" (unused)") else "errors used"] += 1
+        if found := re.match(r"\S+: (\d+: \w+ )?\w+ \S+ -> error", line):
+            told["errors of instructions" if found[1] else "errors unused" if line.endswith(" (unused)")
+                 else "errors used by a method" if ":" in line.split(": ")[0] else "errors used"] += 1
     if ours != wanted:
-        tell(f"{what} with --errors", ours, wanted)
+        tell(f"{what} with {b' '.join(flags).decode()}", ours, wanted)
     return ours == wanted
 
 
 def try_tree(tree, told):
     files = judge.files_below(tree)
     right = compare(tree, [], tree, judge.owed(files, None, tree), told)
-    return compare_errors(tree, [], tree, None, files, None, told) and right
+    return all([compare_errors(tree, [], tree, None, used_only, files, None, told) for used_only in (False, True)]) and right
 
 
 def try_world(seed, number, work, keep, told):
@@ -141,7 +144,8 @@ def try_world(seed, number, work, keep, told):
     right = compare(f"world {number}", words, folder, judge.owed(files, prefixes, folder), told)
     for only in (None, some_prefixes(rng, files)):
         asked = [*words, *words_of(rng, b"--only", only)]
-        right &= compare_errors(f"world {number}", asked, folder, only, files, prefixes, told)
+        for used_only in (False, True):
+            right &= compare_errors(f"world {number}", asked, folder, only, used_only, files, prefixes, told)
     if keep and not right:
         shutil.copytree(folder, pathlib.Path(keep) / str(number), symlinks=True)
         print("  kept; its words:", " ".join(map(shlex.quote, map(os.fsdecode, words))))

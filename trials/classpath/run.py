@@ -36,6 +36,8 @@ SOURCES = {
 # Which error of jclink is which of a virtual machine, of those that the cases have.
 THROWN = {"NoClass": "java.lang.NoClassDefFoundError", "NoMethod": "java.lang.NoSuchMethodError"}
 JAVA_11, JAVA_5 = 55, 49
+# The methods of app/Main and app/Flip, with which the lines of their errors begin.
+MAIN, FLIP = r"app/Main\.main:\(\[Ljava/lang/String;\)V: ", r"app/Flip\.of:\(Ljava/nio/ByteBuffer;\)V: "
 
 
 class Place:
@@ -91,9 +93,9 @@ class Place:
     def agrees(self, class_path, *words, place="."):
         """Whether the script prints one error, of lib/Store, if `java` throws it, and else nothing."""
         error, found = self.thrown(class_path, place), self.run(*words, class_path, place=place)
-        line = rf"app/Main.* method lib/Store\.size:\(\)I -> error \d {error} lib/Store\n"
+        line = rf"{MAIN}method lib/Store\.size:\(\)I -> error \d {error} lib/Store\n"
         if error == "NoClass":
-            line += r"app/Main.* class lib/Store -> error \d NoClass lib/Store\n"
+            line += rf"{MAIN}class lib/Store -> error \d NoClass lib/Store\n"
         return is_so(found, 1 if error else 0, line if error else "")
 
 
@@ -319,7 +321,7 @@ def try_manifests(place):
 
 def try_java(place):
     """The API of Java 8 comes first, from each kind of file; its own errors are not printed."""
-    line = r"app/Flip.* method java/nio/ByteBuffer\.flip:\(\)Ljava/nio/ByteBuffer; -> error 7 NoMethod java/nio/ByteBuffer\n"
+    line = FLIP + r"method java/nio/ByteBuffer\.flip:\(\)Ljava/nio/ByteBuffer; -> error 7 NoMethod java/nio/ByteBuffer\n"
     yield is_so(place.run("flip:unsafe"), 0, "")
     yield is_so(place.run("--java", CT_SYM, "flip:unsafe"), 1, line, "2 entries, 2 class files: 2 read")
     api = place.path("api")
@@ -382,7 +384,7 @@ def try_only(place):
     place.write("bad/lib/Cut.class", b"no class file")
     place.jar("cut.jar", ("app/Cut2.class", b"no class file"))
     both = "classes:user:other:bad:cut.jar"
-    main, user = r"(app/Main.* NoClass lib/Store\n){2}", r"(app/User.* NoClass lib/Lost\n){2}"
+    main, user = rf"({MAIN}.* NoClass lib/Store\n){{2}}", r"(app/User.* NoClass lib/Lost\n){2}"
     paths = (r"bad/app/Cut\.class", r"bad/lib/Cut\.class", r"cut\.jar!app/Cut2\.class")
     app, lib, jar = (rf"{path}: unreadable 1 Magic\n" for path in paths)
     for words, out in (("", app + lib + jar + main + user), ("--only app/", app + jar + main + user), ("--only=lib/", lib),

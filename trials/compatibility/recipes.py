@@ -135,9 +135,23 @@ def try_clients(work, old, new):
     yield passes("clients.sh, a file of Java 11", found == (0, f"clients.sh: 1 class files of {client} are not read\n"), found)
 
 
+# The errors of a tree that `build` makes, without offsets and places.
+ERRORS = """\
+1 App.lost:()Ljava/lang/Object;: class Lost -> error 1 NoClass Lost
+1 App.lost:()Ljava/lang/Object;: method Lost.<init>:()V -> error 1 NoClass Lost
+1 App.read0:(LStore;)I: getfield field Store.size:I -> error 4 Incompatible Store
+1 Format: error 2 Format Format
+1 Format: format F28
+1 Local.of:()V: code S22
+1 Tag.class: unreadable 4 Tag
+"""
+
+
 def store(modifier, reads, more=""):
-    """A library's class whose field has a modifier, and a client that reads the field in each of some methods and names Lost."""
-    methods = "".join(f" int read{number}(Store store) {{ return store.size; }}" for number in range(reads))
+    """A library's class whose field has a modifier, and a client that names Lost and reads the field: `reads` has a number for
+    each method that does so."""
+    sums = [" + ".join(["store.size"] * count) for count in reads]
+    methods = "".join(f" int read{number}(Store store) {{ return {text}; }}" for number, text in enumerate(sums))
     client = f"class App {{ {more}{methods} Object lost() {{ return new Lost(); }} }}"
     return {"Store": f"public class Store {{ public {modifier} int size; }}", "App": client, "Lost": "class Lost {}"}
 
@@ -154,9 +168,9 @@ def faulty(place):
 
 
 def build(work, reads, more="", place=1):
-    """A tree with errors of each kind. Its class App has one for each read: it is compiled while the field is not static."""
+    """A tree with errors of each kind. Its class App has one for each read, since it is compiled while the field is not static."""
     tree = compile_to(work / "tree", store("", reads, more))
-    compiled = compile_to(work / "static", store("static", 0))
+    compiled = compile_to(work / "static", store("static", []))
     shutil.copy(compiled / "Store.class", tree)
     (tree / "Lost.class").unlink()
     for name, data in faulty(place):
@@ -172,23 +186,26 @@ def changes(found):
 
 
 def try_baseline(work):
-    """Yields whether baseline.sh writes, finds nothing new in another build, and finds a new error and a second equal one."""
-    kept, tree = work / "kept", build(work, 1)
+    """Yields whether baseline.sh writes, finds nothing new in another build, and finds new errors and a second equal one."""
+    kept, tree = work / "kept", build(work, [1])
     found = run("baseline.sh", "--write", kept, tree)
     yield passes("baseline.sh --write", found == (0, "") and sorted(os.listdir(kept)) == ["errors.txt", "provided.txt", "required.txt"], found)
     text = (kept / "errors.txt").read_text()
-    kinds = ("4 Incompatible", "1 NoClass Lost", "format F28", "code S22", "unreadable 4 Tag")
-    yield passes("baseline.sh, errors.txt", all(kind in text for kind in kinds) and not re.search(r"^(?!1 )", text.rstrip(), re.M), (0, text))
+    yield passes("baseline.sh, errors.txt", text == ERRORS, (0, text))
     found = run("baseline.sh", kept, tree)
     yield passes("baseline.sh, unchanged", found == (0, ""), found)
-    build(work, 1, "static final float F = Float.parseFloat(\"1\"); static int more(int n) { return n + 70000; }", 2)
+    build(work, [1], "static final float F = Float.parseFloat(\"1\"); static int more(int n) { return n + 70000; }", 2)
     found = run("baseline.sh", "--errors-only", kept, tree)
     yield passes("baseline.sh, another build", found == (0, ""), found)
-    build(work, 2)
+    build(work, [2])
     found = run("baseline.sh", "--errors-only", kept, tree)
     equal = [line[1:] for line in text.splitlines() if "4 Incompatible" in line]
     yield passes("baseline.sh, a second equal error", found[0] == 1 and changes(found) == [f"-1{equal[0]}", f"+2{equal[0]}"], found)
-    build(work, 1, "Object gone() { return new Gone(); } static class Gone {}")
+    build(work, [1, 1])
+    found = run("baseline.sh", "--errors-only", kept, tree)
+    right = found[0] == 1 and changes(found) == ["+1" + equal[0].replace("read0", "read1")]
+    yield passes("baseline.sh, an error in another method", right, found)
+    build(work, [1], "Object gone() { return new Gone(); } static class Gone {}")
     (tree / "App$Gone.class").unlink()
     found = run("baseline.sh", "--errors-only", kept, tree)
     lines = changes(found)
@@ -196,11 +213,25 @@ def try_baseline(work):
     yield passes("baseline.sh, a new error", right, found)
     found = run("baseline.sh", "--errors-only", kept, tree, "--only=Store")
     yield passes("baseline.sh --only", found[0] == 1 and changes(found) == [f"-{line}" for line in text.splitlines()], found)
+    yield from try_used(work, kept)
+
+
+def try_used(work, kept):
+    """Yields whether baseline.sh with --used leaves out the error of a class that only an attribute names."""
+    tree = build(work, [1], "static class Gone {}")
+    (tree / "App$Gone.class").unlink()
+    found = run("baseline.sh", "--errors-only", kept, tree)
+    right = found[0] == 1 and changes(found) == ["+1 App: class App$Gone -> error 1 NoClass App$Gone (unused)"]
+    yield passes("baseline.sh, an unused reference", right, found)
+    found = run("baseline.sh", "--errors-only", kept, tree, "--used")
+    yield passes("baseline.sh --used", found == (0, ""), found)
+    found = run("baseline.sh", "--write", work / "used", tree, "--used")
+    yield passes("baseline.sh --write --used", found == (0, "") and (work / "used" / "errors.txt").read_text() == ERRORS, found)
 
 
 def try_errors_only(work):
     """Yields whether --errors-only reads and writes errors.txt only, and the other statuses of baseline.sh."""
-    kept, tree = work / "errors", build(work, 1)
+    kept, tree = work / "errors", build(work, [1])
     found = run("baseline.sh", "--errors-only", "--write", kept, tree)
     yield passes("baseline.sh --errors-only --write", found == (0, "") and os.listdir(kept) == ["errors.txt"], found)
     compiled = compile_to(work / "more", {"More": "public class More {}"})

@@ -1,14 +1,16 @@
 #!/usr/bin/env python3
-"""Runs the commands that README.md, docs/USAGE.md, docs/REPORT.md and docs/COMPATIBILITY.md show, and compares what they
-print with what the documents show; and runs examples/hold.py over a folder that changes.
+"""Runs the commands that README.md, docs/GUIDE.md, docs/USAGE.md, docs/REPORT.md and docs/COMPATIBILITY.md show, and
+compares what they print with what the documents show; and runs examples/hold.py over a folder that changes.
 
-Usage: run.py [--netty FOLDER], once ./jclink is built; the environment's JCLINK may name another program. It needs a JDK.
+Usage: run.py [--netty FOLDER] [--maven FOLDER], once ./jclink is built; the environment's JCLINK may name another program.
+It needs a JDK.
 
 A command is a line of an indented block that begins with `$`; what stands below it, up to the next command, is what it
 prints, and `..` stands for any lines. Of `cat FILE..` the lines are the files themselves, one line each where there are
 several, and the trial writes them. The blocks of a document are run in one folder, one after another, each from there.
-A block about Netty is run where FOLDER is given, the Debian package libnetty-java as `dpkg -x` unpacks it; nothing is
-downloaded.
+A block whose commands name netty or maven is run only if its FOLDER is given, to which a link of this name leads. For
+netty it is the Debian package libnetty-java as `dpkg -x` unpacks it. For maven it has the jars of the Debian package maven
+in boot/ and lib/, for example /usr/share/maven. Nothing is downloaded: commands that begin with `apt-get` are not run.
 
 A block that begins with `use` is code of a library: its lines stand in a source of a crate, in this order. Each file of
 the repository that a document names is there.
@@ -27,10 +29,12 @@ sys.dont_write_bytecode = True
 sys.path.insert(0, str(pathlib.Path(__file__).resolve().parent.parent))
 import common
 
-DOCUMENTS = ("README.md", "docs/USAGE.md", "docs/REPORT.md", "docs/COMPATIBILITY.md")
+DOCUMENTS = ("README.md", "docs/GUIDE.md", "docs/USAGE.md", "docs/REPORT.md", "docs/COMPATIBILITY.md")
 # What a build makes.
 MADE = {"crates/jclink/out/jclink", "crates/jclink/out/MANIFEST"}
-DOWNLOAD = "apt-get download libnetty-java"
+# The applications whose folders may be given.
+APPLICATIONS = ("netty", "maven")
+DOWNLOAD = "apt-get "
 HOLD = [sys.executable, common.TOP / "examples" / "hold.py", common.JCLINK]
 
 
@@ -127,13 +131,14 @@ def try_block(commands, folder):
         yield right
 
 
-def try_document(name, folder, netty):
+def try_document(name, folder, applications):
     for link, to in (("jclink", common.JCLINK), ("trials", common.TRIALS), ("examples", common.TOP / "examples")):
         (folder / link).symlink_to(to)
-    if netty:
-        (folder / "netty").symlink_to(netty.resolve())
+    for application, given in applications.items():
+        (folder / application).symlink_to(given.resolve())
     for commands in blocks((common.TOP / name).read_text()):
-        if netty or not any("netty" in command for command, _ in commands):
+        named = {name for name in APPLICATIONS if any(name in command for command, _ in commands)}
+        if named <= applications.keys():
             yield from try_block([command for command in commands if not command[0].startswith(DOWNLOAD)], folder)
 
 
@@ -186,13 +191,15 @@ def try_hold(folder):
 
 def main():
     parser = argparse.ArgumentParser()
-    parser.add_argument("--netty", type=pathlib.Path)
-    netty, right = parser.parse_args().netty, []
+    for name in APPLICATIONS:
+        parser.add_argument(f"--{name}", type=pathlib.Path, metavar="FOLDER")
+    applications = {name: folder for name, folder in vars(parser.parse_args()).items() if folder}
+    right = []
     for path in sorted([*common.TOP.glob("*.md"), *common.TOP.glob("docs/*.md"), *common.TOP.glob("trials/*.md")]):
         right += try_text(path)
     for name in DOCUMENTS:
         with tempfile.TemporaryDirectory() as folder:
-            right += try_document(name, pathlib.Path(folder).resolve(), netty)
+            right += try_document(name, pathlib.Path(folder).resolve(), applications)
     with tempfile.TemporaryDirectory() as folder:
         right += try_hold(pathlib.Path(folder).resolve())
     print(f"{len(right)} commands, quotes and changes, {right.count(False)} differ")

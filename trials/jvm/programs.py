@@ -18,12 +18,13 @@ CLASS, FIELDREF, METHODREF, INTERFACE_METHODREF = links.CLASS, links.FIELDREF, l
 METHOD_HANDLE, METHOD_TYPE, INVOKE_DYNAMIC = links.METHOD_HANDLE, links.METHOD_TYPE, links.INVOKE_DYNAMIC
 NULL, POP, INVOKESTATIC = (1,), (87,), 184
 PUBLIC, STATIC, ABSTRACT = links.PUBLIC, links.STATIC, links.ABSTRACT
-USED, UNUSED = "used", "unused"
+# What uses a reference: a method, by its name and descriptor; something else; nothing.
+RUN, USED, UNUSED = "run:()V", "used", " (unused)"
 
 
 class Program(typing.NamedTuple):
     """Names of classes have no package here: `lines` has each line of `--errors` of the class that runs by what it refers
-    to, and whether it is used; `missed` is whether the virtual machine misses the deleted class."""
+    to, and what uses that; `missed` is whether the virtual machine misses the deleted class."""
     name: str
     source: str
     # Of a class O that is made here: its fields, its methods, constants that code need not name, and the code of `run`.
@@ -54,9 +55,9 @@ def java(name, members, lines, missed, beside="", runs="O", deleted="O$X", body=
     return Program(name, f"public class O {{ {members} {run} }} {beside}", (), lines, missed, runs, deleted)
 
 
-def of_x(mark, **more):
-    """The line of the class X, and those of its members, which are used."""
-    return {"class O$X": mark, **{f"method O$X.{member}": USED for member in more.get("members", ())}}
+def of_x(mark, members=()):
+    """The line of the class X, and those of its members, which the same uses."""
+    return {"class O$X": mark, **{f"method O$X.{member}": mark for member in members}}
 
 
 X = "static class X {}"
@@ -66,22 +67,27 @@ CALL = "try {{ java.lang.invoke.MethodHandle handle = null; {} }} catch (NullPoi
 # What any version may have: instructions that name the class, a call of a method handle, and what names it by attributes
 # and other descriptors alone.
 EITHER = [
-    java("an_object", X, of_x(USED, members=["<init>:()V"]), True, body="new X();"),
-    java("a_static_call", "static class X { static void m() {} }", of_x(USED, members=["m:()V"]), True, body="X.m();"),
-    java("a_class_literal", X, of_x(USED), True, body="Object it = X.class;"),
-    java("an_instanceof", X, of_x(USED), True, body='Object text = "s"; boolean is = text instanceof X;'),
-    java("a_cast", X, of_x(USED), True, body='try { Object text = "s"; X x = (X) text; } catch (ClassCastException none) {}'),
-    java("a_handler", "static class X extends RuntimeException {}", of_x(USED), True,
+    java("an_object", X, of_x(RUN, members=["<init>:()V"]), True, body="new X();"),
+    java("a_static_call", "static class X { static void m() {} }", of_x(RUN, members=["m:()V"]), True, body="X.m();"),
+    java("a_class_literal", X, of_x(RUN), True, body="Object it = X.class;"),
+    java("an_instanceof", X, of_x(RUN), True, body='Object text = "s"; boolean is = text instanceof X;'),
+    java("a_cast", X, of_x(RUN), True, body='try { Object text = "s"; X x = (X) text; } catch (ClassCastException none) {}'),
+    java("a_handler", "static class X extends RuntimeException {}", of_x(RUN), True,
          body="try { throw new IllegalStateException(); } catch (X x) {} catch (IllegalStateException x) {}"),
-    java("an_array", X, of_x(USED), True, body="Object all = new X[1];"),
-    java("an_array_of_arrays", X, {"class [[LO$X;": USED, **of_x(UNUSED)}, True, body="Object all = new X[1][1];"),
-    java("a_cast_to_an_array", X, {"class [LO$X;": USED, **of_x(UNUSED)}, True,
+    java("an_array", X, of_x(RUN), True, body="Object all = new X[1];"),
+    java("an_array_of_arrays", X, {"class [[LO$X;": RUN, **of_x(UNUSED)}, True, body="Object all = new X[1][1];"),
+    java("a_cast_to_an_array", X, {"class [LO$X;": RUN, **of_x(UNUSED)}, True,
          body='try { Object text = "s"; X[] all = (X[]) text; } catch (ClassCastException none) {}'),
     java("invoke_exact_of_a_parameter", X, of_x(USED), True, body=CALL.format("X x = null; handle.invokeExact(x);")),
     java("invoke_exact_of_a_result", X, of_x(USED), True, body=CALL.format("X x = (X) handle.invokeExact();")),
     java("invoke_exact_of_an_array", X, of_x(USED), True, body=CALL.format("X[][] x = null; handle.invokeExact(x);")),
     java("invoke", X, of_x(USED), True, body=CALL.format("X x = null; handle.invoke(1, x);")),
-    java("code_that_does_not_run", X + "static void other(Object it) { Object x = (X) it; }", of_x(USED), False),
+    java("code_that_does_not_run", X + "static void other(Object it) { Object x = (X) it; }", of_x("other:(Ljava/lang/Object;)V"), False),
+    java("a_method_before", X + "static void other() { new X(); }", of_x("other:()V", members=["<init>:()V"]), True, body="new X();"),
+    java("a_member_in_a_method_before", "static class X { static void m() {} } static void other() { X.m(); }",
+         of_x("other:()V", members=["m:()V"]), True, body="Object it = X.class;"),
+    java("a_handler_in_a_method_before", "static class X extends RuntimeException {} static void other() { try { other(); } catch (X x) {} }",
+         of_x("other:()V"), True, body="Object it = X.class;"),
     java("a_member_class", X, of_x(UNUSED), False),
     java("a_class_around", "", {"class P": UNUSED}, False, runs="P$O", deleted="P",
          beside="class P { public static class O { public static void run() {} } }"),
@@ -108,7 +114,7 @@ EIGHT = [
     java("lambda_of_a_variable", X + TAKE, of_x(USED), True, body="X x = null; Runnable f = () -> take(x);"),
     java("lambda_of_a_variable_of_arrays", X + TAKE, of_x(USED), True, body="X[][] x = null; Runnable f = () -> take(x);"),
     java("lambda_of_an_interface", "interface X { void m(); }", of_x(USED), True, body="X x = () -> {};"),
-    java("lambda_with_a_marker", "interface X {}", of_x(USED), True, body="Runnable f = (Runnable & X) () -> {};"),
+    java("lambda_with_a_marker", "interface X {}", of_x(RUN), True, body="Runnable f = (Runnable & X) () -> {};"),
     java("lambda_that_is_serializable", X, of_x(USED), True,
          body=f'Object f = ({FUNCTION}<X, String> & java.io.Serializable) x -> "s";'),
     java("lambda_of_another_member", "", {"class P$X": USED}, True, beside="class P { static class X {} }", deleted="P$X",

@@ -1,5 +1,5 @@
 #!/usr/bin/env python3
-"""Compares the mark (unused) of `jclink check --errors` with the classes that a virtual machine misses when code runs.
+"""Compares the marks and methods in the lines of `jclink check --errors` with the classes that a virtual machine misses.
 
 Usage: unused.py [--judge] [--program PATH] [--java PATH]. Each program of programs.py names a class in one way, in class
 files of versions 51 and 52. They run with all classes, and then without the class that the program names. The lines are
@@ -7,8 +7,8 @@ those of `jclink check --errors`, once ./jclink is built; the environment's JCLI
 and with --judge they are those of the plain judge of trials/check. It needs a java and a javac of version 17 to 19.
 
 Required of each program: with all classes it runs to its end; without the one class the machine misses that class where
-the program says so, and nothing else; the lines of the class that runs, and which of them are used, are those that the
-program says; and where the machine misses a class that has lines, one of them is used. Only a class of which an array has
+the program says so, and nothing else; the lines of the class that runs, and what uses the reference of each, are those that
+the program says; and where the machine misses a class that has lines, one of them is used. Only a class of which an array has
 a line may have one that is not: the machine may throw its error for the array. Status 1: something differs.
 
 The machine runs without its verifier, which may load classes that no code resolves.
@@ -30,7 +30,8 @@ import programs
 judge = common.load("check/judge.py")
 
 MACHINE = ["-XX:+UnlockDiagnosticVMOptions", "-XX:-BytecodeVerificationRemote", "-XX:TieredStopAtLevel=1", "-XX:+UseSerialGC", str(HERE / "Missing.java")]
-LINE = re.compile(r"(\S+): #\d+ (.*) -> error 1 NoClass (\S+)( \(unused\))?")
+# The class, the method that uses the reference or none, the reference, the missing class, and the mark.
+LINE = re.compile(r"([^.:]+)(?:\.(\S+))?: (\w+ \S+) -> error 1 NoClass (\S+)( \(unused\))?")
 
 
 def read_options():
@@ -99,17 +100,17 @@ def errors_of(options, folder):
         lines = done.stdout.splitlines()
     found = collections.defaultdict(list)
     for line in lines:
-        found[line.split(": ", 1)[0]].append(line)
+        found[re.match(r"[^.:]+", line)[0]].append(line)
     return found
 
 
 def marks(lines, package):
-    """The lines by what they refer to, and whether each is used; a line of another form stands for itself."""
+    """The lines by what they refer to, and what uses each; a line of another form stands for itself."""
     found = {}
     for line in lines:
         match = LINE.fullmatch(line)
-        reference = match[2].replace(package + "/", "") if match else line
-        found[reference] = programs.UNUSED if match and match[4] else programs.USED
+        _, method, reference, _, mark = match.groups() if match else ("", "", line, "", "")
+        found[reference.replace(package + "/", "")] = (method or "") + (mark or "") or programs.USED
     return found
 
 
@@ -123,13 +124,13 @@ def differences(program, package, ran, missed, lines):
         yield f"without its class: {missed}, for {wanted}"
     if found != program.lines:
         yield f"lines: {found}, for {program.lines}"
-    of_deleted = [match for match in map(LINE.fullmatch, lines) if match and match[3] == deleted]
-    if missed == f"misses {deleted}" and of_deleted and all(match[4] for match in of_deleted):
+    of_deleted = [match for match in map(LINE.fullmatch, lines) if match and match[4] == deleted]
+    if missed == f"misses {deleted}" and of_deleted and all(match[5] for match in of_deleted):
         yield "the machine misses a class that is (unused)"
 
 
 def sort_of(program):
-    used = "used" if programs.USED in program.lines.values() else "not used" if program.lines else "without a line"
+    used = "without a line" if not program.lines else "not used" if {*program.lines.values()} == {programs.UNUSED} else "used"
     return f"{used} and {'missed' if program.missed else 'not missed'}"
 
 

@@ -40,13 +40,14 @@ class Record:
         self.name, self.flags = file.class_text(file.this), file.flags
         self.faults = [(f"F{rule}", place) for rule, place in rules.faults(data)]
         self.code_faults, self.uses, self.parent, self.references, self.used = [], [], None, [], set()
-        self.interfaces, self.fields, self.methods, self.described = [], [], [], set()
+        self.interfaces, self.fields, self.methods, self.described, self.first = [], [], [], set(), {}
         if self.faults:
             return
         self.code_faults = code_rules.faults(data)
         self.uses = list(uses_of(file, {method for method, _, _ in self.code_faults}))
         direct, described = used_by(file)
         self.used, self.described = direct | described, described - direct
+        self.first = first_methods(file)
         self.parent = file.class_text(file.parent)
         self.interfaces = [file.class_text(index) for index in file.interfaces]
         self.fields = [self.member(file, field) for field in file.fields]
@@ -71,7 +72,7 @@ class Record:
 class BuiltIn(Record):
     def __init__(self):
         self.name, self.flags, self.faults, self.code_faults, self.parent = OBJECT, PUBLIC, [], [], None
-        self.interfaces, self.fields, self.references, self.uses, self.used = [], [], [], [], set()
+        self.interfaces, self.fields, self.references, self.uses, self.used, self.first = [], [], [], [], set(), {}
         public = [(b"<init>", b"()V"), (b"getClass", b"()Ljava/lang/Class;"), (b"hashCode", b"()I"),
                   (b"equals", b"(Ljava/lang/Object;)Z"), (b"toString", b"()Ljava/lang/String;"), (b"notify", b"()V"),
                   (b"notifyAll", b"()V"), (b"wait", b"()V"), (b"wait", b"(J)V"), (b"wait", b"(JI)V")]
@@ -98,21 +99,37 @@ def uses_of(file, faulty):
 NAMING = {19, 20, *range(178, 188), 189, 192, 193, 197}
 
 
+def named_in(file, method):
+    """The indexes that the instructions and handlers of a method name."""
+    codes = code_rules.codes_of(file, method)
+    if len(codes) != 1:
+        return
+    _, code, handlers = codes[0]
+    yield from (handler[3] for handler in handlers)
+    at = 0
+    while at < len(code) and (length := code_rules.length_at(code, at)):
+        if code[at] == 18:
+            yield code[at + 1]
+        elif code[at] in NAMING:
+            yield code_rules.unsigned(code, at + 1, 2)
+        at += length
+
+
+def first_methods(file):
+    """The number of the first method that names each index, or a member of the class at this index."""
+    first = {}
+    for number, method in enumerate(file.methods):
+        for index in named_in(file, method):
+            first.setdefault(index, number)
+            if file.tag(index) in (9, 10, 11):
+                first.setdefault(file.pair(index)[0], number)
+    return first
+
+
 def named_by(file):
     """The indexes that instructions, handlers, method handles and bootstrap methods name."""
     for method in file.methods:
-        codes = code_rules.codes_of(file, method)
-        if len(codes) != 1:
-            continue
-        _, code, handlers = codes[0]
-        yield from (handler[3] for handler in handlers)
-        at = 0
-        while at < len(code) and (length := code_rules.length_at(code, at)):
-            if code[at] == 18:
-                yield code[at + 1]
-            elif code[at] in NAMING:
-                yield code_rules.unsigned(code, at + 1, 2)
-            at += length
+        yield from named_in(file, method)
     for index in file.entries:
         if file.tag(index) == 15:
             yield code_rules.unsigned(file.entries[index][1], 1, 2)

@@ -14,6 +14,7 @@ import common
 
 worlds = common.load("link/worlds.py")
 
+GETSTATIC, NEW = 178, 187
 CLASS_A = common.class_file()
 LINES = b"""add a/A.class
 add x/A.class
@@ -43,12 +44,13 @@ wrong
 end
 """
 
-
+# A use of q/E by a descriptor, one of q/F by an instruction, and a `getstatic` of a field that is not static. Nothing uses q/G.
+CODE_OF_D = [(worlds.LDC, (worlds.METHOD_TYPE, b"(Lq/E;[Lp/C;)V")), (NEW, (7, b"q/F")), (GETSTATIC, (9, b"p/D", b"x", b"I"))]
 TREE = {
     "tree/I.class": worlds.class_file(b"I", 0x601, worlds.OBJECT, [], [], [(1, b"m", b"()V")], []),
     "tree/p/C.class": worlds.class_file(b"p/C", 0x21, worlds.OBJECT, [b"I"], [(1, b"x", b"I")], [], [(9, b"p/D", b"x", b"I")]),
-    "tree/p/D.class": worlds.class_file(b"p/D", 0x21, b"p/C", [], [], [(9, b"n", b"()V")], [(10, b"p/D", b"m", b"()V"), (7, b"[[Lq/E;")],
-                                        codes={0: [(worlds.LDC, (worlds.METHOD_TYPE, b"(Lq/E;[Lp/C;)V"))]}),
+    "tree/p/D.class": worlds.class_file(b"p/D", 0x21, b"p/C", [], [], [(9, b"n", b"()V")],
+                                        [(10, b"p/D", b"m", b"()V"), (7, b"[[Lq/E;"), (7, b"q/G")], codes={0: CODE_OF_D}),
     "tree/q.class": worlds.class_file(b"p/C", 0x21, worlds.OBJECT, [], [], [], []),
     "tree/cut.class": CLASS_A[:52],
 }
@@ -86,6 +88,7 @@ def main():
         refuse_each(["session"], LINES, folder, shim, lambda owed, out: owed.startswith(out))
         refuse_each(["check", "tree"], b"", folder, shim, lambda owed, out: out == b"")
         refuse_each(["check", "--errors", "--only", "p/", "--only", "cut", "tree"], b"", folder, shim, lambda owed, out: out == b"")
+        refuse_each(["check", "--errors", "--used", "--only", "p/", "tree"], b"", folder, shim, lambda owed, out: out == b"")
         refuse_each(["list", "tree/p/C.class"], b"", folder, shim, lambda owed, out: owed.startswith(out))
 
 

@@ -78,14 +78,14 @@ pub data CheckFault : Type 0 where
   WriteFailed : CheckFault
   NoMemory : CheckFault
 
--- what is written of a report, and what it is judged by: the whole, or what makes it wrong, of the files and classes that are asked for
+-- what is written of a report, and what it is judged by: the whole, or what makes it wrong, as far as it is asked for
 abbrev pub written_text : CheckForm → Report → List ℕ
 written_text forms.Report r = report_text r
-written_text (forms.Errors only) r = errors_text only r
+written_text (forms.Errors only used_only) r = errors_text (record { only = only; used_only = used_only }) r
 
 abbrev pub is_wrong_by : CheckForm → Report → Bool
 is_wrong_by forms.Report r = is_wrong r
-is_wrong_by (forms.Errors only) r = is_wrong_among only r
+is_wrong_by (forms.Errors only used_only) r = is_wrong_among (record { only = only; used_only = used_only }) r
 
 -- what is asked of the report of all the files was written, or a proper beginning of it where the output failed, or nothing;
 -- memory was wanted only where no file before was unread or refused

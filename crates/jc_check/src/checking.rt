@@ -3,7 +3,7 @@
 ghost use Rattle.std.specs.Prelude.{◌≡◌, Ok};
 ghost use Rattle.jc_classes.specs.Names.{names_of};
 ghost use Rattle.jc_check.specs.Checks.{CountsCheck};
-ghost use Rattle.jc_report.specs.ErrorsText.{prefixes_lent};
+ghost use Rattle.jc_report.specs.ErrorsText.{asked_lent};
 ghost use Rattle.jc_report.specs.Files.{Files};
 ghost use Rattle.jc_report.specs.Trees.{IsTree};
 ghost use Rattle.jc_check.specs.declared.checking.CheckError.TheVariants as errors;
@@ -19,7 +19,7 @@ use jc_base::{NoMemory, Output};
 use jc_input::{EditError, Source, SourceError};
 use jc_limits::{path_fault, room_fault, size_fault};
 use jc_link::{Meter, Outside};
-use jc_report::{AddError, Tree, TreeReport, write_errors, write_report};
+use jc_report::{AddError, Asked, Tree, TreeReport, write_errors, write_report};
 use std::alloc::Global;
 use thiserror::Error;
 
@@ -28,9 +28,13 @@ use thiserror::Error;
 pub enum CheckForm {
     /// The report.
     Report,
-    /// What makes it wrong, a line each: of the files and classes whose paths and names begin with one of these
-    /// prefixes, or of all.
-    Errors(Option<Outside>),
+    /// A line for each error.
+    Errors {
+        /// The prefixes of paths of files and of names of classes whose errors are written, or `None` for all.
+        only: Option<Outside>,
+        /// Whether the errors of references that nothing uses are left out.
+        used_only: bool,
+    },
 }
 
 /// Why a tree of files has no report, or why not all of it is written.
@@ -95,7 +99,13 @@ fn write_and_judge<'p, W: Output>(
 {
     match form {
         CheckForm::Report => write_whole(report, out),
-        CheckForm::Errors(only) => write_wrong(report, only.as_ref(), out),
+        CheckForm::Errors { only, used_only } => {
+            let asked = Asked {
+                only: only.as_ref(),
+                used_only: *used_only,
+            };
+            write_wrong(report, asked, out)
+        }
     }
 }
 
@@ -113,15 +123,15 @@ fn write_whole<'p, W: Output>(report: &TreeReport<'_>, out: &mut W) -> Result<bo
 /// Writes what makes a report wrong, of the files and classes that are asked for, and says whether anything does.
 fn write_wrong<'p, W: Output>(
     report: &TreeReport<'_>,
-    only: Option<&Outside>,
+    asked: Asked<'_>,
     out: &mut W,
 ) -> Result<bool, CheckError<'p>>
-    ensures tells { TellsOf report.now (forms.Errors (prefixes_lent only.entry)) (check_lent result)
+    ensures tells { TellsOf report.now (forms.Errors (asked_lent asked.entry).only asked.entry.used_only) (check_lent result)
         (W.written out.old) (W.written out.new) }
     ensures failures { CountsCheck (check_lent result) (W.failures out.old) (W.failures out.new) }
 {
-    match write_errors(report, only, out) {
-        Ok(()) => Ok(report.wrong_among(only)),
+    match write_errors(report, asked, out) {
+        Ok(()) => Ok(report.wrong_among(asked)),
         Err(_) => Err(CheckError::Write),
     }
 }

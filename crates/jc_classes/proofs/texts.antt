@@ -5,4 +5,5 @@ pub mod FaultsOfMethods
 pub mod FirstNames
 pub mod NamedBefore
 pub mod Numbering
+pub mod ReferenceIndexes
 pub mod TextLists

@@ -37,7 +37,7 @@ object_facts = record {
   methods = object_methods;
   references = [];
   uses = [];
-  used = [];
+  users = [];
   format_faults = [];
   code_faults = [];
 }

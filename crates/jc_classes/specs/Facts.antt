@@ -1,11 +1,12 @@
 -- What linking keeps of a class file.
-use Rattle.std.specs.Prelude.{◌≡◌, ℕ, ◌<◌, Bool, List, Option, Some, length, slice_get, slice_index_or, ◌==◌, false, not}
+use Rattle.std.specs.Prelude.{◌≡◌, ℕ, ◌<◌, Bool, List, Option, Some, length, slice_get, ◌==◌, not}
 use Rattle.std.specs.List.{All, Contains}
 use Rattle.jc_rules.specs.declared.fault.Fault.{Fault}
 use Rattle.jc_code.specs.declared.code_fault.CodeFault.{CodeFault}
 use Rattle.jc_code.specs.declared.method_use.MethodUse.{MethodUse}
 use Rattle.jc_classes.specs.Names.{Name}
 use Rattle.jc_classes.specs.declared.reference_kind.ReferenceKind.{ReferenceKind}
+use Rattle.jc_classes.specs.declared.user.User.{User}
 
 -- a field or a method, as it is declared
 pub record Member : Type 0 where
@@ -59,14 +60,11 @@ pub record Facts : Type 0 where
   pub references : List Reference
   -- by method, then by offset
   pub uses : List MethodUse
-  -- of each constant whether it is used, by its index
-  pub used : List Bool
+  -- what uses each reference, in the order of the references
+  pub users : List User
   pub format_faults : List Fault
   -- each with the number of its method
   pub code_faults : List (ℕ × CodeFault)
 
 abbrev pub is_faulty : Facts → Bool
 is_faulty f = not (length f.format_faults == 0)
-
-abbrev pub is_used : Facts → (index : ℕ) → Bool
-is_used f index = slice_index_or f.used index false

@@ -1,5 +1,5 @@
 -- What is kept of a class file.
-use Rattle.std.specs.Prelude.{ℕ, ◌==◌, not, List, [], ◌∷◌, length, Option, Some, None, option_and_then, if◌then◌else◌}
+use Rattle.std.specs.Prelude.{ℕ, ◌==◌, not, List, [], ◌∷◌, length, map, Option, Some, None, option_and_then, if◌then◌else◌}
 use Rattle.std.specs.Option.{option_map_or, option_to_list}
 use Rattle.std.specs.List.{filter, flat_map, range_with_len}
 use Rattle.jc_view.specs.declared.constant_pool.ConstantIndex.{ConstantIndex}
@@ -15,7 +15,8 @@ use Rattle.jc_classes.specs.declared.reference_kind.ReferenceKind.TheVariants as
 use Rattle.jc_classes.specs.Facts.{Facts, Member, Reference}
 use Rattle.jc_classes.specs.NamedTexts.{named_by}
 use Rattle.jc_classes.specs.Names.{Name, same_name}
-use Rattle.jc_classes.specs.UsedConstants.{used}
+use Rattle.jc_classes.specs.Users.{user_of}
+use Rattle.jc_classes.specs.declared.user.User.{User}
 
 infixl 10 ◌>>=◌
 abbrev ◌>>=◌ : {A B : Type 0} → Option A → (A → Option B) → Option B
@@ -49,6 +50,10 @@ reference_at c index = option_and_then (reference_of c index) (constant_at c (re
 -- by rising index
 unfoldable pub references_in : ClassFile → List Reference
 references_in c = flat_map (λ index. option_to_list (reference_at c index)) (range_with_len 1 (all_slots c.constants))
+
+-- what uses each of them
+unfoldable pub users_in : ClassFile → List User
+users_in c = map (λ (r : Reference). user_of c r.index) (references_in c)
 
 -- ---- members and supertypes, in file order
 
@@ -85,7 +90,7 @@ sound_facts path c = record {
   methods = members_in c c.methods;
   references = references_in c;
   uses = uses c;
-  used = used c;
+  users = users_in c;
   format_faults = [];
   code_faults = code_faults c;
 }
@@ -102,7 +107,7 @@ faulty_facts path c = record {
   methods = [];
   references = [];
   uses = [];
-  used = [];
+  users = [];
   format_faults = faults c;
   code_faults = [];
 }

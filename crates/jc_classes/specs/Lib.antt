@@ -2,6 +2,7 @@ pub mod Access
 pub mod BuiltIn
 pub mod Facts
 pub mod FactsOf
+pub mod FactsOrder
 pub mod FieldLookup
 pub mod Laws
 pub mod Lent
@@ -19,5 +20,7 @@ pub mod Parts
 pub mod Resolution
 pub mod ResolvedDescriptors
 pub mod UsedConstants
+pub mod UserLaws
+pub mod Users
 pub mod Worlds
 pub mod inside

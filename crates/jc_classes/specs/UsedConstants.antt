@@ -1,6 +1,6 @@
 -- Which constants of a class file are used. The code of a method, a method handle or a bootstrap method names them
 -- (JVMS 4.4.8, 4.7.23), or their classes are resolved with what is named (JVMS 5.4.3). No code resolves the others.
-use Rattle.std.specs.Prelude.{ℕ, ◌+◌, ◌==◌, Bool, false, List, [], ◌++◌, map, Option, Some, None, option_and_then, if◌then◌else◌}
+use Rattle.std.specs.Prelude.{ℕ, ◌==◌, Bool, false, List, [], ◌++◌, Option, Some, None, option_and_then, if◌then◌else◌}
 use Rattle.std.specs.List.{flat_map, list_any, range_with_len}
 use Rattle.std.specs.Option.{option_map_or, option_to_list}
 use Rattle.jc_view.specs.declared.constant_pool.ConstantIndex.{ConstantIndex}
@@ -77,7 +77,3 @@ classes_that test c = flat_map (λ index. option_to_list (class_that test c inde
 -- what is named, the classes of the references to members that are, and the classes in descriptors that are resolved
 unfoldable pub used_constants : ClassFile → List ConstantIndex
 used_constants c = named c ++ by_named owner c ++ classes_that (is_resolved c) c
-
--- of each index whether its constant is used
-unfoldable pub used : ClassFile → List Bool
-used c = map (is_among (used_constants c)) (range_with_len 0 (1 + all_slots c.constants))

@@ -4,6 +4,7 @@ pub mod ConstantTexts
 pub mod DescriptorClasses
 pub mod Entries
 pub mod FactsShown
+pub mod FirstUsers
 pub mod Numbering
 pub mod Ordered
 pub mod OrderedMembers

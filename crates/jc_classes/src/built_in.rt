@@ -3,7 +3,7 @@
 ghost use Rattle.std.specs.Prelude.{◌≡◌, map, IfOk};
 ghost use Rattle.jc_classes.specs.BuiltIn.{object_facts};
 
-use crate::facts::{Facts, Faults, MemberEntry};
+use crate::facts::{Facts, Faults, MemberEntry, no_references};
 use crate::member_order::order_members;
 use crate::text_list::TextList;
 use jc_base::NoMemory;
@@ -108,6 +108,7 @@ impl Facts {
         let methods = Vec::from_slice(alloc, &METHODS)?;
         let method_order = order_members(alloc, &texts, &methods)?;
         let texts_shared = Rc::new(alloc, texts)?;
+        let references = no_references(alloc)?;
         Ok(Facts {
             path: Vec::new(alloc),
             texts: texts_shared,
@@ -119,9 +120,9 @@ impl Facts {
             methods,
             field_order: Vec::new(alloc),
             method_order,
-            references: Rc::new(alloc, Vec::new(alloc))?,
+            references,
             uses: Vec::new(alloc),
-            used: Vec::new(alloc),
+            users: Vec::new(alloc),
             faults: Faults::shared(alloc, Vec::new(alloc), Vec::new(alloc))?,
         })
     }

@@ -1,8 +1,9 @@
 //! What linking keeps of a class file.
 
-ghost use Rattle.std.specs.Prelude.{◌≡◌, length, option_map, slice_get, IfOk};
+ghost use Rattle.std.specs.Prelude.{◌≡◌, [], length, option_map, slice_get, IfOk};
 ghost use Rattle.std.specs.Option.{option_copied};
-ghost use Rattle.jc_classes.specs.Facts.{is_faulty, is_used};
+ghost use Rattle.jc_classes.specs.Facts.{is_faulty};
+ghost use Rattle.jc_classes.specs.FactsOrder.{AreByIndex, AreByPlace};
 ghost use Rattle.jc_classes.specs.Lent.{member_lent, reference_lent};
 ghost use Rattle.jc_classes.specs.MemberOrder.{IsOrder};
 ghost use Rattle.jc_classes.specs.inside.FactsShown.{reference_shown};
@@ -12,6 +13,7 @@ use crate::reference::Reference;
 use crate::reference_kind::ReferenceKind;
 use crate::references::References;
 use crate::text_list::TextList;
+use crate::user::User;
 use jc_base::NoMemory;
 use jc_code::{CodeFault, MethodUse};
 use jc_file::Fault;
@@ -37,8 +39,8 @@ pub struct Facts {
     pub(crate) method_order: Vec<u16>,
     pub(crate) references: Rc<Vec<ReferenceEntry>>,
     pub(crate) uses: Vec<MethodUse>,
-    /// Whether each constant is used, by its index.
-    pub(crate) used: Vec<bool>,
+    /// What uses each reference, in the order of the references.
+    pub(crate) users: Vec<User>,
     pub(crate) faults: Rc<Faults>,
 }
 
@@ -83,6 +85,13 @@ impl Faults {
     {
         Ok(Rc::new(alloc, Faults { format, code })?)
     }
+}
+
+/// Returns no references, to be shared.
+pub(crate) fn no_references(alloc: Global) -> Result<Rc<Vec<ReferenceEntry>>, NoMemory>
+    ensures { IfOk result (λ references. references.value.items ≡ []) }
+{
+    Ok(Rc::new(alloc, Vec::new(alloc))?)
 }
 
 impl Model for Facts {
@@ -242,17 +251,22 @@ impl Facts {
         self.uses.as_slice()
     }
 
-    /// Returns whether a constant is used, so that code may resolve it. A constant is used if an instruction, an
-    /// exception handler, a method handle or an argument of a bootstrap method names it. A Class constant is also used
-    /// if a reference to a member that is named so is of this class, or if code resolves a descriptor with its class
-    /// (JVMS 5.4.3.3, 5.4.3.5, 5.4.3.6).
-    pub fn is_used(&self, index: u16) -> bool
-        ensures { result ≡ is_used self.now index }
+    /// Returns what uses the reference of a number: the first method whose code does, something else, or nothing. Code
+    /// uses a reference if one of its instructions or exception handlers names the reference, or a reference to a member
+    /// of the class that the reference names. A method handle, an argument of a bootstrap method and a descriptor that
+    /// code resolves also use references (JVMS 5.4.3.3, 5.4.3.5, 5.4.3.6). Does not allocate.
+    pub fn user(&self, number: usize) -> Option<User>
+        ensures { result ≡ slice_get self.now.users number }
     {
-        match self.used.get(index as usize) {
-            Some(used) => *used,
-            None => false,
-        }
+        self.users.get(number).copied()
+    }
+
+    /// The references are in ascending order of index, and the uses in that of method and offset. Does nothing.
+    pub fn are_in_order(&self)
+        ensures references { AreByIndex self.now.references }
+        ensures uses { AreByPlace self.now.uses }
+    {
+        let _uses = self.uses.as_slice();
     }
 
     /// Its references, which share their texts with it, so that they may outlive it.

@@ -1,6 +1,7 @@
 //! Laws over the definitions alone.
 ghost use Rattle.jc_classes.specs.Laws.{PartIsOne, Locality, AffectedByEither};
 ghost use Rattle.jc_classes.specs.LinkLaws.{LinksAreExact, LinksAreInOrder, NoLinksUnlessLoaded};
+ghost use Rattle.jc_classes.specs.UserLaws.{UsersAreUsed};
 
 /// A class has at most one part.
 pub fn part_is_one()
@@ -23,4 +24,9 @@ pub fn links_are_exact()
     ensures exact { LinksAreExact }
     ensures rising { LinksAreInOrder }
     ensures unless_loaded { NoLinksUnlessLoaded }
+{}
+
+/// Nothing uses a constant exactly if it is not among those that are used.
+pub fn users_are_used()
+    ensures { UsersAreUsed }
 {}

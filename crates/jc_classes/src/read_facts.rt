@@ -13,16 +13,20 @@ ghost use Rattle.jc_code.specs.NamedConstants.{named_by_method};
 ghost use Rattle.jc_classes.specs.FactsOf.{class_name, class_reference, facts_of, faulty_facts, interfaces_in};
 ghost use Rattle.jc_classes.specs.FactsOf.{member_of, member_reference, reference_at, references_in, sound_facts};
 ghost use Rattle.jc_classes.specs.UsedConstants.{named_by_methods};
+ghost use Rattle.jc_classes.specs.Users.{uses_constant};
 ghost use Rattle.jc_classes.specs.inside.ClassTexts.{Tells};
 ghost use Rattle.jc_classes.specs.inside.Entries.{AreEntries};
+ghost use Rattle.jc_classes.specs.inside.FirstUsers.{AddsFirst, AreFirst, AreSeen};
+ghost use Rattle.jc_classes.specs.inside.Using.{are_marks};
 ghost use Rattle.jc_classes.specs.inside.FactsShown.{member_shown, reference_shown, text_at};
 ghost use Rattle.jc_classes.specs.inside.ConstantTexts.{is_reference, key_at, key_shown, texts_of};
 
 use crate::class_texts::ClassTexts;
-use crate::facts::{Facts, Faults, MemberEntry, ReferenceEntry};
+use crate::facts::{Facts, Faults, MemberEntry, ReferenceEntry, no_references};
+use crate::first_users::FirstUsers;
 use crate::reference_kind::ReferenceKind;
 use crate::text_list::TextList;
-use crate::used::used;
+use crate::users::users;
 use jc_base::NoMemory;
 use jc_code::{CodeFault, MethodUse, TextSizes, faults_and_uses, method_code};
 use jc_file::{Fault, format_faults};
@@ -68,7 +72,7 @@ fn sound_facts(alloc: Global, class: &ClassView, path: &[u8]) -> Result<Facts, N
     let mut texts = ClassTexts::new(alloc, class)?;
     let entries = read_entries(&mut texts, class)?;
     let codes = read_codes(alloc, class)?;
-    let used = used(alloc, class, codes.names)?;
+    let users = users(alloc, class, codes.first, &entries.references)?;
     let texts_shared = Rc::new(alloc, texts.into_list())?;
     let references = Rc::new(alloc, entries.references)?;
     let faults = Faults::shared(alloc, Vec::new(alloc), codes.faults)?;
@@ -85,7 +89,7 @@ fn sound_facts(alloc: Global, class: &ClassView, path: &[u8]) -> Result<Facts, N
         method_order: entries.method_order,
         references,
         uses: codes.uses,
-        used,
+        users,
         faults,
     })
 }
@@ -130,6 +134,7 @@ fn faulty_facts(
     let mut texts = TextList::new(alloc);
     texts.push(class.name())?;
     let texts_shared = Rc::new(alloc, texts)?;
+    let references = no_references(alloc)?;
     Ok(Facts {
         path,
         texts: texts_shared,
@@ -141,9 +146,9 @@ fn faulty_facts(
         methods: Vec::new(alloc),
         field_order: Vec::new(alloc),
         method_order: Vec::new(alloc),
-        references: Rc::new(alloc, Vec::new(alloc))?,
+        references,
         uses: Vec::new(alloc),
-        used: Vec::new(alloc),
+        users: Vec::new(alloc),
         faults: Faults::shared(alloc, format_faults, Vec::new(alloc))?,
     })
 }
@@ -293,13 +298,16 @@ struct Codes {
     uses: Vec<MethodUse>,
     /// The constants that are named, some perhaps several times.
     names: Vec<ConstantIndex>,
+    /// The first method whose code uses each constant.
+    first: FirstUsers,
 }
 
 /// Looks at the code of all methods.
 fn read_codes(alloc: Global, class: &ClassView) -> Result<Codes, NoMemory>
     ensures faults { IfOk result (λ codes. codes.faults.items ≡ code_faults class.now) }
     ensures uses { IfOk result (λ codes. codes.uses.items ≡ uses class.now) }
-    ensures names { IfOk result (λ codes. codes.names.items ≡ named_by_methods class.now) }
+    ensures marks { IfOk result (λ codes. codes.first.seen.items ≡ are_marks class.now (named_by_methods class.now)) }
+    ensures first { IfOk result (λ codes. AreFirst class.now codes.first.numbers.items) }
 {
     read_methods(alloc, &TextSizes::of(alloc, class)?)
 }
@@ -308,21 +316,52 @@ fn read_codes(alloc: Global, class: &ClassView) -> Result<Codes, NoMemory>
 fn read_methods(alloc: Global, sizes: &TextSizes) -> Result<Codes, NoMemory>
     ensures faults { IfOk result (λ codes. codes.faults.items ≡ code_faults sizes.now) }
     ensures uses { IfOk result (λ codes. codes.uses.items ≡ uses sizes.now) }
-    ensures names { IfOk result (λ codes. codes.names.items ≡ named_by_methods sizes.now) }
+    ensures marks { IfOk result (λ codes. codes.first.seen.items ≡ are_marks sizes.now (named_by_methods sizes.now)) }
+    ensures first { IfOk result (λ codes. AreFirst sizes.now codes.first.numbers.items) }
 {
+    let first = FirstUsers::new(alloc, sizes.class())?;
     let mut codes = Codes {
         faults: Vec::new(alloc),
         uses: Vec::new(alloc),
         names: Vec::new(alloc),
+        first,
     };
     for (number, method) in sizes.class().methods().enumerate() {
-        read_code(alloc, &mut codes, sizes, &method, number)?;
+        read_method(alloc, &mut codes, sizes, &method, number)?;
     }
     codes.uses.shrink_to_fit();
     Ok(codes)
 }
 
-/// Adds what is found in the code of a method.
+/// Adds what is found in the code of a method, which is the first that uses what no method before it does.
+fn read_method(
+    alloc: Global,
+    codes: &mut Codes,
+    sizes: &TextSizes,
+    method: &Member,
+    number: usize,
+) -> Result<(), NoMemory>
+    requires class { method.now.class ≡ sizes.now }
+    requires holder { method.now.member.holder ≡ holders.Method }
+    requires few { number < 2 ^ 16 }
+    requires seen { AreSeen sizes.now codes.old.first }
+    requires marks { codes.old.first.seen.items ≡ are_marks sizes.now codes.old.names.items }
+    ensures faults { OnOk result (codes.new.faults.items
+        ≡ codes.old.faults.items ++ numbered_faults sizes.now number method.now.member.member) }
+    ensures uses { OnOk result (codes.new.uses.items ≡ codes.old.uses.items ++ method_uses sizes.now number method.now.member.member) }
+    ensures names { OnOk result (codes.new.names.items ≡ codes.old.names.items ++ named_by_method sizes.now method.now.member.member) }
+    ensures seen { OnOk result (AreSeen sizes.now codes.new.first) }
+    ensures marks { OnOk result (codes.new.first.seen.items ≡ are_marks sizes.now codes.new.names.items) }
+    ensures first { OnOk result (AddsFirst (λ i. uses_constant sizes.now i method.now.member.member) number codes.old.first codes.new.first) }
+{
+    let before = codes.names.len();
+    read_code(alloc, codes, sizes, method, number)?;
+    let names = &codes.names[before..];
+    codes.first.add(sizes.class(), names, number as u16);
+    Ok(())
+}
+
+/// Adds the faults of the code of a method, what its instructions do with references, and the constants that it names.
 fn read_code(
     alloc: Global,
     codes: &mut Codes,
@@ -337,6 +376,7 @@ fn read_code(
         ≡ codes.old.faults.items ++ numbered_faults sizes.now number method.now.member.member) }
     ensures uses { OnOk result (codes.new.uses.items ≡ codes.old.uses.items ++ method_uses sizes.now number method.now.member.member) }
     ensures names { OnOk result (codes.new.names.items ≡ codes.old.names.items ++ named_by_method sizes.now method.now.member.member) }
+    ensures first { OnOk result (codes.new.first ≡ codes.old.first) }
 {
     let Some(code) = method_code(method) else {
         return Ok(());

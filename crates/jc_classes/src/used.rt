@@ -7,7 +7,7 @@ ghost use Rattle.jc_view.specs.Attributes.{bootstrap_attributes};
 ghost use Rattle.jc_view.specs.ClassFile.{constant_at};
 ghost use Rattle.jc_view.specs.Moves.{Lends};
 ghost use Rattle.jc_view.specs.Reading.{after_table};
-ghost use Rattle.jc_classes.specs.UsedConstants.{by_constants, named_by_handle, named_by_methods, named_by_table, owner, used};
+ghost use Rattle.jc_classes.specs.UsedConstants.{by_constants, is_among, named, named_by_handle, named_by_methods, named_by_table, owner, used_constants};
 ghost use Rattle.jc_classes.specs.inside.Using.{Marks, are_marks, arguments_at, mark_at, named_by_attribute, owners};
 
 use crate::descriptor_classes::add_resolved_classes;
@@ -18,26 +18,38 @@ use jc_view::{
 };
 use std::alloc::Global;
 
-/// Returns whether each constant of a class file is used, by its index. A constant is used if an instruction, an
+/// Returns a mark for each constant of a class file by its index, set if the constant is used. A constant is used if an instruction, an
 /// exception handler, a method handle or an argument of a bootstrap method names it. A Class constant is also used if
 /// a reference to a member that is named so is of this class, or if its class is in a descriptor that code resolves.
-/// `names` has the constants that the code of methods names.
+/// `marks` has the constants that the code of methods names.
 ///
 /// Returns `NoMemory` only when an allocation fails.
 pub(crate) fn used(
     alloc: Global,
     class: &ClassView,
-    mut names: Vec<ConstantIndex>,
+    mut marks: Vec<bool>,
 ) -> Result<Vec<bool>, NoMemory>
-    requires { names.items ≡ named_by_methods class.now }
-    ensures { IfOk result (λ marks. marks.items ≡ used class.now) }
+    requires { marks.items ≡ are_marks class.now (named_by_methods class.now) }
+    ensures { IfOk result (λ marks. marks.items ≡ are_marks class.now (used_constants class.now)) }
 {
+    mark_named(alloc, class, &mut marks)?;
+    let mut classes = Vec::new(alloc);
+    add_owners(&mut classes, class, &marks)?;
+    add_resolved_classes(alloc, &mut classes, class, &marks)?;
+    mark_all(&mut marks, &classes);
+    Ok(marks)
+}
+
+/// Sets the marks of what method handles and bootstrap methods name.
+fn mark_named(alloc: Global, class: &ClassView, marks: &mut Vec<bool>) -> Result<(), NoMemory>
+    requires { marks.old.items ≡ are_marks class.now (named_by_methods class.now) }
+    ensures { OnOk result (marks.new.items ≡ are_marks class.now (named class.now)) }
+{
+    let mut names = Vec::new(alloc);
     add_by_handles(&mut names, class)?;
     add_by_bootstraps(alloc, &mut names, class)?;
-    let marks = marked(alloc, class, &names)?;
-    add_owners(&mut names, class, &marks)?;
-    add_resolved_classes(alloc, &mut names, class, &marks)?;
-    marked(alloc, class, &names)
+    mark_all(marks, &names);
+    Ok(())
 }
 
 /// Adds what method handles name.
@@ -145,8 +157,8 @@ fn add_owners(
     class: &ClassView,
     marks: &[bool],
 ) -> Result<(), NoMemory>
-    requires { marks.now ≡ are_marks class.now names.old.items }
-    ensures { OnOk result (names.new.items ≡ names.old.items ++ owners class.now names.old.items) }
+    requires { marks.now ≡ are_marks class.now (named class.now) }
+    ensures { OnOk result (names.new.items ≡ names.old.items ++ owners class.now (named class.now)) }
 {
     for index in 1..class.constant_count() {
         push_some(names, owner_if_marked(class, marks, index))?;
@@ -166,7 +178,7 @@ fn owner_if_marked(class: &ClassView, marks: &[bool], index: u16) -> Option<Cons
 }
 
 /// The class of a reference to a member.
-fn owner(class: &ClassView, index: u16) -> Option<ConstantIndex>
+pub(crate) fn owner(class: &ClassView, index: u16) -> Option<ConstantIndex>
     ensures { result ≡ option_and_then owner (constant_at class.now (record { 0 = index })) }
 {
     match class.constant(index)? {
@@ -186,14 +198,21 @@ pub(crate) fn marked(
     ensures { IfOk result (λ marks. marks.items ≡ are_marks class.now names.now) }
 {
     let mut marks = vec![in alloc; false; class.constant_count() as usize]?;
-    for index in names {
-        mark(&mut marks, *index);
-    }
+    mark_all(&mut marks, names);
     Ok(marks)
 }
 
+/// Sets the marks of these indexes.
+fn mark_all(marks: &mut Vec<bool>, indexes: &[ConstantIndex])
+    ensures { Marks (is_among indexes.now) marks.old.items marks.new.items }
+{
+    for index in indexes {
+        mark(marks, *index);
+    }
+}
+
 /// Sets the mark of an index, where there is one.
-fn mark(marks: &mut Vec<bool>, index: ConstantIndex)
+pub(crate) fn mark(marks: &mut Vec<bool>, index: ConstantIndex)
     ensures { Marks (λ i. index.0 == i) marks.old.items marks.new.items }
 {
     let at = index.0 as usize;

@@ -21,7 +21,7 @@ use jc_base::NoMemory;
 use jc_input::{LentEdit, PrefixEdit};
 use jc_link::{Meter, Outside};
 use jc_linkage::{Circular, HeldClasses, Linkage, Provided, Required};
-use jc_report::{LentClass, is_any_wrong};
+use jc_report::{Asked, LentClass, is_any_wrong};
 use std::alloc::Global;
 use std::marker::Model;
 
@@ -114,7 +114,7 @@ impl Report {
     pub fn wrong(&self) -> bool
         ensures { (r : reports.Report) × IsReportOf self.now r × (result ≡ is_wrong r) }
     {
-        is_any_wrong(self.files(), self.classes(), None)
+        is_any_wrong(self.files(), self.classes(), Asked::all())
     }
 
     /// What each file is, in the order of the paths.

@@ -3,3 +3,5 @@ pub mod ErrorLines
 pub mod ErrorsTold
 pub mod FrontTold
 pub mod NoErrors
+pub mod LeftErrors
+pub mod AllErrors

@@ -11,3 +11,7 @@ pub mod RisingLists
 pub mod KeysInOrder
 pub mod ProvidedInOrder
 pub mod OwnRows
+pub mod FoundInOrder
+pub mod ReferencesFound
+pub mod Searches
+pub mod UsesByPlace

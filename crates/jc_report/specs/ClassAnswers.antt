@@ -1,15 +1,9 @@
 -- The answers to the references of a class, by the indexes of their constants.
-use Rattle.std.specs.Prelude.{◌≡◌, ℕ, List, map}
-use Rattle.std.specs.List.Sorted.{IsStrictlySortedBy}
-use Rattle.std.specs.Ordering.{nat_cmp}
+use Rattle.std.specs.Prelude.{◌≡◌, ℕ}
 use Rattle.jc_classes.specs.Facts.{Reference}
 use Rattle.jc_classes.specs.LinkLaws.{HasAnswer}
 use Rattle.jc_classes.specs.Resolution.{Answer}
 use Rattle.jc_report.specs.Reports.{Class}
-
--- in ascending order of index, each index once
-abbrev pub AreByIndex : List Reference → Type 0
-AreByIndex references = IsStrictlySortedBy nat_cmp (map (λ r. r.index) references)
 
 -- an answer to the reference of the constant at an index
 abbrev pub HasAnswerAt : Class → (index : ℕ) → Answer → Type 0

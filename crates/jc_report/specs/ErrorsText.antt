@@ -1,84 +1,200 @@
 -- What makes a report wrong: a line for each, which stands for itself.
-use Rattle.std.specs.Prelude.{ℕ, Bool, true, ◌||◌, ◌&&◌, cond, List, [], ◌∷◌, ◌++◌, Option, Some, None, codes, option_map}
+use Rattle.std.specs.Prelude.{ℕ, Bool, true, false, ◌==◌, ◌+◌, ◌||◌, ◌&&◌, not, cond, List, [], ◌∷◌, ◌++◌, length, find, Option, Some, None, codes, decimal, option_map, slice_get, unwrap_or}
 use Rattle.std.specs.Borrow.{Bor}
 use Rattle.std.specs.List.{flat_map, list_any}
+use Rattle.std.specs.Option.{option_map_or}
 use Rattle.jc_text.specs.Escapes.{shown}
-use Rattle.jc_list.specs.FaultLines.{code_fault_line, format_line}
-use Rattle.jc_classes.specs.Facts.{Facts, Reference, is_used}
+use Rattle.jc_code.specs.declared.code_fault.CodeFault.{CodeFault}
+use Rattle.jc_code.specs.declared.insn.LinkKind.{LinkKind}
+use Rattle.jc_code.specs.declared.insn.LinkKind.TheVariants as kinds
+use Rattle.jc_code.specs.declared.method_use.MethodUse.{MethodUse}
+use Rattle.jc_code.specs.CodeFaultOrder.{rule_number}
+use Rattle.jc_list.specs.FaultLines.{format_line}
+use Rattle.jc_classes.specs.declared.user.User.{User}
+use Rattle.jc_classes.specs.declared.user.User.TheVariants as user
+use Rattle.jc_classes.specs.Facts.{Facts, Reference}
+use Rattle.jc_classes.specs.LinkErrors.{LinkFault}
 use Rattle.jc_classes.specs.Loading.{Loading}
 use Rattle.jc_classes.specs.Loading.{Loading as loading}
 use Rattle.jc_classes.specs.Names.{Name}
 use Rattle.jc_classes.specs.Parts.{Part}
 use Rattle.jc_classes.specs.Resolution.{Answer}
+use Rattle.jc_classes.specs.Worlds.{key_of}
 use Rattle.jc_link.specs.Prefixes.{is_covered}
+use Rattle.jc_report.specs.declared.asked.Asked.{Asked as LentAsked}
 use Rattle.jc_report.specs.FileRows.{FileRow, is_unreadable}
 use Rattle.jc_report.specs.FileRowText.{row_text}
-use Rattle.jc_report.specs.PartText.{answered_text, error_text, link_text}
-use Rattle.jc_report.specs.Reports.{Class, Report, is_error, is_wrong_part, name_of}
+use Rattle.jc_report.specs.PartText.{answer_text, error_text, member_text, reference_text}
+use Rattle.jc_report.specs.Reports.{Class, Report, is_error, is_load_error, name_of}
 
 -- ---- what is asked for
 
--- the prefixes that are lent
-abbrev pub prefixes_lent : Option (Bor (List Name)) → Option (List Name)
-prefixes_lent only = option_map (λ o. o.now) only
+-- of the files and classes whose paths and names begin with one of the prefixes, or of all; and whether references that
+-- nothing uses are left out
+pub record Asked : Type 0 where
+  pub only : Option (List Name)
+  pub used_only : Bool
+
+abbrev pub asked_lent : LentAsked → Asked
+asked_lent asked = record { only = option_map (λ (o : Bor (List Name)). o.now) asked.only; used_only = asked.used_only }
+
+abbrev pub all_errors : Asked
+all_errors = record { only = None; used_only = false }
 
 -- what begins with one of the prefixes; all where none are given
-abbrev pub is_asked : Option (List Name) → List ℕ → Bool
-is_asked None text = true
-is_asked (Some prefixes) text = is_covered prefixes text
+abbrev pub begins : Option (List Name) → List ℕ → Bool
+begins None text = true
+begins (Some prefixes) text = is_covered prefixes text
 
--- ---- lines
+abbrev pub is_asked : Asked → List ℕ → Bool
+is_asked asked text = begins asked.only text
 
--- an unreadable file that is asked for
-abbrev pub is_wrong_file : Option (List Name) → FileRow → Bool
-is_wrong_file only row = is_asked only row.path && is_unreadable row
+-- ---- where an error is
 
--- of such a file its row
-abbrev pub file_error : Option (List Name) → FileRow → List ℕ
-file_error only row = cond (is_wrong_file only row) (row_text row) []
-
--- a text behind the name of its class
+-- a text after the name of its class
 abbrev pub of_class : Name → List ℕ → List ℕ
 of_class name text = shown name ++ codes ": " ++ text
+
+-- the method of a number: its class, its name and its descriptor; the class alone where it has no such method
+abbrev pub method_text : Facts → ℕ → List ℕ
+method_text f number = option_map_or (λ m. member_text f.name (key_of m)) (slice_get f.methods number) (shown f.name)
+
+-- a text after the method
+abbrev pub of_method : Facts → ℕ → List ℕ → List ℕ
+of_method f number text = method_text f number ++ codes ": " ++ text
+
+-- ---- loading, and faults
 
 abbrev pub load_error : Name → Loading → List ℕ
 load_error name loading.Loaded = []
 load_error name loading.Outside = []
 load_error name (loading.Fails error fault) = of_class name (error_text error fault ++ codes "\n")
 
--- behind a reference that no code names, so that no code resolves it
-abbrev pub use_mark : (is_used : Bool) → List ℕ
-use_mark is_used = cond is_used [] (codes " (unused)")
+abbrev pub code_text : CodeFault → List ℕ
+code_text fault = codes "code S" ++ decimal (rule_number fault.rule) ++ codes " " ++ decimal fault.place ++ codes "\n"
 
-abbrev pub answer_error : Facts → Reference → Answer → List ℕ
-answer_error f r a = cond (is_error a) (of_class f.name (answered_text r a ++ use_mark (is_used f r.index) ++ codes "\n")) []
+-- a fault of the code of the method of a number
+abbrev pub code_error : Facts → ℕ × CodeFault → List ℕ
+code_error f fault = of_method f fault.0 (code_text fault.1)
 
--- the references that errors answer
-abbrev pub answer_errors : Facts → List Reference → List Answer → List ℕ
-answer_errors f [] answers = []
-answer_errors f (r ∷ rs) [] = []
-answer_errors f (r ∷ rs) (a ∷ answers) = answer_error f r a ++ answer_errors f rs answers
+-- ---- instructions that do not link
+
+abbrev pub mnemonic : LinkKind → List ℕ
+mnemonic kinds.GetStatic = codes "getstatic"
+mnemonic kinds.PutStatic = codes "putstatic"
+mnemonic kinds.GetField = codes "getfield"
+mnemonic kinds.PutField = codes "putfield"
+mnemonic kinds.InvokeVirtual = codes "invokevirtual"
+mnemonic kinds.InvokeSpecial = codes "invokespecial"
+mnemonic kinds.InvokeStatic = codes "invokestatic"
+mnemonic kinds.InvokeInterface = codes "invokeinterface"
+mnemonic kinds.New = codes "new"
+
+abbrev pub is_at : (method place : ℕ) → MethodUse → Bool
+is_at method place u = u.method == method && u.place == place
+
+-- the instruction at an offset of a method
+abbrev pub use_at : List MethodUse → (method place : ℕ) → Option MethodUse
+use_at uses method place = find (is_at method place) uses
+
+-- the reference of the constant at an index
+abbrev pub reference_at : List Reference → ℕ → Option Reference
+reference_at references index = find (λ r. r.index == index) references
+
+-- the instruction and its reference
+abbrev pub use_text : Facts → MethodUse → List ℕ
+use_text f u = mnemonic u.kind ++ codes " " ++ option_map_or reference_text (reference_at f.references u.index) []
+
+abbrev pub instruction_text : Facts → LinkFault → List ℕ
+instruction_text f link = option_map_or (use_text f) (use_at f.uses link.method link.place) []
+
+abbrev pub link_error : Facts → LinkFault → List ℕ
+link_error f link =
+    of_method f link.method
+    (decimal link.place ++ codes ": " ++ instruction_text f link ++ codes " -> " ++ error_text link.error link.class ++ codes "\n")
+
+-- ---- references that errors answer
+
+-- what uses the reference of a number
+abbrev pub user_at : Facts → ℕ → User
+user_at f number = unwrap_or (slice_get f.users number) user.Nothing
+
+abbrev pub is_used : User → Bool
+is_used (user.Method number) = true
+is_used user.Other = true
+is_used user.Nothing = false
+
+-- an error that is listed: with `used_only`, only if something uses the reference
+abbrev pub is_listed : (used_only : Bool) → User → Answer → Bool
+is_listed false u a = is_error a
+is_listed true u a = is_error a && is_used u
+
+-- the method that uses the reference first, else the class
+abbrev pub user_text : Facts → User → List ℕ
+user_text f (user.Method number) = method_text f number
+user_text f user.Other = shown f.name
+user_text f user.Nothing = shown f.name
+
+-- the mark of a reference that nothing uses, so that no code resolves it
+abbrev pub use_mark : User → List ℕ
+use_mark u = cond (is_used u) [] (codes " (unused)")
+
+abbrev pub answered_text : Facts → Reference → User → Answer → List ℕ
+answered_text f r u a =
+    user_text f u ++ codes ": " ++ reference_text r ++ codes " -> " ++ answer_text a ++ use_mark u ++ codes "\n"
+
+abbrev pub answer_error : (used_only : Bool) → Facts → Reference → User → Answer → List ℕ
+answer_error used_only f r u a = cond (is_listed used_only u a) (answered_text f r u a) []
+
+-- of references, the first of which has a number
+abbrev pub answer_errors : (used_only : Bool) → Facts → ℕ → List Reference → List Answer → List ℕ
+answer_errors used_only f number [] answers = []
+answer_errors used_only f number (r ∷ rs) [] = []
+answer_errors used_only f number (r ∷ rs) (a ∷ answers) =
+    answer_error used_only f r (user_at f number) a ++ answer_errors used_only f (number + 1) rs answers
+
+-- ---- all of a report
 
 -- of a class, in the order of the lines of its part
-unfoldable pub part_errors : Facts → Part → List ℕ
-part_errors f p =
+unfoldable pub part_errors : (used_only : Bool) → Facts → Part → List ℕ
+part_errors used_only f p =
     load_error f.name p.load
     ++ flat_map (λ fault. of_class f.name (format_line fault)) p.format_faults
-    ++ flat_map (λ fault. of_class f.name (code_fault_line fault)) p.code_faults
-    ++ flat_map (λ link. of_class f.name (link_text link)) p.links
-    ++ answer_errors f f.references p.answers
+    ++ flat_map (code_error f) p.code_faults
+    ++ flat_map (link_error f) p.links
+    ++ answer_errors used_only f 0 f.references p.answers
 
-abbrev pub class_errors : Option (List Name) → Class → List ℕ
-class_errors only c = cond (is_asked only (name_of c)) (part_errors c.facts c.part) []
+abbrev pub class_errors : Asked → Class → List ℕ
+class_errors asked c = cond (is_asked asked (name_of c)) (part_errors asked.used_only c.facts c.part) []
 
--- the errors of files and classes whose paths and names are asked for
-unfoldable pub errors_text : Option (List Name) → Report → List ℕ
-errors_text only r = flat_map (file_error only) r.files ++ flat_map (class_errors only) r.classes
+-- an unreadable file that is asked for
+abbrev pub is_wrong_file : Asked → FileRow → Bool
+is_wrong_file asked row = is_asked asked row.path && is_unreadable row
 
--- a class that is asked for with a fault or an error
-abbrev pub is_wrong_class : Option (List Name) → Class → Bool
-is_wrong_class only c = is_asked only (name_of c) && is_wrong_part c.part
+-- of such a file its row
+abbrev pub file_error : Asked → FileRow → List ℕ
+file_error asked row = cond (is_wrong_file asked row) (row_text row) []
+
+-- the errors that are asked for
+unfoldable pub errors_text : Asked → Report → List ℕ
+errors_text asked r = flat_map (file_error asked) r.files ++ flat_map (class_errors asked) r.classes
+
+-- ---- whether there are any
+
+-- one of the answers is an error that is listed; the first of them is that to the reference of a number
+abbrev pub has_listed_error : (used_only : Bool) → Facts → ℕ → List Answer → Bool
+has_listed_error used_only f number [] = false
+has_listed_error used_only f number (a ∷ answers) = is_listed used_only (user_at f number) a || has_listed_error used_only f (number + 1) answers
+
+abbrev pub is_wrong_listed : (used_only : Bool) → Facts → Part → Bool
+is_wrong_listed used_only f p =
+    not (length p.format_faults == 0) || not (length p.code_faults == 0) || is_load_error p.load
+    || not (length p.links == 0) || has_listed_error used_only f 0 p.answers
+
+-- a class that is asked for, with a fault or a listed error
+abbrev pub is_wrong_class : Asked → Class → Bool
+is_wrong_class asked c = is_asked asked (name_of c) && is_wrong_listed asked.used_only c.facts c.part
 
 -- whether a file or a class that is asked for is wrong
-abbrev pub is_wrong_among : Option (List Name) → Report → Bool
-is_wrong_among only r = list_any (is_wrong_file only) r.files || list_any (is_wrong_class only) r.classes
+abbrev pub is_wrong_among : Asked → Report → Bool
+is_wrong_among asked r = list_any (is_wrong_file asked) r.files || list_any (is_wrong_class asked) r.classes

@@ -1,9 +1,9 @@
 -- The laws of `laws.rt`.
-use Rattle.std.specs.Prelude.{◌≡◌, ◌↔◌, false, List, [], Option, None, Some}
+use Rattle.std.specs.Prelude.{◌≡◌, ◌↔◌, false, List, [], Some}
 use Rattle.jc_classes.specs.Facts.{Facts}
 use Rattle.jc_classes.specs.Names.{Name}
-use Rattle.jc_report.specs.ClassAnswers.{AreByIndex}
-use Rattle.jc_report.specs.ErrorsText.{errors_text, is_wrong_among}
+use Rattle.jc_classes.specs.FactsOrder.{AreByIndex}
+use Rattle.jc_report.specs.ErrorsText.{Asked, all_errors, errors_text, is_wrong_among}
 use Rattle.jc_report.specs.Files.{Files}
 use Rattle.jc_report.specs.Reports.{IsReport, Report, facts_at, is_wrong}
 
@@ -11,15 +11,15 @@ use Rattle.jc_report.specs.Reports.{IsReport, Report, facts_at, is_wrong}
 abbrev pub ReportIsOne : Type 0
 ReportIsOne = (f : Files) (prefixes : List Name) (r s : Report) → IsReport f prefixes r → IsReport f prefixes s → r ≡ s
 
--- what makes a report wrong has a line exactly where something does
+-- for each choice of what is asked for, there is a line exactly if something that is asked for is wrong
 abbrev pub ErrorsAreTold : Type 0
 ErrorsAreTold =
-    (f : Files) (prefixes : List Name) (only : Option (List Name)) (r : Report) → IsReport f prefixes r
-    → (errors_text only r ≡ []) ↔ (is_wrong_among only r ≡ false)
+    (f : Files) (prefixes : List Name) (asked : Asked) (r : Report) → IsReport f prefixes r
+    → (errors_text asked r ≡ []) ↔ (is_wrong_among asked r ≡ false)
 
--- and with nothing left out this is what makes it wrong
+-- if everything is asked for, something is wrong exactly if the report is wrong
 abbrev pub WrongAmongAll : Type 0
-WrongAmongAll = (r : Report) → is_wrong_among None r ≡ is_wrong r
+WrongAmongAll = (r : Report) → is_wrong_among all_errors r ≡ is_wrong r
 
 -- the references of a class that files give are in ascending order of index
 abbrev pub ReferencesAreByIndex : Type 0

@@ -19,7 +19,8 @@ pub fn report_is_one()
     ensures { ReportIsOne }
 {}
 
-/// The text of what makes a report wrong, of all that is asked for, is empty exactly where nothing of it is.
+/// The text of the errors that are asked for is empty exactly if nothing that is asked for is wrong. If all errors are
+/// asked for, something is wrong exactly if the report is wrong.
 pub fn errors_are_told()
     ensures told { ErrorsAreTold }
     ensures all { WrongAmongAll }

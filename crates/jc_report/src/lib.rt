@@ -2,6 +2,7 @@
 //! provides and requires.
 #![tactic(auto)]
 
+mod asked;
 mod class_rows;
 mod errors_text;
 mod file_row;
@@ -9,9 +10,11 @@ mod file_row_text;
 mod laws;
 mod lent_class;
 mod member_rows;
+mod method_errors;
 mod outcome;
 mod part_text;
 mod provided_rows;
+mod reference_errors;
 mod reference_place;
 mod report;
 mod report_lists;
@@ -24,7 +27,9 @@ mod row_set;
 mod tree;
 mod tree_circular;
 mod tree_provided;
+mod use_place;
 
+pub use asked::Asked;
 pub use errors_text::write_errors;
 pub use file_row::{FileRow, FileState};
 pub use file_row_text::write_refusal;

@@ -117,7 +117,7 @@ fn write_link<W: Output>(out: &mut TextWriter<'_, W>, link: Link<'_>)
 }
 
 /// An instruction that does not link, and LF.
-pub(crate) fn write_link_text<W: Output>(out: &mut TextWriter<'_, W>, link: Link<'_>)
+fn write_link_text<W: Output>(out: &mut TextWriter<'_, W>, link: Link<'_>)
     ensures { Sends W.written W.failures out.old out.new (link_text (link_lent link.entry)) }
 {
     out.text(b"link ");
@@ -154,7 +154,7 @@ fn write_answer_line<W: Output>(
 }
 
 /// A reference and the answer to it.
-pub(crate) fn write_answered<W: Output>(
+fn write_answered<W: Output>(
     out: &mut TextWriter<'_, W>,
     reference: Reference<'_>,
     answer: Answer<'_>,
@@ -169,7 +169,7 @@ pub(crate) fn write_answered<W: Output>(
     write_answer(out, answer);
 }
 
-fn write_reference<W: Output>(out: &mut TextWriter<'_, W>, reference: Reference<'_>)
+pub(crate) fn write_reference<W: Output>(out: &mut TextWriter<'_, W>, reference: Reference<'_>)
     ensures { Sends W.written W.failures out.old out.new (reference_text (reference_lent reference.entry)) }
 {
     out.text(kind_word(reference.kind));
@@ -205,7 +205,7 @@ pub(crate) fn write_named<W: Output>(
     }
 }
 
-fn write_member<W: Output>(
+pub(crate) fn write_member<W: Output>(
     out: &mut TextWriter<'_, W>,
     class: &[u8],
     name: &[u8],
@@ -218,7 +218,7 @@ fn write_member<W: Output>(
     write_shown(out, b":", descriptor);
 }
 
-fn write_answer<W: Output>(out: &mut TextWriter<'_, W>, answer: Answer<'_>)
+pub(crate) fn write_answer<W: Output>(out: &mut TextWriter<'_, W>, answer: Answer<'_>)
     ensures { Sends W.written W.failures out.old out.new (answer_text (answer_of answer.entry)) }
 {
     match answer {

@@ -1,10 +1,25 @@
 //! The place of an index among the references of a class.
 
-ghost use Rattle.std.specs.Prelude.{◌≡◌};
+ghost use Rattle.std.specs.Prelude.{◌≡◌, option_map};
+ghost use Rattle.jc_classes.specs.Lent.{reference_lent};
+ghost use Rattle.jc_report.specs.ErrorsText.{reference_at};
 ghost use Rattle.jc_report.specs.inside.ReferencePlaces as places;
 ghost use Rattle.jc_report.specs.inside.ReferencePlaces.{IsNarrowed};
 
-use jc_classes::Facts;
+use jc_classes::{Facts, Reference};
+
+/// Returns the reference of the constant at an index, by binary search.
+pub(crate) fn reference_by_index(facts: &Facts, index: u16) -> Option<Reference<'_>>
+    ensures { option_map reference_lent result ≡ reference_at facts.now.references index }
+{
+    facts.are_in_order();
+    let reference = facts.reference(place_of(facts, index))?;
+    if reference.index == index {
+        Some(reference)
+    } else {
+        None
+    }
+}
 
 /// Returns the number of references with a lesser index, by binary search: references are in ascending order of index.
 pub(crate) fn place_of(facts: &Facts, index: u16) -> usize

@@ -14,9 +14,9 @@ ghost use Rattle.jc_report.specs.Files.{Files};
 ghost use Rattle.jc_report.specs.FileRows.{rows};
 ghost use Rattle.jc_report.specs.FileRowView as lent;
 ghost use Rattle.jc_report.specs.ReportLists.{AreListedIn};
-ghost use Rattle.jc_report.specs.Reports.{GivesRow, IsReport, Report, circular_names, is_error, is_load_error, is_wrong};
-ghost use Rattle.jc_report.specs.Reports.{is_wrong_part};
-ghost use Rattle.jc_report.specs.ErrorsText.{is_wrong_among, is_wrong_class, is_wrong_file, prefixes_lent};
+ghost use Rattle.jc_report.specs.Reports.{GivesRow, IsReport, Report, circular_names, is_load_error, is_wrong};
+ghost use Rattle.jc_report.specs.ErrorsText.{asked_lent, has_listed_error, is_wrong_among, is_wrong_class};
+ghost use Rattle.jc_report.specs.ErrorsText.{is_wrong_file, is_wrong_listed};
 ghost use Rattle.jc_report.specs.Rows.{AreRows};
 ghost use Rattle.jc_report.specs.RowView.{row_lent};
 ghost use Rattle.jc_report.specs.Trees.{IsTree};
@@ -25,8 +25,9 @@ ghost use Rattle.jc_report.specs.inside.Made.{AreMadeOf, HasClasses};
 ghost use Rattle.jc_report.specs.inside.ProvidedInOrder.{provided_in};
 ghost use Rattle.jc_report.specs.inside.ReportShown.{AreByName, AreClasses};
 
+use crate::asked::{Asked, is_asked, is_listed, user_at};
 use crate::class_rows::push_required;
-use crate::errors_text::{is_asked, is_unreadable};
+use crate::errors_text::is_unreadable;
 use crate::file_row::FileRow;
 use crate::lent_class::{LentClass, LentClasses};
 use crate::row::Row;
@@ -37,7 +38,7 @@ use crate::tree_provided::TreeProvided;
 use jc_base::NoMemory;
 use jc_classes::Facts;
 use jc_link::{Meter, Net, Outside, Part, PartMaker, Table};
-use jc_resolve::{AnswerKind, Answers, Links, Loading};
+use jc_resolve::{Answers, Links, Loading};
 use std::alloc::Global;
 use std::marker::Model;
 
@@ -159,15 +160,14 @@ impl<'t> TreeReport<'t> {
     pub fn wrong(&self) -> bool
         ensures { result ≡ is_wrong self.now }
     {
-        self.wrong_among(None)
+        self.wrong_among(Asked::all())
     }
 
-    /// Whether such a file or class is among those whose paths and names begin with one of these prefixes, or
-    /// among all.
-    pub fn wrong_among(&self, only: Option<&Outside>) -> bool
-        ensures { result ≡ is_wrong_among (prefixes_lent only.entry) self.now }
+    /// Returns whether anything that is asked for is wrong.
+    pub fn wrong_among(&self, asked: Asked<'_>) -> bool
+        ensures { result ≡ is_wrong_among (asked_lent asked.entry) self.now }
     {
-        is_any_wrong(self.files().iter().copied(), self.lent_classes(), only)
+        is_any_wrong(self.files().iter().copied(), self.lent_classes(), asked)
     }
 
     /// What each file is, by path.
@@ -304,32 +304,28 @@ fn fill_required<'t>(
     apart.copy_into(rows)
 }
 
-/// Whether one of these files and classes is unreadable or wrong, among those whose paths and names begin with one
-/// of these prefixes, or among all.
-pub fn is_any_wrong<'a, F, C>(files: F, classes: C, only: Option<&Outside>) -> bool
+/// Returns whether one of these files is unreadable or one of these classes is wrong, among those that are asked for.
+pub fn is_any_wrong<'a, F, C>(files: F, classes: C, asked: Asked<'_>) -> bool
 where
     F: Iterator<Item = FileRow<'a>> + Drop,
     C: Iterator<Item = LentClass<'a>> + Drop,
     requires files { F.can_next files × IsFinite (F.remaining files) }
     requires classes { C.can_next classes × IsFinite (C.remaining classes) }
     ensures { (r : Report) → AreListedIn F.next_gives C.next_gives files classes r
-        → result ≡ is_wrong_among (prefixes_lent only.entry) r }
+        → result ≡ is_wrong_among (asked_lent asked.entry) r }
 {
-    let has_unreadable = has_unreadable(files, only);
-    let has_wrong_part = has_wrong_part(classes, only);
+    let has_unreadable = has_unreadable(files, asked);
+    let has_wrong_part = has_wrong_part(classes, asked);
     has_unreadable || has_wrong_part
 }
 
-fn has_unreadable<'a, I: Iterator<Item = FileRow<'a>> + Drop>(
-    files: I,
-    only: Option<&Outside>,
-) -> bool
+fn has_unreadable<'a, I: Iterator<Item = FileRow<'a>> + Drop>(files: I, asked: Asked<'_>) -> bool
     requires can { I.can_next files }
     requires ends { IsFinite (I.remaining files) }
-    ensures { ForGiven I.next_gives lent.row_lent files (λ all. result ≡ list_any (is_wrong_file (prefixes_lent only.entry)) all) }
+    ensures { ForGiven I.next_gives lent.row_lent files (λ all. result ≡ list_any (is_wrong_file (asked_lent asked.entry)) all) }
 {
     for row in files {
-        if is_wrong_file(&row, only) {
+        if is_wrong_file(&row, asked) {
             return true;
         }
     }
@@ -338,14 +334,14 @@ fn has_unreadable<'a, I: Iterator<Item = FileRow<'a>> + Drop>(
 
 fn has_wrong_part<'a, I: Iterator<Item = LentClass<'a>> + Drop>(
     classes: I,
-    only: Option<&Outside>,
+    asked: Asked<'_>,
 ) -> bool
     requires can { I.can_next classes }
     requires ends { IsFinite (I.remaining classes) }
-    ensures { ForGiven I.next_gives class_lent classes (λ all. result ≡ list_any (is_wrong_class (prefixes_lent only.entry)) all) }
+    ensures { ForGiven I.next_gives class_lent classes (λ all. result ≡ list_any (is_wrong_class (asked_lent asked.entry)) all) }
 {
     for class in classes {
-        if is_wrong_class(class, only) {
+        if is_wrong_class(class, asked) {
             return true;
         }
     }
@@ -353,29 +349,29 @@ fn has_wrong_part<'a, I: Iterator<Item = LentClass<'a>> + Drop>(
 }
 
 /// Whether a file is asked for and unreadable.
-pub(crate) fn is_wrong_file(row: &FileRow<'_>, only: Option<&Outside>) -> bool
-    ensures { result ≡ is_wrong_file (prefixes_lent only.entry) (lent.row_lent row.now) }
+pub(crate) fn is_wrong_file(row: &FileRow<'_>, asked: Asked<'_>) -> bool
+    ensures { result ≡ is_wrong_file (asked_lent asked.entry) (lent.row_lent row.now) }
 {
-    is_asked(only, row.path) && is_unreadable(row)
+    is_asked(asked, row.path) && is_unreadable(row)
 }
 
 /// Whether a class is asked for and wrong.
-fn is_wrong_class(class: LentClass<'_>, only: Option<&Outside>) -> bool
-    ensures { result ≡ is_wrong_class (prefixes_lent only.entry) (class_lent class.entry) }
+fn is_wrong_class(class: LentClass<'_>, asked: Asked<'_>) -> bool
+    ensures { result ≡ is_wrong_class (asked_lent asked.entry) (class_lent class.entry) }
 {
-    is_asked(only, class.facts.name()) && is_wrong_part(class.part)
+    is_asked(asked, class.facts.name()) && is_wrong_part(class.facts, class.part, asked.used_only)
 }
 
-/// Whether a class has a fault or does not load, an instruction does not link, or a reference is answered by an
-/// error.
-fn is_wrong_part(part: &Part) -> bool
-    ensures { result ≡ is_wrong_part part.now }
+/// Returns whether a class has a fault or does not load, an instruction does not link, or a reference is answered by an
+/// error. With `used_only`, references that nothing uses do not count.
+fn is_wrong_part(facts: &Facts, part: &Part, used_only: bool) -> bool
+    ensures { result ≡ is_wrong_listed used_only facts.now part.now }
 {
     !part.format_faults().is_empty()
         || !part.code_faults().is_empty()
         || is_load_error(part.load())
         || has_link(part.links())
-        || has_error(part.answers())
+        || has_listed_error(facts, part.answers(), used_only)
 }
 
 fn is_load_error(load: &Loading) -> bool
@@ -393,11 +389,13 @@ fn has_link(mut links: Links<'_>) -> bool
     links.next().is_some()
 }
 
-fn has_error(answers: &Answers) -> bool
-    ensures { result ≡ list_any is_error answers.now }
+/// Returns whether an answer is an error. With `used_only`, references that nothing uses do not count.
+fn has_listed_error(facts: &Facts, answers: &Answers, used_only: bool) -> bool
+    ensures { result ≡ has_listed_error used_only facts.now 0 answers.now }
 {
     for number in 0..answers.len() {
-        if let AnswerKind::Error(_) = answers.kind(number) {
+        let user = user_at(facts, number);
+        if is_listed(used_only, user, answers.at(number)) {
             return true;
         }
     }

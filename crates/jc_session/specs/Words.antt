@@ -1,5 +1,5 @@
 -- What the words of the command line ask for, as `clap` finds it among them.
-use Rattle.std.specs.Prelude.{◌≡◌, ◌↔◌, ◌⊎◌, ℕ, true, List, codes, IsSome, Option, Some, None}
+use Rattle.std.specs.Prelude.{◌≡◌, ◌↔◌, ◌⊎◌, ℕ, Bool, true, false, List, codes, IsSome, Option, Some, None}
 use Rattle.std.specs.List.{Contains}
 use Rattle.clap.specs.Faults.{fault_of}
 use Rattle.clap.specs.Kinds.{IsAmong}
@@ -37,8 +37,8 @@ abbrev pub list_command : App
 list_command = with_rule (new_app (codes "list")) (path_wanted (codes "FILE"))
 
 abbrev pub check_options : App
-check_options = with_rule (with_rule (with_rule (new_app (codes "check"))
-    (flag (codes "errors"))) (prefix_option (codes "only"))) (prefix_option (codes "outside"))
+check_options = with_rule (with_rule (with_rule (with_rule (new_app (codes "check"))
+    (flag (codes "errors"))) (flag (codes "used"))) (prefix_option (codes "only"))) (prefix_option (codes "outside"))
 
 abbrev pub check_command : App
 check_command = with_rule check_options (path_wanted (codes "DIR"))
@@ -79,19 +79,27 @@ IsGiven flag rows = one_of flag rows ≡ Some (codes "true")
 abbrev pub IsLacking : (flag : Word) → List Row → Type 0
 IsLacking flag rows = one_of flag rows ≡ Some (codes "false")
 
+-- the flag is given exactly if this is true
+abbrev pub IsFlag : (flag : Word) → (is_given : Bool) → List Row → Type 0
+IsFlag flag true rows = IsGiven flag rows
+IsFlag flag false rows = IsLacking flag rows
+
 -- what makes a report wrong is told of what each `--only` names, or of all where none is given
 abbrev pub TellsOnly : Option (List Name) → Option (List Name) → Type 0
 TellsOnly named None = named ≡ None
 TellsOnly named (Some held) = IsSome named × HoldsGiven named held
 
--- without `--errors` the report is asked for, and with it what makes that wrong; `--only` is for errors alone
+-- without `--errors` the report is asked for, and with it what makes that wrong; `--only` and `--used` are for errors only
 abbrev pub AsksForm : List Row → CheckForm → Type 0
-AsksForm rows forms.Report = IsLacking (codes "errors") rows × (given (codes "only") rows ≡ None)
-AsksForm rows (forms.Errors held) = IsGiven (codes "errors") rows × TellsOnly (given (codes "only") rows) held
+AsksForm rows forms.Report = IsLacking (codes "errors") rows × IsLacking (codes "used") rows × (given (codes "only") rows ≡ None)
+AsksForm rows (forms.Errors held used_only) =
+    IsGiven (codes "errors") rows × TellsOnly (given (codes "only") rows) held × IsFlag (codes "used") used_only rows
 
--- the prefixes of `--only` are refused, or `--only` is given without `--errors`
+-- the prefixes of `--only` are refused, or `--only` or `--used` is given without `--errors`
 abbrev pub IsBadForm : List Row → Type 0
-IsBadForm rows = AreRefused (given (codes "only") rows) ⊎ (IsLacking (codes "errors") rows × IsSome (given (codes "only") rows))
+IsBadForm rows =
+    AreRefused (given (codes "only") rows)
+    ⊎ (IsLacking (codes "errors") rows × (IsSome (given (codes "only") rows) ⊎ IsGiven (codes "used") rows))
 
 -- the prefixes of `--outside` are refused, or the form is bad
 abbrev pub IsBadCheck : List Row → Type 0

@@ -78,7 +78,8 @@ fn list_request<'w>(matches: &ArgMatches<'w>) -> Request<'w>
 /// Returns the folder to check, the outside prefixes, and what is written of the report.
 fn check_request<'w>(alloc: Global, matches: &ArgMatches<'w>) -> Result<Request<'w>, Fault<'w>>
     requires path { HasPath (codes "DIR") (rows_of (found_of matches.now)) }
-    requires flag { HasFlag (codes "errors") (rows_of (found_of matches.now)) }
+    requires errors { HasFlag (codes "errors") (rows_of (found_of matches.now)) }
+    requires used { HasFlag (codes "used") (rows_of (found_of matches.now)) }
     ensures command { IfOk result (λ request. command_of request ≡ codes "check") }
     ensures asks { IfOk result (AsksAmong (rows_of (found_of matches.now))) }
     ensures proper { IfOk result (λ _. ¬ (IsBadCheck (rows_of (found_of matches.now)))) }
@@ -93,21 +94,35 @@ fn check_request<'w>(alloc: Global, matches: &ArgMatches<'w>) -> Result<Request<
     }
 }
 
-/// Returns what is written of the report: with `--errors` what makes it wrong, for each prefix of `--only`. `--only`
-/// without `--errors` is a usage error.
+/// Returns what is written of the report: with `--errors` what makes it wrong, for each prefix of `--only`, and with
+/// `--used` without unused references. `--only` or `--used` without `--errors` is a usage error.
 fn form<'w>(alloc: Global, matches: &ArgMatches<'w>) -> Result<CheckForm, Fault<'w>>
-    requires { HasFlag (codes "errors") (rows_of (found_of matches.now)) }
+    requires errors { HasFlag (codes "errors") (rows_of (found_of matches.now)) }
+    requires used { HasFlag (codes "used") (rows_of (found_of matches.now)) }
     ensures asks { IfOk result (AsksForm (rows_of (found_of matches.now))) }
     ensures proper { IfOk result (λ _. ¬ (IsBadForm (rows_of (found_of matches.now)))) }
     ensures fault { IfErr result (FailsFor (IsBadForm (rows_of (found_of matches.now)))) }
 {
+    let used_only = matches.get_flag("used");
     match (matches.get_flag("errors"), matches.get_strs("only")) {
-        (false, None) => Ok(CheckForm::Report),
+        (false, None) => {
+            if used_only {
+                Err(Fault::Usage)
+            } else {
+                Ok(CheckForm::Report)
+            }
+        }
         (false, Some(_)) => Err(Fault::Usage),
-        (true, None) => Ok(CheckForm::Errors(None)),
+        (true, None) => Ok(CheckForm::Errors {
+            only: None,
+            used_only,
+        }),
         (true, Some(prefixes)) => {
             let only = given_prefixes(alloc, prefixes)?;
-            Ok(CheckForm::Errors(Some(only)))
+            Ok(CheckForm::Errors {
+                only: Some(only),
+                used_only,
+            })
         }
     }
 }
@@ -195,9 +210,13 @@ fn check_command<'a>(alloc: Global) -> Result<Command<'a>, AllocError>
     let errors = Arg::new(alloc, "errors")
         .long("errors")
         .action(ArgAction::SetTrue);
+    let used = Arg::new(alloc, "used")
+        .long("used")
+        .action(ArgAction::SetTrue);
     let folder = Arg::new(alloc, "DIR").required(true);
     Command::new(alloc, "check")
         .arg(errors)?
+        .arg(used)?
         .arg(prefix_option(alloc, "only"))?
         .arg(prefix_option(alloc, "outside"))?
         .arg(folder)

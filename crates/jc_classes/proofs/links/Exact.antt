@@ -1,28 +1,27 @@
 -- The errors of a class's instructions are those of the instructions that do not link, in order.
-use Rattle.std.proofs.Common.{◌≡◌, ◌∙◌, ◌⊎◌, inl, inr, ◌↔◌, ℕ, ◌+◌, List, [], ◌∷◌, length, Option, Some, None, refl, sym, ap, subst, arith}
+use Rattle.std.proofs.Common.{◌≡◌, ◌∙◌, ◌⊎◌, inl, inr, ◌↔◌, ℕ, ◌+◌, List, [], ◌∷◌, length, Some, refl, sym, ap, subst, arith}
 use Rattle.std.specs.Prelude.{◌==◌, if◌then◌else◌, option_and_then}
 use Rattle.std.specs.List.{Contains, slice_get}
 use Rattle.std.specs.List.Sorted.{IsStrictlySortedBy}
-use Rattle.std.specs.Ordering.{nat_cmp, ordering_then}
 use Rattle.std.specs.declared.cmp.Ordering.TheVariants.{Less}
 use Rattle.jc_base.proofs.Membership.{Has, has_from, from_has}
 use Rattle.jc_view.specs.ClassFile.{ClassFile, all_slots}
 use Rattle.jc_view.proofs.reading.BigEndian.{then_some}
 use Rattle.jc_rules.specs.declared.fault.Fault as fault
 use Rattle.jc_rules.specs.Faults.{faults}
-use Rattle.jc_code.specs.declared.insn.LinkKind.{LinkKind}
 use Rattle.jc_code.specs.declared.method_use.MethodUse.{MethodUse}
 use Rattle.jc_code.specs.InsnReading.{insns_of}
-use Rattle.jc_code.specs.MethodUses.{uses, uses_from}
+use Rattle.jc_code.specs.MethodUses.{uses}
 use Rattle.jc_classes.specs.Facts.{Facts, Reference}
 use Rattle.jc_classes.specs.FactsOf.{facts_of, faulty_facts, references_in, sound_facts}
-use Rattle.jc_classes.specs.LinkErrors.{Fault, LinkFault, answered, link_at, link_by, link_fault, link_of, links_of, method_name, site_of}
-use Rattle.jc_classes.specs.LinkLaws.{DoesNotLink, HasAnswer, link_cmp}
+use Rattle.jc_classes.specs.LinkErrors.{LinkFault, answered, link_at, link_by, link_fault, link_of, links_of, method_name, site_of}
+use Rattle.jc_classes.specs.LinkLaws.{DoesNotLink, link_cmp}
 use Rattle.jc_classes.specs.Names.{Name}
 use Rattle.jc_classes.specs.Resolution.{Answer}
 use Rattle.jc_classes.specs.Worlds.{Stands as stands}
 use Rattle.jc_classes.proofs.links.InOrder.{some_is, not_empty, has_picked, picked_has, sorted-picked, same_order}
-use Rattle.jc_classes.proofs.links.Uses.{IsUseOf, IsUse, use_of, has_use, use_cmp, uses_sorted}
+use Rattle.jc_classes.proofs.links.Uses.{IsUseOf, use_of, has_use, uses_sorted}
+use Rattle.jc_classes.specs.FactsOrder.{use_cmp}
 use Rattle.jc_classes.proofs.links.Answered.{references_rise, answered_is, is_answered}
 use Rattle.jc_classes.proofs.links.Methods.{has_name, method_is_named}
 

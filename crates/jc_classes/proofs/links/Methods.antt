@@ -1,12 +1,11 @@
 -- Without a format fault each method has a name and a descriptor, so the methods kept have the numbers of the file.
-use Rattle.std.proofs.Common.{◌≡◌, ◌∙◌, ℕ, zero, suc, ◌<◌, true, List, [], ◌∷◌, ◌++◌, Option, Some, None, refl, sym, ap, subst, arith}
+use Rattle.std.proofs.Common.{◌≡◌, ◌∙◌, ℕ, zero, suc, true, List, [], ◌∷◌, ◌++◌, Option, Some, None, refl, sym, ap, subst, arith}
 use Rattle.std.specs.Prelude.{option_and_then}
 use Rattle.std.specs.List.{Contains, flat_map, slice_get}
 use Rattle.std.specs.Option.{option_map_or, option_to_list}
 use Rattle.jc_view.specs.ClassFile as file
 use Rattle.jc_view.specs.ClassFile.{ClassFile}
 use Rattle.jc_view.specs.Lookups.{lacks, passes, utf8_at}
-use Rattle.jc_view.proofs.reading.BigEndian.{then_some}
 use Rattle.jc_base.specs.DescriptorTests.{method_type_of}
 use Rattle.jc_base.specs.TextTests.{is_method_name_text}
 use Rattle.jc_rules.specs.declared.fault.FormatRule.{FormatRule}
@@ -17,7 +16,7 @@ use Rattle.jc_rules.specs.FormatRules.{breaks_f19, breaks_f20, fits_slots}
 use Rattle.jc_rules.proofs.orders.FaultOrder.{placed_fault}
 use Rattle.jc_rules.proofs.violations.Decisions.{numbers_decided}
 use Rattle.jc_classes.specs.Facts.{Member}
-use Rattle.jc_classes.specs.FactsOf.{member_of, members_in, sound_facts}
+use Rattle.jc_classes.specs.FactsOf.{member_of, sound_facts}
 use Rattle.jc_classes.specs.LinkErrors.{method_name}
 use Rattle.jc_classes.specs.Names.{Name}
 use Rattle.jc_classes.proofs.links.InOrder.{some_is}

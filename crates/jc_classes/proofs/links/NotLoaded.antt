@@ -1,11 +1,11 @@
 -- A class that does not load has no errors of instructions, since all its answers are NotLoaded.
-use Rattle.std.proofs.Common.{◌≡◌, ◌∙◌, Bool, true, false, ℕ, List, [], ◌∷◌, ◌++◌, Option, Some, None, refl, sym, ap, subst}
+use Rattle.std.proofs.Common.{◌≡◌, ◌∙◌, Bool, true, false, ℕ, List, [], ◌∷◌, ◌++◌, Option, Some, None, refl, ap}
 use Rattle.std.specs.Prelude.{◌==◌, if◌then◌else◌, option_and_then}
 use Rattle.std.specs.List.{AllByRecursion, flat_map}
 use Rattle.std.specs.Option.{option_to_list}
 use Rattle.jc_code.specs.declared.method_use.MethodUse.{MethodUse}
 use Rattle.jc_classes.specs.Facts.{Facts, Reference}
-use Rattle.jc_classes.specs.LinkErrors.{LinkFault, answered, link_by, link_fault, link_of, links_of, site_of}
+use Rattle.jc_classes.specs.LinkErrors.{answered, link_by, link_of, links_of}
 use Rattle.jc_classes.specs.Loading.{Loading}
 use Rattle.jc_classes.specs.Loading.Loading.{Loaded, Outside, Fails}
 use Rattle.jc_classes.specs.Names.{Name}

@@ -1,10 +1,10 @@
 -- What the instructions of a class's methods do with references: each by its method and its code, and in order.
-use Rattle.std.proofs.Common.{◌≡◌, ◌∙◌, inl, inr, ℕ, zero, suc, ◌+◌, ◌-◌, ◌≤◌, Bool, true, false, List, [], ◌∷◌, ◌++◌, length, Option, Some, None, refl, sym, ap, subst, arith}
+use Rattle.std.proofs.Common.{◌≡◌, ◌∙◌, inl, inr, ℕ, zero, suc, ◌+◌, ◌-◌, Bool, true, false, List, [], ◌∷◌, length, Option, Some, None, refl, sym, ap, subst, arith}
 use Rattle.std.specs.Prelude.{◌==◌, if◌then◌else◌, option_map}
 use Rattle.std.specs.List.{slice_get}
 use Rattle.std.specs.List.Sorted.{IsStrictlySortedBy}
 use Rattle.std.specs.Option.{option_map_or}
-use Rattle.std.specs.Ordering.{nat_cmp, ordering_then}
+use Rattle.std.specs.Ordering.{nat_cmp}
 use Rattle.std.specs.declared.cmp.Ordering.{Ordering}
 use Rattle.std.specs.declared.cmp.Ordering.TheVariants.{Less}
 use Rattle.jc_base.proofs.Membership.{Has, has-cases, has-left, has-right}
@@ -20,6 +20,7 @@ use Rattle.jc_code.specs.InsnReading.{after_insn, insn_value, insns_from, insns_
 use Rattle.jc_code.specs.Insns.{link_use}
 use Rattle.jc_code.specs.MethodUses.{code_uses, method_uses, use_at, uses, uses_among, uses_from}
 use Rattle.jc_code.proofs.decoding.Shorter.{insn_shorter}
+use Rattle.jc_classes.specs.FactsOrder.{use_cmp}
 use Rattle.jc_classes.proofs.links.InOrder.{map_some, not_empty, some_is, has_picked, picked_has, sorted-append, sorted-picked, sorted_rises, then_less, first_less, same_order}
 
 -- ---- instructions rise
@@ -119,9 +120,6 @@ has_use c number (x ∷ methods) u (suc n) m got same is =
 
 abbrev by_place : ℕ × Insn → ℕ × Insn → Ordering
 by_place a b = nat_cmp a.0 b.0
-
-abbrev pub use_cmp : MethodUse → MethodUse → Ordering
-use_cmp a b = ordering_then (nat_cmp a.method b.method) (nat_cmp a.place b.place)
 
 module _ (c : ClassFile) (number : ℕ) where
   made_less : (a b : ℕ × Insn) (y z : MethodUse) → use_at number a ≡ Some y → use_at number b ≡ Some z → by_place a b ≡ Less → use_cmp y z ≡ Less

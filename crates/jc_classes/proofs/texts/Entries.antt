@@ -21,9 +21,9 @@ pub shown_some : {A B : Type 0} (f : A → B) (new old : List A) (a : Option A) 
 shown_some f new old a b e g =
     ap (map f) e ∙ map-append f old (option_to_list a) ∙ ap (λ xs. map f old ++ xs) (shown_to_list f a ∙ ap option_to_list g)
 
-pub facts_eta : (a b : Facts) → a.path ≡ b.path → a.name ≡ b.name → a.flags ≡ b.flags → a.superclass ≡ b.superclass → a.interfaces ≡ b.interfaces → a.fields ≡ b.fields → a.methods ≡ b.methods → a.references ≡ b.references → a.uses ≡ b.uses → a.used ≡ b.used
+pub facts_eta : (a b : Facts) → a.path ≡ b.path → a.name ≡ b.name → a.flags ≡ b.flags → a.superclass ≡ b.superclass → a.interfaces ≡ b.interfaces → a.fields ≡ b.fields → a.methods ≡ b.methods → a.references ≡ b.references → a.uses ≡ b.uses → a.users ≡ b.users
     → a.format_faults ≡ b.format_faults → a.code_faults ≡ b.code_faults → a ≡ b
-facts_eta a b e1 e2 e3 e4 e5 e6 e7 e8 u w e9 e10 = λ i. record { path = e1 i; name = e2 i; flags = e3 i; superclass = e4 i; interfaces = e5 i; fields = e6 i; methods = e7 i; references = e8 i; uses = u i; used = w i; format_faults = e9 i; code_faults = e10 i }
+facts_eta a b e1 e2 e3 e4 e5 e6 e7 e8 u w e9 e10 = λ i. record { path = e1 i; name = e2 i; flags = e3 i; superclass = e4 i; interfaces = e5 i; fields = e6 i; methods = e7 i; references = e8 i; uses = u i; users = w i; format_faults = e9 i; code_faults = e10 i }
 
 -- members by their places and without
 pub members_placed : (c : ClassFile) (holder : Holder) (place : ℕ) (members : List Member) → flat_map (λ (m : PlacedMember). option_to_list (member_of c m.member)) (members_from holder place members) ≡ members_in c members

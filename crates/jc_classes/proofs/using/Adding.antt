@@ -4,11 +4,13 @@ use Rattle.std.specs.List.{flat_map, range_with_len}
 use Rattle.std.proofs.lemmas.List.{append-nil, append_assoc}
 use Rattle.jc_view.specs.declared.attribute_kind.AttributeKind.TheVariants as kinds
 use Rattle.jc_view.specs.declared.attribute_kind.Holder.TheVariants as holders
+use Rattle.jc_view.specs.declared.constant_pool.ConstantIndex.{ConstantIndex}
 use Rattle.jc_view.specs.ClassFile.{Attribute, ClassFile, attribute_bytes}
 use Rattle.jc_view.specs.Places.{attributes_from, attributes_in, attributes_place}
 use Rattle.jc_view.specs.Attributes.{bootstrap_attributes, is_recognised}
-use Rattle.jc_classes.specs.UsedConstants.{by_constants, classes_that, is_resolved, named, named_by_handle, named_by_methods, named_by_table, used, used_constants}
-use Rattle.jc_classes.specs.inside.Using.{are_marks, named_by_attribute, owners}
+use Rattle.jc_classes.specs.UsedConstants.{by_constants, classes_that, is_among, is_resolved, named, named_by_handle, named_by_methods, named_by_table, used_constants}
+use Rattle.jc_classes.specs.inside.Using.{Marks, are_marks, named_by_attribute, owners}
+use Rattle.jc_classes.proofs.using.Marking.{marks_added}
 use Rattle.jc_classes.proofs.texts.ConstantTexts.{found_more}
 
 -- with those of what is left they are all; so they are one step on
@@ -58,6 +60,21 @@ pub used_whole : (c : ClassFile) → named c ++ owners c (named c) ++ classes_th
 unfolding used_constants
 used_whole c = refl
 
-pub marks_whole : (c : ClassFile) → are_marks c (used_constants c) ≡ used c
-unfolding used
-marks_whole c = refl
+-- ---- marks
+
+pub named_marks : (c : ClassFile) (names : List ConstantIndex) (old new : List Bool) → old ≡ are_marks c (named_by_methods c)
+    → names ≡ by_constants named_by_handle c ++ flat_map (λ (a : Attribute). named_by_table a.bytes) (bootstrap_attributes c)
+    → Marks (is_among names) old new → new ≡ are_marks c (named c)
+named_marks c names old new e is step =
+    let handles = by_constants named_by_handle c in
+    let tables = flat_map (λ (a : Attribute). named_by_table a.bytes) (bootstrap_attributes c) in
+    marks_added c (named_by_methods c) names old new e step
+    ∙ ap (λ v. are_marks c (named_by_methods c ++ v)) is
+    ∙ ap (are_marks c) (sym (append_assoc (named_by_methods c) handles tables) ∙ named_whole c)
+
+pub used_marks : (c : ClassFile) (classes : List ConstantIndex) (old new : List Bool) → old ≡ are_marks c (named c) → classes ≡ owners c (named c) ++ classes_that (is_resolved c) c
+    → Marks (is_among classes) old new → new ≡ are_marks c (used_constants c)
+used_marks c classes old new e is step =
+    marks_added c (named c) classes old new e step
+    ∙ ap (λ v. are_marks c (named c ++ v)) is
+    ∙ ap (are_marks c) (sym (append_assoc (named c) (owners c (named c)) (classes_that (is_resolved c) c)) ∙ used_whole c)

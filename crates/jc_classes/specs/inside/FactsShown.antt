@@ -31,7 +31,7 @@ facts_shown a = record {
   methods = map (member_shown a.texts.value) a.methods.items;
   references = map (reference_shown a.texts.value) a.references.value.items;
   uses = a.uses.items;
-  used = a.used.items;
+  users = a.users.items;
   format_faults = a.faults.value.format.items;
   code_faults = a.faults.value.code.items;
 }

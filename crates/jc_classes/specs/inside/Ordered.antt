@@ -1,17 +1,20 @@
--- Members in the order by which they are found.
+-- Members in the order by which they are found, and the order of references and of uses.
 use Rattle.std.specs.Prelude.{◌≡◌, ℕ, ◌<◌, ◌≤◌, false, cond, List, length}
 use Rattle.std.specs.Prelude.{map, slice_get, slice_index, Option, Some, None, option_and_then}
 use Rattle.std.specs.declared.cmp.Ordering.TheVariants.{Less}
 use Rattle.std.specs.Ordering.{is_lt}
 use Rattle.jc_classes.specs.Facts.{Key, Member}
+use Rattle.jc_classes.specs.FactsOrder.{AreByIndex, AreByPlace}
 use Rattle.jc_classes.specs.Names.{Name, same_name}
 use Rattle.jc_classes.specs.MemberOrder.{IsOrder, key_at, key_cmp}
 use Rattle.jc_classes.specs.declared.facts.Facts.TheInside.{Inside}
-use Rattle.jc_classes.specs.inside.FactsShown.{member_shown}
+use Rattle.jc_classes.specs.inside.FactsShown.{member_shown, reference_shown}
 
 pub record AreOrdered (a : Inside) : Type 0 where
   pub fields : IsOrder (map (member_shown a.texts.value) a.fields.items) a.field_order.items
   pub methods : IsOrder (map (member_shown a.texts.value) a.methods.items) a.method_order.items
+  pub references : AreByIndex (map (reference_shown a.texts.value) a.references.value.items)
+  pub uses : AreByPlace a.uses.items
 
 -- the key of the member at a place of the order
 abbrev pub key_there : List Member → List ℕ → ℕ → Key

@@ -6,7 +6,7 @@ use Rattle.jc_classes.specs.Facts.{Facts}
 use Rattle.jc_classes.specs.Names.{Name, same_name}
 use Rattle.jc_linkage.specs.Affected.{IsCounted}
 use Rattle.jc_linkage.specs.Steps as steps
-use Rattle.jc_linkage.specs.Steps.{Classes, changed, class_by, counts, is_class, is_first, is_step, step_class, step_name}
+use Rattle.jc_linkage.specs.Steps.{Classes, changed, class_by, is_class, is_first, step_class, step_name}
 use Rattle.jc_linkage.specs.declared.step.Step.{Step}
 use Rattle.jc_report.specs.Files.{Files}
 use Rattle.jc_report.specs.FileRows.{winner}

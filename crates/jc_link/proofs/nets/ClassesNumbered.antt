@@ -1,5 +1,5 @@
 -- Names and the classes of a table have numbers.
-use Rattle.std.proofs.Common.{◌≡◌, ◌∙◌, ◌<◌, ◌⊎◌, ⊎_elim, inl, inr, ℕ, zero, suc, ◌++◌, List, [], ◌∷◌, length, take, arith, refl, ap, sym, subst}
+use Rattle.std.proofs.Common.{◌≡◌, ◌∙◌, ◌<◌, ⊎_elim, ℕ, zero, suc, ◌++◌, List, [], ◌∷◌, length, take, arith, refl, ap, sym, subst}
 use Rattle.std.proofs.lemmas.List.{append_assoc, append-nil, get_or_default, map-append}
 use Rattle.std.specs.List.{Contains}
 use Rattle.jc_classes.specs.Facts.{Facts}

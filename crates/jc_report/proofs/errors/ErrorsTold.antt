@@ -1,23 +1,24 @@
 -- The text of what makes a report wrong is empty exactly where nothing is wrong.
-use Rattle.std.proofs.Common.{◌≡◌, ◌++◌, ◌||◌, ℕ, ◌==◌, Bool, true, false, not, length, List, [], ◌∷◌, Option, ap, codes, refl, subst}
-use Rattle.std.specs.List.{list_any}
+use Rattle.std.proofs.Common.{◌≡◌, ◌++◌, ◌+◌, ◌||◌, ℕ, ◌==◌, Bool, true, false, not, length, List, [], ◌∷◌, ap, codes, refl, subst}
 use Rattle.jc_text.specs.Escapes.{path_text, shown}
-use Rattle.jc_list.specs.FaultLines.{code_fault_line, format_line}
-use Rattle.jc_classes.specs.Facts.{Facts, Reference, is_used}
+use Rattle.jc_list.specs.FaultLines.{format_line}
+use Rattle.jc_classes.specs.Facts.{Facts, Reference}
 use Rattle.jc_classes.specs.Loading.{Loading}
 use Rattle.jc_classes.specs.Loading.{Loading as loading}
 use Rattle.jc_classes.specs.Names.{Name}
 use Rattle.jc_classes.specs.Parts.{AreAnswers, Part}
 use Rattle.jc_classes.specs.Resolution.{Answer}
 use Rattle.jc_classes.specs.Worlds.{World, references_of}
+use Rattle.jc_classes.specs.declared.user.User.{User}
 use Rattle.jc_link.specs.Prefixes.{is_covered}
 use Rattle.jc_link.specs.Tables.{or_built_in, stands_by}
-use Rattle.jc_report.specs.ErrorsText.{answer_errors, class_errors, errors_text, file_error, is_asked, is_wrong_among, is_wrong_class, is_wrong_file, load_error, of_class, part_errors, use_mark}
+use Rattle.jc_report.specs.ErrorsText.{Asked, answer_errors, answered_text, class_errors, code_error, code_text, errors_text, file_error, has_listed_error, is_asked, is_listed, is_wrong_among, is_wrong_class, is_wrong_file}
+use Rattle.jc_report.specs.ErrorsText.{is_wrong_listed, link_error, load_error, method_text, of_class, of_method, part_errors, use_mark, user_at, user_text}
 use Rattle.jc_report.specs.Files.{Files}
 use Rattle.jc_report.specs.FileRows.{FileRow}
 use Rattle.jc_report.specs.FileRowText.{row_text, state_text}
-use Rattle.jc_report.specs.PartText.{answered_text, link_text}
-use Rattle.jc_report.specs.Reports.{Class, IsClassOf, IsReport, Report, is_error, is_load_error, is_wrong_part, name_of, world_of}
+use Rattle.jc_report.specs.PartText.{answer_text, reference_text}
+use Rattle.jc_report.specs.Reports.{Class, IsClassOf, IsReport, Report, is_load_error, name_of, world_of}
 use Rattle.jc_report.proofs.errors.EmptyTexts.{Tells, behind_empty, front_empty, tells_any, tells_asked, tells_or, tells_some, tells_text}
 
 row_there : (row : FileRow) → row_text row ≡ [] → ⊥
@@ -31,13 +32,23 @@ load_told name loading.Loaded = (λ e. refl, λ e. refl)
 load_told name loading.Outside = (λ e. refl, λ e. refl)
 load_told name (loading.Fails error fault) = (λ e. absurd (of_class_there name _ e), λ e. absurd cc)
 
-answers_told : (m : World) (d : Name) (f : Facts) (l : Loading) (rs : List Reference) (answers : List Answer) → AreAnswers m d l rs answers
-    → Tells (list_any is_error answers) (answer_errors f rs answers)
-answers_told m d f l [] [] are = (λ e. refl, λ e. refl)
-answers_told m d f l (r ∷ rs) (a ∷ answers) are =
-    tells_or (is_error a) (list_any is_error answers) (tells_text (is_error a) _ (of_class_there f.name (answered_text r a ++ use_mark (is_used f r.index) ++ codes "\n"))) (answers_told m d f l rs answers are.1)
-answers_told m d f l [] (a ∷ answers) are = absurd are
-answers_told m d f l (r ∷ rs) [] are = absurd are
+method_there : (f : Facts) (number : ℕ) (text : List ℕ) → of_method f number text ≡ [] → ⊥
+method_there f number text e =
+    let none : codes ": " ≡ [] = behind_empty (method_text f number) (codes ": ") (front_empty (method_text f number ++ codes ": ") text e) in absurd cc
+
+answered_there : (f : Facts) (r : Reference) (u : User) (a : Answer) → answered_text f r u a ≡ [] → ⊥
+answered_there f r u a e =
+    let none : codes "\n" ≡ [] = behind_empty (user_text f u ++ codes ": " ++ reference_text r ++ codes " -> " ++ answer_text a ++ use_mark u) (codes "\n") e in absurd cc
+
+answers_told : (used_only : Bool) (m : World) (d : Name) (f : Facts) (l : Loading) (n : ℕ) (rs : List Reference) (answers : List Answer) → AreAnswers m d l rs answers
+    → Tells (has_listed_error used_only f n answers) (answer_errors used_only f n rs answers)
+answers_told used_only m d f l n [] [] are = (λ e. refl, λ e. refl)
+answers_told used_only m d f l n (r ∷ rs) (a ∷ answers) are =
+    tells_or (is_listed used_only (user_at f n) a) (has_listed_error used_only f (n + 1) answers)
+    (tells_text (is_listed used_only (user_at f n) a) (answered_text f r (user_at f n) a) (answered_there f r (user_at f n) a))
+    (answers_told used_only m d f l (n + 1) rs answers are.1)
+answers_told used_only m d f l n [] (a ∷ answers) are = absurd are
+answers_told used_only m d f l n (r ∷ rs) [] are = absurd are
 
 load_last : (a b c : Bool) → (a || b || c) ≡ (b || c || a)
 load_last true true c = refl
@@ -47,29 +58,29 @@ load_last false true c = refl
 load_last false false true = refl
 load_last false false false = refl
 
-part_told : (m : World) (d : Name) (f : Facts) (p : Part) → AreAnswers m d p.load f.references p.answers → Tells (is_wrong_part p) (part_errors f p)
+part_told : (used_only : Bool) (m : World) (d : Name) (f : Facts) (p : Part) → AreAnswers m d p.load f.references p.answers → Tells (is_wrong_listed used_only f p) (part_errors used_only f p)
 unfolding part_errors
-part_told m d f p are =
+part_told used_only m d f p are =
     let format = tells_some (λ fault. of_class f.name (format_line fault)) p.format_faults (λ fault. of_class_there f.name (format_line fault)) in
-    let code = tells_some (λ fault. of_class f.name (code_fault_line fault)) p.code_faults (λ fault. of_class_there f.name (code_fault_line fault)) in
-    let links = tells_some (λ link. of_class f.name (link_text link)) p.links (λ link. of_class_there f.name (link_text link)) in
-    let answers = answers_told m d f p.load f.references p.answers are in
-    subst (λ test. Tells (test || not (length p.links == 0) || list_any is_error p.answers) (part_errors f p))
+    let code = tells_some (code_error f) p.code_faults (λ fault. method_there f fault.0 (code_text fault.1)) in
+    let links = tells_some (link_error f) p.links (λ link. method_there f link.method _) in
+    let answers = answers_told used_only m d f p.load 0 f.references p.answers are in
+    subst (λ test. Tells (test || not (length p.links == 0) || has_listed_error used_only f 0 p.answers) (part_errors used_only f p))
     (load_last (is_load_error p.load) (not (length p.format_faults == 0)) (not (length p.code_faults == 0)))
     (tells_or _ _ (tells_or _ _ (tells_or _ _ (tells_or _ _ (load_told f.name p.load) format) code) links) answers)
 
-class_told : (only : Option (List Name)) (f : Files) (prefixes : List Name) (c : Class) → IsClassOf f prefixes c → Tells (is_wrong_class only c) (class_errors only c)
-class_told only f prefixes c is =
-    tells_asked (is_asked only (name_of c)) (is_wrong_part c.part)
-    (part_told (world_of f prefixes) (name_of c) c.facts c.part
+class_told : (asked : Asked) (f : Files) (prefixes : List Name) (c : Class) → IsClassOf f prefixes c → Tells (is_wrong_class asked c) (class_errors asked c)
+class_told asked f prefixes c is =
+    tells_asked (is_asked asked (name_of c)) (is_wrong_listed asked.used_only c.facts c.part)
+    (part_told asked.used_only (world_of f prefixes) (name_of c) c.facts c.part
     (subst (λ references. AreAnswers (world_of f prefixes) (name_of c) c.part.load references c.part.answers)
     (ap (λ o. references_of (stands_by (or_built_in o (name_of c)) (is_covered prefixes (name_of c)))) is.facts) is.part.answers))
 
-file_told : (only : Option (List Name)) (row : FileRow) → Tells (is_wrong_file only row) (file_error only row)
-file_told only row = tells_text (is_wrong_file only row) (row_text row) (row_there row)
+file_told : (asked : Asked) (row : FileRow) → Tells (is_wrong_file asked row) (file_error asked row)
+file_told asked row = tells_text (is_wrong_file asked row) (row_text row) (row_there row)
 
-pub errors_told : (f : Files) (prefixes : List Name) (only : Option (List Name)) (r : Report) → IsReport f prefixes r → Tells (is_wrong_among only r) (errors_text only r)
+pub errors_told : (f : Files) (prefixes : List Name) (asked : Asked) (r : Report) → IsReport f prefixes r → Tells (is_wrong_among asked r) (errors_text asked r)
 unfolding errors_text
-errors_told f prefixes only r is =
-    tells_or _ _ (tells_any (is_wrong_file only) (file_error only) r.files (λ k row within. file_told only _))
-    (tells_any (is_wrong_class only) (class_errors only) r.classes (λ k c within. class_told only f prefixes _ (is.sound k c within)))
+errors_told f prefixes asked r is =
+    tells_or _ _ (tells_any (is_wrong_file asked) (file_error asked) r.files (λ k row within. file_told asked _))
+    (tells_any (is_wrong_class asked) (class_errors asked) r.classes (λ k c within. class_told asked f prefixes _ (is.sound k c within)))

@@ -1,5 +1,5 @@
 -- References in ascending order of index: the one with an index is at its place, or there is none.
-use Rattle.std.proofs.Common.{◌≡◌, ◌∙◌, ◌<◌, ◌≤◌, ◌==◌, ℕ, zero, suc, Bool, true, false, List, [], ◌∷◌, Option, Some, None, refl, sym, subst, ap, arith}
+use Rattle.std.proofs.Common.{◌≡◌, ◌∙◌, ◌<◌, ◌==◌, ℕ, zero, suc, Bool, true, false, List, [], ◌∷◌, Option, Some, None, refl, sym, subst, ap, arith}
 use Rattle.std.specs.Prelude.{◌↔◌, if◌then◌else◌, slice_get}
 use Rattle.std.specs.declared.cmp.Ordering.TheVariants.{Less}
 use Rattle.std.specs.List.Sorted.{IsStrictlySortedBy}
@@ -9,7 +9,7 @@ use Rattle.std.proofs.lemmas.Bool.Decides.{Decides-eqb}
 use Rattle.jc_classes.specs.Facts.{Reference}
 use Rattle.jc_classes.specs.LinkLaws.{HasAnswer}
 use Rattle.jc_classes.specs.Resolution.{Answer}
-use Rattle.jc_report.specs.ClassAnswers.{AreByIndex}
+use Rattle.jc_classes.specs.FactsOrder.{AreByIndex}
 use Rattle.jc_report.specs.inside.ReferencePlaces.{IsNarrowed, answer_there, is_below}
 
 some_is : {X : Type 0} {x y : X} → Some x ≡ Some y → x ≡ y

@@ -1,14 +1,14 @@
 -- The arguments in which `clap` finds no fault: a command, and then the arguments that this command takes.
-use Rattle.std.proofs.Common.{◌≡◌, ◌∙◌, ◌⊎◌, ℕ, ◌∷◌, ◌||◌, Bool, List, Option, Some, None, [], ap, codes, cond, eqb, false, inl, inr, is_some, refl, subst, sym, true}
+use Rattle.std.proofs.Common.{◌≡◌, ◌∙◌, ◌⊎◌, ℕ, ◌∷◌, ◌||◌, Bool, List, Option, Some, None, [], ap, codes, cond, eqb, false, inl, inr, refl, subst, sym, true}
 use Rattle.std.specs.Option.{option_map_or}
 use Rattle.std.specs.Str.{bytes_eq, chars}
 use Rattle.std.specs.Prelude.{slice_get}
 use Rattle.std.proofs.lemmas.Slice.Eq.{bytes_eq-Decides}
-use Rattle.clap.specs.Faults.{entered_fault, fault_of, is_simple_and_free, level_fault, flag_word_fault, other_fault, step_fault, turn_fault, walk_fault, bundle_step_fault, flags_fault, bundle_fault, long_fault, short_fault}
+use Rattle.clap.specs.Faults.{entered_fault, fault_of, is_simple_and_free, level_fault, flag_word_fault, other_fault, step_fault, walk_fault, bundle_step_fault, bundle_fault, long_fault, short_fault}
 use Rattle.clap.specs.Kinds.{Kinds, or_else}
 use Rattle.clap.specs.Lexer.{long_of, short_of}
 use Rattle.clap.specs.Simple.{Shape, built, built_leaf, entered, filled, help_rule, inherited, marked_built, names_of, subcommand_of, with_leaf_noted}
-use Rattle.clap.specs.Walk.{Held, Names, Rule, Text, Walk, arg_by_long, idle, long_or_other, nothing_held, rows_after, subcommand_met, subcommand_or_other, walk, walk_from, walked, bundle_step, bundle_met, plain, Outcome, after_flag, short_or_plain, trailing}
+use Rattle.clap.specs.Walk.{Held, Names, Rule, Text, idle, long_or_other, nothing_held, rows_after, subcommand_met, subcommand_or_other, walk, walk_from, bundle_step, plain, Outcome, after_flag, short_or_plain, trailing}
 use Rattle.clap.specs.declared.error.kind.ErrorKind.TheVariants.{DisplayHelp, InvalidSubcommand, UnknownArgument}
 use Rattle.clap.proofs.OnLiterals.{clap_on_literals}
 use Rattle.clap.proofs.WalkLemmas.{walk_stopped}

@@ -1,14 +1,12 @@
--- What the rows of a command have where `clap` finds no fault: the path that it requires, and the text of its flag.
-use Rattle.std.proofs.Common.{◌≡◌, ◌∙◌, ◌⊎◌, ◌∷◌, ◌++◌, ◌||◌, ◌&&◌, Bool, List, Option, Some, None, [], ap, codes, cond, false, find, eqb, length, ⊎_elim, ne_eqb, arith, fold, inl, inr, is_some, option_and_then, option_map, not, refl, slice_get, subst, sym, true, unwrap_or}
+-- What the rows of a command have where `clap` finds no fault: the path that it requires, and the texts of its flags.
+use Rattle.std.proofs.Common.{◌≡◌, ◌∙◌, ◌⊎◌, ◌∷◌, ◌++◌, ◌||◌, Bool, List, Option, Some, None, [], ap, codes, cond, false, find, eqb, length, ⊎_elim, ne_eqb, arith, fold, inl, inr, option_and_then, option_map, not, refl, slice_get, subst, sym, true, unwrap_or}
 use Rattle.std.specs.Prelude.{⊤}
-use Rattle.std.specs.List.{list_any}
 use Rattle.std.specs.Option.{option_map_or}
 use Rattle.std.specs.Str.{bytes_eq}
 use Rattle.std.proofs.lemmas.Bool.{false≢true}
 use Rattle.std.proofs.lemmas.Slice.Eq.{bytes_eq-Decides}
 use Rattle.clap.specs.Facts.{explicit_source}
-use Rattle.clap.specs.Faults.{check_fault, defaults_fault, level_fault, settle_fault, use_fault, walk_fault}
-use Rattle.clap.specs.Kinds.{or_else}
+use Rattle.clap.specs.Faults.{check_fault, defaults_fault, level_fault, settle_fault, walk_fault}
 use Rattle.clap.specs.Simple.{Shape, filled, help_rule, with_index}
 use Rattle.clap.specs.Takes.{is_given}
 use Rattle.clap.specs.Values.{read_as}
@@ -21,10 +19,13 @@ use Rattle.jc_session.specs.Words.{flag, path_wanted, prefix_option}
 use Rattle.jc_session.proofs.asking.LineTaken.{both_pass, built_check, built_list}
 use Rattle.jc_session.proofs.asking.RowsFilled.{FirstFits, Fits, RowFits, RowsFit, UseFits, UsesFit, settled_fits, walk_fits, with_values_fit, without_fits}
 
--- ---- what fits the options of the command line: for `--errors` a text that is read as `true` or `false`
+-- ---- what fits the options of the command line: for a flag a text that is read as `true` or `false`
+
+abbrev is_flag : Text → Bool
+is_flag id = bytes_eq id (codes "errors") || bytes_eq id (codes "used")
 
 abbrev TextFits : Fits
-TextFits id how text = bytes_eq id (codes "errors") ≡ true → (read_as how text ≡ codes "true") ⊎ (read_as how text ≡ codes "false")
+TextFits id how text = is_flag id ≡ true → (read_as how text ≡ codes "true") ⊎ (read_as how text ≡ codes "false")
 
 abbrev path_rule : Text → Rule
 path_rule name = with_index 1 (filled (path_wanted name))
@@ -57,6 +58,12 @@ errors_uses again (v ∷ vs) rows e all =
     let many : eqb 0 (length (v ∷ vs)) ≡ false = ne_eqb 0 (length (v ∷ vs)) (λ z. omega arith) in
     let fault = rw many at e in cc
 
+used_uses : UseFits TextFits (flag_rule (codes "used"))
+used_uses again [] rows e all = with_values_fit TextFits (codes "used") _ CommandLine (codes "true" ∷ []) _ (λ is. inl refl) (without_fits TextFits (codes "used") rows all)
+used_uses again (v ∷ vs) rows e all =
+    let many : eqb 0 (length (v ∷ vs)) ≡ false = ne_eqb 0 (length (v ∷ vs)) (λ z. omega arith) in
+    let fault = rw many at e in cc
+
 help_uses : UseFits TextFits (filled help_rule)
 help_uses again values rows e all = all
 
@@ -64,7 +71,7 @@ list_uses : UsesFit TextFits built_list.rules
 list_uses = (file_uses, (help_uses, tt))
 
 check_uses : UsesFit TextFits built_check.rules
-check_uses = (errors_uses, (only_uses, (outside_uses, (folder_uses, (help_uses, tt)))))
+check_uses = (errors_uses, (used_uses, (only_uses, (outside_uses, (folder_uses, (help_uses, tt))))))
 
 -- ---- defaults
 
@@ -147,7 +154,7 @@ list_defaults : EachDefaultFits TextFits built_list.rules
 list_defaults = (tt, (tt, tt))
 
 check_defaults : EachDefaultFits TextFits built_check.rules
-check_defaults = ((λ is. inr refl), (tt, (tt, (tt, (tt, tt)))))
+check_defaults = ((λ is. inr refl), ((λ is. inr refl), (tt, (tt, (tt, (tt, tt))))))
 
 pub list_path : (words : List Text) → level_fault built_list [] nothing_held words false [] ≡ [] → (path : Text) × (first_of (codes "FILE") (rows_after built_list.rules [] words) ≡ Some path)
 list_path words passes =
@@ -159,7 +166,7 @@ check_path words passes =
     let rows = rows_after built_check.rules [] words in
     first_there (codes "DIR") rows (rows_fit built_check words passes check_uses check_defaults) (is_wanted (is_given (codes "DIR") rows) (check_passes built_check words passes check_uses))
 
--- ---- the flag
+-- ---- the flags
 
 -- the row with an id
 abbrev Finds : Text → List Row → Type 0
@@ -185,33 +192,88 @@ finds_there id (r ∷ rows) has = here (bytes_eq r.id id) (λ rest. finds_there 
     here true rest is = (r, refl)
     here false rest is = rest is
 
--- a default adds a row, where there is none
-finds_flag : (rows : List Row) → Finds (codes "errors") (with_default rows (flag_rule (codes "errors")))
-finds_flag rows = there (has_row (codes "errors") rows) refl
+-- and is still there beside the values of another
+finds_kept : (id other : Text) (how : Reading) (source : ValueSource) (values : List Text) (rows : List Row) → Finds id rows → Finds id (with_values other how source values rows)
+finds_kept id other how source values [] found = let none = found.1 in absurd cc
+finds_kept id other how source values (r ∷ rows) found = here (bytes_eq r.id id) refl (λ rest. finds_kept id other how source values rows rest) found
   where
-    there : (b : Bool) → has_row (codes "errors") rows ≡ b → Finds (codes "errors") (cond b rows (with_values (codes "errors") (reading_by (flag_rule (codes "errors"))) DefaultValue (codes "false" ∷ []) rows))
-    there true is = finds_there (codes "errors") rows is
-    there false is = finds_added (codes "errors") (reading_by (flag_rule (codes "errors"))) DefaultValue (codes "false" ∷ []) rows
+    grown : Row
+    grown = record r { values = r.values ++ values; source = Some (stronger r.source source) }
 
-flag_read : (rows : List Row) → RowsFit TextFits rows → Finds (codes "errors") rows → (one_of (codes "errors") rows ≡ Some (codes "true")) ⊎ (one_of (codes "errors") rows ≡ Some (codes "false"))
-flag_read rows all (r, is) = subst (λ o. (option_and_then row_text o ≡ Some (codes "true")) ⊎ (option_and_then row_text o ≡ Some (codes "false"))) (sym is) (value r.values own.0)
+    grows : Bool → List Row
+    grows c = cond c (more_values source values r ++ rows) (r ∷ with_values other how source values rows)
+
+    here : (b : Bool) → bytes_eq r.id id ≡ b → (Finds id rows → Finds id (with_values other how source values rows)) → Finds id (r ∷ rows) → Finds id (grows (bytes_eq r.id other))
+    here true is rest found = own (bytes_eq r.id other)
+      where
+        own : (c : Bool) → Finds id (grows c)
+        own true = (grown, ap (λ b. cond b (Some grown) (find (λ x. bytes_eq x.id id) rows)) is)
+        own false = (r, ap (λ b. cond b (Some r) (find (λ x. bytes_eq x.id id) (with_values other how source values rows))) is)
+    here false is rest found = own (bytes_eq r.id other)
+      where
+        later : Finds id rows
+        later = (found.0, sym (ap (λ b. cond b (Some r) (find (λ x. bytes_eq x.id id) rows)) is) ∙ found.1)
+
+        own : (c : Bool) → Finds id (grows c)
+        own true = (later.0, ap (λ b. cond b (Some grown) (find (λ x. bytes_eq x.id id) rows)) is ∙ later.1)
+        own false = let more = rest later in (more.0, ap (λ b. cond b (Some r) (find (λ x. bytes_eq x.id id) (with_values other how source values rows))) is ∙ more.1)
+
+finds_default : (id : Text) (a : Rule) (rows : List Row) → Finds id rows → Finds id (with_default rows a)
+finds_default id a rows found = there (has_row a.id rows)
   where
-    own : RowFits TextFits r × (bytes_eq r.id (codes "errors") ≡ true)
-    own = found_row TextFits (λ x. bytes_eq x.id (codes "errors")) rows r all is
+    given : (values : List Text) → Finds id (default_rows a.id (reading_by a) values rows)
+    given [] = found
+    given (v ∷ vs) = finds_kept id a.id (reading_by a) DefaultValue (v ∷ vs) rows found
+
+    there : (b : Bool) → Finds id (cond b rows (default_rows a.id (reading_by a) a.defaults rows))
+    there true = found
+    there false = given a.defaults
+
+-- a default adds a row, where there is none
+finds_flag : (name : Text) (rows : List Row) → Finds name (with_default rows (flag_rule name))
+finds_flag name rows = there (has_row name rows) refl
+  where
+    there : (b : Bool) → has_row name rows ≡ b → Finds name (cond b rows (with_values name (reading_by (flag_rule name)) DefaultValue (codes "false" ∷ []) rows))
+    there true is = finds_there name rows is
+    there false is = finds_added name (reading_by (flag_rule name)) DefaultValue (codes "false" ∷ []) rows
+
+-- the flag has one of the two texts
+abbrev IsRead : Text → List Row → Type 0
+IsRead name rows = (one_of name rows ≡ Some (codes "true")) ⊎ (one_of name rows ≡ Some (codes "false"))
+
+flag_read : (name : Text) → ((id : Text) → bytes_eq id name ≡ true → is_flag id ≡ true) → (rows : List Row) → RowsFit TextFits rows → Finds name rows → IsRead name rows
+flag_read name among rows all (r, is) = subst (λ o. (option_and_then row_text o ≡ Some (codes "true")) ⊎ (option_and_then row_text o ≡ Some (codes "false"))) (sym is) (value r.values own.0)
+  where
+    own : RowFits TextFits r × (bytes_eq r.id name ≡ true)
+    own = found_row TextFits (λ x. bytes_eq x.id name) rows r all is
 
     value : (values : List Text) → FirstFits TextFits r.id r.reading values
         → (option_map (read_as r.reading) (slice_get values 0) ≡ Some (codes "true")) ⊎ (option_map (read_as r.reading) (slice_get values 0) ≡ Some (codes "false"))
     value [] first = absurd first
-    value (v ∷ vs) first = ⊎_elim (λ yes. inl (ap Some yes)) (λ no. inr (ap Some no)) (first own.1)
+    value (v ∷ vs) first = ⊎_elim (λ yes. inl (ap Some yes)) (λ no. inr (ap Some no)) (first (among r.id own.1))
 
-pub check_flag : (words : List Text) → level_fault built_check [] nothing_held words false [] ≡ []
-    → (one_of (codes "errors") (rows_after built_check.rules [] words) ≡ Some (codes "true")) ⊎ (one_of (codes "errors") (rows_after built_check.rules [] words) ≡ Some (codes "false"))
-check_flag words passes =
+or_first : (a b : Bool) → a ≡ true → (a || b) ≡ true
+or_first true b e = refl
+or_first false b e = absurd cc
+
+or_second : (a b : Bool) → b ≡ true → (a || b) ≡ true
+or_second true b e = refl
+or_second false b e = e
+
+pub check_flags : (words : List Text) → level_fault built_check [] nothing_held words false [] ≡ []
+    → IsRead (codes "errors") (rows_after built_check.rules [] words) × IsRead (codes "used") (rows_after built_check.rules [] words)
+check_flags words passes =
     let rows = rows_after built_check.rules [] words in
     let start = (settled built_check.rules (walk built_check.rules [] nothing_held words).held).rows in
     let flagged = with_default start (flag_rule (codes "errors")) in
-    let one = no_default (prefix_rule (codes "only")) flagged refl in
+    let both = with_default flagged (flag_rule (codes "used")) in
+    let one = no_default (prefix_rule (codes "only")) both refl in
     let two = no_default (prefix_rule (codes "outside")) _ refl ∙ one in
     let three = no_default (path_rule (codes "DIR")) _ refl ∙ two in
-    let same : rows ≡ flagged = no_default (filled help_rule) _ refl ∙ three in
-    flag_read rows (rows_fit built_check words passes check_uses check_defaults) (subst (Finds (codes "errors")) (sym same) (finds_flag start))
+    let same : rows ≡ both = no_default (filled help_rule) _ refl ∙ three in
+    let fit = rows_fit built_check words passes check_uses check_defaults in
+    let errors = finds_default (codes "errors") (flag_rule (codes "used")) flagged (finds_flag (codes "errors") start) in
+    let used = finds_flag (codes "used") flagged in (
+      flag_read (codes "errors") (λ id e. or_first (bytes_eq id (codes "errors")) (bytes_eq id (codes "used")) e) rows fit (subst (Finds (codes "errors")) (sym same) errors),
+      flag_read (codes "used") (λ id e. or_second (bytes_eq id (codes "errors")) (bytes_eq id (codes "used")) e) rows fit (subst (Finds (codes "used")) (sym same) used),
+    )

@@ -1,5 +1,5 @@
 -- Which arguments are a usage error: those in which `clap` finds a fault, and those whose command refuses its options.
-use Rattle.std.proofs.Common.{◌≡◌, ◌∙◌, ◌⊎◌, ◌∷◌, List, Option, Some, [], ap, codes, inl, inr, subst, sym, true, unwrap_or, ⊎_elim}
+use Rattle.std.proofs.Common.{◌≡◌, ◌∙◌, ◌⊎◌, ◌∷◌, List, Option, Some, [], ap, inl, inr, subst, sym, true, unwrap_or, ⊎_elim}
 use Rattle.clap.specs.Faults.{fault_of, is_simple_and_free}
 use Rattle.clap.specs.Kinds.{HasKind, IsAmong}
 use Rattle.clap.specs.Simple.{Shape, app_of, subcommand_of}
@@ -14,7 +14,7 @@ use Rattle.jc_session.specs.Words.{HasFault, IsUsageError, Word, jclink_command}
 use Rattle.jc_session.specs.inside.LentFaults.{fault_lent}
 use Rattle.jc_session.specs.inside.Requests.{FailsFor, IsComplete, IsRefusedBy}
 use Rattle.jc_session.proofs.asking.LineTaken.{IsTakenBy, built_check, built_list, built_session, line_is_free, line_taken}
-use Rattle.jc_session.proofs.asking.TakenRows.{check_flag, check_path, list_path}
+use Rattle.jc_session.proofs.asking.TakenRows.{check_flags, check_path, list_path}
 
 -- a parse of the command line that succeeds finds no fault
 pub no_fault : (command : Command) (words : List Word) → app_of command ≡ jclink_command → (is_simple_and_free (app_of command) ≡ true → fault_of (app_of command) words ≡ [])
@@ -35,7 +35,7 @@ module _ (words : List Word) (none : fault_of jclink_command words ≡ []) where
   pub complete : IsComplete (subcommand_of jclink_command words)
   complete =
       ⊎_elim (λ session. inl (_, session.2))
-      (⊎_elim (λ listing. inr (inl (_, listing.2, list_path listing.0 listing.3))) (λ check. inr (inr (_, check.2, check_path check.0 check.3, check_flag check.0 check.3))))
+      (⊎_elim (λ listing. inr (inl (_, listing.2, list_path listing.0 listing.3))) (λ check. inr (inr (_, check.2, check_path check.0 check.3, (check_flags check.0 check.3).0, (check_flags check.0 check.3).1))))
       (line_taken words none)
 
   -- the command that is found is the first argument

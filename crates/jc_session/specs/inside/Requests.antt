@@ -4,7 +4,6 @@ use Rattle.clap.specs.Simple.{App, app_of, with_subcommand}
 use Rattle.clap.specs.Walk.{Row, first_of}
 use Rattle.clap.specs.declared.builder.command.Command.{Command}
 use Rattle.clap.specs.declared.builder.command.Command.TheViews.{out-Command}
-use Rattle.jc_classes.specs.Names.{Name}
 use Rattle.jc_session.specs.declared.fault.Fault.{Fault as LentFault}
 use Rattle.jc_session.specs.declared.words.Request.{Request}
 use Rattle.jc_session.specs.declared.words.Request.TheVariants as requests
@@ -44,12 +43,12 @@ HasPath name rows = (path : Word) × (first_of name rows ≡ Some path)
 abbrev pub HasFlag : (name : Word) → List Row → Type 0
 HasFlag name rows = IsGiven name rows ⊎ IsLacking name rows
 
--- one of the three commands is found, with the path that it requires and with its flag
+-- one of the three commands is found, with the path that it requires and with its flags
 abbrev pub IsComplete : Option (Word × List Row) → Type 0
 IsComplete found =
     ((rows : List Row) × (found ≡ Some (codes "session", rows)))
     ⊎ ((rows : List Row) × (found ≡ Some (codes "list", rows)) × HasPath (codes "FILE") rows)
-    ⊎ ((rows : List Row) × (found ≡ Some (codes "check", rows)) × HasPath (codes "DIR") rows × HasFlag (codes "errors") rows)
+    ⊎ ((rows : List Row) × (found ≡ Some (codes "check", rows)) × HasPath (codes "DIR") rows × HasFlag (codes "errors") rows × HasFlag (codes "used") rows)
 
 -- ---- usage errors
 

@@ -6,7 +6,7 @@ use Rattle.std.proofs.lemmas.List.{append-nil}
 use Rattle.jc_view.specs.declared.constant_pool.ConstantIndex.{ConstantIndex}
 use Rattle.jc_classes.specs.NameLists.{has}
 use Rattle.jc_classes.specs.ResolvedDescriptors.{classes_at}
-use Rattle.jc_classes.specs.UsedConstants.{classes_that, is_resolved}
+use Rattle.jc_classes.specs.UsedConstants.{is_resolved}
 use Rattle.jc_classes.specs.inside.DescriptorClasses.{classes_marked}
 use Rattle.jc_classes.proofs.using.DescriptorClasses.{empty_list, marked_that, no_classes, same_classes}
 use Rattle.jc_classes.proofs.descriptor_classes.add_resolved_classes.Goals as goal

@@ -7,4 +7,5 @@ invariant-loop-fault l = record {
   faults : l.codes.faults.items ≡ l.fn.codes.faults.items ++ map (λ (fault : CodeFault). (l.number, fault)) (take l.fault-index l.fault-items);
   uses : l.codes.uses.items ≡ l.initial.codes.uses.items;
   names : l.codes.names.items ≡ l.initial.codes.names.items;
+  first : l.codes.first ≡ l.initial.codes.first;
 }

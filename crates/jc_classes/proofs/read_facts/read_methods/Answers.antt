@@ -9,6 +9,9 @@ use Rattle.jc_code.specs.MethodUses.{method_uses, uses, uses_from}
 use Rattle.jc_code.specs.NamedConstants.{named_by_method}
 use Rattle.jc_classes.specs.UsedConstants.{named_by_methods}
 use Rattle.jc_classes.proofs.using.Adding.{next_added}
+use Rattle.jc_classes.specs.inside.FirstUsers.{IsEmpty}
+use Rattle.jc_classes.specs.inside.Using.{are_marks}
+use Rattle.jc_classes.proofs.using.FirstUsers.{found_all, found_next, found_none, none_marked, none_seen}
 use Rattle.jc_classes.proofs.texts.FaultsOfMethods.{next_method, next_uses}
 use Rattle.std.proofs.lemmas.List.{append_assoc}
 use Rattle.jc_classes.proofs.read_facts.read_methods.Goals as goal
@@ -30,17 +33,22 @@ loop-number-init c =
     let named : flat_map (named_by_method class) (members_of (enumerate_source it).left) ≡ named_by_methods class =
     ap (λ i. flat_map (named_by_method class) (members_of i.left)) all
     ∙ ap (flat_map (named_by_method class)) (members_of_all holders.Method (methods_place class + 2) class.methods) in
+    let none : IsEmpty class c.in_ok-first.first = subst (λ k. IsEmpty k c.in_ok-first.first) c.class.ensures c.in_ok-first.ensures in
     record {
       class = ap (λ i. i.class) all;
       holders = subst (λ i. AreOf holders.Method i.left) (sym all) (are_of_all holders.Method (methods_place class + 2) class.methods);
       few = omega (arith, first, ap (λ i. length i.left) same, c.methods.ensures.all, c.methods.ensures.few);
-      faults = ap (λ xs. xs ++ code_faults_from class (enumerate_count it) (members_of (enumerate_source it).left)) c.new.ensures.items ∙ faults;
-      uses = ap (λ xs. xs ++ uses_from class (enumerate_count it) (members_of (enumerate_source it).left)) c.new-2.ensures.items ∙ used;
-      names = ap (λ xs. xs ++ flat_map (named_by_method class) (members_of (enumerate_source it).left)) c.new-3.ensures.items ∙ named;
+      faults = ap (λ xs. xs ++ code_faults_from class (enumerate_count it) (members_of (enumerate_source it).left)) c.new-2.ensures.items ∙ faults;
+      uses = ap (λ xs. xs ++ uses_from class (enumerate_count it) (members_of (enumerate_source it).left)) c.new-3.ensures.items ∙ used;
+      names = ap (λ xs. xs ++ flat_map (named_by_method class) (members_of (enumerate_source it).left)) c.new-4.ensures.items ∙ named;
+      seen = none_seen class c.in_ok-first.first none;
+      marks = none_marked class c.in_ok-first.first none ∙ ap (are_marks class) (sym c.new-4.ensures.items);
+      found = found_none class c.in_ok-first.first (enumerate_count it) (members_of (enumerate_source it).left) none first
+          (ap (λ i. members_of i.left) all ∙ members_of_all holders.Method (methods_place class + 2) class.methods);
     }
 
-pub read_code-requires-clause-few : goal.read_code-requires-clause-few
-read_code-requires-clause-few c =
+pub read_method-requires-clause-few : goal.read_method-requires-clause-few
+read_method-requires-clause-few c =
     let steps = c.in-Some.ensures.steps in
     let at : c.in-Some.number ≡ enumerate_count c.loop-number.number-iterator = steps.1 in
     let some : length (enumerate_source c.loop-number.number-iterator).left ≡ length (enumerate_source c.next.new.self).left + 1 = ap length steps.0.1.0 ∙ omega arith in
@@ -65,8 +73,17 @@ loop-number-preserved c =
       class = steps.0.0 ∙ c.loop-number.invariant.class;
       holders = holders.1;
       few = omega (arith, c.loop-number.invariant.few, ap length steps.0.1.0, steps.2);
-      faults = ap (λ xs. xs ++ rest) c.in_ok-read_code.ensures.faults ∙ append_assoc codes.faults.items mine rest ∙ ap (λ xs. codes.faults.items ++ xs) (sym next) ∙ c.loop-number.invariant.faults;
-      uses = ap (λ xs. xs ++ more_uses) c.in_ok-read_code.ensures.uses ∙ append_assoc codes.uses.items my_uses more_uses ∙ ap (λ xs. codes.uses.items ++ xs) (sym used) ∙ c.loop-number.invariant.uses;
-      names = next_added (named_by_method class) codes.names.items c.read_code.new.codes.names.items (named_by_methods class) (members_of old.iter.left) (members_of new.iter.left) m.member (ap members_of steps.0.1.0)
-          c.in_ok-read_code.ensures.names c.loop-number.invariant.names;
+      faults = ap (λ xs. xs ++ rest) c.in_ok-read_method.ensures.faults ∙ append_assoc codes.faults.items mine rest ∙ ap (λ xs. codes.faults.items ++ xs) (sym next) ∙ c.loop-number.invariant.faults;
+      uses = ap (λ xs. xs ++ more_uses) c.in_ok-read_method.ensures.uses ∙ append_assoc codes.uses.items my_uses more_uses ∙ ap (λ xs. codes.uses.items ++ xs) (sym used) ∙ c.loop-number.invariant.uses;
+      names = next_added (named_by_method class) codes.names.items c.read_method.new.codes.names.items (named_by_methods class) (members_of old.iter.left) (members_of new.iter.left) m.member (ap members_of steps.0.1.0)
+          c.in_ok-read_method.ensures.names c.loop-number.invariant.names;
+      seen = c.in_ok-read_method.ensures.seen;
+      marks = c.in_ok-read_method.ensures.marks;
+      found = found_next class old.count new.count c.in-Some.number (members_of old.iter.left) (members_of new.iter.left) m.member _ _ c.loop-number.invariant.seen.size (ap members_of steps.0.1.0) steps.1 steps.2
+          c.in_ok-read_method.ensures.first c.loop-number.invariant.found;
     }
+
+pub returns-clause-first : goal.returns-clause-first
+returns-clause-first c =
+    found_all c.args.sizes.now (enumerate_count c.loop-number.number-iterator) (members_of (enumerate_source c.loop-number.number-iterator).left) c.loop-number.codes.first.numbers.items
+    (ap members_of c.in-None.ensures.steps.0.1.0) c.loop-number.invariant.found

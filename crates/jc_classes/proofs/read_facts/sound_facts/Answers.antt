@@ -1,10 +1,18 @@
-use Rattle.std.proofs.Common.{map, ap, subst, sym, ◌∙◌}
+use Rattle.std.proofs.Common.{◌+◌, ◌<◌, map, ap, subst, sym, ◌∙◌}
+use Rattle.std.specs.List.{All}
+use Rattle.jc_view.specs.ClassFile.{all_slots}
 use Rattle.jc_classes.specs.MemberOrder.{IsOrder}
 use Rattle.std.specs.Prelude.{option_map}
-use Rattle.jc_classes.specs.FactsOf.{sound_facts}
+use Rattle.jc_classes.specs.Facts.{Reference}
+use Rattle.jc_classes.specs.FactsOf.{references_in, sound_facts}
+use Rattle.jc_classes.specs.FactsOrder.{AreByIndex, AreByPlace}
+use Rattle.jc_classes.specs.declared.facts.ReferenceEntry.{ReferenceEntry}
 use Rattle.jc_classes.specs.inside.FactsShown.{member_shown, reference_shown, text_at}
 use Rattle.jc_code.proofs.appended.Fronts.{begins_whole}
+use Rattle.jc_classes.proofs.links.Uses.{uses_sorted}
 use Rattle.jc_classes.proofs.texts.Entries.{facts_eta}
+use Rattle.jc_classes.proofs.texts.ReferenceIndexes.{references_below, references_rise}
+use Rattle.jc_classes.proofs.using.UsersOf.{all_shown, entry_user, users_shown}
 use Rattle.jc_classes.proofs.read_facts.sound_facts.Goals as goal
 
 pub returns : goal.returns
@@ -25,16 +33,29 @@ returns c =
     (ap (λ ts. map (member_shown ts) e.methods.items) t ∙ h.methods)
     (ap (λ rs. map (reference_shown c.in_ok-texts_shared.texts_shared.value) rs.items) r ∙ ap (λ ts. map (reference_shown ts) e.references.items) t ∙ h.references)
     c.in_ok-codes.ensures.uses
-    c.in_ok-used.ensures
+    (c.in_ok-users.ensures ∙ ap (map (entry_user class)) c.deref.ensures.value ∙ users_shown class _ e.references.items h.references)
     (ap (λ v. v.items) f.format ∙ c.new-4.ensures.items)
     (ap (λ v. v.items) f.code ∙ c.in_ok-codes.ensures.faults)
 
+pub users-requires-clause-within : goal.users-requires-clause-within
+users-requires-clause-within c =
+    let class = c.args.class.now in
+    let e = c.in_ok-entries.entries in
+    let h = c.in_ok-entries.ensures.holds _ (begins_whole _) in
+    subst (All (λ (entry : ReferenceEntry). entry.index < 1 + all_slots class.constants)) (sym c.deref.ensures.value)
+    (all_shown (reference_shown _) (λ (r : Reference). r.index < 1 + all_slots class.constants) e.references.items (references_in class) h.references (references_below class))
+
 pub invariant_of-result : goal.invariant_of-result
 invariant_of-result c =
+    let class = c.args.class.now in
     let e = c.in_ok-entries.entries in
     let h = c.in_ok-entries.ensures.holds _ (begins_whole _) in
     let t = sym (c.in_ok-texts_shared.ensures.ok ∙ c.into_list.ensures) in
     record {
       fields = subst (λ ts. IsOrder (map (member_shown ts) e.fields.items) e.field_order.items) t h.field_order;
       methods = subst (λ ts. IsOrder (map (member_shown ts) e.methods.items) e.method_order.items) t h.method_order;
+      references = subst AreByIndex
+          (sym (ap (λ rs. map (reference_shown c.in_ok-texts_shared.texts_shared.value) rs.items) c.in_ok-references.ensures.ok ∙ ap (λ ts. map (reference_shown ts) e.references.items) (sym t) ∙ h.references))
+          (references_rise class);
+      uses = subst AreByPlace (sym c.in_ok-codes.ensures.uses) (uses_sorted class);
     }

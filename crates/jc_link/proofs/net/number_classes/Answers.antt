@@ -1,4 +1,4 @@
-use Rattle.std.proofs.Common.{◌∙◌, ◌∷◌, [], sym, subst}
+use Rattle.std.proofs.Common.{◌∙◌, ◌∷◌, [], subst}
 use Rattle.jc_classes.specs.Names.{Name}
 use Rattle.jc_classes.specs.Numbers.{Grows}
 use Rattle.jc_link.specs.Tables.{classes_of}

@@ -1,19 +1,19 @@
 use Rattle.std.proofs.Common.{[], ◌∙◌, ap, cond, sym}
 use Rattle.jc_text.proofs.Sending.{sends_equal, sends_nothing}
-use Rattle.jc_report.specs.ErrorsText.{is_asked, part_errors, prefixes_lent}
+use Rattle.jc_report.specs.ErrorsText.{is_asked, part_errors, asked_lent}
 use Rattle.jc_report.proofs.errors_text.write_class.Goals as goal
 
 pub returns-then-is_asked : goal.returns-then-is_asked
 returns-then-is_asked g c =
     let x = c.args.class.now in
-    let asked = c.is_asked.ensures ∙ ap (is_asked (prefixes_lent c.args.only)) (c.name.ensures ∙ ap (λ f. f.name) c.facts.ensures) in
+    let asked = c.is_asked.ensures ∙ ap (is_asked (asked_lent c.args.asked)) (c.name.ensures ∙ ap (λ f. f.name) c.facts.ensures) in
     sends_equal
-    (ap (λ f. part_errors f c.part.result.now) c.facts-then-is_asked.ensures ∙ ap (part_errors x.facts) c.part.ensures
-    ∙ ap (λ b. cond b (part_errors x.facts x.part) []) (sym c.if-is_asked.true ∙ asked))
+    (ap (λ f. part_errors c.args.asked.used_only f c.part.result.now) c.facts-then-is_asked.ensures ∙ ap (part_errors c.args.asked.used_only x.facts) c.part.ensures
+    ∙ ap (λ b. cond b (part_errors c.args.asked.used_only x.facts x.part) []) (sym c.if-is_asked.true ∙ asked))
     c.write_part_errors.ensures
 
 pub returns-else-is_asked : goal.returns-else-is_asked
 returns-else-is_asked g c =
     let x = c.args.class.now in
-    let asked = c.is_asked.ensures ∙ ap (is_asked (prefixes_lent c.args.only)) (c.name.ensures ∙ ap (λ f. f.name) c.facts.ensures) in
-    sends_equal (ap (λ b. cond b (part_errors x.facts x.part) []) (sym c.if-is_asked.false ∙ asked)) (sends_nothing _ _ _)
+    let asked = c.is_asked.ensures ∙ ap (is_asked (asked_lent c.args.asked)) (c.name.ensures ∙ ap (λ f. f.name) c.facts.ensures) in
+    sends_equal (ap (λ b. cond b (part_errors c.args.asked.used_only x.facts x.part) []) (sym c.if-is_asked.false ∙ asked)) (sends_nothing _ _ _)

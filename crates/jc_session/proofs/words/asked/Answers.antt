@@ -1,7 +1,6 @@
 use Rattle.std.proofs.Common.{◌∙◌, inl, inr, map, subst, sym, ⊎_elim}
 use Rattle.std.proofs.lemmas.Result.{IfErr-weaker, IfOk-weaker}
-use Rattle.jc_session.specs.Words.{jclink_command}
-use Rattle.jc_session.specs.inside.Requests.{FailsFor, IsComplete, IsRefusedBy, command_of}
+use Rattle.jc_session.specs.inside.Requests.{IsComplete, IsRefusedBy, command_of}
 use Rattle.jc_session.proofs.asking.CommandLine.{asked_by, found_by}
 use Rattle.jc_session.proofs.asking.UsageErrors.{complete, failed, names_found, no_fault, proper}
 use Rattle.jc_session.proofs.words.asked.Goals as goal

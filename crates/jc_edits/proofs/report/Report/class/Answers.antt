@@ -1,6 +1,5 @@
 -- The class is held, and what is held is of the files.
 use Rattle.std.proofs.Common.{◌≡◌, ◌∙◌, IfSome, Option, Some, None, ap, is_some, option_map, refl, subst}
-use Rattle.jc_classes.specs.Facts.{Facts}
 use Rattle.jc_classes.specs.Parts.{IsPart}
 use Rattle.jc_classes.specs.Worlds.{World}
 use Rattle.jc_report.specs.Reports.{facts_at, world_of}
