@@ -3,17 +3,20 @@
 
 Usage: api.py RELEASE CT_SYM FOLDER
 
-RELEASE is 7 or 8. CT_SYM is what javac reads for --release: the file lib/ct.sym of a JDK, of version 12 or later for 8,
-and of version 12 to 19 for 7. It has the classes with their PUBLIC and PROTECTED members, without code and as class files
-of the JDK's own version. They are written below FOLDER with the version of RELEASE, and a method that wants code gets one
-that throws: it is enough to link against, and not to run. Status 1: CT_SYM isn't such a file; 2: other words.
+RELEASE is 7 or 8. CT_SYM is the file lib/ct.sym of a JDK, which javac reads for --release. RELEASE 8 needs the file of a JDK
+of version 12 or later, and RELEASE 7 that of version 12 to 19. The file has the classes with their PUBLIC and PROTECTED
+members, without code. Their class files have the JDK's own version. The script writes them below FOLDER with the version of
+RELEASE. A method that needs code gets code that throws. So a tree can be linked against these class files, but cannot run
+with them.
+
+Status 1: CT_SYM is not such a file, or has no classes of RELEASE. 2: a usage error.
 """
 import pathlib
 import struct
 import sys
 import zipfile
 
-# How many bytes stand behind a constant's tag.
+# The number of bytes after a constant's tag.
 SIZES = {3: 4, 4: 4, 5: 8, 6: 8, 7: 2, 8: 2, 9: 4, 10: 4, 11: 4, 12: 4, 15: 3, 16: 2, 17: 4, 18: 4, 19: 2, 20: 2}
 ABSTRACT_OR_NATIVE = 0x0500
 # aconst_null, athrow: stack 1, room for any parameters, two bytes, no handlers, no attributes.
@@ -32,7 +35,7 @@ class Reader:
         return int.from_bytes(self.data[self.at - size:self.at], "big")
 
     def constants(self):
-        """The number of constants, which is left behind them."""
+        """Reads all constants, and returns constant_pool_count."""
         count, index = self.number(2), 1
         while index < count:
             tag = self.number(1)
@@ -47,7 +50,7 @@ class Reader:
 
 
 def with_code(data, version):
-    """The class file in this version, each method that wants code with one that throws."""
+    """Returns the class file with this version, in which each method that needs code has code that throws."""
     reader = Reader(data)
     count = reader.constants()
     constants_end = reader.at
@@ -81,7 +84,7 @@ def main():
     except (OSError, zipfile.BadZipFile) as error:
         sys.exit(f"{ct_sym}: {error}")
     for name in archive.namelist():
-        # RELEASES/MODULE/PACKAGE../CLASS.sig, a letter or digit of RELEASES for each version that has it
+        # RELEASES/MODULE/PACKAGE../CLASS.sig. RELEASES has a letter or digit for each version with this class.
         releases, *path = name.removesuffix(".sig").split("/")
         if release not in releases or not name.endswith(".sig") or path[-1] == "module-info":
             continue

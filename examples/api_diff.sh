@@ -3,19 +3,19 @@
 #
 #     api_diff.sh OLD NEW
 #
-# OLD and NEW are each a jar or a folder of class files. The API of a version is a sorted text, a line for each PUBLIC class
-# and one for each of its PUBLIC and PROTECTED fields and methods:
+# OLD and NEW are each a jar or a folder of class files. The API of a version is a sorted text. It has a line for each PUBLIC
+# class and for each of its PUBLIC and PROTECTED fields and methods:
 #
 #     class a/B: PUBLIC FINAL extends a/Base implements a/Face
 #     field a/B.SIZE:I: PUBLIC STATIC FINAL = 1
 #     method a/B.of:(I)Z: PUBLIC
 #
-# What differs between the two texts is printed as a unified diff. A PROTECTED nested class is PUBLIC in its class file. The
-# flags that no client depends on are left out: SUPER, SYNCHRONIZED, NATIVE, STRICT, VOLATILE and TRANSIENT. So are generic
-# signatures, throws clauses and annotations. Of a jar, the class files of newer versions of Java are left out:
-# META-INF/versions and module-info.class. Standard error says how many other class files are not read.
+# The script prints the differences of the two texts as a unified diff. A PROTECTED nested class is PUBLIC in its class file.
+# The texts omit the flags that no client depends on: SUPER, SYNCHRONIZED, NATIVE, STRICT, VOLATILE and TRANSIENT. They also
+# omit generic signatures, throws clauses and annotations. Class files below META-INF/versions and module-info.class are left
+# out. Standard error says how many other class files are not read.
 #
-# The text comes from what `list` prints in a session, so that jclink starts once and not for each class file.
+# The listings come from one session, so that jclink does not start once for each class file.
 #
 # Status 0: the texts are equal. 1: they differ. 2: a usage error. 3: a version cannot be read, or has no class file of version
 # 51 or 52. 3, 4 and 70 are also the statuses of jclink if it makes no report. The environment's JCLINK may name the program.
@@ -38,8 +38,8 @@ fail() {
   exit 3
 }
 
-# The lines of a session that lists the classes of a report, one after another. A report escapes names and paths, and a
-# session does not.
+# Prints the lines of a session that lists the classes of a report one by one. A report escapes names and paths; a session
+# does not.
 requests() {
   sed -n '1,/^\[parts\]$/s/^\(.*\): class \(.*\)$/\1\t\2/p' "$1" | while IFS=$'\t' read -r path name; do
     case $path$name in *\\*) printf -v path %b "$path" && name=$(LC_ALL=C.UTF-8 printf %b "$name") ;; esac
@@ -47,7 +47,7 @@ requests() {
   done
 }
 
-# The lines of the API, from listings.
+# Prints the lines of the API from listings.
 api() {
   awk '
     function flags(line) {

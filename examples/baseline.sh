@@ -1,16 +1,16 @@
 #!/usr/bin/env bash
-# Compares what a tree of class files provides, what it requires and what is wrong in it with a baseline.
+# Compares what a tree of class files provides, what it requires, and its errors with a baseline.
 #
 #     baseline.sh [--errors-only] BASELINE DIR [OPTION]...
 #     baseline.sh --write [--errors-only] BASELINE DIR [OPTION]...
 #
 # BASELINE is a folder, for example under version control, with the files provided.txt, required.txt and errors.txt.
-# --write writes them. Without it they are compared, and the differences are printed. With --errors-only the only file is
-# errors.txt, and the others are neither read nor written. OPTION is an option of `jclink check`, for example
-# --outside=org/ or --only=PREFIX. --only and --used apply to errors.txt only.
+# --write writes them. Without it the script compares them and prints the differences. With --errors-only it neither reads
+# nor writes files other than errors.txt. OPTION is an option of `jclink check`, for example --outside=org/ or
+# --only=PREFIX. --only and --used apply to errors.txt only.
 #
 # errors.txt has the lines of `jclink check --errors` without the parts that change with each build: offsets and places.
-# Lines that are then equal are one line, which begins with their number.
+# Equal lines are written as one line that begins with their number.
 #
 # Status 0: written, or equal to the baseline. 1: something differs, or a file of the baseline is missing. 2: a usage error.
 # 3: a file cannot be written. 2, 3, 4 and 70 are also the statuses of jclink if it makes no report; then nothing is written.
@@ -53,9 +53,9 @@ check() {
   [ "$status" -le 1 ] || exit "$status"
 }
 
-# Removes from lines of `check --errors` what changes with each build: the offset of an instruction, the place of a fault, and
-# the place in the refusal of an unreadable file. Names may have blanks and colons, so a pattern also matches what surrounds
-# the number.
+# Removes the numbers that change with each build from lines of `check --errors`. These are the offset of an instruction, the
+# place of a fault, and the place in the refusal of an unreadable file. Names may have blanks and colons, so a pattern also
+# matches the text around the number.
 normalize() {
   sed -E -e 's/: [0-9]+: ([a-z]+ (class|field|i?method) .* -> error [1-8] )/: \1/' -e 's/(: (code S|format F)[0-9]+) [0-9]+$/\1/' \
     -e 's/(: unreadable [1-8] [A-Z][A-Za-z]*)\([0-9]+\)$/\1/'

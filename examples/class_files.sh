@@ -1,8 +1,9 @@
 # shellcheck shell=bash
-# Copies the class files of jars and folders, for the other scripts of this folder, which read this file.
+# Copies the class files of jars and folders. The other scripts of this folder source this file.
 
-# Copies the class files of a jar or a folder into a folder, which is made if it is not there. Leaves out META-INF/versions
-# and module-info.class, which are of newer versions of Java. Status 11 of unzip says that a jar has no class files.
+# Copies the class files of a jar or a folder into a folder, and creates that folder if it does not exist. Leaves out
+# META-INF/versions and module-info.class, which need newer versions of Java. Status 11 of unzip means that a jar has no class
+# files.
 lay_out() {
   mkdir -p "$2" || exit 3
   if [ -d "$1" ]; then

@@ -4,36 +4,43 @@
 #     classpath.sh [--java FILE] [--only PREFIX]... [--outside PREFIX]... [--keep DIR] CLASSPATH
 #
 # CLASSPATH is written as for `java -cp`: folders and jars, separated by colons, for example app/classes:lib/*:x.jar.
-# `lib/*` stands for the files of lib whose names end in .jar or .JAR. They are taken in the order of their names; the order
-# of a virtual machine is unspecified. An empty element is the working folder, but an empty CLASSPATH is a usage error. The jars
-# and folders in the Class-Path of a jar's manifest follow the jar. Those that are not there are listed on standard error. Each
-# entry counts once.
+# `lib/*` means the files of lib whose names end in .jar or .JAR, sorted by name. A virtual machine uses them in an unspecified
+# order. An empty element is the working folder, but an empty CLASSPATH is a usage error.
 #
-# --java FILE         resolves against the API of Java 8, which comes first: lib/ct.sym of a JDK of version 12 or later, rt.jar
-#                     of a JDK 8, or a folder of class files. Errors of its own classes are not printed. If FILE has no
-#                     sun/misc/Unsafe, as ct.sym has none, sun/ and com/sun/ are outside. Without --java all packages of Java 8
-#                     are outside: those of its API specification, and sun/, com/sun/ and jdk/. These prefixes hide some
-#                     libraries, such as com/sun/jna/ and the annotations of JSR 305 in javax/annotation/.
-# --only PREFIX       prints only the errors of classes and of unreadable files whose names, or paths in their entries, begin
-#                     with PREFIX; up to 54 times
+# The jars and folders in the Class-Path of a jar's manifest follow the jar. If one of them does not exist, standard error
+# names it. Each entry counts once.
+#
+# --java FILE         resolves against the API of Java 8, which is the first entry. FILE is lib/ct.sym of a JDK of version 12
+#                     or later, rt.jar of a JDK 8, or a folder of class files. Errors of its own classes are not printed.
+#
+#                     If FILE has no sun/misc/Unsafe, sun/ and com/sun/ are outside. A ct.sym has none. Without --java all
+#                     packages of Java 8 are outside: those of its API specification, and sun/, com/sun/ and jdk/. These
+#                     prefixes hide some libraries, such as com/sun/jna/ and the annotations of JSR 305 in
+#                     javax/annotation/.
+#
+# --only PREFIX       prints only the errors of classes whose names begin with PREFIX, and of unreadable files whose paths in
+#                     their entries do; up to 54 times
+#
 # --outside PREFIX    names that begin with PREFIX are outside too
-# --keep DIR          keeps the tree that is checked in DIR, which is empty or new. DIR/entries says which entry each numbered
-#                     folder is, DIR/outside has the outside prefixes.
 #
-# Each line is an error of `jclink check --errors --used`. The path of an unreadable file is shown in its entry, for example
-# lib/x.jar!a/B.class. Standard error says how many class files there are. Of several files of one path the first is read, and
-# the others are shadowed; within a jar the last is read. Class files below META-INF/versions/ and module-info.class do not
-# count.
+# --keep DIR          keeps the checked tree in DIR, which is empty or new. DIR/entries says which entry each numbered folder
+#                     is. DIR/outside has the outside prefixes.
+#
+# Each line is an error of `jclink check --errors --used`. The path of an unreadable file begins with its entry, for example
+# lib/x.jar!a/B.class. Standard error says how many class files there are. If several entries have a file of one path, the
+# first is read and the others are shadowed. Within a jar the last is read. Class files below META-INF/versions/ and
+# module-info.class do not count.
 #
 # Class files of other versions than 51 and 52 are skipped. They are counted for each entry, and their packages are outside.
-# No prefix covers a class that is read. If 64 prefixes are too few, those with the longest common prefixes are replaced by
-# these, and packages that are still left are named.
+# No prefix covers a class that is read. If 64 prefixes are too few, the longest common prefixes replace the prefixes that
+# begin with them. Standard error names the packages that are still left.
 #
-# A class has the name that its file gives, wherever in its entry the file is. A virtual machine finds only files whose paths
-# are the names of their classes. The script needs python3.
+# The name of a class is the one in its file, whatever the path of the file in its entry is. A virtual machine finds only
+# files whose paths are the names of their classes. The script needs python3.
 #
 # Status 0: nothing is wrong. 1: a line was printed. 2: a usage error. 3: an entry is missing or damaged, no class file is
-# read, or the tree can't be written. 2, 3, 4 and 70: as jclink ended, too. The environment's JCLINK may name the program.
+# read, or the tree cannot be written. 2, 3, 4 and 70 are also the statuses of jclink. The environment's JCLINK may name the
+# program.
 set -u -o pipefail
 export LC_ALL=C
 here=$(dirname "$(readlink -f "$0")")
@@ -98,7 +105,7 @@ is_of_java() {
   [ ${#java[@]} -gt 0 ] && [ -e "$tree/$first/${1%%\$*}.class" ]
 }
 
-# Copies the lines that are errors of the class path, with paths in their entries.
+# Copies the lines that are errors of the class path, with each path in its entry.
 select_own() {
   local line path number
   while IFS= read -r line; do

@@ -1,14 +1,14 @@
 #!/usr/bin/env python3
-"""Lays the entries of a class path out as numbered folders of one tree, for classpath.sh.
+"""Copies the entries of a class path into numbered folders of one tree, for classpath.sh.
 
 Usage: entries.py [--java FILE] [--outside PREFIX]... [--copy] TREE CLASSPATH
 
 TREE is an empty folder. Each entry gets a folder with its class files: 000, 001, .., so that the order of paths is the
-order of the class path. With --java the first folder has the API of Java 8. Class files of a folder are hard links where
-that is possible; with --copy they are copies. The file TREE/entries has a line for each folder: the text that replaces its
-number when a path is shown. TREE/outside has the outside prefixes, one a line. classpath.sh describes the rules.
+order of the class path. With --java the first folder has the API of Java 8. Class files of a folder are hard links if
+possible; with --copy they are copies. The file TREE/entries has a line for each folder: the text that replaces its number
+when a path is shown. TREE/outside has the outside prefixes, one on each line. classpath.sh describes the rules.
 
-Status 2: too many prefixes. 3: an entry can't be read, or the tree can't be written.
+Status 2: too many prefixes. 3: an entry cannot be read, or the tree cannot be written.
 """
 import argparse
 import bisect
@@ -37,7 +37,7 @@ BESIDE_RT = ["jsse.jar", "jce.jar", "charsets.jar", "jfr.jar"]
 
 
 class Failure(Exception):
-    """An entry can't be read."""
+    """An entry that cannot be read."""
 
 
 class Folder:
@@ -51,7 +51,7 @@ class Folder:
         return self.below("", ())
 
     def below(self, prefix, above):
-        """Yields the path of each class file, and the file. Links are followed, but for a link to a folder that has it."""
+        """Yields the path of each class file, and the file. Follows links, except a link to a folder that contains it."""
         folder = os.path.join(self.path, prefix)
         seen = os.stat(folder)
         if (seen.st_dev, seen.st_ino) in above:
@@ -83,7 +83,7 @@ class Folder:
 
 
 class Jar:
-    """A jar. Of several entries of one name the last counts, as in a virtual machine."""
+    """A jar. If several entries have one name, the last one counts, as in a virtual machine."""
 
     def __init__(self, shown):
         self.path, self.shown, self.name = shown, shown + "!", shown
@@ -93,7 +93,7 @@ class Jar:
         self.hidden = len(infos) - len(self.files)
 
     def class_path(self):
-        """The URLs in the manifest's Class-Path."""
+        """Returns the URLs in the manifest's Class-Path."""
         try:
             manifest = self.archive.read("META-INF/MANIFEST.MF").decode("utf-8", "replace")
         except KeyError:
@@ -121,7 +121,7 @@ class Jar:
 
 
 def utf8_name(info):
-    """The name of an entry. Java reads names without the mark of UTF-8 as UTF-8 too."""
+    """Returns the name of an entry. Java also reads names without the UTF-8 flag as UTF-8."""
     if info.filename.isascii() or info.flag_bits & 0x800:
         return info.filename
     return info.filename.encode("cp437").decode("utf-8", "surrogateescape")
@@ -132,12 +132,12 @@ def is_class_file(path):
 
 
 def version_of(head):
-    """The major version, or None if these are no first bytes of a class file."""
+    """Returns the major version, or None if a class file does not begin with these bytes."""
     return int.from_bytes(head[6:8], "big") if head[:4] == b"\xca\xfe\xba\xbe" and len(head) >= 8 else None
 
 
 def elements_of(class_path):
-    """Yields the elements, each wildcard as the jars of its folder."""
+    """Yields the elements. Replaces a wildcard by the jars of its folder."""
     for element in class_path.split(":"):
         if element != "*" and not element.endswith("/*") or os.path.exists(element):
             yield element or "."
@@ -157,9 +157,10 @@ def open_entry(shown):
 
 
 def named_by(jar):
-    """The files and folders that a jar's manifest names and that are there. The other names are printed.
+    """Returns the files and folders that a jar's manifest names and that exist. Prints the other names.
 
-    As in a virtual machine, the names are relative to the file that a link leads to."""
+    As in a virtual machine, the names are relative to the file that a link leads to.
+    """
     place, shown, found, missing = os.path.dirname(os.path.realpath(jar.path)), os.path.dirname(jar.path), [], []
     if os.path.realpath(shown or ".") != place:
         shown = place
@@ -176,8 +177,8 @@ def named_by(jar):
 
 
 def entries_of(class_path):
-    """Yields each entry once, in the order in which a virtual machine looks for classes: what the manifest of a jar names
-    follows the jar."""
+    """Yields each entry once, in the order in which a virtual machine searches them: the entries that the manifest of a jar
+    names follow the jar."""
     seen, left = set(), list(elements_of(class_path))[::-1]
     given = {os.path.realpath(element): element for element in left}
     while left:
@@ -194,7 +195,7 @@ def entries_of(class_path):
 
 
 def guarded(shown, call):
-    """What the call returns. Over a damaged jar zipfile raises errors of many kinds."""
+    """Returns the value of the call. For a damaged jar zipfile raises many kinds of errors."""
     try:
         return call()
     except Failure:
@@ -204,7 +205,7 @@ def guarded(shown, call):
 
 
 class Tree:
-    """The tree that is laid out: which classes are read from its files, and which are not read."""
+    """The tree: which classes are read from its files, and which are not read."""
 
     def __init__(self, top, copy):
         self.top, self.copy = top, copy
@@ -212,7 +213,7 @@ class Tree:
         self.files = self.shadowed = self.skipped = self.laid_out = 0
 
     def put(self, entry, folder):
-        """Lays an entry out. A file that is shadowed lies in the tree too, unless the file before it is not read."""
+        """Copies an entry. A shadowed file is in the tree too, unless the file that shadows it is not read."""
         versions = {}
         self.files += entry.hidden
         self.shadowed += entry.hidden
@@ -252,7 +253,7 @@ class Tree:
 
 
 def skipped_text(versions):
-    """For example: 3 class files of version 50 (Java 6), 212 of version 55 (Java 11) are."""
+    """Returns, for example, `3 class files of version 50 (Java 6), 212 of version 55 (Java 11) are`."""
     texts = []
     for version, count in sorted(versions.items()):
         java = f"{version - 44}" if version > 48 else f"1.{version - 44}"
@@ -262,13 +263,13 @@ def skipped_text(versions):
 
 
 def covers_any(prefix, names):
-    """Whether one of the sorted names begins with the prefix."""
+    """Returns whether one of the sorted names begins with the prefix."""
     at = bisect.bisect_left(names, prefix)
     return at < len(names) and names[at].startswith(prefix)
 
 
 def without_covered(prefixes):
-    """The prefixes, sorted, that begin with no other one."""
+    """Returns the prefixes, sorted, that do not begin with another one."""
     kept = []
     for prefix in sorted(set(prefixes)):
         if not kept or not prefix.startswith(kept[-1]):
@@ -277,10 +278,11 @@ def without_covered(prefixes):
 
 
 def prefixes_of(unread, read, room):
-    """At most `room` prefixes that cover classes which are not read and none that is read; and the classes that are left.
+    """Returns at most `room` prefixes that cover unread classes and no class that is read, and the unread classes that are left.
 
-    The prefix of a package covers its classes if no class below it is read, else each class has its own. If these are too many,
-    those with the longest common prefixes are replaced by these."""
+    The prefix of a package covers its classes if no class below it is read. Otherwise each class has its own prefix. If there are
+    too many prefixes, the longest common prefixes replace those that begin with them.
+    """
     read, found = sorted(read), []
     for name in unread:
         package = name[:name.rfind("/") + 1]
@@ -301,7 +303,7 @@ def prefixes_of(unread, read, room):
 
 
 def put_java(tree, file, folder):
-    """Lays the API of Java 8 out, and returns the prefixes of its packages that the file lacks."""
+    """Copies the API of Java 8, and returns the prefixes of its packages that the file lacks."""
     if file.endswith(".sym"):
         program = pathlib.Path(__file__).resolve().with_name("api.py")
         done = subprocess.run([sys.executable, program, "8", file, f"{tree.top}/{folder}"], check=False)
@@ -319,8 +321,13 @@ def put_java(tree, file, folder):
     return [] if "sun/misc/Unsafe" in tree.read else NOT_IN_CT_SYM
 
 
+def counted(count, one, several):
+    """Returns, for example, `1 entry` or `2 entries`."""
+    return f"{count} {one if count == 1 else several}"
+
+
 def lay_out(options):
-    """Lays everything out, prints the totals, and writes TREE/entries and TREE/outside."""
+    """Copies all entries, prints the totals, and writes TREE/entries and TREE/outside."""
     tree, outside, shown = Tree(options.tree, options.copy), JAVA, []
     entries = list(entries_of(options.class_path))
     width = max(3, len(str(len(entries))))
@@ -332,8 +339,8 @@ def lay_out(options):
         guarded(entry.name, lambda entry=entry: tree.put(entry, f"{len(shown):0{width}}"))
         shown.append(entry.shown)
     read = len(tree.read) - java
-    print(f"{len(entries)} entries, {tree.files} class files: {read} read, {tree.shadowed} shadowed, {tree.skipped} skipped",
-          file=sys.stderr)
+    totals = f"{counted(len(entries), 'entry', 'entries')}, {counted(tree.files, 'class file', 'class files')}"
+    print(f"{totals}: {read} read, {tree.shadowed} shadowed, {tree.skipped} skipped", file=sys.stderr)
     if not read:
         raise Failure("no class file is read")
     write_lines(f"{options.tree}/entries", map(escaped, shown))
@@ -341,13 +348,13 @@ def lay_out(options):
 
 
 def escaped(path):
-    """A path as jclink prints it."""
+    """Returns a path in the form in which jclink prints it."""
     plain = re.sub(rb"[^\x20-\x7e]", lambda found: b"\\x%02x" % found[0][0], os.fsencode(path).replace(b"\\", b"\\\\"))
     return plain.decode()
 
 
 def outside_of(tree, given):
-    """The outside prefixes: those given, and those of the classes that are not read; or one that covers nothing."""
+    """Returns the outside prefixes: those given, and those of the classes that are not read; or one that covers nothing."""
     given = without_covered(given)
     if len(given) > MAX_PREFIXES:
         sys.exit(print(f"classpath.sh: more than {MAX_PREFIXES} outside prefixes", file=sys.stderr) or 2)
@@ -372,7 +379,7 @@ def main():
     parser.add_argument("tree")
     parser.add_argument("class_path")
     options = parser.parse_args()
-    # All jars are open at once.
+    # All jars are open at the same time.
     _, most = resource.getrlimit(resource.RLIMIT_NOFILE)
     resource.setrlimit(resource.RLIMIT_NOFILE, (most, most))
     try:

@@ -1,14 +1,18 @@
 #!/usr/bin/env python3
-"""Keeps a report over a folder of class files while a build changes them, and tells what changes in it.
+"""Keeps a report of a folder of class files while a build changes them, and prints how the report changes.
 
 Usage: hold.py JCLINK FOLDER [PREFIX]...
 
-One `jclink session` runs as a coprocess in the folder above FOLDER, so that FOLDER may go and come again. Every second
-the regular files are compared with those of the second before, by size and time, each that came, changed or went is one
-line, and the lines of the report that came or went are printed. A file whose path has a line end can't be named in a line
-and is passed over. Names with a PREFIX that no file gives are outside (none: java/ and javax/); lines of standard input,
-`outside add PREFIX` and `outside drop PREFIX`, change which. It ends with the status of the session, where that ends, as
-for a PREFIX that is empty, and with 2 where JCLINK or FOLDER is not given.
+One `jclink session` runs as a coprocess in the parent of FOLDER, so that FOLDER may be removed and created again. Every
+second the script compares the regular files with those of the second before, by size and time. For each added, changed or
+removed file it sends a line to the session. Then it prints the lines that the report gained or lost. It ignores a file
+whose path has a line end, since no line can name it.
+
+Names that begin with a PREFIX and that no file gives are outside. Without a PREFIX these are java/ and javax/. The lines
+`outside add PREFIX` and `outside drop PREFIX` of standard input change the prefixes.
+
+If the session ends, for example because a PREFIX is empty, the script ends with its status. Without JCLINK or FOLDER the
+status is 2.
 """
 import os
 import pathlib
@@ -25,7 +29,7 @@ class Session:
         self.process = subprocess.Popen([program, "session", *words], cwd=folder, stdin=subprocess.PIPE, stdout=subprocess.PIPE)
 
     def end(self):
-        """The session has ended, and has told why on standard error."""
+        """Ends with the status of the session, which has printed the reason on standard error."""
         sys.exit(self.process.wait())
 
     def send(self, line):
@@ -40,12 +44,15 @@ class Session:
         return line.rstrip(b"\n") if line else self.end()
 
     def edit(self, word, path):
-        """An edit has one line of answer: ok, refused or unread."""
+        """Sends an edit, and returns its answer of one line: ok, refused or unread."""
         self.send(word + b" " + path)
         return self.answer()
 
     def report(self):
-        """Its lines, each with its section and a part's class. The answer to an empty line stands behind a report as a mark."""
+        """Returns the lines of the report, each after its section and, in a part, its class.
+
+        An empty line follows the request. Its answer, `bad line`, marks the end of the report.
+        """
         self.send(b"report")
         self.send(b"")
         section, part, lines = b"", b"", set()
@@ -61,7 +68,10 @@ class Session:
 
 
 def files_of(folder):
-    """Size and time of each regular class file, by its path from the folder above. What goes meanwhile is passed over."""
+    """Returns the size and time of each regular class file, by its path from the parent folder.
+
+    Ignores files that are removed meanwhile.
+    """
     found, above = {}, bytes(folder.parent)
     for place, _, names in os.walk(bytes(folder)):
         for path in (os.path.join(place, name) for name in names if name.endswith(b".class")):
@@ -76,7 +86,7 @@ def files_of(folder):
 
 
 def edits(old, new):
-    """What came, changed and went; what went first, so that a class that moves is not given twice."""
+    """Yields the edits. Removed files are first, so that two files never give a class that moves."""
     for path in sorted(old.keys() - new.keys()):
         yield b"remove", path
     for path in sorted(new.keys() - old.keys()):
@@ -87,7 +97,7 @@ def edits(old, new):
 
 
 class Lines:
-    """Whole lines of standard input as they come."""
+    """Reads whole lines of standard input."""
 
     def __init__(self):
         self.rest, self.waits_on = b"", [sys.stdin.fileno()]
@@ -103,7 +113,7 @@ class Lines:
 
 
 def make(session, changes, files):
-    """Makes the edits; a file whose edit is not made is left as it was, to be tried again."""
+    """Makes the edits. Keeps the old state of a file whose edit fails, so that the edit is tried again."""
     for word, path in changes:
         answer = session.edit(word, path)
         if answer != b"ok":
@@ -114,7 +124,7 @@ def make(session, changes, files):
 
 
 def turn(session, lines):
-    """Passes edits of prefixes on."""
+    """Sends edits of prefixes to the session."""
     for line in lines:
         if not line.startswith((b"outside add ", b"outside drop ")):
             print("no edit of a prefix:", line.decode(errors="replace"), flush=True)

@@ -1,18 +1,19 @@
 #!/usr/bin/env bash
-# Shows which methods the classes of Netty call that Java 8 doesn't have.
+# Shows which methods the classes of Netty name that Java 8 does not have.
 #
 #     netty.sh NETTY API
 #
-# NETTY is a jar, or a folder of jars or of class files. Debian's package: `apt-get download libnetty-java`, `dpkg -x` of it
-# into a folder, and below that usr/share/java. Of a folder of other jars too, those named netty* are taken.
-# API is the API of Java 8: the file jre/lib/rt.jar of a JDK 8; or the file lib/ct.sym below the JAVA_HOME of a JDK of
-# version 12 or later, as Debian's openjdk-17-jdk-headless, of which api.py makes class files; or a folder of class files.
+# NETTY is a jar, or a folder of jars or of class files. Jars of a folder count if their names begin with netty. For Debian's
+# package, run `apt-get download libnetty-java` and `dpkg -x` it into a folder; NETTY is usr/share/java below that.
 #
-# Printed are how many class files there are, how often each error stands in classes of Netty, and the methods of java/nio
-# that are missing, each with how many classes name it. It needs unzip, and for ct.sym python3.
+# API is the API of Java 8: a folder of class files, or a file of a JDK. The file is jre/lib/rt.jar of a JDK 8, or lib/ct.sym
+# of a JDK of version 12 or later, for example Debian's openjdk-17-jdk-headless. From ct.sym, api.py makes class files.
 #
-# Status 0: no class of Netty has an error. 1: one has. 2: other words. 3: the class files could not be had. 2 to 4 and 70:
-# as jclink ended, too. The environment's JCLINK may name the program.
+# The script prints the number of class files, and how often each error occurs in classes of Netty. Then it prints the missing
+# methods of java/nio, each with the number of errors that name it. It needs unzip, and python3 for ct.sym.
+#
+# Status 0: no class of Netty has an error. 1: one has. 2: a usage error. 3: the class files cannot be read or copied. 2 to 4
+# and 70 are also the statuses of jclink. The environment's JCLINK may name the program.
 set -u -o pipefail
 export LC_ALL=C
 here=$(dirname "$(readlink -f "$0")")
@@ -66,7 +67,7 @@ put "$work/netty" "$work/tree"
 status=0
 "$jclink" check --errors --only io/netty/ "$work/tree" >"$work/errors" || status=$?
 [ "$status" -le 1 ] || exit "$status"
-# Of each line what is wrong, then the methods.
+# Prints the error of each line, counted; then the missing methods.
 sed -n -e 's/.*: unreadable \([1-8] [A-Z][a-zA-Z]*\).*/unreadable \1/p; t' -e 's/.*: \(format F[0-9]*\|code S[0-9]*\) [0-9]*$/\1/p; t' \
   -e 's/.* error \([1-8] [A-Z][a-zA-Z]*\) .*/error \1/p' "$work/errors" | sort | uniq -c
 sed -n 's/.*: method \(java\/nio\/.*\) -> error 7 NoMethod .*/\1/p' "$work/errors" | sort | uniq -c

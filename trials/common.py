@@ -1,7 +1,7 @@
-"""What the trials share: the programs that they run, class files from javac, and memory that is refused.
+"""Code that the trials share: the programs that they run, class files from javac, and failing allocations.
 
-A trial is run from anywhere by its path, as trials/parse/run.py. The program jc_asked answers frames of its input; its
-first word says what is asked of them. Its sources stand in trials/asked, apart from the crates that `rt ci` proves.
+A trial can be run from any folder by its path, for example trials/parse/run.py. The program jc_asked answers frames of its
+input. Its first argument says what the answers are. Its sources are in trials/asked, outside the crates that `rt ci` proves.
 """
 import argparse
 import importlib.util
@@ -16,16 +16,16 @@ import zipfile
 
 TOP = pathlib.Path(__file__).resolve().parent.parent
 TRIALS = TOP / "trials"
-# A copy of the tree in which jc_asked is a crate, and what that crate stands on.
+# A copy of the tree in which jc_asked is a crate, and the libraries that this crate uses.
 COPY = pathlib.Path(tempfile.gettempdir()) / "jclink-asked"
 ASKED = COPY / "crates" / "jc_asked"
 LIBRARIES = "jc_base jc_text jc_file jc_code jc_list jc_link jc_report jc_edits"
-# The command that answers frames, but for what is asked of them.
+# The command for answering frames, without its first argument.
 ANSWERS = [ASKED / "out" / "jc_asked"]
-# The environment may name another program.
+# The environment variable may name another program.
 JCLINK = pathlib.Path(os.environ.get("JCLINK", TOP / "crates" / "jclink" / "out" / "jclink"))
 
-# The options of a compilation, and the folders of sources that it reads. `made` is made by the trial.
+# The options of each compilation, and the folders of sources that it reads. The trial generates the sources of `made`.
 SEVEN, EIGHT = ("seven", "made"), ("seven", "eight", "made")
 FOR_PARSE = [
     (["--release", "7", "-g"], SEVEN),
@@ -46,7 +46,7 @@ WITHOUT_MADE = [
 
 
 def load(path):
-    """The module in a file of the trials: several folders have files of the same names."""
+    """Loads the module in a file of the trials. Several folders have files of the same name."""
     spec = importlib.util.spec_from_file_location(path.removesuffix(".py").replace("/", "_"), TRIALS / path)
     module = importlib.util.module_from_spec(spec)
     spec.loader.exec_module(module)
@@ -60,9 +60,11 @@ def copy_anew(folder, to):
 
 
 def make_copy():
-    """The sources of all crates as they stand, and those of jc_asked beside them. What was proved there before stays. Of a
-    crate that was not there what was proved in the tree comes along, where rt does not see to that: some kits do, by a
-    folder beside the kit."""
+    """Copies the sources of all crates and those of jc_asked.
+
+    Earlier proofs in the copy are kept. A crate that is new in the copy also gets its proofs, unless rt shares them: some kits
+    do, in a folder beside the kit.
+    """
     is_shared = (pathlib.Path(shutil.which("rt")).resolve().parents[2] / "rattle-kept").is_dir()
     for crate in (TOP / "crates").iterdir():
         copy = COPY / "crates" / crate.name
@@ -79,7 +81,7 @@ def make_copy():
 
 
 def build():
-    """Proves and builds jc_asked, where that is still to do."""
+    """Proves and builds jc_asked, unless its build is up to date."""
     make_copy()
     done = subprocess.run(["rt", "run", "--", "faults"], cwd=ASKED, stdin=subprocess.DEVNULL, capture_output=True, check=False)
     if done.returncode != 0 or not ANSWERS[0].exists():
@@ -99,7 +101,7 @@ def answer_text(word, frames):
 
 
 def ask(word, frames):
-    """A line of answer for each frame."""
+    """Returns the answer to each frame, a line."""
     lines = answer_text(word, frames).splitlines()
     if len(lines) != len(frames):
         sys.exit(f"{len(frames)} frames and {len(lines)} answers")
@@ -107,7 +109,7 @@ def ask(word, frames):
 
 
 def class_file(name=b"A", constants=(), fields=(), methods=(), attributes=()):
-    """A class below java/lang/Object with further constants, from the fifth on, and these tables."""
+    """Returns a class that extends java/lang/Object, with these constants from index 5 on and these tables."""
     pool = [b"\x07\0\x02", utf8(name), b"\x07\0\x04", utf8(b"java/lang/Object"), *constants]
     tables = b"".join(number(2, len(table)) + b"".join(table) for table in ((), fields, methods, attributes))
     head = b"\xca\xfe\xba\xbe\0\0\0\x34" + number(2, 1 + len(pool))
@@ -119,7 +121,7 @@ def utf8(text):
 
 
 def make_sources(folder, rng):
-    """Sources with random members, of which the last has many constants."""
+    """Writes sources with random members. The last one has many constants."""
     types = ["int", "long", "double", "float", "char", "String", "Object[][]", "java.util.List<String>"]
     for at in range(12):
         lines = [f"package made.of{at % 3};", f"class Made{at} {{"]
@@ -139,7 +141,7 @@ def make_sources(folder, rng):
 
 
 def compile_all(work, compilations, rng):
-    """The class files of the compilations, in folders of `work`."""
+    """Compiles into folders of `work`, and returns the class files."""
     made = work / "made"
     made.mkdir()
     make_sources(made, rng)
@@ -157,7 +159,7 @@ def compile_all(work, compilations, rng):
 
 
 class Workplace:
-    """A folder that goes at the end."""
+    """A temporary folder that is deleted at the end of the block."""
 
     def __enter__(self):
         self.folder = pathlib.Path(tempfile.mkdtemp(prefix="jclink-trial-"))
@@ -168,14 +170,17 @@ class Workplace:
 
 
 def make_shim(folder):
-    """The library that is loaded before a program and refuses one of its requests for memory."""
+    """Compiles the library that is preloaded into a program and makes one of its allocations fail."""
     shim = folder / "refuse.so"
     subprocess.run(["cc", "-shared", "-fPIC", "-O1", "-o", shim, TRIALS / "memory" / "refuse.c", "-ldl"], check=True)
     return shim
 
 
 def run_refused(command, text, folder, shim, at):
-    """Status, output, standard error, and how many requests there were; 0 refuses none."""
+    """Runs a command whose allocation number `at` fails; with 0 none fails.
+
+    Returns the status, standard output, standard error, and the number of allocations.
+    """
     count = folder / "count"
     env = {"LD_PRELOAD": str(shim), "REFUSE": str(at), "COUNT": str(count)}
     done = subprocess.run(command, input=text, cwd=folder, env=env, capture_output=True, timeout=60)
@@ -183,7 +188,7 @@ def run_refused(command, text, folder, shim, at):
 
 
 def class_files_of(folder, work):
-    """The class files of versions 51 and 52 in the jars of a folder, each different one once."""
+    """Copies the different class files of versions 51 and 52 in the jars of a folder, and returns their paths."""
     seen, paths = set(), []
     for jar in sorted(pathlib.Path(folder).rglob("*.jar")):
         try:
@@ -203,7 +208,7 @@ def class_files_of(folder, work):
 
 
 def trees_parser():
-    """The words of a trial over class files of javac and, with --jars, those of a folder's jars."""
+    """Returns the parser of a trial's arguments. The class files are javac's and, with --jars, those of a folder's jars."""
     parser = argparse.ArgumentParser()
     parser.add_argument("--seed", type=int, default=1)
     parser.add_argument("--jars")
@@ -211,7 +216,7 @@ def trees_parser():
 
 
 def files_of_trees(work, options):
-    """These class files, and how many of them are javac's."""
+    """Returns these class files, and how many of them are javac's."""
     files = compile_all(work, FOR_VIEWS, random.Random(options.seed))
     of_javac = len(files)
     if options.jars:

@@ -1,14 +1,17 @@
 #!/usr/bin/env python3
-"""Which definitions a reader has to believe: those that the public clauses of each crate speak of.
+"""Compares docs/BELIEVE.md with the definitions that the public clauses of each crate use.
 
-Run from the repository's root: trials/believed/run.py
-It reads the clauses of each `pub fn` and the ghost members that callers see, but for those of the inner crates,
-follows the names through the imports of src/ and specs/, and compares:
-- each definition of specs/ outside specs/inside/ is reached by a public clause of some crate, and none inside is;
-- docs/BELIEVE.md lists for each crate exactly the files of specs/ that hold a definition which is reached;
-- an inner crate is used by the one crate above it alone, which passes none of its items on: no `pub use` of that
-  crate leads to one, and no text there that a caller sees names one.
-It exits with 1 where something differs. With the word `list` it prints the files and how many definitions each has.
+Usage: run.py [list]. With `list` it prints the files, each with its number of definitions.
+
+It reads the clauses of each `pub fn` and the ghost members that callers see, except those of the inner crates. It follows
+the names through the imports of src/ and specs/. Then it checks three rules:
+
+- A public clause of some crate reaches each definition of specs/ outside specs/inside/, and no definition inside.
+- docs/BELIEVE.md lists for each crate exactly the files of specs/ with a definition that is reached.
+- Only one crate uses an inner crate, and it re-exports none of its items. No `pub use` of that crate leads to one, and no
+  text there that a caller sees names one.
+
+Status 1: a rule is broken.
 """
 import re
 import sys
@@ -18,7 +21,7 @@ TOP = Path(__file__).resolve().parents[2]
 USE = re.compile(r"^\s*(?:ghost )?use (Rattle\.[\w.+]+?)(?:\.\{([^}]*)\}| as (\w+))?;?\s*$", re.M)
 DEFINITION = re.compile(r"^(?:abbrev pub|unfoldable pub|pub record|pub data|abbrev|unfoldable|pub|record|data) (?!mod |use )(\S+)")
 WORD = re.compile(r"(?<![\w'.-])([^\W\d][\w'-]*)(?:\.([^\W\d][\w'-]*))?|(◌[^◌\s]+◌)")
-# Each inner crate with the one that stands on it, which passes none of its items on: their clauses are not public.
+# Each inner crate with the only crate that uses it, which re-exports none of its items: their clauses are not public.
 INNER = {"jc_numbered": "jc_resolve"}
 SEEN_BY_CALLERS = ("Value", "next_gives", "remaining", "from_gives", "answers", "asked", "failures", "written", "bound", "ended")
 PUBLIC_USE = re.compile(r"^\s*pub (?:use|extern crate) ([^;]*);", re.M)
@@ -31,7 +34,7 @@ def module_of(path):
 
 
 def imports(text):
-    """From a name to the module and the name there; from an alias to its module."""
+    """Returns a map from each name to its module and its name there, and from each alias to its module."""
     names = {}
     for module, items, alias in USE.findall(text):
         if alias:
@@ -46,7 +49,7 @@ def imports(text):
 
 
 def definitions(text):
-    """The definitions of a file by name, each with its text. The constructors of a data type stand for it."""
+    """Returns the definitions of a file by name, each with its text. A constructor leads to its data type."""
     found, owner, name = {}, {}, None
     for line in unindented(text.split("\n")):
         start = DEFINITION.match(line)
@@ -64,7 +67,7 @@ def definitions(text):
 
 
 def unindented(lines):
-    """The lines, with what stands in blocks of mutual definitions as if it stood by itself."""
+    """Returns the lines without the indentation of blocks of mutual definitions."""
     inside = False
     for line in lines:
         inside = line == "mutual" or inside and (not line or line.startswith("  "))
@@ -80,7 +83,7 @@ class Specs:
                 self.files[module_of(path)] = (path, imports(text), *definitions(text))
 
     def home(self, module):
-        """Where a module that is passed on by another crate stands."""
+        """Returns a module, or the module of another crate that is re-exported under this name, or None."""
         if module in self.files:
             return module
         last = module.split(".specs.", 1)[-1]
@@ -103,7 +106,7 @@ class Specs:
         while queue:
             module, name = queue.pop()
             _, names, found, owner = self.files[module]
-            # a `do` block is steps joined by the operator
+            # (a `do` block joins its steps by the operator)
             joined = [("◌>>=◌", "", "")] if "←" in found[name] else []
             for word, member, operator in WORD.findall(found[name]) + joined:
                 word = owner.get(word, word)
@@ -118,7 +121,7 @@ class Specs:
 
 
 def public_clauses(text):
-    """The headers of the functions that a caller sees, with their clauses, and the ghost members."""
+    """Returns the headers of the functions that a caller sees, with their clauses, and the ghost members."""
     lines = text.split("\n")
     for at, line in enumerate(lines):
         if re.match(r"\s*pub (const )?fn ", line) or re.match(r"\s+fn ", line) and in_trait(lines, at):
@@ -128,7 +131,7 @@ def public_clauses(text):
 
 
 def header(lines, at):
-    """The signature and the clauses of the function that begins here."""
+    """Returns the signature and the clauses of the function that begins here."""
     text, depth = "", 0
     for line in lines[at:]:
         bare = line.strip()
@@ -141,7 +144,7 @@ def header(lines, at):
 
 
 def is_public(text, lines, at):
-    """A ghost member stands in a public trait, or in an `impl` of a type that this file makes public."""
+    """Returns whether a ghost member is in a public trait, or in an `impl` of a public type of this file."""
     for line in reversed(lines[:at]):
         if line.startswith(("pub trait", "trait")):
             return line.startswith("pub")
@@ -159,7 +162,7 @@ def in_trait(lines, at):
 
 
 def roots(specs):
-    """What the public clauses speak of, by crate."""
+    """Returns the definitions that the public clauses use, by crate."""
     found = {}
     for path in sorted(TOP.glob("crates/*/src/**/*.rt")):
         crate = path.relative_to(TOP / "crates").parts[0]
@@ -176,13 +179,13 @@ def roots(specs):
 
 
 def users_of(crate):
-    """The crates of crates.txt that use a library."""
+    """Returns the crates of crates.txt that use a library."""
     rows = (line.split("#")[0].partition(":") for line in (TOP / "crates.txt").read_text().splitlines())
     return [head.split()[0] for head, _, libraries in rows if crate in libraries.split()]
 
 
 def leaves(tree, front=()):
-    """The paths of a tree of imports, each with the name that it has here."""
+    """Yields the paths of a tree of imports, each with its local name."""
     head, brace, inside = tree.strip().partition("{")
     if brace:
         for part in parts(inside.removesuffix("}")):
@@ -199,7 +202,7 @@ def steps(path):
 
 
 def parts(text):
-    """What stands between the commas that are in no braces."""
+    """Splits a text at the commas outside braces."""
     depth, found = 0, [""]
     for letter in text:
         depth += {"{": 1, "}": -1}.get(letter, 0)
@@ -211,12 +214,12 @@ def parts(text):
 
 
 def sources_of(crate):
-    """The sources of a crate without comments, by path."""
+    """Returns the sources of a crate without comments, by path."""
     return {path: re.sub(r"//.*", "", path.read_text()) for path in sorted(TOP.glob(f"crates/{crate}/src/**/*.rt"))}
 
 
 def items_of(crate):
-    """The names that an import with a star may bring in from a crate."""
+    """Returns the names that an import with a star may bring in from a crate."""
     found = set()
     for text in sources_of(crate).values():
         found |= set(re.findall(r"^pub (?:const )?(?:fn|struct|enum|trait|type|const|static|mod) (\w+)", text, re.M))
@@ -225,7 +228,7 @@ def items_of(crate):
 
 
 def names_for(inner, sources):
-    """The names by which these sources speak of an inner crate and of what they bring in from there."""
+    """Returns the names that these sources use for an inner crate and for its items."""
     trees = [tree for text in sources.values() for tree in ANY_USE.findall(text)]
     imports, names, before = [leaf for tree in trees for leaf in leaves(tree)], {inner}, None
     while names != before:
@@ -237,7 +240,7 @@ def names_for(inner, sources):
 
 
 def seen_by_callers(text):
-    """The lines of Rust that a caller sees: public items and fields, and how a public type meets traits."""
+    """Returns the lines of Rust that a caller sees: public items and fields, and trait implementations of public types."""
     lines = text.split("\n")
     for at, line in enumerate(lines):
         meets = meets_trait(text, lines, at)
@@ -252,13 +255,13 @@ def seen_by_callers(text):
 
 
 def meets_trait(text, lines, at):
-    """Whether the line stands in an `impl` of a trait for a type that this file makes public."""
+    """Returns whether the line is in an `impl` of a trait for a public type of this file."""
     block = next((line for line in reversed(lines[:at]) if re.match(r"[^\s}]", line)), "")
     return re.match(r"impl\b.* for ", block) is not None and is_public(text, lines, at)
 
 
 def passed_on():
-    """Where another crate could reach an inner one past the crate above it."""
+    """Yields the places where another crate could reach the items of an inner crate."""
     for inner, above in INNER.items():
         if users_of(inner) != [above]:
             yield f"crates.txt: {inner} is for {above} alone, and is used by: {' '.join(users_of(inner))}"
@@ -273,7 +276,7 @@ def passed_on():
 
 
 def listed():
-    """The files of specs/ that docs/BELIEVE.md names, by crate."""
+    """Returns the files of specs/ that docs/BELIEVE.md names, by crate."""
     text = (TOP / "docs/BELIEVE.md").read_text()
     return set(re.findall(r"`(crates/\w+/specs/[\w/]+\.antt)`", text))
 

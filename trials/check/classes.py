@@ -1,4 +1,4 @@
-"""Random classes for worlds.py: some of which most load, some with code or with faults, and bytes that are no class."""
+"""Makes random classes for worlds.py: classes that mostly load, classes with code or with faults, and unreadable bytes."""
 import struct
 
 import common
@@ -17,7 +17,7 @@ INIT, CLINIT = (b"<init>", b"()V"), (b"<clinit>", b"()V")
 TEXTS = [b"Code", b"ConstantValue", b"Exceptions", b"BootstrapMethods", b"SourceFile", b"EnclosingMethod", b"Signature",
          b"Deprecated", b"I", b"J", b"Ljava/lang/String;", b"()V", b"()I", b"x", b"<init>", b"<clinit>", b"[I", b"\xc1\x81", b"a;b"]
 BODIES = {3: 4, 4: 4, 7: 2, 8: 2, 9: 4, 10: 4, 11: 4, 12: 4, 15: 3, 16: 2, 18: 4}
-# The opcodes of which rules tell, the rarer ones twice, and what a class with code refers to.
+# The opcodes that rules name, the rarer ones twice, and the references of a class with code.
 TOLD = [18, 19, 20, 22, 58, 132, 153, 167, 168, 169, 170, 171, *range(178, 190), 192, 193, 196, 197, 200, 187, 189, 189]
 HANDLE_OF_B = (15, 6, (10, b"B", b"m", b"(LC;)V"))
 ENTRIES = [(10, b"A", b"<init>", b"()V"), (11, b"B", b"m", b"(IJ)V"), (11, b"B", b"m", b"()V"), (9, b"A", b"x", b"I"),
@@ -35,13 +35,13 @@ def some(rng, most):
 
 
 def by_parts(data):
-    """The constants by their indexes, and what stands before and behind them."""
+    """Returns the constants by their indexes, and the bytes before and after the constants."""
     _, (places, _, tail) = reader.read(data)
     ends = [*places.values(), tail][1:]
     return data[:10], {index: data[begin:end] for (index, begin), end in zip(places.items(), ends)}, data[tail:]
 
 
-# ---- classes of which most load, all with the same few members
+# ---- classes that mostly load, all with the same few members
 
 def now_and_then(rng, chance, flags, key):
     return [(rng.choice(flags), *key)] if rng.random() < chance else []
@@ -71,7 +71,7 @@ def dense_class(rng):
 
 
 def dense_shapes(rng, names, interfaces):
-    """Interfaces below interfaces and classes below both, in the order in which they may extend one another."""
+    """Returns interfaces that extend interfaces and classes that extend both. Each has its supertypes before it."""
     for at, name in enumerate(names):
         supertypes = [one for one in names[:at] if one in interfaces]
         supertypes = rng.sample(supertypes, min(len(supertypes), rng.randrange(4))) + [b"java/util/List"] * (rng.random() < 0.05)
@@ -108,14 +108,14 @@ def dense_classes(rng):
 # ---- code
 
 def codes_of(data):
-    """The Code of each method that has one, by the method's number."""
+    """Returns the Code of each method that has one, by the method's number."""
     view = views.ClassFile(data)
     found = {number: view.of(method.attributes, b"Code") for number, method in enumerate(view.methods)}
     return {number: codes[0] for number, codes in found.items() if codes}
 
 
 def without(data, uses):
-    """The class with nothing in the place of these instructions: the method's number, the offset and the opcode."""
+    """Returns the class with nops in the place of instructions, each given by its method's number, offset and opcode."""
     codes = codes_of(data)
     for method, offset, opcode in uses:
         data = put(data, codes[method].place + 14 + offset, bytes(opcodes[opcode]))
@@ -123,7 +123,7 @@ def without(data, uses):
 
 
 def one_instruction(rng, name):
-    """A class with an instruction on its field or on itself, which links or doesn't."""
+    """Returns a class with an instruction on its field or on itself, which may or may not link."""
     fields, instructions = [(rng.choice([1, 9, 0x11, 0x19]), b"x", b"I")], [(187, (7, name))]
     instructions += [(opcode, (9, name, b"x", b"I")) for opcode in range(178, 182)]
     codes = {0: [rng.choice(instructions)]}
@@ -132,7 +132,7 @@ def one_instruction(rng, name):
 
 
 def instruction(rng, at, indexes):
-    """An instruction at an offset, which names one of these constants; other operands are small numbers."""
+    """Returns an instruction at an offset that names one of these constants. Other operands are small numbers."""
     small = lambda: rng.randrange(-3, 12)
     opcode = rng.choice(TOLD + [0, 1, 3, 42, 87, rng.randrange(202)])
     pad = b"\1" * (3 - at % 4)
@@ -160,7 +160,7 @@ def code_body(rng, indexes):
 
 
 def with_code(rng, data):
-    """The class with other code in each of its methods."""
+    """Returns the class with other code in each of its methods."""
     indexes = [0, *(index for index, piece in by_parts(data)[1].items() if piece[0] != 1)]
     for code in reversed(list(codes_of(data).values())):
         body = code_body(rng, indexes)
@@ -169,7 +169,7 @@ def with_code(rng, data):
 
 
 def code_class(rng, name):
-    """A class whose methods have code that refers to entries of many sorts."""
+    """Returns a class whose methods refer to constants of many kinds."""
     names = [b"m", b"n", rng.choice([b"<init>", b"<clinit>", b"<clinit>", b"o"])]
     methods = [(rng.choice([0, 1, 2, 4]), one, b"()V") for one in names]
     fields = [(rng.choice([1, 4]), b"<clinit>", b"I")] * rng.randrange(2)
@@ -181,7 +181,7 @@ def code_class(rng, name):
 # ---- faults
 
 def wild_constants(rng):
-    """Texts, and constants that name them or one another, behind the four of a class."""
+    """Returns texts, and constants that name them or one another. They follow the four constants of a class."""
     base = 5 + len(TEXTS)
     text = lambda: common.number(2, 5 + rng.randrange(len(TEXTS)))
     special = lambda: common.number(2, 5 + TEXTS.index(rng.choice([b"<init>", b"<clinit>", b"x"])))
@@ -194,7 +194,7 @@ def wild_constants(rng):
 
 
 def wild_attributes(rng, names, count):
-    """Attributes of these names, by the indexes of the texts."""
+    """Returns attributes of these names, by the indexes of the texts."""
     index = lambda: common.number(2, rng.randrange(count))
     for _ in some(rng, 2):
         body = rng.choice([b"", index(), index(), index() + index(), b"\0\1" + index(), code_body(rng, range(count))])
@@ -208,12 +208,12 @@ def wild_members(rng, names, count):
         flags = rng.choice([1, 8, 9, 0x400, rng.randrange(0x1000)])
         texts = rng.randrange(4, 5 + len(TEXTS)), 5 + rng.randrange(len(TEXTS))
         members.append(struct.pack(">HHHH", flags, *texts, len(inside)) + b"".join(inside))
-    # Twice the same is a fault of its own.
+    # A repeated attribute is a fault too.
     return members * rng.choice([1, 1, 1, 2])
 
 
 def wild_class(rng, name):
-    """A class whose constants, members and attributes are nearly all faulty."""
+    """Returns a class whose constants, members and attributes are nearly all faulty."""
     constants = wild_constants(rng)
     count = 5 + len(constants)
     fields, methods = wild_members(rng, [3, 6, 6, 11, 12], count), wild_members(rng, [5, 5, 5, 7, 7, 11], count)
@@ -221,7 +221,7 @@ def wild_class(rng, name):
 
 
 def changed(rng, data):
-    """The class with some other bytes; it may be none any more."""
+    """Returns the class with some bytes changed, so that it may be unreadable."""
     for _ in range(rng.choice([1, 1, 2, 4])):
         at = rng.randrange(8, len(data))
         data = put(data, at, bytes([rng.choice([0, 1, 2, 4, 8, 0x3b, 255, data[at] ^ 1 << rng.randrange(8)])]))
@@ -229,7 +229,7 @@ def changed(rng, data):
 
 
 def unreadable(rng, data):
-    """Bytes that are refused, each refusal as often as another."""
+    """Returns unreadable bytes. All refusals are equally frequent."""
     _, (places, _, tail) = reader.read(data)
     starts = list(places.values())
     version = rng.choice([(0, 50), (0, 53), (1, 52), (0, 61), (52, 0)])

@@ -1,11 +1,12 @@
 #!/usr/bin/env python3
-"""A plain judge of whole reports, written from `docs/RULES.md` and `docs/REPORT.md`: the text that `jclink check` owes for a folder.
+"""A plain judge of whole reports, written from `docs/RULES.md` and `docs/REPORT.md`.
 
-report(files, prefixes) takes bytes by path, and gives the text and whether it is wrong; owed(files, prefixes, folder) what
-the program owes for them, with --errors too. It stands on the judges of parsing (trials/parse), of faults (trials/views,
-trials/code) and of linking (trials/link), none of which shares code with the library.
+report(files, prefixes) takes bytes by path, and returns the text of the report and whether it is wrong.
+owed(files, prefixes, folder) returns what `jclink check` must print for them, also with --errors. The module uses the judges
+of parsing (trials/parse), of faults (trials/views, trials/code) and of linking (trials/link). None of them shares code with
+the library.
 
-Usage: judge.py [--outside PREFIX]... DIR. It prints and ends as `jclink check` owes.
+Usage: judge.py [--outside PREFIX]... DIR. It prints what `jclink check` must print, and has the status that it must have.
 """
 import argparse
 import os
@@ -34,7 +35,7 @@ def row(name, tag, key):
 
 
 def rows(found):
-    """Rows of class name, kind and member, each once; the numbers of kinds rise as the kinds do."""
+    """Returns the rows of pairs of class name, kind and member, each once. The numbers of kinds have the order of the kinds."""
     return [row(*one) for one in sorted(set(found))]
 
 
@@ -67,23 +68,23 @@ class Report:
                         yield name, tag, tuple(key)
 
     def resolved(self, name):
-        """The references of a class, each with its answer where the class loads."""
+        """Yields the references of a class, each with its answer; none if the class does not load."""
         for _, tag, text, key in self.loaded[name].references if name in self.loaded else ():
             yield (text, tag, key or ()), self.world.resolve(name, tag, text, key)
 
     def method(self, name, number):
-        """A method by its class, its name and its descriptor."""
+        """Returns the text for a method: its class, its name and its descriptor."""
         return f"{links.shown(name)}{links.member(self.world.given[name].methods[number][:2])}"
 
     def instruction(self, name, number, offset):
-        """The mnemonic and the reference of the instruction at an offset of a method."""
+        """Returns the mnemonic and the reference of the instruction at an offset of a method."""
         record = self.world.given[name]
         opcode, index = next(use[2:] for use in record.uses if use[:2] == (number, offset))
         reference = next(one[1:] for one in record.references if one[0] == index)
         return f"{MNEMONICS[opcode]} {row(reference[1], reference[0], reference[2])}"
 
     def errors_of(self, name, line):
-        """The line of `--errors` for a line of the class's part, and whether it is marked."""
+        """Returns the line of `--errors` for a line of the class's part, and whether it is marked as unused."""
         kind, *words = line.removeprefix("  ").split(" ")
         if kind == "code":
             return f"{self.method(name, int(words[1]))}: code {words[0]} {words[2]}", False
@@ -99,7 +100,7 @@ class Report:
         return f"{where}: {' '.join(words)}{' (unused)' if is_marked else ''}", is_marked
 
     def described(self):
-        """How many lines of `--errors` lack the mark for a descriptor's sake alone."""
+        """Returns how many lines of `--errors` lack the mark only because a descriptor names their class."""
         return sum(index in record.described and self.world.resolve(name, *reference)[0] == "error"
                    for name, record in self.loaded.items() for index, *reference in record.references)
 
@@ -115,8 +116,8 @@ class Report:
         return "".join(line + "\n" for line in lines)
 
     def errors(self, only, used_only=False):
-        """What makes the report wrong, a line each: of paths and names that begin with one of the prefixes, or of all; with
-        `used_only` without the lines that are marked."""
+        """Yields the lines of `--errors`, or only those of paths and names that begin with a prefix of `only`. With `used_only`
+        it omits the marked lines."""
         is_asked = lambda text: only is None or text.startswith(tuple(only))
         for path, answer in self.answers.items():
             if path not in self.names and is_asked(path):
@@ -143,7 +144,7 @@ class Report:
 
 
 def report(files, prefixes=STANDARD):
-    """The text, and whether it is wrong."""
+    """Returns the text of a report, and whether it is wrong."""
     made = Report(files, prefixes)
     return made.text(), made.wrong()
 
@@ -157,9 +158,9 @@ def is_word(name):
 
 
 def unread_folder(files):
-    """The folder at which the walk ends, by its path, since it has an entry whose name is no UTF-8.
+    """Returns the path of the folder at which the walk ends because the name of an entry is not UTF-8, or None.
 
-    A folder's entries are gone through by their names, each folder whole before the next entry.
+    The walk visits the entries of a folder in the order of their names, and all of a folder before the next entry.
     """
     for parts in sorted(path.split(b"/") for path in files):
         for depth, name in enumerate(parts):
@@ -173,8 +174,10 @@ def class_files(files):
 
 
 def owed(files, prefixes, folder, only=False, used_only=False):
-    """What `jclink check` owes for the files of a folder: output, status and standard error. With `only`, prefixes or None
-    for all, what `--errors` does, and with `used_only` besides what `--used` does."""
+    """Returns the output, status and standard error that `jclink check` must have for the files of a folder.
+
+    With `only` (prefixes, or None for all lines) they are those of `--errors`, and with `used_only` also of `--used`.
+    """
     unread = unread_folder(files)
     if unread is not None:
         return "", 3, f"jclink: cannot read {path_text(unread) or folder}\n"
@@ -186,7 +189,7 @@ def owed(files, prefixes, folder, only=False, used_only=False):
 
 
 def files_below(folder):
-    """The bytes of the class files below a folder by their paths, and None for each folder."""
+    """Returns the bytes of the class files below a folder by their paths. A folder, or a name that is not UTF-8, has None."""
     top, found = os.fsencode(folder), {}
     for place, folders, names in os.walk(top):
         for name in folders + names:

@@ -1,7 +1,7 @@
 #!/usr/bin/env python3
-"""Worked reports: small worlds of which a person said what stands in the report, against the plain judge.
+"""Compares the plain judge with small worlds whose reports were worked out by hand.
 
-Usage: rows.py. With `jclink` built, run.py compares that with the judge; this only needs Python.
+Usage: rows.py. It needs only Python. run.py compares the built program with the judge.
 """
 import pathlib
 import sys
@@ -40,7 +40,7 @@ def interface(name, bits, interfaces=()):
 
 
 def with_code(code, max_locals=8):
-    """A class whose one method has this code."""
+    """Returns a class whose only method has this code."""
     plain = made(b"A", methods=[(1, b"m", b"()V")])
     number = common.number
     body = b"\0\2" + number(2, max_locals) + number(4, len(code)) + code + b"\0\0\0\0"
@@ -63,7 +63,7 @@ def ring(parent_of_b):
 
 
 def answer_row(data):
-    """The row of the one file of a world."""
+    """Returns the row of a file that is the only one of its world."""
     return judge.report({b"f": data})[0].split("\n")[1].removeprefix("f: ")
 
 
@@ -78,7 +78,7 @@ UNREADABLE = [
     (NAMELESS, "8 NoName"), (A[:8] + b"\0\2\5", "5 Wide(10)"), (A[:8] + b"\0\2\2", "4 Tag(10)"),
 ]
 
-# Files, and texts that stand in the report.
+# Files, and texts that the report contains.
 WORLDS = [
     ({}, ["[files]\n[parts]\n[circular]\n[provided]\n[required]\n"]),
     ({b"A.class": A}, [REPORT_OF_A]),
@@ -126,7 +126,7 @@ ABSTRACT, IS_INTERFACE, ALOAD_200 = 0x421, 0x601, (25, b"\xc8")
 
 
 def user(opcode, reference, method=M, **more):
-    """A class with one method of one instruction."""
+    """Returns a class with one method of one instruction."""
     return made(b"U", methods=[method], codes={0: [(opcode, reference)]}, **more)
 
 
@@ -139,24 +139,24 @@ def at_own(opcode, flags, method=M):
 
 
 def at_inherited(opcode, flags, method=M):
-    """The same of a field that the class has from its superclass."""
+    """Returns a world with an instruction on a field that its class inherits."""
     return {**at_field(opcode, flags), b"U": user(opcode, (9, b"U", b"x", b"I"), method, parent=b"F")}
 
 
 def at_method(opcode, tag, flags, name=b"m"):
-    """An instruction that names a method of another class, or of an interface."""
+    """Returns a world with an instruction that names a method of another class, or of an interface."""
     other = made(b"F", flags=IS_INTERFACE if tag == 11 else 0x21, methods=[(flags, name, b"()V")])
     return {b"U": user(opcode, (tag, b"F", name, b"()V")), b"F": other}
 
 
 def at_inherited_method(opcode, tag, flags, name=b"m"):
-    """The same by the name of a class or an interface right below."""
+    """Returns a world with an instruction that names such a method by a direct subclass or subinterface."""
     low = made(b"G", b"F") if tag == 10 else made(b"G", flags=IS_INTERFACE, interfaces=[b"F"])
     return {**at_method(opcode, tag, flags, name), b"U": user(opcode, (tag, b"G", name, b"()V")), b"G": low}
 
 
 def at_own_method(opcode, flags):
-    """An interface one of whose methods names another."""
+    """Returns a world of an interface one of whose methods names another."""
     methods, codes = [M, (flags, b"n", b"()V")], {0: [(opcode, (11, b"U", b"n", b"()V"))]}
     return {b"U": made(b"U", flags=IS_INTERFACE, methods=methods, codes=codes)}
 
@@ -175,7 +175,7 @@ def at_class(flags, opcode=NEW):
 
 
 def two_methods(first, second, **more):
-    """Two methods, each with these instructions; the class's own field is not STATIC."""
+    """Returns a world of a class with two methods of these instructions. The class's own field is not STATIC."""
     methods, fields = [M, (1, b"n", b"()V")], [(1, b"x", b"I")]
     return {b"U": made(b"U", methods=methods, fields=fields, codes={0: first, 1: second}, **more)}
 
@@ -187,7 +187,7 @@ LINES_OF_IT = """part U: loaded
   link 1 0 error 4 Incompatible U
   #2 class U -> To U
 """
-# Worlds, and the rows of U's instructions; the other classes have none.
+# Worlds, and the rows of the instructions of U. The other classes have none.
 UNLINKED = [
     (at_field(GETSTATIC, 1), ["0 0 error 4 Incompatible F"]),
     (at_field(GETSTATIC, 0x11), ["0 0 error 4 Incompatible F"]),
@@ -250,7 +250,7 @@ LINKED = [
     at_class(0x21), {b"U": user(NEW, (7, OBJECT))}, *(at_class(ABSTRACT, opcode) for opcode in (19, 189, 192, 193)),
     {b"U": user(GETSTATIC, (9, b"java/util/List", b"x", b"I"))}, {b"U": user(NEW, (7, b"java/util/List"))},
 ]
-# Worlds that are wrong, and not by an instruction.
+# Worlds that are wrong, but not because of an instruction.
 UNTOLD = [
     two_methods([OWN, ALOAD_200], []), two_methods([OWN], [], parent=b"X"), two_methods([OWN], [], flags=0x431),
     {b"U": user(GETSTATIC, (9, b"X", b"x", b"I"))}, {b"U": user(NEW, (7, b"X"))}, at_field(GETSTATIC, 2),
@@ -260,7 +260,7 @@ UNTOLD = [
 
 
 def link_rows(files):
-    """What the report says of instructions, of classes but U with their names."""
+    """Returns the report's rows of instructions. Those of classes other than U begin with the name of the class."""
     found, name = [], ""
     for line in judge.report(files)[0].splitlines():
         name = line.split(" ")[1][:-1] if line.startswith("part ") else name
@@ -270,7 +270,7 @@ def link_rows(files):
 
 
 def missed_links():
-    """The worlds with other rows of instructions, or another status."""
+    """Yields the worlds with other rows of instructions than wanted, or another status."""
     if LINES_OF_IT not in judge.report(FAULTY_AND_UNLINKED)[0]:
         yield LINES_OF_IT, judge.report(FAULTY_AND_UNLINKED)[0]
     told = [*((files, wanted, True) for files, wanted in UNLINKED), *((files, [], False) for files in LINKED),
@@ -281,7 +281,7 @@ def missed_links():
 
 
 def missed():
-    """What the judge says otherwise."""
+    """Yields what the judge should return, and what it returns instead."""
     yield from missed_links()
     for data, wanted in UNREADABLE:
         if answer_row(data) != f"unreadable {wanted}":

@@ -1,14 +1,14 @@
 #!/usr/bin/env python3
-"""Compares the reports of the built program with those of a plain judge (judge.py), over random small worlds.
+"""Compares the output of `jclink check` with that of a plain judge (judge.py), over random small worlds.
 
-Each world is written as a folder and `jclink check` is run on it; standard output, standard error and the status
-are compared, also where a name is no UTF-8 and there is no report, and of a folder in which something may not be
-read; then the same with --errors, with --used or without, and with --only and some prefixes. The last lines tell how
-often each sort of row was owed, and which sorts never were.
+The trial writes each world as a folder and runs `jclink check` on it. It compares standard output, standard error and the
+status. Some folders have no report, because a name is not UTF-8 or because a file or a folder cannot be read. Then it
+compares the same with --errors, with and without --used, and with --only and some prefixes. The last lines say how often
+each kind of row was expected, and which kinds never were.
 
-Usage: run.py [--tree DIR]... [--keep FOLDER] [SEED [COUNT]], seed 1 and 2,000 worlds where none is given, once ./jclink
-is built; the environment's JCLINK may name another program. --tree compares a folder of class files too, and --keep
-leaves the worlds that differ in a folder, by their numbers.
+Usage: run.py [--tree DIR]... [--keep FOLDER] [SEED [COUNT]], once ./jclink is built. The environment's JCLINK may name
+another program. Without SEED the seed is 1, and without COUNT there are 2,000 worlds. --tree also compares a folder of class
+files. --keep copies the worlds that differ into a folder, by their numbers.
 """
 import argparse
 import collections
@@ -27,7 +27,7 @@ import common
 import judge
 import worlds
 
-# What a line tells without its names, by section.
+# The forms of lines, by section. The groups are what a line says without its names.
 SORTS = {
     "files": re.compile(r".*?: (class|shadowed|unreadable \d \w+)"),
     "parts": re.compile(r"(?:part .*?: (loaded|error \d \w+)|  (format F\d+|code S\d+)|  (link) \d+ \d+ (error \d \w+)"
@@ -64,7 +64,7 @@ def sorts_of(text):
 
 
 def write(folder, files):
-    """The files of a world; links lead to a class, or to a folder that holds one, outside of it."""
+    """Writes the files of a world. Links lead out of it, to a class or to a folder with a class."""
     outside = folder.with_name("outside")
     outside.mkdir(exist_ok=True)
     (outside / "Far.class").write_bytes(common.class_file(b"Far"))
@@ -87,7 +87,7 @@ def words_of(rng, option, prefixes):
 
 
 def some_prefixes(rng, files):
-    """Beginnings of paths and, by chance, of the names of classes, and one that few begin with."""
+    """Returns prefixes of paths, which may also be prefixes of class names, and of a few other texts."""
     found = [path.removesuffix(b".class").decode() for path in sorted(files) if judge.is_word(path)] + ["p/", "java/", "\u00e4"]
     return [(rng.choice(found)[: rng.randint(1, 4)] or "p").encode() for _ in range(rng.randint(1, 3))]
 
@@ -106,7 +106,7 @@ def tell(what, ours, wanted):
 
 
 def compare(what, words, folder, wanted, told):
-    """Whether the program answers as the judge does."""
+    """Returns whether the program prints what the judge says, with the same status."""
     told.update([*sorts_of(wanted[0]), ENDS[wanted[1]]])
     ours = printed(words, folder)
     if ours != wanted:
@@ -115,7 +115,7 @@ def compare(what, words, folder, wanted, told):
 
 
 def compare_errors(what, words, folder, only, used_only, files, prefixes, told):
-    """The same of what makes the report wrong."""
+    """Returns whether the program prints the errors that the judge finds, with the same status."""
     flags = [b"--errors", b"--used"] if used_only else [b"--errors"]
     ours, wanted = printed([*flags, *words], folder), judge.owed(files, prefixes, folder, only, used_only)
     told[f"errors {'of all' if only is None else 'of some'}{' used' if used_only else ''} {ENDS[wanted[1]]}"] += 1
@@ -154,7 +154,7 @@ def try_world(seed, number, work, keep, told):
 
 
 def try_shut(work):
-    """A folder, one in it and a file in it that may not be read. Nobody looks, where root would read all."""
+    """Returns whether runs over an unreadable folder, subfolder and file are right. As root it runs jclink as nobody."""
     tree, program = work / "shut", shutil.copy(common.JCLINK, work / "jclink")
     write(tree, {b"A.class": common.class_file(b"A"), b"b/B.class": common.class_file(b"B")})
     right = []

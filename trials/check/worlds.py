@@ -1,7 +1,9 @@
-"""Random worlds as folders: the classes of trials/link/worlds.py, or others of which most load (classes.py), in half of
-the worlds under odd names, and in half of them with files that are changed, cut or faulty; some classes in several files.
+"""Makes random worlds as folders.
 
-make_world(rng) gives bytes by path and the outside prefixes. In the place of bytes None stands for a symbolic link.
+Their classes are those of trials/link/worlds.py, or classes that mostly load (classes.py). Half of the worlds have odd names.
+In half of them some files are changed, truncated or faulty. Some classes are in several files.
+
+make_world(rng) returns bytes by path and the outside prefixes. None instead of bytes is a symbolic link.
 """
 import re
 
@@ -18,11 +20,11 @@ PASSED_OVER = [b"A.CLASS", b"A.class.txt", b"Aclass", b"class", b"A", b"\xff.txt
 LINKS = [b"link.class", b"a/link.class", b"folder", b"p/folder.class", b"link\xff.class"]
 NO_WORDS = [b"\xff.class", b"a/\x80A.class", b"a-/\xc0\x80.class", b"p/\xed\xa0\xbd/A.class", b"B\xff/none", b"x.class/\xff/\xff.class"]
 
-# Parts of names that print otherwise, or that sort elsewhere than their text does.
+# Parts of names that are escaped in reports, or whose escaped text sorts differently.
 ODD = [b"\xc3\xa9", b"\xed\xa0\xbd\xed\xb8\x80", b"\xed\xa0\xbd", b"\xc0\x80", b"\\", b"\\u00e9", b" ", b"a b", b"\x01", b"\x7f",
        b"\n", b"\xef\xbf\xbf", b"\xdf\xbf", b"~", b"-", b"-x", b")", b"a:b", b"#1", b"\xe2\x82\xac", b"A\xc0\x80", b"AA"]
 NAMED = [b"A", b"B", b"C", b"D", b"X", b"T", b"Y", b"Z", b"p", b"q", b"r", b"org", b"m", b"n", b"x", b"y"]
-# Prefixes are words of a command line, so they are UTF-8 without a zero; 64 may be given.
+# Prefixes are arguments, so they are UTF-8 without a zero byte. A run takes up to 64 of them.
 WORDS = [odd for odd in ODD if b"\xed" not in odd and b"\xc0" not in odd]
 EVERYTHING = [*WORDS, *(b"%c" % letter for letter in b"ABCDETXYZjnopqr")]
 PREFIXES = [None] * 8 + [[b"java/"], [b"org/", b"java/"], [b"j"], [b"X", b"p/", b"X"], [b"p/A"], [b"nothing/"]]
@@ -35,7 +37,7 @@ def odd_names(rng):
 
 
 def renamed(data, table):
-    """The class with other words in its names, and in the descriptors that hold them."""
+    """Returns the class with other parts of names, also in descriptors."""
     words = table | {b"L" + old: b"L" + new for old, new in table.items()}
     change = lambda text: re.sub(rb"\w+", lambda found: words.get(found[0], found[0]), text)
     head, constants, rest = classes.by_parts(data)
@@ -68,20 +70,20 @@ def prefixes_of(rng, table):
 
 
 def bad_references(report, name):
-    """The indexes of the members that a class refers to in vain."""
+    """Returns the indexes of the references to members of a class that do not resolve."""
     return [index for index, tag, text, key in report.loaded[name].references
             if tag != judge.CLASS and report.world.resolve(name, tag, text, key)[0] == "error"]
 
 
 def bad_instructions(report, name, bad):
-    """The instructions that don't link, and those that name one of these references."""
+    """Returns the instructions that do not link, and those that name one of these references."""
     unlinked = {(use.method, use.offset) for use, _ in report.world.unlinked(name)}
     return [(method, offset, opcode) for method, offset, opcode, index in report.loaded[name].uses
             if index in bad or (method, offset) in unlinked]
 
 
 def without_bad(report, path, data):
-    """The class of a file with numbers in the place of bad references, and nothing in that of bad instructions."""
+    """Returns the class of a file with numbers in the place of bad references, and nops in that of bad instructions."""
     name = report.names.get(path)
     if name not in report.loaded or any(other < path for other, same in report.names.items() if same == name):
         return data
@@ -91,7 +93,10 @@ def without_bad(report, path, data):
 
 
 def mended(rng, files):
-    """A world that is not wrong: bad references and instructions go, else wrong files, and missing names are outside."""
+    """Returns a world that is not wrong: without bad references and instructions, or without the files that have them.
+
+    Missing names are outside.
+    """
     while True:
         report = judge.Report(files, EVERYTHING)
         wrong = [path for path in sorted(files) if path not in report.names or report.is_wrong(report.names[path])]
@@ -105,7 +110,7 @@ def mended(rng, files):
 
 
 def with_one_more(rng, files):
-    """A world with one file more, which may be all that makes it wrong, or be shadowed."""
+    """Adds a file to a world. The file may be the only one that makes the world wrong, or be shadowed."""
     names = sorted(set(judge.Report(files, EVERYTHING).names.values()))
     name = rng.choice([*names, *[b"One"] * (len(names) + 1)])
     with_code, with_one = classes.code_class(rng, name), classes.one_instruction(rng, name)
@@ -115,7 +120,7 @@ def with_one_more(rng, files):
 
 
 def make_classes(rng):
-    """The bytes of files, and the words that were changed in their names."""
+    """Returns the bytes of files, and the parts of names that were changed in them."""
     found = classes.dense_classes(rng) if rng.random() < 0.5 else [data for _, data in links.make_world(rng)]
     table = odd_names(rng) if rng.random() < 0.5 else {}
     found = [renamed(data, table) for data in found]

@@ -1,7 +1,7 @@
 #!/usr/bin/env python3
-"""Runs examples/classpath.sh over small class paths, and compares what it prints with what a virtual machine does.
+"""Runs examples/classpath.sh over small class paths, and compares its output with the errors that a virtual machine throws.
 
-Usage: run.py, once ./jclink is built; the environment's JCLINK may name another program. It needs a JDK of version 12 to 19.
+Usage: run.py, once ./jclink is built. The environment's JCLINK may name another program. It needs a JDK of version 12 to 19.
 
 app/Main calls a method of lib/Store. One build of lib/Store has the method, and another has not. So the order of the entries,
 and which entries count, decide whether `java` runs app/Main or throws an error. Where a case asks `java`, the script prints
@@ -33,10 +33,10 @@ SOURCES = {
     "flip/app/Flip": "package app; class Flip { void of(java.nio.ByteBuffer b) { b.flip(); } }",
     "unsafe/app/Unsafe": "package app; class Unsafe { Object of(sun.misc.Unsafe u) { return u.allocateMemory(1); } }",
 }
-# Which error of jclink is which of a virtual machine, of those that the cases have.
+# The errors of the cases: as jclink names them, by the virtual machine's names.
 THROWN = {"NoClass": "java.lang.NoClassDefFoundError", "NoMethod": "java.lang.NoSuchMethodError"}
 JAVA_11, JAVA_5 = 55, 49
-# The methods of app/Main and app/Flip, with which the lines of their errors begin.
+# The methods of app/Main and app/Flip; the lines of their errors begin with these.
 MAIN, FLIP = r"app/Main\.main:\(\[Ljava/lang/String;\)V: ", r"app/Flip\.of:\(Ljava/nio/ByteBuffer;\)V: "
 
 
@@ -57,7 +57,7 @@ class Place:
         return data[:6] + version.to_bytes(2, "big") + data[8:]
 
     def jar(self, name, *entries, manifest=None):
-        """A jar of these names and bytes, also several of one name."""
+        """Writes a jar of these names and bytes. A name may occur several times."""
         with warnings.catch_warnings(), zipfile.ZipFile(self.path(name), "w", zipfile.ZIP_DEFLATED) as archive:
             warnings.simplefilter("ignore")
             if manifest:
@@ -67,7 +67,7 @@ class Place:
         return name
 
     def store(self, name, build, version=52, **more):
-        """A jar with one build of lib/Store."""
+        """Writes a jar with one build of lib/Store."""
         return self.jar(name, ("lib/Store.class", self.bytes(f"{build}/lib/Store", version)), **more)
 
     def write(self, name, data):
@@ -75,14 +75,14 @@ class Place:
         return name
 
     def run(self, *words, place=".", **variables):
-        """Status, standard output and standard error of the script."""
+        """Returns the status, standard output and standard error of the script."""
         env = {**os.environ, "JCLINK": str(common.JCLINK), **variables}
         how = {"cwd": self.folder / place, "env": env, "capture_output": True, "text": True, "check": False}
         done = subprocess.run([SCRIPT, *words], **how)
         return done.returncode, done.stdout, done.stderr
 
     def thrown(self, class_path, place="."):
-        """The error of jclink that `java` throws where it runs app/Main, or None."""
+        """Returns jclink's name of the error that `java` throws when it runs app/Main, or None."""
         command = ["java", "-XX:TieredStopAtLevel=1", "-cp", class_path, "app.Main"]
         done = subprocess.run(command, cwd=self.folder / place, capture_output=True, text=True, check=False)
         found = [error for error, name in THROWN.items() if name in done.stderr]
@@ -91,7 +91,7 @@ class Place:
         return found[0] if found else None
 
     def agrees(self, class_path, *words, place="."):
-        """Whether the script prints one error, of lib/Store, if `java` throws it, and else nothing."""
+        """Returns whether the script prints exactly one error, of lib/Store, if `java` throws it, and otherwise none."""
         error, found = self.thrown(class_path, place), self.run(*words, class_path, place=place)
         line = rf"{MAIN}method lib/Store\.size:\(\)I -> error \d {error} lib/Store\n"
         if error == "NoClass":
@@ -100,7 +100,7 @@ class Place:
 
 
 def is_so(found, status, out, *err):
-    """Whether a run ended with this status, printed what the pattern matches, and has these texts on standard error."""
+    """Returns whether a run has this status, its output matches the pattern, and its standard error has these texts."""
     right = found[0] == status and re.fullmatch(out, found[1]) is not None and all(text in found[2] for text in err)
     if not right:
         print("wanted", (status, out, *err), "found", found, sep="\n  ")
@@ -108,7 +108,7 @@ def is_so(found, status, out, *err):
 
 
 def fails(found, *err):
-    """Whether a run ended with 3 and named what is wrong, on a line of its own, with nothing on standard output."""
+    """Returns whether a run has status 3, names the problem on a line of its own, and has no standard output."""
     line = found[2].splitlines()[-1] if found[2] else ""
     return is_so(found, 3, "") and is_so((3, "", line), 3, "", "classpath.sh: ", *err)
 
@@ -126,7 +126,7 @@ def try_order(place):
 
 
 def try_duplicates(place):
-    """Of two files of one name in a jar a virtual machine takes the last, of two entries the first."""
+    """Tries files of one name. A virtual machine reads the last one of a jar, and that of the first entry."""
     old, new = (place.bytes(f"{build}/lib/Store") for build in ("old", "new"))
     place.jar("last-old.jar", ("lib/Store.class", new), ("lib/Store.class", old))
     place.jar("last-new.jar", ("lib/Store.class", old), ("lib/Store.class", new))
@@ -161,7 +161,7 @@ def try_wildcards(place):
 
 
 def try_names(place):
-    """Blanks, letters that are no ASCII, empty elements, links."""
+    """Tries names with blanks or non-ASCII letters, empty elements, and links."""
     place.store("my lib/a store.jar", "old")
     shutil.copytree(place.folder / "classes", place.folder / "my app" / "classes")
     shutil.copytree(place.folder / "new", place.folder / "my app" / "new")
@@ -189,7 +189,7 @@ def try_names(place):
 
 
 def try_damaged(place):
-    """Each entry that is missing or damaged ends the script with 3, which names it."""
+    """Tries entries that are missing or damaged. The script names the entry and has status 3."""
     whole = (place.folder / place.store("whole.jar", "old")).read_bytes()
     place.path("link.jar").symlink_to("nowhere.jar")
     place.path("link").symlink_to("nowhere")
@@ -208,7 +208,7 @@ def try_damaged(place):
 
 
 def try_escapes(place):
-    """Entries of a jar that would leave the folder are refused, and nothing is written there."""
+    """Tries jars whose entries would be written outside the folder. The script refuses them and writes nothing there."""
     data = place.bytes("classes/app/Main")
     outside = place.folder.parent / f"{place.folder.name}-outside"
     for path in ("../Out.class", "../" * 12 + f"{outside}/Out.class".lstrip("/"), f"{outside}/Out.class",
@@ -222,7 +222,7 @@ def try_escapes(place):
 
 
 def try_versions(place):
-    """Class files of other versions are counted for each entry, and their packages are outside."""
+    """Tries class files of other versions. They are counted for each entry, and their packages are outside."""
     of_11, of_5 = (place.bytes("old/lib/Store", version) for version in (JAVA_11, JAVA_5))
     place.jar("11.jar", ("lib/Store.class", of_11))
     place.jar("5.jar", ("lib/Store.class", of_5))
@@ -234,17 +234,17 @@ def try_versions(place):
     yield is_so(place.run("classes:many.jar"), 0, "", line)
     place.jar("two.jar", ("lib/Store.class", of_11), ("lib/A.class", of_11))
     yield is_so(place.run("classes:two.jar"), 0, "", "two.jar: 2 class files of version 55 (Java 11) are not read\n")
-    # A virtual machine takes the first file of a name, whatever its version is.
+    # A virtual machine reads the first file of a name, whatever its version is.
     yield is_so(place.run("classes:11.jar:new"), 0, "", "3 class files: 1 read, 1 shadowed, 1 skipped")
     yield is_so(place.run("classes:new:11.jar"), 1, ".* NoMethod lib/Store\n", "3 class files: 2 read, 0 shadowed, 1 skipped")
-    # The user of a class that is nowhere gets its error, also if the package has classes that are not read.
+    # A reference to a missing class is an error, even if its package has classes that are not read.
     yield is_so(place.run("classes:11.jar:user"), 0, "")
     yield is_so(place.run("classes:11.jar:other:user"), 1, "(app/User.* NoClass lib/Lost\n)+")
     yield fails(place.run("11.jar:5.jar"), "no class file is read")
 
 
 def covered_by(place, entries, *words):
-    """The prefixes of a class path with these entries of class files of Java 11, and standard error."""
+    """Returns the prefixes of a class path with these entries of Java 11 class files, and standard error."""
     data = place.bytes("old/lib/Store", JAVA_11)
     place.jar("unread.jar", *((f"{name}.class", data) for name in entries))
     shutil.rmtree(place.folder / "kept", ignore_errors=True)
@@ -253,7 +253,7 @@ def covered_by(place, entries, *words):
 
 
 def try_prefixes(place):
-    """At most 64 prefixes cover the classes that are not read, and cover no class that is read."""
+    """Tries the prefixes: at most 64 cover the classes that are not read, and none covers a class that is read."""
     read, usual = ("app/Main", "lib/Other"), covered_by(place, [])[0]
     cases = [
         [f"p{at % 9}/q{at % 40}/C{at}" for at in range(400)],
@@ -271,7 +271,7 @@ def try_prefixes(place):
         if not right:
             print(names[:9], found, left, err)
         yield right
-    # Few packages are covered by themselves and not by more.
+    # Few packages have a prefix each.
     found, _ = covered_by(place, ["com/a/X", "com/a/Y", "com/b/Z", "lib/Store", "lib/Store$Inner"])
     yield set(found) - set(usual) == {"com/a/", "com/b/", "lib/Store"}
     words = [f"--outside={chr(97 + at % 26)}{at}/" for at in range(64 - len(usual))]
@@ -297,11 +297,11 @@ def try_empty(place):
     shutil.copytree(place.folder / "old", place.folder / "tree" / "META-INF" / "versions" / "9")
     shutil.copytree(place.folder / "classes", place.folder / "tree", dirs_exist_ok=True)
     yield place.agrees("tree")
-    yield is_so(place.run("tree"), 1, "(.* NoClass lib/Store\n)+", "1 class files: 1 read")
+    yield is_so(place.run("tree"), 1, "(.* NoClass lib/Store\n)+", "1 class file: 1 read")
 
 
 def try_manifests(place):
-    """What a manifest names follows its jar, relative to the file that a link leads to."""
+    """Tries manifests. The entries that one names follow its jar, and are relative to the file that a link leads to."""
     place.store("dep/old.jar", "old")
     place.store("dep/a new.jar", "new")
     shutil.copytree(place.folder / "old", place.folder / "dep" / "tree")
@@ -320,14 +320,14 @@ def try_manifests(place):
 
 
 def try_java(place):
-    """The API of Java 8 comes first, from each kind of file; its own errors are not printed."""
+    """Tries --java with each kind of file. The API of Java 8 is the first entry; its own errors are not printed."""
     line = FLIP + r"method java/nio/ByteBuffer\.flip:\(\)Ljava/nio/ByteBuffer; -> error 7 NoMethod java/nio/ByteBuffer\n"
     yield is_so(place.run("flip:unsafe"), 0, "")
     yield is_so(place.run("--java", CT_SYM, "flip:unsafe"), 1, line, "2 entries, 2 class files: 2 read")
     api = place.path("api")
     subprocess.run([sys.executable, common.TOP / "examples" / "api.py", "8", CT_SYM, api], check=True)
     yield is_so(place.run(f"--java={api}", "flip:unsafe"), 1, line)
-    # An rt.jar has sun/misc/Unsafe, and other jars beside it. Here it has a class with an error, too.
+    # An rt.jar has sun/misc/Unsafe, and there are other jars in its folder. Here it also has a class with an error.
     place.write("api/sun/misc/Unsafe.class", common.class_file(b"sun/misc/Unsafe"))
     broken = place.bytes("user/app/User").replace(b"\0\x08app/User", b"\0\x08sun/User")
     place.write("api/sun/User.class", broken)
@@ -339,12 +339,12 @@ def try_java(place):
     yield is_so(place.run("--java", "jdk/rt.jar", "flip:unsafe"), 1, line + no_method)
     yield is_so(place.run("--java", api, "user:other"), 1, "(app/User.* NoClass lib/Lost\n)+")
     yield is_so(place.run("--java", "jdk/rt.jar", "user:other"), 0, "")
-    # A class that is nested in a class of Java counts as Java's own.
+    # A class nested in a class of Java is one of Java's own.
     nested = [(f"{name}.class", place.bytes("user/app/User").replace(b"\0\x08app/User", bytes([0, len(name)]) + name.encode()))
               for name in ("java/nio/file/Path$X", "java/nio/file/Road$X")]
     place.jar("nested.jar", *nested)
     yield is_so(place.run("--java", CT_SYM, "nested.jar:flip"), 1, line + r"(java/nio/file/Road\$X.* NoClass lib/Lost\n)+")
-    # A class of the class path that Java has too is shadowed.
+    # A class of the class path that Java also has is shadowed.
     place.jar("own.jar", ("java/nio/ByteBuffer.class", common.class_file(b"java/nio/ByteBuffer")))
     yield is_so(place.run("--java", CT_SYM, "own.jar:flip"), 1, line, "2 entries, 2 class files: 1 read, 1 shadowed, 0 skipped")
     for name in ("missing.sym", "missing.jar", "old", "own.jar"):
@@ -353,7 +353,7 @@ def try_java(place):
 
 
 def try_outside(place):
-    """Without --java the packages of Java 8 are outside, as its ct.sym has them, and no others."""
+    """Tries runs without --java. The packages of Java 8 that its ct.sym has are outside, and no others."""
     packages = set()
     for name in zipfile.ZipFile(CT_SYM).namelist():
         releases, *path = name.split("/")
@@ -435,7 +435,7 @@ def try_arguments(place):
 
 
 def compile_sources(folder):
-    """The class files of SOURCES: each in the folder that its name begins with, and those of app/Main in `classes`."""
+    """Compiles SOURCES: each into the folder that its name begins with, and app/Main into `classes`."""
     for name, text in SOURCES.items():
         source = folder / "sources" / f"{name}.java"
         source.parent.mkdir(parents=True)
@@ -445,7 +445,7 @@ def compile_sources(folder):
         out = folder / "made" / ("classes" if name == "app/Main" else name.split("/")[0])
         more = [folder / "sources" / "old", folder / "sources" / "lost"]
         path = ":".join(map(str, more))
-        # (flip and unsafe name what a JDK has and Java 8's API has not)
+        # (flip and unsafe name members that a JDK has and the API of Java 8 lacks)
         release = ["-source", "8", "-target", "8"] if name[:4] in ("flip", "unsa") else ["--release", "8"]
         command = ["javac", "-nowarn", "-Xlint:-options", "-implicit:none", *release, "-sourcepath", path, "-d", out, source]
         subprocess.run(command, check=True, stderr=subprocess.DEVNULL)

@@ -1,12 +1,11 @@
 #!/usr/bin/env python3
 """Compares the code faults that the library finds with those of a plain judge, over changed methods.
 
-Compiles the sources of trials/sources for Java 7 and 8, and changes the code of methods in places that
-each rule looks at, some of them in several. The class files are judged by the program jc_asked and by
-judge.py beside this file.
+The trial compiles the sources of trials/sources for Java 7 and 8. It changes the code of methods in one or several places
+that the rules check. Then it compares the faults that jc_asked and judge.py find.
 
-Usage: faults.py [--seed N] [--changes N], N being the changed methods of each class file. It needs what
-javap.py needs.
+Usage: faults.py [--seed N] [--changes N]. --changes is the number of changed methods in each class file. It builds jc_asked
+by `rt run`, and needs javac.
 """
 import argparse
 import collections
@@ -22,12 +21,12 @@ import judge
 
 unsigned = judge.unsigned
 
-# Opcodes that few methods have: switches, invokeinterface, invokedynamic, and those that name a class.
+# Rare opcodes: switches, invokeinterface, invokedynamic, and those that name a class.
 RARE = (170, 171, 185, 186, 187, 188, 189, 192, 193, 197)
 
 
 class Method:
-    """Where the parts of a method's one Code lie in the file."""
+    """The offsets of the parts of a method's Code in the file."""
 
     def __init__(self, data, place):
         self.locals, self.code = place + 8, place + 14
@@ -57,7 +56,7 @@ def put(data, at, new):
 
 
 def changed(rng, data, view, method):
-    """The file with one change in what the rules look at of a method."""
+    """Returns the file with one change in a method, in a place that the rules check."""
     code, at = method.code, rng.choice(method.starts)
     opcode = data[code + at]
     index = rng.randrange(view.count + 2).to_bytes(2, "big")
@@ -72,7 +71,7 @@ def changed(rng, data, view, method):
     if sort == 3 and method.count:
         return put(data, method.handlers + 8 * rng.randrange(method.count) + 6, index)
     if sort in (4, 5):
-        # another opcode with operands that are as long
+        # another opcode with operands of the same length
         length = judge.LENGTH.get(opcode)
         others = [other for other, size in judge.LENGTH.items() if size == length and other not in (170, 171, 196)]
         return put(data, code + at, bytes([rng.choice(others)])) if others and opcode not in (170, 171, 196) else data
@@ -101,7 +100,7 @@ def changed(rng, data, view, method):
             start = rng.choice(calls)
             return put(data, code + start + 3 + rng.randrange(2 if data[code + start] != 197 else 1), bytes([rng.randrange(4)]))
     if sort == 12:
-        # an instruction with an index becomes one that names another sort of entry
+        # an instruction with an index becomes one that names another kind of constant
         with_index = [start for start in method.starts if data[code + start] in (19, 20, *range(178, 185), 187, 189, 192, 193)]
         if with_index:
             start = rng.choice(with_index)
@@ -130,7 +129,7 @@ def cases_of(rng, data, number):
 
 
 def deep_arrays(work):
-    """A class that names arrays of 254 and of 255 dimensions."""
+    """Compiles a class that names arrays of 254 and of 255 dimensions."""
     types = ["int" + "[]" * count for count in (254, 255)]
     casts = "".join(f"        {kind} x{at} = ({kind}) o;\n" for at, kind in enumerate(types))
     source = work / "Deep.java"

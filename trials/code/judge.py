@@ -1,7 +1,7 @@
-"""A plain judge of the code rules S1 to S24, written from the tables of `docs/RULES.md` alone.
+"""A plain judge of the code rules S1 to S24, written only from the tables of `docs/RULES.md`.
 
-faults(bytes) lists the code faults of a readable class file: the method's number, the rule's number and
-the place, in this order. It reads the class file as the judge of the format rules does.
+faults(bytes) returns the code faults of a readable class file, sorted. A fault is the method's number, the rule's number and
+the place. The module reads class files with the judge of the format rules.
 """
 import importlib.util
 import pathlib
@@ -14,7 +14,7 @@ spec.loader.exec_module(format_judge)
 INTEGER, FLOAT, LONG, DOUBLE, CLASS, STRING, FIELDREF, METHODREF, INTERFACE_METHODREF = 3, 4, 5, 6, 7, 8, 9, 10, 11
 METHOD_HANDLE, METHOD_TYPE, INVOKE_DYNAMIC = 15, 16, 18
 
-# Lengths of the instructions that are always as long, by opcode.
+# The lengths of instructions of fixed length, by opcode.
 LENGTH = {opcode: 1 for opcode in range(202)}
 LENGTH.update(dict.fromkeys([16, 18, *range(21, 26), *range(54, 59), 169, 188], 2))
 LENGTH.update(dict.fromkeys([17, 19, 20, 132, *range(153, 169), *range(178, 185), 187, 189, 192, 193, 198, 199], 3))
@@ -31,7 +31,7 @@ def signed(code, at, size):
 
 
 def length_at(code, at):
-    """How long the instruction is that stands here; None where none does."""
+    """Returns the length of the instruction at an offset, or None if there is none."""
     opcode = code[at]
     if opcode in (170, 171):
         default = at + 4 - at % 4
@@ -74,7 +74,7 @@ class Judge:
         return self.view.tag(index)
 
     def dimensions(self, index):
-        """None where the Class or its text is missing."""
+        """Returns the dimensions of the class that a constant names, or None if the Class or its text is missing."""
         text = self.view.class_text(index)
         if text is None:
             return None
@@ -181,7 +181,7 @@ class Judge:
 
 
 def codes_of(view, method):
-    """The well-formed Code attributes of a method: max_locals, the code and its handlers."""
+    """Returns the well-formed Code attributes of a method: max_locals, the code and its handlers."""
     found = []
     for attribute in view.of(method.attributes, b"Code"):
         if format_judge.read_code(attribute) is None:

@@ -1,4 +1,4 @@
-"""Runs of the scripts of examples that compare, and what they print."""
+"""Runs the scripts of examples that compare, and checks what they print."""
 import os
 import re
 import shutil
@@ -6,7 +6,7 @@ import subprocess
 
 import common
 
-# Two versions of a library, written so that each line of the API is plain from the source.
+# Two versions of a library. Each line of the API follows directly from the source.
 OLD = {
     "a/Base": "public class Base {}",
     "a/Face": "public interface Face { long LONG = 5; String TEXT = \"a b\"; void of(); default void more() {} }",
@@ -47,7 +47,7 @@ BROKEN = {"a/Broken": "class Broken { Object of() { return new Gone(); } }", "a/
 
 
 def run(script, *arguments, program=None):
-    """The status of a script of examples, and what it prints."""
+    """Returns the status of a script of examples, and what it prints."""
     environment = {**os.environ, "JCLINK": str(program or common.JCLINK)}
     command = [common.TOP / "examples" / script, *arguments]
     done = subprocess.run(command, env=environment, stdout=subprocess.PIPE, stderr=subprocess.STDOUT, text=True, check=False)
@@ -55,14 +55,14 @@ def run(script, *arguments, program=None):
 
 
 def passes(name, right, found):
-    """Whether a run is right; prints the run if it is not."""
+    """Returns whether a run is right; prints the run if it is not."""
     if not right:
         print(f"{name}: status {found[0]}", *found[1].splitlines()[:20], sep="\n  ")
     return right
 
 
 def compile_to(folder, types, *options):
-    """The class files of types, by their names with packages."""
+    """Compiles types, which are given by their names with packages."""
     sources = folder.with_name(folder.name + "-sources")
     shutil.rmtree(sources, ignore_errors=True)
     shutil.rmtree(folder, ignore_errors=True)
@@ -148,8 +148,10 @@ ERRORS = """\
 
 
 def store(modifier, reads, more=""):
-    """A library's class whose field has a modifier, and a client that names Lost and reads the field: `reads` has a number for
-    each method that does so."""
+    """Returns a library's class whose field has a modifier, and a client that names Lost and reads the field.
+
+    The client has a method that reads the field for each number in `reads`.
+    """
     sums = [" + ".join(["store.size"] * count) for count in reads]
     methods = "".join(f" int read{number}(Store store) {{ return {text}; }}" for number, text in enumerate(sums))
     client = f"class App {{ {more}{methods} Object lost() {{ return new Lost(); }} }}"
@@ -157,8 +159,10 @@ def store(modifier, reads, more=""):
 
 
 def faulty(place):
-    """Class files with a fault of the format and a fault of code, at places that grow with a number. The attribute of the first
-    has no name, and the method of the second reads a local variable that it does not have."""
+    """Writes class files with a format fault and a code fault, at places that grow with a number.
+
+    An attribute of the first has no name. The method of the second reads a local variable that it does not have.
+    """
     code = bytes(place) + b"\x1a\xb1"
     attribute = common.number(2, 5) + common.number(4, 12 + len(code)) + bytes(4) + common.number(4, len(code)) + code + bytes(4)
     method = b"\0\x09\0\6\0\7\0\1" + attribute
@@ -168,7 +172,7 @@ def faulty(place):
 
 
 def build(work, reads, more="", place=1):
-    """A tree with errors of each kind. Its class App has one for each read, since it is compiled while the field is not static."""
+    """Makes a tree with errors of each kind. App is compiled while the field is not static, so each read is an error."""
     tree = compile_to(work / "tree", store("", reads, more))
     compiled = compile_to(work / "static", store("static", []))
     shutil.copy(compiled / "Store.class", tree)
@@ -181,7 +185,7 @@ def build(work, reads, more="", place=1):
 
 
 def changes(found):
-    """The lines that a baseline lacks or has besides."""
+    """Returns the lines that a comparison with a baseline adds or removes."""
     return [line for line in found[1].splitlines() if re.match(r"[-+](?![-+])", line)]
 
 

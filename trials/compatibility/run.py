@@ -1,8 +1,9 @@
 #!/usr/bin/env python3
-"""Compares docs/COMPATIBILITY.md with what java and jclink do about changes of a library, and tries the scripts of
-examples that compare: api_diff.sh, clients.sh and baseline.sh.
+"""Compares docs/COMPATIBILITY.md with what java and jclink do after changes of a library.
 
-Usage: run.py [--seen], once ./jclink is built; the environment's JCLINK may name another program. It needs a JDK of
+It also tries the scripts of examples that compare: api_diff.sh, clients.sh and baseline.sh.
+
+Usage: run.py [--seen], once ./jclink is built. The environment's JCLINK may name another program. It needs a JDK of
 version 17, and zip and unzip.
 
 Each pair of pairs.txt is a library in two versions and a client. javac compiles both versions, and the client with the
@@ -13,9 +14,9 @@ old one. The class files of the client stay as they are. For each pair the trial
 - which errors `jclink check --errors` prints of the client beside each version, also with the API of Java 8 in the tree;
 - whether api_diff.sh finds a difference.
 
-With the old version the client runs to its end and has no errors. What the trial sees with the new version decides in
-which table of the document the pair is a row, and each cell of that row. Every row and every pair has its counterpart.
-With --seen the rows are printed as the trial sees them, and nothing is compared.
+With the old version the client must run to its end and have no errors. The results with the new version decide which table
+of the document has a row for the pair, and each cell of that row. Each pair has exactly one row. With --seen the trial prints
+the rows that it finds and compares nothing.
 
 Status 1: a row differs, or a script does not do what its head says.
 """
@@ -52,7 +53,7 @@ Pair = collections.namedtuple("Pair", "package section change parts")
 
 
 def read_pairs():
-    """The pairs in the order of the file, each with the lines of its parts."""
+    """Returns the pairs in the order of the file, each with the lines of its parts."""
     pairs = []
     for number, text in enumerate((HERE / "pairs.txt").read_text().split("\n== ")[1:], 1):
         head, *sections = re.split(r"^-- ", text, flags=re.M)
@@ -67,7 +68,7 @@ def read_pairs():
 
 
 def types_of(source):
-    """The top-level types of a source by their names: each begins at a line that is not indented."""
+    """Returns the top-level types of a source by their names. Each begins at a line that is not indented."""
     for text in filter(None, re.split(r"^(?=[^\s}])", source, flags=re.M)):
         yield re.search(r"\b(?:class|interface|enum) (\w+)", text)[1], text
 
@@ -89,7 +90,7 @@ def write_client(folder, pair):
 
 
 def compile_all(work, pairs):
-    """The class files of all pairs, below old, new and client."""
+    """Compiles all pairs into the folders old, new and client."""
     sources = work / "sources"
     for pair in pairs:
         write_library(sources / "old", pair, "both", "old")
@@ -111,7 +112,7 @@ def jclink(*arguments):
 
 
 def run_client(work, pair, version):
-    """What the client prints, and the error that ends it or nothing."""
+    """Returns what the client prints, and the error that ends it or nothing."""
     place = work / "run" / pair.package
     place.mkdir(parents=True, exist_ok=True)
     path = os.pathsep.join(str(work / name) for name in ("client", version))
@@ -123,13 +124,15 @@ def run_client(work, pair, version):
 
 
 def class_files(folder):
-    """The names of the classes below a folder, from their paths."""
+    """Returns the names of the classes below a folder, from their paths."""
     return {str(path.relative_to(folder).with_suffix("")) for path in folder.rglob("*.class")}
 
 
 def errors_of(tree, clients):
-    """The errors of the clients' classes by their pairs, each kind with whether all its lines are unused. Other classes of
-    the pairs have none."""
+    """Returns the errors of the clients' classes by pair: each kind, and whether all its lines are unused.
+
+    Other classes of the pairs must have no errors.
+    """
     found = collections.defaultdict(dict)
     for line in jclink("check", "--errors", "--only", "pair", tree).splitlines():
         name = re.match(r"[^.:]+", line)[0]
@@ -142,7 +145,7 @@ def errors_of(tree, clients):
 
 
 def provided_of(folder):
-    """The rows of [provided] by their pairs."""
+    """Returns the rows of [provided] by pair."""
     rows = collections.defaultdict(set)
     for row in jclink("check", folder).partition("[provided]\n")[2].partition("[required]\n")[0].splitlines():
         rows[row.split(" ")[1].partition("/")[0]].add(row)
@@ -150,8 +153,11 @@ def provided_of(folder):
 
 
 def check(work):
-    """What jclink finds of all pairs: the errors of the clients beside the old version, the new one, and the new one with
-    the API of Java 8; and what the versions provide."""
+    """Returns what jclink finds in all pairs.
+
+    That is the errors of the clients beside the old version, the new one, and the new one with the API of Java 8. Then what
+    each version provides.
+    """
     errors, clients = {}, class_files(work / "client")
     ct_sym = pathlib.Path(shutil.which("javac")).resolve().parent.parent / "lib" / "ct.sym"
     for name, parts in (("old", ("old",)), ("new", ("new",)), ("with java", ("new", "java"))):
@@ -176,7 +182,7 @@ def kinds_cell(kinds):
 
 
 def check_cell(kinds, with_java):
-    """The errors; and those with the API of Java 8 in the tree, if they are others."""
+    """Returns the cell for errors, which also has those with the API of Java 8 in the tree if they differ."""
     cell, other = kinds_cell(kinds), kinds_cell(with_java)
     return cell if other == cell else f"{cell}; with Java's API {other}"
 
@@ -193,7 +199,7 @@ def api_cell(work, pair):
 
 
 def see(work, pair, errors, provided):
-    """The table that the pair belongs to, and its row there."""
+    """Returns the table that the pair belongs to, and its row there."""
     old, new = run_client(work, pair, "old"), run_client(work, pair, "new")
     if old[1] or errors["old"][pair.package]:
         sys.exit(f"{pair.package}: the client has errors with the old library: {old}")
@@ -213,7 +219,7 @@ def see(work, pair, errors, provided):
 
 
 def rows_of(text):
-    """The rows of the document's tables, each with its heading. The columns are those of TABLES."""
+    """Returns the rows of the document's tables, each with its heading. The columns are those of TABLES."""
     for heading, columns in TABLES.items():
         section = re.search(rf"^## {re.escape(heading)}\n(.*?)(?=^## |\Z)", text, re.M | re.S)
         lines = [line.strip("| ") for line in (section[1] if section else "").splitlines() if line.startswith("|")]

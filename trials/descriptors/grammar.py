@@ -1,7 +1,7 @@
-"""A plain recogniser of descriptors and signatures (JVMS 4.3, 4.7.9.1), written from the grammar alone.
+"""A plain recogniser of descriptors and signatures (JVMS 4.3, 4.7.9.1), written only from the grammar.
 
-is_text(kind, bytes) is true where the bytes are a text of the kind: `field` and `method` descriptors,
-and `class`, `method-signature` and `field-signature`.
+is_text(kind, bytes) returns whether the bytes are a text of the kind. The kinds are `field` and `method` for descriptors, and
+`class`, `method-signature` and `field-signature`.
 """
 import re
 
@@ -12,7 +12,7 @@ BASES = b"BCDFIJSZ"
 
 
 class Wrong(Exception):
-    """The bytes are no such text."""
+    """The bytes are not a text of the kind."""
 
 
 class Reader:
@@ -34,7 +34,7 @@ class Reader:
             raise Wrong
 
     def run(self, stops):
-        """At least one byte up to one of the stops."""
+        """Reads at least one byte, up to one of the stops."""
         start = self.at
         while self.peek() and self.peek() not in stops:
             self.at += 1
@@ -44,7 +44,7 @@ class Reader:
     # -- descriptors
 
     def field(self):
-        """Gives the slots that it takes."""
+        """Reads a field descriptor, and returns the number of its slots."""
         dims = 0
         while self.takes(b"["):
             dims += 1
@@ -133,7 +133,7 @@ class Reader:
             self.reference()
 
     def bound_stands(self):
-        """Whether a bound stands here, and not the next parameter, its colon, or the end."""
+        """Returns whether a bound is next, and not another parameter, its colon, or the end."""
         if self.peek() in (b":", b">", b""):
             return False
         ahead = Reader(self.text)

@@ -1,9 +1,9 @@
 #!/usr/bin/env python3
-"""Compares what jc_base answers of descriptors and signatures with what a plain recogniser answers.
+"""Compares how jc_base and a plain recogniser (grammar.py) judge descriptors and signatures.
 
-Compiles the sources of trials/sources, collects each descriptor and signature that javap tells, and for
-each takes the text itself and the text with one byte dropped, doubled or changed, at every place. The
-program jc_asked and the recogniser beside this file answer each of them, and the answers are compared.
+The trial compiles the sources of trials/sources and collects each descriptor and signature that javap prints. It tries the
+text itself, and the text with one byte dropped, doubled or changed at every place. It compares the answers of the program
+jc_asked with those of the recogniser.
 
 Usage: run.py [--seed N]. It builds the program by `rt run`, and needs javac 9 to 19 and javap.
 """
@@ -24,10 +24,10 @@ import grammar
 DESCRIPTOR = re.compile(r"^ +descriptor: (\S+)$", re.MULTILINE)
 SIGNATURE = re.compile(r"^( *)Signature: #\d+ +// (\S+)$", re.MULTILINE)
 
-# How the program tells the kinds apart.
+# The byte by which the program distinguishes the kinds.
 LETTERS = {"field": b"f", "method": b"m", "class": b"C", "method-signature": b"M", "field-signature": b"F"}
 
-# Bytes that the grammar speaks of, and others that texts have.
+# Bytes of the grammar, and other bytes of texts.
 BYTES = b"BCDFIJLSTVZ()[]<>:;/.*+-^aA0_$\x00\x7f\x80\xc3\xed\xff"
 
 

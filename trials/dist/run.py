@@ -1,11 +1,11 @@
 #!/usr/bin/env python3
 """Runs the scripts around the released program: ./jclink, ./jclink --build, dist/update and .ci/run.
 
-Usage: run.py. It needs git's working tree as it is checked out, and neither `rt` nor a build.
+Usage: run.py. It needs a git working tree, and neither `rt` nor a build.
 
 The scripts run in copies of the checkout, whose path has a blank. The programs there are stand-ins: shell scripts that print
-their names and their arguments, so that a test sees which one ran. `rt` is a stand-in too, which "builds" what it is told to, and
-`uname` where a test asks for another machine. The last test runs the real program of dist/ without `rt` over a tree of one class.
+their names and arguments, so that a test sees which one ran. `rt` is a stand-in that "builds" a given stand-in. `uname` is
+one if a test needs another machine. The last test runs the real program of dist/ without `rt` over a tree of one class.
 """
 import os
 import pathlib
@@ -71,7 +71,7 @@ class Checkout:
         write(self.bin / "rt", RT.format(kit=kit))
 
     def run(self, *words, path=PATH, nobody=False, place=None, **variables):
-        """Status, standard output and standard error of a script of the checkout."""
+        """Returns the status, standard output and standard error of a script of the checkout."""
         how = {"user": "nobody", "group": "nogroup", "extra_groups": []} if nobody and os.geteuid() == 0 else {}
         command = [self.top / words[0], *words[1:]]
         env = {"PATH": path, "HOME": str(self.folder), **variables}
@@ -83,7 +83,7 @@ class Checkout:
         return self.run(*words, path=f"{self.bin}:{PATH}", BUILD=str(program), **variables)
 
     def build(self, name):
-        """The gate, over an `rt` that builds this stand-in."""
+        """Runs the gate with an `rt` that builds this stand-in."""
         return self.with_rt(".ci/run", builds=name)
 
     def change(self, path, old=None, new=None):
@@ -94,7 +94,7 @@ class Checkout:
 
 
 def prints(found, status, out, *err):
-    """Whether a run ended so: its status and its output, and texts that its standard error has; without any, nothing."""
+    """Returns whether a run has this status and output, and these texts on standard error, or an empty one if there are none."""
     right = found[0] == status and found[1] == out and all(text in found[2] for text in err) and bool(err) == bool(found[2])
     if not right:
         print("wanted", (status, out, *err), "found", found, sep="\n  ")
@@ -102,7 +102,7 @@ def prints(found, status, out, *err):
 
 
 def try_fresh(checkout):
-    """Yields whether a fresh checkout without rt runs what is released, in each way that it is called."""
+    """Yields whether a fresh checkout without rt runs the released program, in each way of calling it."""
     for words in (("check", "tree"), ("list", "A.class")):
         yield prints(checkout.run("jclink", *words), 1, f"first {' '.join(words)}\n")
     yield prints(checkout.run("jclink", "session"), 0, "first session\na line\n")
@@ -136,13 +136,13 @@ def try_own_build(checkout):
     yield checkout.run("jclink", "--version")[1].endswith("\ndist/x86_64-linux, built from other sources than this checkout's\n")
     (checkout.top / CHANGED).write_text(whole)
     yield prints(checkout.run("jclink", "check", "x"), 1, "own check x\n")
-    # Tests are no sources of the program. An added file is one, even if it is empty.
+    # Tests are not sources of the program. An added file is one, even if it is empty.
     checkout.change("crates/jc_tests/src/lib.rt")
     yield prints(checkout.run("jclink", "check", "x"), 1, "own check x\n")
     added = write(checkout.top / "crates/jc_view/specs/Added.antt", "")
     yield prints(checkout.run("jclink", "check", "x"), 1, "first check x\n", STALE)
     added.unlink()
-    # A build that nothing describes, such as one of a bare `rt ci`.
+    # A build without a MANIFEST, for example one of a bare `rt ci`.
     write(checkout.top / BUILT, PROGRAM.format(name="unknown"))
     yield prints(checkout.run("jclink", "check", "x"), 1, "first check x\n")
     checkout.build("own")
@@ -162,7 +162,7 @@ def try_no_program(checkout):
     released.unlink()
     for words in (("check", "x"), ("--version",)):
         yield prints(checkout.run("jclink", *words), 70, "", f"{RELEASED} is missing", "./jclink --build")
-    # A program that the C library refuses ends with 1.
+    # If the C library rejects a program, the status is 1.
     checkout.with_rt(".ci/run")
     write(checkout.folder / "refused", "#!/bin/sh\nexit 1\n")
     shutil.copy(checkout.folder / "refused", checkout.top / BUILT)
@@ -202,7 +202,7 @@ def try_build(checkout):
 
 
 def try_gate(checkout):
-    """Yields whether the gate passes exactly if dist/ does not contradict itself nor what was built, and ends with rt's last line."""
+    """Yields whether the gate passes exactly if dist/ contradicts neither itself nor the build, and ends with rt's last line."""
     passed, manifest = "2 passed, 0 failed\n", (checkout.top / "dist/MANIFEST").read_text()
     same = "proved\njclink: dist/ has this program, byte for byte\n" + passed
     yield prints(checkout.build("first"), 0, same)
@@ -240,7 +240,7 @@ def try_update(checkout):
 
 
 def try_sources(checkout):
-    """Yields whether the sources are the files of the crates that the program is built from, told apart from Python."""
+    """Yields whether the sources are the files of the crates that the program is built from, as computed in Python."""
     uses = dict(line.split(":") for line in (common.TOP / "crates.txt").read_text().splitlines() if ":" in line and line[0] in "j")
     crates, left = set(), ["jclink"]
     while left:

@@ -1,19 +1,22 @@
 #!/usr/bin/env python3
-"""Runs the commands that README.md, docs/GUIDE.md, docs/USAGE.md, docs/REPORT.md and docs/COMPATIBILITY.md show, and
-compares what they print with what the documents show; and runs examples/hold.py over a folder that changes.
+"""Runs the commands that documents show, and compares their output with what the documents show.
 
-Usage: run.py [--netty FOLDER] [--maven FOLDER], once ./jclink is built; the environment's JCLINK may name another program.
-It needs a JDK.
+Usage: run.py [--names] [--netty FOLDER] [--maven FOLDER], once ./jclink is built. The environment's JCLINK may name another
+program. It needs a JDK. With --names it only checks names, and needs neither a JDK nor the program.
 
-A command is a line of an indented block that begins with `$`; what stands below it, up to the next command, is what it
-prints, and `..` stands for any lines. Of `cat FILE..` the lines are the files themselves, one line each where there are
-several, and the trial writes them. The blocks of a document are run in one folder, one after another, each from there.
-A block whose commands name netty or maven is run only if its FOLDER is given, to which a link of this name leads. For
-netty it is the Debian package libnetty-java as `dpkg -x` unpacks it. For maven it has the jars of the Debian package maven
-in boot/ and lib/, for example /usr/share/maven. Nothing is downloaded: commands that begin with `apt-get` are not run.
+A command is a line of an indented block that begins with `$`. The lines below it, up to the next command, are its output; `..`
+means any lines. The lines of `cat FILE..` are the files, one line for each if there are several. The trial writes these files.
+The blocks of a document run in one folder, one after another. Each begins in the folder in which the one before ended.
 
-A block that begins with `use` is code of a library: its lines stand in a source of a crate, in this order. Each file of
-the repository that a document names is there.
+A block whose commands name netty or maven runs only if its FOLDER is given; then a link of this name leads there. For netty it
+is the Debian package libnetty-java as `dpkg -x` unpacks it. For maven it has the jars of the Debian package maven in boot/ and
+lib/, for example /usr/share/maven. Nothing is downloaded: commands that begin with `apt-get` do not run.
+
+The trial also checks three things:
+
+- The lines of a block that begins with `use` are lines of a crate's source, in the same order.
+- The links, files, options and statuses that documents name exist (names.py).
+- examples/hold.py prints the changes of a folder.
 """
 import argparse
 import os
@@ -28,10 +31,8 @@ import time
 sys.dont_write_bytecode = True
 sys.path.insert(0, str(pathlib.Path(__file__).resolve().parent.parent))
 import common
+import names
 
-DOCUMENTS = ("README.md", "docs/GUIDE.md", "docs/USAGE.md", "docs/REPORT.md", "docs/COMPATIBILITY.md")
-# What a build makes.
-MADE = {"crates/jclink/out/jclink", "crates/jclink/out/MANIFEST"}
 # The applications whose folders may be given.
 APPLICATIONS = ("netty", "maven")
 DOWNLOAD = "apt-get "
@@ -39,7 +40,7 @@ HOLD = [sys.executable, common.TOP / "examples" / "hold.py", common.JCLINK]
 
 
 def blocks(text):
-    """The indented blocks that hold a command, each as its commands with what they print."""
+    """Yields the indented blocks with commands, each as pairs of a command and its output."""
     for block in re.findall(r"(?:^    .*\n|^\n(?=    ))+", text, re.M):
         commands = []
         for line in block.splitlines():
@@ -53,7 +54,7 @@ def blocks(text):
 
 
 def matches(wanted, found):
-    """Whether the lines are those that are wanted, `..` standing for any."""
+    """Returns whether the lines are those that are wanted, where `..` means any lines."""
     if not wanted:
         return not found
     if wanted[0].strip() == "..":
@@ -62,7 +63,7 @@ def matches(wanted, found):
 
 
 def quotes(text):
-    """The blocks of code, each as its lines."""
+    """Yields the blocks of a library's code, each as its lines."""
     for block in re.findall(r"(?:^    .*\n|^\n(?=    ))+", text, re.M):
         lines = [line[4:] for line in block.strip("\n").splitlines()]
         if lines[0].startswith("use "):
@@ -74,27 +75,26 @@ def is_in_a_crate(lines):
     return any(matches(wanted, path.read_text().splitlines()) for path in common.TOP.glob("crates/*/src/**/*.rt"))
 
 
-def missing_files(text):
-    """The files that a text names by their paths from the top, and that are not there."""
-    named = re.findall(r"[`(]((?:crates|dist|docs|examples|scripts|trials)/[\w./-]*\w)[`)]", text)
-    return sorted({name for name in named if "NAME" not in name and not list(common.TOP.glob(name))} - MADE)
-
-
-def try_text(path):
-    """Yields for each quote and each named file that is missing whether it is there."""
-    text, name = path.read_text(), path.relative_to(common.TOP)
-    for lines in quotes(text):
+def try_quotes(path):
+    """Yields for each block of code whether a crate has it."""
+    for lines in quotes(path.read_text()):
         right = is_in_a_crate(lines)
         if not right:
-            print(f"{name}: no crate has `{lines[0]}`, ..")
+            print(f"{path.relative_to(common.TOP)}: no crate has `{lines[0]}`, ..")
         yield right
-    for missing in missing_files(text):
-        print(f"{name}: {missing} is not there")
-        yield False
 
 
-def write_shown(folder, names, lines):
-    for name, text in zip(names, [["\n".join(lines)], lines][len(names) > 1]):
+def try_names(path):
+    """Yields for each name in a document whether it is right."""
+    for line, wrong in names.checks(path):
+        if wrong:
+            print(f"{path.relative_to(common.TOP)}:{line}: {wrong}")
+        yield not wrong
+
+
+def write_shown(folder, files, lines):
+    """Writes the files that a document shows: one of several lines, or several of one line each."""
+    for name, text in zip(files, [["\n".join(lines)], lines][len(files) > 1]):
         path = folder / name
         path.parent.mkdir(parents=True, exist_ok=True)
         path.write_text(text + "\n")
@@ -111,13 +111,13 @@ def run(command, folder):
 
 
 def try_block(commands, folder):
-    """Yields for each command whether it prints what stands below it."""
+    """Yields for each command whether it prints the output that the document shows."""
     status, place = "0", folder
     shown = [(command.split()[1:], lines) for command, lines in commands if command.startswith("cat ")]
-    for names, lines in shown:
-        write_shown(folder, names, lines)
+    for files, lines in shown:
+        write_shown(folder, files, lines)
     for command, wanted in commands:
-        # (`echo $?` tells of the command before it)
+        # (`echo $?` prints the status of the command before it)
         found = run(f"(exit {status}); {command}\necho \"status $?\"; pwd -P", place)
         place = found.pop()
         status = found.pop().removeprefix("status ")
@@ -131,27 +131,28 @@ def try_block(commands, folder):
         yield right
 
 
-def try_document(name, folder, applications):
+def try_document(commands_of, folder, applications):
+    """Yields for each command of a document's blocks whether it prints the output that the document shows."""
     for link, to in (("jclink", common.JCLINK), ("trials", common.TRIALS), ("examples", common.TOP / "examples")):
         (folder / link).symlink_to(to)
     for application, given in applications.items():
         (folder / application).symlink_to(given.resolve())
-    for commands in blocks((common.TOP / name).read_text()):
+    for commands in commands_of:
         named = {name for name in APPLICATIONS if any(name in command for command, _ in commands)}
         if named <= applications.keys():
             yield from try_block([command for command in commands if not command[0].startswith(DOWNLOAD)], folder)
 
 
 class Held:
-    """examples/hold.py over a folder, with what it has printed and nobody looked for yet."""
+    """A run of examples/hold.py over a folder, with its output that no call has read yet."""
 
     def __init__(self, folder):
         self.text = b""
         self.process = subprocess.Popen([*HOLD, folder], stdin=subprocess.PIPE, stdout=subprocess.PIPE)
         os.set_blocking(self.process.stdout.fileno(), False)
 
-    def tells(self, *wanted):
-        """Whether it prints a line of each of these forms within some seconds, and none that is no line of a report."""
+    def prints(self, *wanted):
+        """Returns whether it prints a line of each of these forms within some seconds, and only lines of a report."""
         until = time.monotonic() + 20
         while time.monotonic() < until:
             self.text += self.process.stdout.read() or b""
@@ -162,48 +163,61 @@ class Held:
                 self.text = b""
                 return True
             time.sleep(0.1)
-        print("hold.py does not tell", *wanted, "but", *lines, sep="\n  ")
+        print("hold.py should print", *wanted, "and prints", *lines, sep="\n  ")
         return False
 
 
 def try_hold(folder):
-    """Yields whether hold.py tells each change of a folder: a class that two others name comes and goes, a FIFO and a
-    name with a line end come, the folder goes and comes; and whether it ends as jclink does for an empty prefix."""
+    """Yields whether hold.py prints each change of a folder.
+
+    A class that two others name is added and removed. A FIFO and a name with a line end are added. The folder is removed and
+    created again. Last, an empty prefix must end hold.py with status 2.
+    """
     for name in ("One", "Two"):
         (folder / f"{name}.java").write_text(f"class {name} {{ Object of() {{ return new Lost(); }} }}")
     (folder / "Lost.java").write_text("class Lost {}")
     tree, missing = folder / "tree", r"\+ \[parts\] part {}  #\d+ class Lost -> error 1 NoClass Lost"
     run("javac --release 8 -d tree *.java", folder)
     held = Held(tree)
-    yield held.tells(*(rf"\+ \[files\] tree/{name}\.class: class {name}" for name in ("Lost", "One", "Two")))
+    yield held.prints(*(rf"\+ \[files\] tree/{name}\.class: class {name}" for name in ("Lost", "One", "Two")))
     os.mkfifo(tree / "pipe.class")
     (tree / "line\nend.class").write_bytes(b"")
     (tree / "Lost.class").rename(folder / "Lost.class")
-    yield held.tells(r"- \[files\] tree/Lost\.class: class Lost", missing.format("One"), missing.format("Two"))
+    yield held.prints(r"- \[files\] tree/Lost\.class: class Lost", missing.format("One"), missing.format("Two"))
     shutil.rmtree(tree)
-    yield held.tells(*(rf"- \[files\] tree/{name}\.class: class {name}" for name in ("One", "Two")))
+    yield held.prints(*(rf"- \[files\] tree/{name}\.class: class {name}" for name in ("One", "Two")))
     tree.mkdir()
     (folder / "Lost.class").rename(tree / "Lost.class")
-    yield held.tells(r"\+ \[files\] tree/Lost\.class: class Lost")
+    yield held.prints(r"\+ \[files\] tree/Lost\.class: class Lost")
     held.process.kill()
     yield subprocess.run([*HOLD, tree, ""], stderr=subprocess.DEVNULL, check=False).returncode == 2
 
 
+def try_commands(applications):
+    """Yields whether the commands of all documents, and hold.py, print what they should."""
+    for path in names.documents():
+        commands_of = list(blocks(path.read_text()))
+        if commands_of:
+            with tempfile.TemporaryDirectory() as folder:
+                yield from try_document(commands_of, pathlib.Path(folder).resolve(), applications)
+    with tempfile.TemporaryDirectory() as folder:
+        yield from try_hold(pathlib.Path(folder).resolve())
+
+
 def main():
     parser = argparse.ArgumentParser()
+    parser.add_argument("--names", action="store_true")
     for name in APPLICATIONS:
         parser.add_argument(f"--{name}", type=pathlib.Path, metavar="FOLDER")
-    applications = {name: folder for name, folder in vars(parser.parse_args()).items() if folder}
-    right = []
-    for path in sorted([*common.TOP.glob("*.md"), *common.TOP.glob("docs/*.md"), *common.TOP.glob("trials/*.md")]):
-        right += try_text(path)
-    for name in DOCUMENTS:
-        with tempfile.TemporaryDirectory() as folder:
-            right += try_document(name, pathlib.Path(folder).resolve(), applications)
-    with tempfile.TemporaryDirectory() as folder:
-        right += try_hold(pathlib.Path(folder).resolve())
+    options = vars(parser.parse_args())
+    only_names = options.pop("names")
+    named = [right for path in names.documents() for right in try_names(path)]
+    print(f"{len(named)} names, {named.count(False)} wrong", flush=True)
+    right = [right for path in names.documents() for right in try_quotes(path)]
+    if not only_names:
+        right += try_commands({name: folder for name, folder in options.items() if folder})
     print(f"{len(right)} commands, quotes and changes, {right.count(False)} differ")
-    sys.exit(0 if right and all(right) else 1)
+    sys.exit(0 if named and all(named + right) else 1)
 
 
 if __name__ == "__main__":

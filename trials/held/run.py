@@ -1,13 +1,15 @@
 #!/usr/bin/env python3
-"""Compares sessions with a plain judge over random lists of edits, of files and of outside prefixes: after each edit the
-report, the parts that were made and the names asked for, the dependants of every name, and which prefixes are held.
+"""Compares sessions with a plain judge over random lists of edits, of files and of outside prefixes.
 
-The judge (trials/check, trials/link) makes the whole report afresh from the files and prefixes that remain and shares
-no code with the library. An edit must make the parts of exactly the affected classes: those after it whose reach holds a
-name that it touches. It must ask for each name in their reaches exactly once. An edit of prefixes touches the names for
-which there is no class and which it puts outside, or no longer outside.
+After each edit the trial compares the report, the number of parts and of look-ups, the dependants of every name, and the
+prefixes that the session has.
 
-Usage: run.py [SEED [COUNT]], seed 1 and 2,000 lists where none is given. It builds jc_asked.
+The judge (trials/check, trials/link) shares no code with the library. It computes the whole report from the files and
+prefixes that remain. An edit must make the parts of exactly the affected classes: those after the edit whose reach contains
+a name that it touches. It must look up each name in their reaches exactly once. An edit of prefixes touches the names
+without a class that become outside or stop being outside.
+
+Usage: run.py [SEED [COUNT]]. Without SEED the seed is 1, and without COUNT there are 2,000 lists. It builds jc_asked.
 """
 import argparse
 import collections
@@ -26,7 +28,7 @@ import worlds
 
 links = judge.links
 BATCH = 50
-# Of edits of prefixes: one is added, one is dropped.
+# The commands that add and drop a prefix.
 PREFIX_WORDS = (b"p", b"x")
 
 
@@ -35,7 +37,7 @@ def framed(piece):
 
 
 class Held:
-    """What is owed of the files that remain, all of it made afresh at each edit."""
+    """The expected answers for the files that remain, recomputed at each edit."""
 
     def __init__(self, prefixes):
         self.files, self.prefixes = {}, tuple(dict.fromkeys(prefixes))
@@ -63,7 +65,7 @@ class Held:
         return found
 
     def cost(self, affected):
-        """The number of parts to make of these classes, and the number of names to ask for."""
+        """Returns the number of parts to make for these classes, and the number of names to look up."""
         return len(affected), len(set().union(*(self.reaches[name] for name in affected)))
 
     def prefix_refusal(self, word, prefix):
@@ -95,7 +97,7 @@ class Held:
         return None
 
     def edit(self, word, path, data):
-        """The answer's line, or for an accepted edit its cost."""
+        """Returns the line of the answer to an edit, or for an accepted edit its cost."""
         if word in PREFIX_WORDS:
             return self.edit_prefixes(word, path)
         refusal = self.refusal(word, path, data)
@@ -117,7 +119,7 @@ class Held:
 
 
 def random_steps(rng):
-    """Edits over the paths and files of a small world, some of which are refused."""
+    """Returns edits over the paths and files of a small world. Some of them are refused."""
     files, prefixes = worlds.make_world(rng)
     files = {path: data for path, data in files.items() if data is not None and path.endswith(b".class")}
     paths, datas = sorted(files) or [b"A.class"], [*files.values(), worlds.PLAIN]
@@ -133,7 +135,7 @@ def random_steps(rng):
 
 
 def prefix_steps(rng, files, prefixes):
-    """Edits of prefixes that cover nothing, all names, each other, names that files give, and the first ones."""
+    """Returns edits of prefixes that cover nothing, all names, each other, names that files give, and the first prefixes."""
     held = Held(tuple(prefixes))
     held.files = files
     held.made()
@@ -152,7 +154,7 @@ def prefix_steps(rng, files, prefixes):
 
 
 def mixed(rng, first, second):
-    """Both lists, each in its order."""
+    """Merges two lists at random. Each keeps its order."""
     whole = []
     while first or second:
         taken = first if rng.random() * (len(first) + len(second)) < len(first) else second
@@ -171,7 +173,7 @@ def prefixes_of(steps, prefixes):
 
 
 def script_of(steps, prefixes):
-    """The frames of a list, and what is owed for it: lines, or for an edit a pair of numbers."""
+    """Returns the frames of a list, and the expected answers: lines, or for an edit a pair of numbers."""
     held, frames, owed = Held(tuple(prefixes) or judge.STANDARD), [framed(b"".join(map(framed, prefixes)))], []
     for word, path, data in steps:
         frames += [framed(word + path), framed(data)]

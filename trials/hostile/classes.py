@@ -1,16 +1,16 @@
-"""Class files that cost as much as their size allows: each kind is made of one thing, as often as a class file has room for it.
+"""Makes class files that are as expensive as their size allows.
 
-A kind is a function that gives files by their paths. All of them are readable class files of version 52.0, and but for the
-kinds that say so without a format fault.
+A kind is a function that returns files by their paths. Each kind repeats one thing as often as a class file has room for. All
+files are readable class files of version 52.0. They have no format fault, unless the kind says so.
 """
 import itertools
 import struct
 
 OBJECT = b"java/lang/Object"
 PUBLIC, SUPER, INTERFACE, ABSTRACT, NATIVE, VARARGS = 1, 0x20, 0x200, 0x400, 0x100, 0x80
-# The longest text, and most constants, members and interfaces.
+# The greatest length of a text, and the greatest number of constants, members or interfaces.
 LONGEST, MOST = 65535, 65534
-# The longest code of a method, and so many such methods have room in a file.
+# The longest code of a method, and how many such methods fit into a file.
 CODE, METHODS = 65535, 254
 
 
@@ -19,7 +19,7 @@ def u2(*numbers):
 
 
 class Pool:
-    """The constants of a class, each once."""
+    """The constants of a class. Each occurs once."""
 
     def __init__(self):
         self.bytes, self.count, self.known = bytearray(), 1, {}
@@ -44,7 +44,7 @@ class Pool:
         return self.once(b"\14" + u2(self.text(name), self.text(descriptor)))
 
     def reference(self, tag, owner, name, descriptor):
-        """One more, also where there is one of the same texts."""
+        """Adds a reference, even if there is an equal one."""
         return self.add(bytes([tag]) + u2(self.of_class(owner), self.name_and_type(name, descriptor)))
 
     def room(self):
@@ -52,7 +52,7 @@ class Pool:
 
 
 def class_file(pool, name, flags=PUBLIC | SUPER, parent=OBJECT, interfaces=(), fields=(), methods=(), attributes=()):
-    """A member is its flags, its name, its descriptor and its attributes, as numbers of constants and bytes."""
+    """Returns a class file. A member is its flags, its name and descriptor as indexes of constants, and its attributes' bytes."""
     own = u2(flags, pool.of_class(name), pool.of_class(parent))
     above = u2(len(interfaces)) + u2(*interfaces)
     tables = b"".join(u2(len(table)) + b"".join(u2(*head, len(attributes)) + b"".join(attributes) for *head, attributes in table)
@@ -66,7 +66,7 @@ def attribute(pool, name, body):
 
 
 def descriptors():
-    """Different descriptors of methods, the shortest first."""
+    """Yields different descriptors of methods, the shortest first."""
     for length in itertools.count():
         for letters in itertools.product(b"BCDFIJSZ", repeat=length):
             yield b"(" + bytes(letters) + b")V"
@@ -91,7 +91,7 @@ def code_of(pool, code, max_locals=0):
 
 
 def with_code(code, max_locals=0, pool=None):
-    """As many methods with this code as a file has room for."""
+    """Returns a class with as many methods of this code as a file has room for."""
     pool = pool or Pool()
     each = [code_of(pool, code, max_locals)]
     return {"A.class": class_file(pool, b"A", methods=[(PUBLIC, pool.text(name), pool.text(b"()V"), each)
@@ -109,7 +109,7 @@ def methods_of_one_name():
 
 
 def few_methods_of_one_name():
-    """So few that one after another is looked at."""
+    """So few methods of one name that they are searched one by one."""
     pool, name, methods = Pool(), b"n" * LONGEST, []
     for descriptor in itertools.islice(descriptors(), MOST // 3 - 20):
         if len(methods) < 15:
@@ -145,7 +145,7 @@ def constants_of_one_missing_class():
 
 
 def calls_of_method_handles():
-    """`java/lang/invoke/MethodHandle` with methods of one name, and references to it that any descriptor has."""
+    """Methods of one name in `java/lang/invoke/MethodHandle`, and references to it with any descriptor."""
     handle, pool = b"java/lang/invoke/MethodHandle", Pool()
     methods = [native(pool, b"invoke", descriptor) for descriptor in itertools.islice(descriptors(), MOST - 100)]
     user = Pool()
@@ -164,7 +164,7 @@ def provided_by_a_long_name():
 # ---- supertypes
 
 def below_an_interface(pool, interfaces):
-    """A class with these superinterfaces, all of one name, and classes below it with references to it."""
+    """Returns a class with these superinterfaces, all of one name, and its subclasses with references to it."""
     files = {"I.class": plain(b"I", flags=PUBLIC | INTERFACE | ABSTRACT), "C.class": class_file(pool, b"C", interfaces=interfaces)}
     for number in range(20):
         user = Pool()
@@ -180,7 +180,7 @@ def an_interface_many_times():
 
 
 def user_of(tag, owner, name, descriptor):
-    """A class of nothing but references to one member."""
+    """Returns a class that has only references to one member."""
     pool = Pool()
     pool.of_class(b"U"), pool.of_class(OBJECT)
     while pool.room() > 3:
@@ -189,7 +189,7 @@ def user_of(tag, owner, name, descriptor):
 
 
 def below_a_chain(length):
-    """References that are looked for in all of a chain of superclasses, and found in none."""
+    """Returns a chain of superclasses and references that are searched in all of it and found nowhere."""
     files = {f"{number}.class": plain(b"C%d" % number, parent=b"C%d" % (number - 1) if number else OBJECT) for number in range(length)}
     return {**files, "U.class": user_of(10, b"C%d" % (length - 1), b"m", b"()V")}
 
@@ -199,12 +199,12 @@ def references_below_a_chain():
 
 
 def references_below_a_shorter_chain():
-    """As long as a session may hold it: that keeps what each class reaches, and makes anew what is below a class that comes."""
+    """A chain short enough for a session, which stores each reach and recomputes all classes below an added one."""
     return below_a_chain(1000)
 
 
 def references_to_the_first_of_a_chain():
-    """Each class of a chain reaches all above it."""
+    """A chain of classes, each of which reaches all its superclasses."""
     files = {}
     for number in range(65535):
         pool = Pool()
@@ -214,7 +214,7 @@ def references_to_the_first_of_a_chain():
 
 
 def members_below_a_chain():
-    """Each reference of a class is to a method of its own, and is looked for in all of a chain of superclasses."""
+    """References to different methods, each of which is searched in all of a chain of superclasses."""
     pool = Pool()
     pool.of_class(b"U"), pool.of_class(OBJECT)
     number = 0
@@ -225,7 +225,7 @@ def members_below_a_chain():
 
 
 def few_references_each_below_a_chain():
-    """Each class of a chain has so few that those that name one class are not looked for, and names the two above it in turn."""
+    """A chain of classes with few references each, which name the two nearest superclasses in turn."""
     files = {}
     for number in range(2000):
         pool = Pool()
@@ -236,7 +236,7 @@ def few_references_each_below_a_chain():
 
 
 def references_below_interfaces():
-    """The same of a class with as many interfaces above it."""
+    """References that are searched in all of many superinterfaces and found nowhere."""
     many = Pool()
     interfaces = [many.of_class(b"I%d" % number) for number in range(20000)]
     files = {f"{number}.class": plain(b"I%d" % number, flags=PUBLIC | INTERFACE | ABSTRACT) for number in range(20000)}
@@ -244,7 +244,7 @@ def references_below_interfaces():
 
 
 def an_interface_by_many_constants():
-    """Each of the class's interfaces is a constant and a text of its own, and all have the same bytes."""
+    """Interfaces of one class, each with its own constant and its own text. All texts are equal."""
     pool = Pool()
     interfaces = []
     while pool.room() > 8:
@@ -253,7 +253,7 @@ def an_interface_by_many_constants():
 
 
 def interfaces_that_give_one_method():
-    """Each of many superinterfaces gives the method that all references name."""
+    """References to one method that each of many superinterfaces has."""
     files = {}
     for number in range(2000):
         pool = Pool()
@@ -267,7 +267,7 @@ def interfaces_that_give_one_method():
 # ---- names
 
 def packages_of_long_names():
-    """A class that is not PUBLIC, by a name without a package, as long as it may be, and references to it from another."""
+    """References to a class that is not PUBLIC, whose name is as long as possible and has no package."""
     owner, pool = b"p" * LONGEST, Pool()
     files = {"P.class": class_file(Pool(), owner, flags=SUPER)}
     pool.of_class(b"u" * LONGEST), pool.of_class(OBJECT)
@@ -277,7 +277,7 @@ def packages_of_long_names():
 
 
 def members_of_a_long_missing_name():
-    """Each a row that is required, which a session keeps."""
+    """References that are rows of [required], which a session stores."""
     pool = Pool()
     pool.of_class(b"A"), pool.of_class(OBJECT)
     for name in itertools.islice(names(), MOST // 3 - 20):
@@ -324,19 +324,19 @@ def one_interface_method():
 
 # ---- descriptors that code resolves
 
-# As long as a descriptor may be, of as many classes as a method may take.
+# A descriptor of greatest length, with as many classes as a method may have parameters.
 OF_CLASSES = b"(" + b"".join(b"L" + b"%03d" % number * 84 + b"xx;" for number in range(255)) + b")V"
 
 
 def start(methods):
-    """The constants of a class whose methods have code, with room for so many methods."""
+    """Returns the constants of a class whose methods have code, and the names of its methods."""
     pool = Pool()
     pool.of_class(b"A"), pool.of_class(OBJECT), pool.text(b"Code"), pool.text(b"()V"), pool.text(b"BootstrapMethods")
     return pool, [pool.text(name) for name in itertools.islice(names(), methods)]
 
 
 def naming(pool, texts, opcode, indexes, behind=b"", attributes=()):
-    """A class with an instruction for each of these constants, in as many methods as that takes."""
+    """Returns a class with an instruction for each of these constants, in as many methods as necessary."""
     each = CODE // (3 + len(behind))
     codes = [b"".join(opcode + u2(index) + behind for index in indexes[at:at + each]) for at in range(0, len(indexes), each)]
     methods = [(PUBLIC, name, pool.text(b"()V"), [code_of(pool, code)]) for name, code in zip(texts, codes)]
@@ -366,7 +366,7 @@ def calls_of_method_handles_of_one_descriptor():
 
 
 def handles_of_one_descriptor():
-    """Of one member, which nothing has to name."""
+    """Method handles of one member. Nothing names them."""
     pool, _ = start(0)
     member = pool.reference(10, b"A", b"m", OF_CLASSES)
     while pool.room():
@@ -375,7 +375,7 @@ def handles_of_one_descriptor():
 
 
 def arrays_of_a_class_in_a_descriptor():
-    """Texts as long as may be, each of which many constants name."""
+    """Texts as long as possible, each of which many constants name."""
     pool, texts = start(1)
     name = b"a" * (LONGEST - 300)
     kind = pool.once(b"\x10" + u2(pool.text(b"(L" + name + b";)V")))
@@ -386,7 +386,7 @@ def arrays_of_a_class_in_a_descriptor():
 
 
 def classes_in_many_descriptors():
-    """Each class of a descriptor of its own, and all names begin alike."""
+    """Descriptors that each name a different class. All class names begin with the same long text."""
     pool, texts = start(1)
     kinds = []
     for number in range(pool.room() // 4):
@@ -396,10 +396,10 @@ def classes_in_many_descriptors():
     return naming(pool, texts, b"\x13", kinds)
 
 
-# ---- instructions that don't link
+# ---- instructions that do not link
 
 def instructions_that_do_not_link():
-    """As many as there is room for, of which a class with a long name is at fault."""
+    """As many instructions as possible. A class with a long name is at fault for all of them."""
     name, owner, pool = b"f" * LONGEST, Pool(), Pool()
     field = PUBLIC, owner.text(b"x"), owner.text(b"I"), []
     files = {"F.class": class_file(owner, name, flags=PUBLIC | SUPER | ABSTRACT, fields=[field])}
@@ -408,7 +408,7 @@ def instructions_that_do_not_link():
 
 
 def many_methods_of_few_instructions():
-    """As many methods as there may be, and instructions with each of as many references; none of them links."""
+    """As many methods as possible, and instructions with as many references as possible. None of them links."""
     pool, fields, loads = Pool(), [], []
     texts, types = list(itertools.islice(names(), 256)), list(itertools.islice(descriptors(), 256))
     keys = [(pool.text(name), pool.text(descriptor)) for name in texts for descriptor in types][:MOST]
@@ -426,12 +426,12 @@ def many_methods_of_few_instructions():
 # ---- faults
 
 def code_faults():
-    """An aload_0 with no local variable, at each byte."""
+    """An aload_0 at each byte, in methods without local variables."""
     return with_code(b"\x2a" * CODE)
 
 
 def handlers():
-    """As many exception handlers as there is room for, each of which breaks two rules."""
+    """As many exception handlers as possible, each of which breaks two rules."""
     pool = Pool()
     table = (u2(1, 0, 1) + u2(pool.text(b"x"))) * MOST
     body = u2(0, 1) + struct.pack(">I", 1) + b"\xb1" + u2(MOST) + table + u2(0)
@@ -440,7 +440,7 @@ def handlers():
 
 
 def format_faults():
-    """A field of flags that no field has, as often as there is room: a format fault each."""
+    """As many fields as possible, each with flags that are a format fault."""
     pool, fields = Pool(), []
     for name in itertools.islice(names(), MOST - 100):
         fields.append((3, pool.text(name), pool.text(b"I"), []))

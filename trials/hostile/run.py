@@ -1,14 +1,18 @@
 #!/usr/bin/env python3
-"""What the built program takes of class files that are made to cost much, and whether it stays within its limits.
+"""Measures the time and memory that the built program needs for hostile class files, and compares them with limits.
 
     run.py [KIND ..] [--seconds N]
 
-A KIND is a function of classes.py, all of them where none is named. Each kind is checked by `jclink check`, and added file by
-file to a session, by `jclink session`, which then gives its report. How texts are written is not asked here, and they may be
-long: one of 364 gigabytes is among them. So `check` writes to a device that takes nothing, and of what a session writes a
-gigabyte is read; one that has more to say, and no other, ends with status 3. The limits are 30 seconds of a processor, and
-50 MB with 40 bytes for each byte of the files. A run that takes more
-than N seconds, 120 where no number is given, is broken off. The status is 1 where a limit is not kept.
+A KIND is a function of classes.py; without one, all kinds run. `jclink check` checks the files of each kind. Then
+`jclink session` adds them one by one and prints its report.
+
+The trial does not measure how texts are written, which may be long: one has 364 gigabytes. So `check` writes to a device
+that accepts nothing. Of a session's output the trial reads at most a gigabyte; a session that prints more must have status 3.
+
+The limits are 30 seconds of a processor, and 50 MB plus 40 bytes for each byte of the files. The trial stops a run after N
+seconds, 120 by default.
+
+Status 1: a limit is exceeded, or a run has a wrong status.
 """
 import argparse
 import os
@@ -24,16 +28,16 @@ import classes
 import common
 
 SECONDS, BASE, EACH = 30, 50_000_000, 40
-# So many bytes are read of what a session writes.
+# The greatest number of bytes that are read of a session's output.
 READ = 1 << 30
-# So much memory a run may ask for at most, lest the machine ends it.
+# The greatest memory of a run, so that the machine does not end other processes.
 ROOM = 12 << 30
-# A session keeps the reach of each class, of a chain half the square of its length. A shorter one is a kind of its own.
+# A session stores the reach of each class. In a chain, that is half the square of its length. Shorter chains have own kinds.
 NO_SESSION = {"references_below_a_chain", "references_to_the_first_of_a_chain", "members_below_a_chain"}
 
 
 def read_from(pipe):
-    """Reads to the end, or so much as is read of a session, and closes. Whether more was to come."""
+    """Reads to the end or up to READ bytes, and closes the pipe. Returns whether it stopped at READ bytes."""
     left = READ
     while left > 0 and (read := os.read(pipe.fileno(), 1 << 20)):
         left -= len(read)
@@ -42,7 +46,7 @@ def read_from(pipe):
 
 
 def measured(words, lines, folder, most):
-    """Seconds of a processor, bytes, how it ended, and whether it had more to say."""
+    """Returns seconds of a processor, bytes of memory, the status, and whether more output followed."""
     def limited():
         resource.setrlimit(resource.RLIMIT_CPU, (most, most))
         resource.setrlimit(resource.RLIMIT_AS, (ROOM, ROOM))

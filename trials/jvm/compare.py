@@ -1,8 +1,9 @@
-"""Compares a report with what the virtual machine finds, reference by reference and instruction by instruction.
+"""Compares a report with the results of the virtual machine, by reference and by instruction.
 
-read_report and read_resolved take the lines of `jclink check` and of Resolve.java; Comparison(files, prefixes).tell
-says of each class, reference and instruction in which way both agree or differ: a sort that begins with "differs" has
-no explanation. What is explained or not compared has to be what the plain judge of trials/link says. Run by run.py.
+read_report and read_resolved read the lines of `jclink check` and of Resolve.java. `Comparison(files, prefixes).tell` yields
+a sort for each class, reference and instruction, which says how both sides agree or differ. A sort that begins with
+"differs" has no explanation. If a difference is explained, or a result not compared, the report must agree with the plain
+judge of trials/link. run.py uses this module.
 """
 import importlib.util
 import pathlib
@@ -17,13 +18,14 @@ spec.loader.exec_module(judge)
 ERRORS = {"NoClass": "NoClassDefFoundError", "Format": "ClassFormatError", "Circular": "ClassCircularityError",
           "Incompatible": "IncompatibleClassChangeError", "IllegalAccess": "IllegalAccessError",
           "NoField": "NoSuchFieldError", "NoMethod": "NoSuchMethodError", "Instantiation": "InstantiationError"}
-# Where the machine's messages name the class at fault.
+# The messages of the machine that name the class at fault.
 FAULTS = [re.compile(text) for text in (
     r"failed to access class (\S+) from class", r"cannot access its super(?:class|interface) (\S+) \(",
     r"Found (?:class|interface) (\S+), but", r"has interface (\S+) as super class", r"can not implement (\S+), because",
     r"tried to access (?:\S+ )*field (\S+)\.[^.\s]+ \(",
     r"tried to access (?:\S+ )*method '(?:\S+ )?([^\s(]+)\.[^.(]+\(")]
-# Of an instruction's error they name the class of the reference (OF_FIELD, OF_CLASS), or that which has the method.
+# The messages for errors of instructions. They name the class of the reference (OF_FIELD, OF_CLASS) or the class that declares
+# the method (OF_METHOD).
 OF_FIELD = re.compile(
     r"(?:Expected (?:non-)?static|Update to (?:non-)?static final) field (\S+)\.[^.\s]+(?: attempted .*)?")
 OF_METHOD = re.compile(r"Expect(?:ed|ing) (?:(?:non-)?static|instance not static) method '\S+ ([^\s(]+)\.[^.(]+\(.*")
@@ -35,8 +37,11 @@ LINKS, NOT_ASKED = "links", "not asked"
 
 
 class Part(typing.NamedTuple):
-    """What the report says of a class: by index its references and their answers, by method and offset the errors of
-    its instructions, and the methods that have faults of code."""
+    """What the report says about a class.
+
+    `answers` has references and answers by index, `errors` the errors of instructions by method and offset, and `faulty` the
+    methods with code faults.
+    """
     state: str
     answers: dict
     errors: dict
@@ -44,15 +49,17 @@ class Part(typing.NamedTuple):
 
 
 class Found(typing.NamedTuple):
-    """What the machine says of a class: by index what became of its references, by method and offset its instructions,
-    each the opcode, the index and what became of it."""
+    """What the machine finds in a class.
+
+    `outcomes` has the results of references by index. `instructions` has opcode, index and result by method and offset.
+    """
     state: str
     outcomes: dict
     instructions: dict
 
 
 def read_report(lines):
-    """What the report says of each class."""
+    """Returns the Part of each class of a report."""
     classes, part = {}, None
     for line in lines[lines.index("[parts]") + 1 if "[parts]" in lines else 0:]:
         if line == "[circular]":
@@ -69,7 +76,7 @@ def read_report(lines):
 
 
 def read_resolved(lines):
-    """For each tree what the machine says of each class."""
+    """Returns for each tree what the machine finds in each class."""
     trees, classes, now = {}, {}, None
     for line in lines:
         if line.startswith("tree "):
@@ -89,7 +96,7 @@ def read_resolved(lines):
 
 
 def broken(outcome):
-    """The error of an outcome and the class at fault, as far as its message tells."""
+    """Returns the error of an outcome, and the class at fault or None if the message does not name it."""
     _, error, message = outcome.split(" ", 2)
     if error in ("NoClassDefFoundError", "ClassNotFoundException", "ClassCircularityError"):
         return "NoClassDefFoundError" if error.startswith("ClassNot") else error, inner(message.replace(".", "/"))
@@ -98,7 +105,7 @@ def broken(outcome):
 
 
 def points_at(message, named, home):
-    """Whether an instruction's error is at the class that the report says, as far as the message tells."""
+    """Returns whether the message of an instruction's error names the class that the report implies."""
     for pattern, wanted in ((OF_FIELD, named), (OF_METHOD, home), (OF_CLASS, named)):
         if found := pattern.fullmatch(message):
             return found[1].replace(".", "/") == wanted
@@ -106,23 +113,23 @@ def points_at(message, named, home):
 
 
 def inner(name):
-    """The class that a name is of, of an array the innermost one."""
+    """Returns the class that a name means, or the innermost element class of an array."""
     element = name.lstrip("[")
     return element[1:-1] if name.startswith("[") and element.startswith("L") else element
 
 
 def named_in(reference):
-    """The class or array that a reference names."""
+    """Returns the class or array that a reference names."""
     return reference.split(" ", 1)[1].split(".", 1)[0]
 
 
 def home_of(answer):
-    """The class that an answer To finds, or that declares what it finds."""
+    """Returns the class that an answer To finds, or the class that declares the member it finds."""
     return answer[3:].split(".", 1)[0]
 
 
 def key_of(reference):
-    """The name and the descriptor of the member that a reference names."""
+    """Returns the name and the descriptor of the member that a reference names."""
     name, descriptor = reference.split(".", 1)[1].split(":", 1)
     return name.encode(), descriptor.encode()
 
@@ -132,7 +139,7 @@ class Comparison:
         self.files, self.prefixes, self.made, self.ruled, self.unlinked = files, prefixes, None, None, set()
 
     def world(self):
-        """The judge's view of the tree, for differences alone."""
+        """Returns the judge's view of the tree. Only differences need it."""
         if self.made is None:
             self.made = judge.World(self.files, tuple(prefix.encode() for prefix in self.prefixes))
             self.names = {judge.shown(name): name for name in self.made.records}
@@ -146,18 +153,18 @@ class Comparison:
         return name is not None and self.world().outside(self.raw(name))
 
     def judged(self, name):
-        """What the judge says of a class."""
+        """Returns what the judge says about a class."""
         if self.ruled is None:
             self.ruled = read_report(self.world().parts())
         return self.ruled.get(name, Part("", {}, {}, set()))
 
     def declares(self, home, reference):
-        """Whether a class's file has the member that a reference names, or the reference names none."""
+        """Returns whether a class declares the member that a reference names, or the reference names no member."""
         record = self.world().records[home]
         return "." not in reference or any(member[:2] == key_of(reference) for member in record.fields + record.methods)
 
     def possible(self, user, element):
-        """All errors of loading a class and of naming it that there are at it or above it."""
+        """Returns all possible errors of loading and naming a class: its own and those of its transitive supertypes."""
         world, found = self.world(), set()
         for name in [element, *world.above(element)]:
             record = world.records.get(name)
@@ -175,7 +182,7 @@ class Comparison:
         return {(ERRORS[error], judge.shown(name)) for error, name in found}
 
     def of_loading(self, user, named, answer, outcome):
-        """Why the machine's error of loading or naming a class is another than the report's, or that it is the same."""
+        """Returns how the machine's error of loading or naming a class agrees with the report, why it differs, or None."""
         error, fault = broken(outcome)
         if answer.startswith("error "):
             _, _, ours, at = answer.split(" ", 3)
@@ -224,7 +231,7 @@ class Comparison:
         return why or f"differs: {answer.split(' ')[0]} and {outcome.split(' ')[0]}"
 
     def refused(self, user, _named, reference, answer, outcome):
-        """Why the machine refuses a member that the report found."""
+        """Returns why the machine refuses a member that the report finds, or None."""
         if answer.startswith("To java/lang/Object.") and "tried to access protected" in outcome:
             if self.world().records[self.raw(user)].interface():
                 return "explained: an interface is no subclass of java/lang/Object to the machine"
@@ -233,7 +240,7 @@ class Comparison:
         return None
 
     def found_elsewhere(self, _user, named, reference, answer, outcome):
-        """Why the machine finds a member in another class."""
+        """Returns why the machine finds a member in another class, or None."""
         home, start, world = self.raw(home_of(outcome)), self.raw(named), self.world()
         if world.outside(home) and any(world.outside(name) for name in world.above(start)):
             return "explained: found in a class outside, which look-up passes over"
@@ -252,7 +259,7 @@ class Comparison:
         return f"explained: {ADDED}" if home in world.records and not self.declares(home, reference) else None
 
     def of_instruction(self, user, kind, reference, answer, outcome, error, theirs):
-        """How the error of an instruction, or that it links, agrees with what became of it and of its reference."""
+        """Returns how the report and the machine agree about an instruction, which links or has an error."""
         if theirs == NOT_ASKED:
             return "not compared: the machine finds nothing of the tree by its reference"
         if theirs == LINKS and kind == "invokeinterface" and self.of_private(user, reference, answer):
@@ -268,7 +275,7 @@ class Comparison:
 
     @staticmethod
     def of_both_sides(named, answer, outcome, error, theirs):
-        """How an instruction's errors on both sides agree, or that they don't."""
+        """Returns how an instruction's errors on both sides agree or why they differ, or None."""
         _, _, ours, fault = error.split(" ", 3)
         newer = theirs.startswith("links but ")
         _, name, message = theirs.removeprefix("links but ").split(" ", 2)
@@ -281,7 +288,7 @@ class Comparison:
         return None if newer else f"agrees: {ours}"
 
     def of_one_side(self, user, kind, reference, answer, theirs):
-        """Why an instruction links on one side and on the other it does not."""
+        """Returns why an instruction links on one side only, or None."""
         if theirs == LINKS:
             return None
         if "loader constraint" in theirs:
@@ -298,19 +305,19 @@ class Comparison:
         return None
 
     def of_private(self, user, reference, answer):
-        """Whether a class refers to a private method of its own."""
+        """Returns whether a class refers to its own private method."""
         if home_of(answer) != user:
             return False
         methods = self.world().records[self.raw(user)].methods
         return any(method[:2] == key_of(reference) and method[2] & judge.PRIVATE for method in methods)
 
     def checked(self, sort, name, agrees):
-        """A sort; where the machine doesn't speak for what was said, the judge has to."""
+        """Returns a sort. If the machine does not confirm the report, the judge must agree with it."""
         told = sort.startswith(("agrees", "differs")) or sort == "outside: found"
         return sort if told or agrees(self.judged(name)) else f"differs: from the judge ({sort})"
 
     def tell(self, ours, theirs):
-        """For each class, reference and instruction its sort and what was said."""
+        """Yields a sort and the results of both sides for each class, reference and instruction."""
         self.unlinked = {name for name, found in theirs.items() if found.state.startswith("loaded but ")}
         for name in sorted(ours.keys() | theirs.keys()):
             if name not in ours or name not in theirs:
@@ -357,7 +364,7 @@ class Comparison:
                 yield "differs: nothing links there", line
 
     def unasked(self, name, part):
-        """The errors of instructions in a class that the report alone loads."""
+        """Yields the errors of instructions in a class that only the report loads."""
         for place, error in part.errors.items():
             told = self.checked("not compared: the machine can't load or link its class", name,
                                 lambda judged: judged.errors.get(place) == error)

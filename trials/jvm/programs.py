@@ -1,8 +1,11 @@
-"""Small programs, each of which names a class X in one way, for unused.py: what a report says of the class O that names X
-once the file of X is deleted, and whether the virtual machine misses X when the method `run` of O runs.
+"""Makes small programs for unused.py. In each of them a class O names a class X in one way.
 
-programs(version) gives those of a class file version, 51 or 52. Most are sources; javac writes no MethodType and no
-MethodHandle that `ldc` names, and no constant that nothing names, so the class files of the others are made here.
+A program lists the errors of O in a report after the file of X is deleted. It also says whether the virtual machine misses X
+when the method `run` of O runs.
+
+programs(version) returns the programs of a class file version, 51 or 52. Most of them are sources. javac writes no MethodType
+and no MethodHandle that `ldc` names, and no constant that nothing names. So this module generates the class files of the
+others.
 """
 import pathlib
 import sys
@@ -18,16 +21,19 @@ CLASS, FIELDREF, METHODREF, INTERFACE_METHODREF = links.CLASS, links.FIELDREF, l
 METHOD_HANDLE, METHOD_TYPE, INVOKE_DYNAMIC = links.METHOD_HANDLE, links.METHOD_TYPE, links.INVOKE_DYNAMIC
 NULL, POP, INVOKESTATIC = (1,), (87,), 184
 PUBLIC, STATIC, ABSTRACT = links.PUBLIC, links.STATIC, links.ABSTRACT
-# What uses a reference: a method, by its name and descriptor; something else; nothing.
+# The user of a reference: a method, by its name and descriptor; something else; nothing.
 RUN, USED, UNUSED = "run:()V", "used", " (unused)"
 
 
 class Program(typing.NamedTuple):
-    """Names of classes have no package here: `lines` has each line of `--errors` of the class that runs by what it refers
-    to, and what uses that; `missed` is whether the virtual machine misses the deleted class."""
+    """A program, with class names without packages.
+
+    `lines` maps the reference in each line of `--errors` for the class that runs to the user of that reference. `missed` says
+    whether the virtual machine misses the deleted class.
+    """
     name: str
     source: str
-    # Of a class O that is made here: its fields, its methods, constants that code need not name, and the code of `run`.
+    # For a generated class O: its fields, its methods, constants that code need not name, and the code of `run`.
     parts: tuple
     lines: dict
     missed: bool
@@ -38,7 +44,7 @@ class Program(typing.NamedTuple):
         return f"v{version}/{self.name}"
 
     def class_files(self, version):
-        """Those of O, of X and of an interface with a method that takes an X, where O has no source."""
+        """Returns the class files of O, X and an interface with a method that takes an X; none if O has a source."""
         if self.source:
             return {}
         fields, methods, references, code = in_package(self.parts, self.package(version))
@@ -50,22 +56,22 @@ class Program(typing.NamedTuple):
 
 
 def java(name, members, lines, missed, beside="", runs="O", deleted="O$X", body=""):
-    """A source with these members of O and this body of `run`."""
+    """Returns a program with a source: these members of O and this body of `run`."""
     run = f"public static void run() throws Throwable {{ {body} }}"
     return Program(name, f"public class O {{ {members} {run} }} {beside}", (), lines, missed, runs, deleted)
 
 
 def of_x(mark, members=()):
-    """The line of the class X, and those of its members, which the same uses."""
+    """Returns the lines for the class X and for members of it. All have the same user."""
     return {"class O$X": mark, **{f"method O$X.{member}": mark for member in members}}
 
 
 X = "static class X {}"
-# A call on no method handle. Its descriptor is resolved first.
+# A call on a null method handle. Its descriptor is resolved first.
 CALL = "try {{ java.lang.invoke.MethodHandle handle = null; {} }} catch (NullPointerException none) {{}}"
 
-# What any version may have: instructions that name the class, a call of a method handle, and what names it by attributes
-# and other descriptors alone.
+# Programs of both versions: instructions that name the class, a call of a method handle, and programs that name it only by
+# attributes and other descriptors.
 EITHER = [
     java("an_object", X, of_x(RUN, members=["<init>:()V"]), True, body="new X();"),
     java("a_static_call", "static class X { static void m() {} }", of_x(RUN, members=["m:()V"]), True, body="X.m();"),
@@ -131,7 +137,7 @@ EIGHT = [
 ]
 
 
-# ---- class files that are made here. P/ stands for the package.
+# ---- generated class files. P/ means the package.
 
 INIT, OBJECT = b"<init>", links.OBJECT
 CONCAT_TYPE = b"(Ljava/lang/invoke/MethodHandles$Lookup;Ljava/lang/String;Ljava/lang/invoke/MethodType;"
@@ -143,20 +149,20 @@ WITH_CONSTANTS = METHOD_HANDLE, 6, (METHODREF, CONCAT, b"makeConcatWithConstants
 
 
 def in_package(thing, package):
-    """The bytes with P/ as this package, in references and in what holds them."""
+    """Replaces P/ by this package in bytes, and in tuples and lists of them."""
     if isinstance(thing, bytes):
         return thing.replace(b"P/", package.encode() + b"/")
     return type(thing)(in_package(one, package) for one in thing) if isinstance(thing, (tuple, list)) else thing
 
 
 def made(name, code, references, mark, missed, fields=(), methods=(), named="class P/X"):
-    """A class O whose `run` has this code, with these constants besides."""
+    """Returns a program whose class O has this code of `run` and these further constants."""
     parts = [*fields], [(PUBLIC | STATIC, b"run", b"()V"), *methods], [*references], [*code]
     return Program(name, "", parts, {named.replace("P/", ""): mark}, missed, "O", "X")
 
 
 def constant(name, reference, references=((CLASS, b"P/X"),), fields=(), methods=(), named="class P/X"):
-    """`run` has an ldc of this constant."""
+    """Returns a program whose `run` has an ldc of this constant."""
     return made(name, [(links.LDC, reference), POP], references, USED, True, fields, methods, named)
 
 
@@ -165,7 +171,7 @@ def handle(name, kind, reference, fields=(), methods=()):
 
 
 def alone(name, reference, mark):
-    """Nothing names this constant."""
+    """Returns a program with a constant that nothing names."""
     return made(name, [], [(CLASS, b"P/X"), reference], mark, False)
 
 

@@ -1,43 +1,48 @@
 #!/usr/bin/env python3
-"""Compares what jclink says of the references and instructions of class files with what a virtual machine links.
+"""Compares jclink's results for references and instructions with those of a virtual machine.
 
 Usage: run.py [TREE..] [--worlds N] [--seed N] [--judge | --report FILE] [--program PATH] [--outside PREFIX]..
-[--show N] [--java PATH]. A TREE is a folder of class files, or a jar, of which the class files of versions 51 and 52
-are taken. --worlds adds random small worlds (trials/link/worlds.py). The answers are those of `jclink check`,
-once ./jclink is built; with --report those in a file, the text of a report over the one TREE; with --judge those of
-the plain judge of trials/link. It needs a java from version 17 on, and uses private calls of it (Resolve.java).
-Status 1: something differs without an explanation.
+[--show N] [--java PATH]
 
-Compared: of each class whether it loads, or the error; of each Class, Fieldref, Methodref and InterfaceMethodref of
-a class that loads, the class that is found, with a member the class that declares it, or the error; and
-the class at fault as far as the machine's message names it (not of NoField, NoMethod, which name what was asked).
-An answer Outside is compared in this alone, that nothing of the tree is found; errors there are counted by kind.
-Of each getstatic, putstatic, getfield, putfield, invokevirtual, invokespecial, invokestatic, invokeinterface and new
-whose reference is answered To, in methods without a fault of code: that it links, or the error and the class at
-fault. Of fields the message names the class of the reference: there the class at fault has to be that of the answer.
-The machine links each different instruction once in each class. Of other references the report may say nothing.
+A TREE is a folder of class files, or a jar; class files of other versions than 51 and 52 in a jar are ignored. --worlds adds
+random small worlds (trials/link/worlds.py). The results are those of `jclink check`, once ./jclink is built. With --report
+they are the text of a report of the only TREE, from a file. With --judge they are those of the plain judge of trials/link.
+The trial needs a java of version 17 or later, and uses its private calls (Resolve.java). Status 1: something differs without
+an explanation.
 
-Not compared, or told apart as explained:
-- format faults: the machine runs without its verifier, which also reads less of the format;
-- what jclink leaves out: final superclasses, loader constraints, classes that the machine loads but can't link;
-- what jclink chooses itself: which of several faults of loading is told, which of several superinterface methods
-  is found, that supertypes outside are passed over in look-up;
-- methods that the machine adds to a class for the interfaces above it, where one of these has a default method:
-  look-up ends there, and whose method it would have found isn't seen;
-- the protected methods of java/lang/Object in an interface: the machine takes no interface for its subclass;
-- which interface declares an abstract clone that another one inherits: the machine doesn't tell;
-- classes below or at one that the machine can't load for the sake of a class outside;
-- classes named java/..: only the platform may have these, so they are left out of jars, and a folder has none;
-- whether a found member is static: the machine says so after look-up and access, and jclink with the instructions;
-- the method in which a final field is stored into: the machine looks at it only in class files of version 53 on,
-  so where such a store links, it is linked again in the same class as of version 53, and has the error there;
-- invokeinterface of a private method: the machine links it, as newer editions of the standard have it;
-- invokespecial of an interface that is neither the class's own nor a direct superinterface: the machine says so
-  while it links, the standard has it verified;
-- invokespecial of an abstract method: an AbstractMethodError of running, which comes while the machine links;
-- instructions whose receiver is another than null, and what they would run: methods of the tree have lost their code;
-- instructions where the machine finds nothing of the tree by the reference, or can't link the class that is found.
-Where an answer is not compared, or a difference is explained, it still has to be that of the plain judge.
+The trial compares for each class whether it loads, or the error. For each Class, Fieldref, Methodref and InterfaceMethodref
+of a class that loads, it compares the class that is found, the class that declares a member, or the error. It compares the
+class at fault if the machine's message names it. The messages for NoField and NoMethod name only the reference. For an answer
+Outside it checks only that the machine finds nothing of the tree, and counts the machine's errors by kind.
+
+The instructions are getstatic, putstatic, getfield, putfield, invokevirtual, invokespecial, invokestatic, invokeinterface
+and new, in methods without a code fault. If the answer to an instruction's reference is To, the trial compares that it links,
+or the error and the class at fault. For a field the message names the class of the reference. Then the class at fault must
+be that of the answer. The machine links each different instruction once in each class.
+
+These differences are explained or not compared:
+
+- Format faults. The machine runs without its verifier, and then checks less of the format.
+- Checks that jclink omits: final superclasses, loader constraints, classes that the machine loads but cannot link.
+- Choices of jclink: which of several faults of loading it reports, which of several superinterface methods it finds, and
+  that look-up ignores outside supertypes.
+- Methods that the machine adds to a class whose superinterfaces have a default method. Its look-up ends at them, so the
+  method that it would find otherwise is unknown.
+- The protected methods of java/lang/Object in an interface. For the machine an interface is no subclass of Object.
+- The interface that declares an abstract clone which another one inherits. The machine does not name it.
+- Classes that the machine cannot load because of an outside class, and their subtypes.
+- Classes named java/... Only the platform may have these, so they are left out of jars, and a folder has none.
+- Whether a found member is static. The machine checks it after look-up and access, and jclink checks it with instructions.
+- The method that stores into a final field. The machine checks it only in class files of version 53 or later. So such a
+  store is linked again in the same class with version 53, where it must have the error.
+- invokeinterface of a private method. The machine links it, as newer editions of the standard do.
+- invokespecial of an interface that is neither the class's own nor a direct superinterface. The machine reports it while
+  linking; in the standard it is an error of verification.
+- invokespecial of an abstract method. The AbstractMethodError is one of execution, but the machine throws it while linking.
+- Instructions with a receiver other than null, and the code that they would run. The tree's methods have lost their code.
+- Instructions whose reference leads the machine outside the tree, or to a class that it cannot link.
+
+In all these cases the report must still agree with the plain judge.
 """
 import argparse
 import pathlib
@@ -82,7 +87,7 @@ def readable(data):
 
 
 def unpack(jar, folder):
-    """The class files of a jar that jclink reads, each once."""
+    """Copies the class files of a jar that jclink reads, each once."""
     folder.mkdir()
     with zipfile.ZipFile(jar) as archive:
         for name in archive.namelist():
@@ -95,7 +100,7 @@ def unpack(jar, folder):
 
 
 def write_worlds(options, work):
-    """Folders of random worlds without classes named java/.."""
+    """Writes folders of random worlds without classes named java/.."""
     rng, folders = random.Random(options.seed), []
     while len(folders) < options.worlds:
         files = worlds.make_world(rng)
@@ -109,7 +114,7 @@ def write_worlds(options, work):
 
 
 def files_of(folder):
-    """The paths and bytes of a tree's class files."""
+    """Returns the paths and bytes of a tree's class files."""
     paths = sorted(path for path in folder.rglob("*.class") if path.is_file())
     files = [(str(path.relative_to(folder)).encode(), path.read_bytes()) for path in paths]
     return [(path, data) for path, data in files if readable(data)]
@@ -128,7 +133,7 @@ def report_lines(options, folder, comparison):
 
 
 def resolve(options, folders):
-    """What the machine finds in each folder."""
+    """Returns what the machine finds in each folder."""
     trees = {}
     for at in range(0, len(folders), 500):
         command = [options.java, *MACHINE, ",".join(options.outside), *folders[at:at + 500]]

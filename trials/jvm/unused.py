@@ -1,15 +1,21 @@
 #!/usr/bin/env python3
-"""Compares the marks and methods in the lines of `jclink check --errors` with the classes that a virtual machine misses.
+"""Compares the marks and methods in lines of `jclink check --errors` with the classes that a virtual machine misses.
 
-Usage: unused.py [--judge] [--program PATH] [--java PATH]. Each program of programs.py names a class in one way, in class
-files of versions 51 and 52. They run with all classes, and then without the class that the program names. The lines are
-those of `jclink check --errors`, once ./jclink is built; the environment's JCLINK or --program may name another program,
-and with --judge they are those of the plain judge of trials/check. It needs a java and a javac of version 17 to 19.
+Usage: unused.py [--judge] [--program PATH] [--java PATH]
 
-Required of each program: with all classes it runs to its end; without the one class the machine misses that class where
-the program says so, and nothing else; the lines of the class that runs, and what uses the reference of each, are those that
-the program says; and where the machine misses a class that has lines, one of them is used. Only a class of which an array has
-a line may have one that is not: the machine may throw its error for the array. Status 1: something differs.
+Each program of programs.py names a class in one way, in class files of versions 51 and 52. It runs with all classes, and then
+without the class that it names. The lines are those of `jclink check --errors`, once ./jclink is built. The environment's
+JCLINK or --program may name another program. With --judge they are those of the plain judge of trials/check. The trial needs
+a java and a javac of version 17 to 19.
+
+Each program must satisfy four conditions:
+
+- With all classes it runs to its end.
+- Without the class, the machine misses that class if the program says so, and no other class.
+- The lines for the class that runs, and the user of the reference in each, are those that the program lists.
+- If the machine misses a class that has lines, at least one of them lacks ` (unused)`.
+
+Status 1: something differs.
 
 The machine runs without its verifier, which may load classes that no code resolves.
 """
@@ -30,7 +36,7 @@ import programs
 judge = common.load("check/judge.py")
 
 MACHINE = ["-XX:+UnlockDiagnosticVMOptions", "-XX:-BytecodeVerificationRemote", "-XX:TieredStopAtLevel=1", "-XX:+UseSerialGC", str(HERE / "Missing.java")]
-# The class, the method that uses the reference or none, the reference, the missing class, and the mark.
+# Its groups: the class, the method that uses the reference or none, the reference, the missing class, and the mark.
 LINE = re.compile(r"([^.:]+)(?:\.(\S+))?: (\w+ \S+) -> error 1 NoClass (\S+)( \(unused\))?")
 
 
@@ -46,7 +52,7 @@ def read_options():
 
 
 def write_sources(version, folder, sources):
-    """The class files of the programs that have a source."""
+    """Compiles the programs that have a source."""
     paths = []
     for program in sources:
         path = sources_of(folder, program.package(version)) / "O.java"
@@ -62,7 +68,7 @@ def sources_of(folder, package):
 
 
 def write_tree(folder, tried):
-    """The class files of all programs, in a package each."""
+    """Writes the class files of all programs, each in its own package."""
     folder.mkdir()
     for version in (51, 52):
         write_sources(version, folder, [program for at, program in tried if at == version and program.source])
@@ -74,7 +80,7 @@ def write_tree(folder, tried):
 
 
 def without_deleted(folder, tried):
-    """A copy of the tree without the class of each program."""
+    """Copies the tree without the classes that the programs name."""
     less = folder.with_name("less")
     shutil.copytree(folder, less)
     for version, program in tried:
@@ -83,14 +89,14 @@ def without_deleted(folder, tried):
 
 
 def run(options, folder, tried):
-    """What became of each class that runs."""
+    """Runs the programs, and returns the result of each class that runs."""
     names = [f"{program.package(version)}/{program.runs}" for version, program in tried]
     done = subprocess.run([options.java, *MACHINE, folder, *names], stdout=subprocess.PIPE, text=True, check=True)
     return dict(line.split(": ", 1) for line in done.stdout.splitlines() if line.startswith("v"))
 
 
 def errors_of(options, folder):
-    """The lines of --errors, by the class that they begin with."""
+    """Returns the lines of --errors, by the class that they begin with."""
     if options.judge:
         lines = judge.Report(judge.class_files(judge.files_below(folder)), judge.STANDARD).errors(None)
     else:
@@ -105,7 +111,7 @@ def errors_of(options, folder):
 
 
 def marks(lines, package):
-    """The lines by what they refer to, and what uses each; a line of another form stands for itself."""
+    """Returns a map from the reference in each line to its user. A line of another form is its own key."""
     found = {}
     for line in lines:
         match = LINE.fullmatch(line)
@@ -115,7 +121,7 @@ def marks(lines, package):
 
 
 def differences(program, package, ran, missed, lines):
-    """What is not as the program says."""
+    """Yields each difference from what the program says."""
     found, deleted = marks(lines, package), f"{package}/{program.deleted}"
     if ran != "ran":
         yield f"with all classes: {ran}"

@@ -1,9 +1,9 @@
 #!/usr/bin/env python3
-"""The part of the last of many classes that reach one another: in a chain, in a ring, and in other shapes.
+"""Measures the part of the last of many classes that reach one another: in a chain, in a ring, and in other shapes.
 
-Usage: deep.py [COUNT]. COUNT is the greatest number of classes, 65,535 where none is given; each shape is made
-with that many, and with a half, a quarter and an eighth of them. It builds the program jc_asked by `rt run`, and
-tells asks and seconds of a processor, less those of as many classes that reach only themselves.
+Usage: deep.py [COUNT]. COUNT is the greatest number of classes, 65,535 by default. Each shape is made with COUNT classes, and
+with a half, a quarter and an eighth of them. The trial builds the program jc_asked by `rt run`. It prints the look-ups, and
+the seconds of a processor less those for the same number of classes that reach only themselves.
 """
 import pathlib
 import resource
@@ -20,7 +20,7 @@ def name(number):
     return b"N%d" % number
 
 
-# The superclass of class K of N, and its interfaces.
+# Functions that return the superclass and the interfaces of class K of N.
 SHAPES = {
     "alone": lambda k, n: (0, []),
     "chain": lambda k, n: (k - 1, []),
@@ -42,7 +42,7 @@ def world(shape, count):
 
 
 def told(last, frames):
-    """The lines, and the seconds of a processor, the least of three runs."""
+    """Returns the lines of the answer, and the least seconds of a processor of three runs."""
     least = None
     for _ in range(3):
         before = resource.getrusage(resource.RUSAGE_CHILDREN)

@@ -1,9 +1,10 @@
-"""A plain judge of linking, written from `docs/RULES.md`: how each class of a world loads, which names are
-circular, what each symbolic reference resolves to, and which instructions don't link. It asks the whole world at
-every question.
+"""A plain judge of linking, written from `docs/RULES.md`.
 
-World(files, prefixes) takes pairs of a path and a file's bytes; parts() gives the lines of the parts, uses(name)
-the instructions of a class that are looked at, and deciding(use) the line of the table that says it doesn't link.
+It finds how each class of a world loads, which names are circular, what each symbolic reference resolves to, and which
+instructions do not link. Each question searches the whole world.
+
+World(files, prefixes) takes pairs of a path and a file's bytes. parts() returns the lines of the parts. uses(name) yields the
+instructions of a class that are judged. deciding(use) returns the line of the table by which an instruction does not link.
 """
 import importlib.util
 import pathlib
@@ -33,7 +34,7 @@ def package(name):
 
 
 class Record:
-    """What a class file declares and refers to; nothing of it where it has a format fault."""
+    """The declarations and references of a class file. A class file with a format fault has none."""
 
     def __init__(self, data):
         file = rules.ClassFile(data)
@@ -81,8 +82,10 @@ class BuiltIn(Record):
 
 
 def uses_of(file, faulty):
-    """Each of the nine instructions, but those of faulty methods: the method's number, the offset, the opcode and the
-    constant's index."""
+    """Yields each of the nine instructions in methods without faults.
+
+    An instruction is the method's number, the offset, the opcode and the constant's index.
+    """
     for number, method in enumerate(file.methods):
         codes = code_rules.codes_of(file, method)
         if len(codes) != 1 or number in faulty:
@@ -95,12 +98,12 @@ def uses_of(file, faulty):
             at += code_rules.length_at(code, at)
 
 
-# Instructions that name a constant by two bytes; `ldc` (18) names one by a single byte.
+# The opcodes of instructions with an index of two bytes. The index of `ldc` (18) has one byte.
 NAMING = {19, 20, *range(178, 188), 189, 192, 193, 197}
 
 
 def named_in(file, method):
-    """The indexes that the instructions and handlers of a method name."""
+    """Yields the indexes that the instructions and handlers of a method name."""
     codes = code_rules.codes_of(file, method)
     if len(codes) != 1:
         return
@@ -116,7 +119,7 @@ def named_in(file, method):
 
 
 def first_methods(file):
-    """The number of the first method that names each index, or a member of the class at this index."""
+    """Returns for each index the number of the first method that names it, or names a member of the class at this index."""
     first = {}
     for number, method in enumerate(file.methods):
         for index in named_in(file, method):
@@ -127,7 +130,7 @@ def first_methods(file):
 
 
 def named_by(file):
-    """The indexes that instructions, handlers, method handles and bootstrap methods name."""
+    """Yields the indexes that instructions, handlers, method handles and bootstrap methods name."""
     for method in file.methods:
         yield from named_in(file, method)
     for index in file.entries:
@@ -146,8 +149,11 @@ def arguments_in(body):
 
 
 def resolved_descriptors(file, named):
-    """The descriptors whose classes code resolves: those of the method types, the call sites and the methods of
-    java/lang/invoke/MethodHandle that are named, and those of the members that method handles refer to."""
+    """Yields the descriptors whose classes code resolves.
+
+    These are the descriptors of named method types, call sites and methods of java/lang/invoke/MethodHandle, and those of
+    the members that method handles refer to.
+    """
     for index in named:
         if file.tag(index) == 16:
             yield file.text(file.pair(index)[0])
@@ -159,8 +165,10 @@ def resolved_descriptors(file, named):
 
 
 def used_by(file):
-    """The indexes that are named, with those of the classes of references to members that are; and those of Class
-    constants whose classes are in descriptors that code resolves."""
+    """Returns the indexes that are used, and the Class constants whose classes are in descriptors that code resolves.
+
+    An index is used if something names it, or names a reference to a member of the class at this index.
+    """
     named = set(named_by(file))
     owners = {file.pair(index)[0] for index in named if file.tag(index) in (9, 10, 11)}
     classes = {name for text in set(resolved_descriptors(file, named)) for name in re.findall(rb"L([^;]*);", text)}
@@ -169,8 +177,10 @@ def used_by(file):
 
 
 class Use(typing.NamedTuple):
-    """An instruction whose reference is answered To: where it stands, what it names, and what is found at which home.
-    Of a class the home is that class, and there is no member."""
+    """An instruction with an answer To: its place, what it names, and the member that is found with the class that declares it.
+
+    If it names a class, `home` is that class, and there is no member.
+    """
     user: bytes
     method: int
     method_name: bytes
@@ -186,14 +196,14 @@ class Use(typing.NamedTuple):
         return bool(self.flags & flags)
 
     def stands_in(self, name):
-        """Whether its class declares the member, and its method has this name."""
+        """Returns whether its class declares the member, and its method has this name."""
         return self.user == self.home and self.method_name == name
 
     def makes_another(self):
         return self.member[0] == b"<init>" and self.home != self.named
 
 
-# The instructions, where they don't link, the same as a test, the error, and which class is at fault.
+# The table of instructions that do not link: opcodes, the condition as text and as test, the error, and the class at fault.
 LINES = [
     (["getstatic", "putstatic"], "not STATIC", lambda use: not use.has(STATIC), "Incompatible", "home"),
     (["getfield", "putfield"], "STATIC", lambda use: use.has(STATIC), "Incompatible", "home"),
@@ -208,12 +218,12 @@ LINES = [
 
 
 def deciding(use):
-    """The first line that applies, or None where the instruction links."""
+    """Returns the first line of the table that applies, or None if the instruction links."""
     return next((line for line in LINES if use.instruction in line[0] and line[2](use)), None)
 
 
 def innermost(text):
-    """The class that the text of a Class constant names, of an array the innermost one, or None."""
+    """Returns the class that the text of a Class constant names, or the innermost element class of an array, or None."""
     if not text.startswith(b"["):
         return text
     element = text.lstrip(b"[")
@@ -233,7 +243,7 @@ class World:
         return name not in self.records and name.startswith(self.prefixes)
 
     def above(self, name):
-        """What one or more steps to a supertype reach."""
+        """Returns the transitive supertypes of a name."""
         if name not in self.aboves:
             found, waiting = [], [name]
             while waiting:
@@ -291,7 +301,7 @@ class World:
         return ("To", text, None) if self.sees(user, element) else ("error", "IllegalAccess", element)
 
     def start(self, user, text):
-        """The class where look-up begins, or an answer."""
+        """Returns the class where look-up begins, or an answer."""
         answer = self.resolve_class(user, text)
         if not text.startswith(b"["):
             return (text, None) if answer[0] == "To" else (None, answer)
@@ -373,7 +383,7 @@ class World:
     # ---- instructions
 
     def uses(self, name):
-        """The instructions of a class whose references are answered To."""
+        """Yields the instructions of a class whose references have the answer To."""
         if self.load(name) != OK:
             return
         record, answers = self.records[name], {}
@@ -389,7 +399,7 @@ class World:
                 yield Use(name, method, name_of_method, offset, INSTRUCTIONS[opcode], tag, text, home, found, flags)
 
     def unlinked(self, name):
-        """The instructions of a class that don't link, each with the error and the class at fault."""
+        """Yields the instructions of a class that do not link, each with the error and the class at fault."""
         for use in self.uses(name):
             line = deciding(use)
             if line:
@@ -399,7 +409,7 @@ class World:
     # ---- access
 
     def below(self, name, other):
-        """Whether a class is another or a subclass of it, along superclasses."""
+        """Returns whether a class is the other one or a subclass of it, along superclasses."""
         if other == OBJECT:
             return True
         while name is not None and name != other:
@@ -439,7 +449,7 @@ class World:
 
 
 def shown(text):
-    """A name as it is printed."""
+    """Returns a name in the form in which jclink prints it."""
     units = text.replace(b"\xc0\x80", b"\0").decode("utf-8", "surrogatepass").encode("utf-16-be", "surrogatepass")
     codes = [int.from_bytes(units[at:at + 2], "big") for at in range(0, len(units), 2)]
     return "".join("\\\\" if code == 0x5c else chr(code) if 0x20 <= code <= 0x7e else f"\\u{code:04x}" for code in codes)

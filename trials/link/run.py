@@ -1,10 +1,10 @@
 #!/usr/bin/env python3
-"""Compares the parts of classes with those that a plain judge finds (judge.py), over random small worlds.
+"""Compares the parts of classes with those of a plain judge (judge.py), over random small worlds.
 
-With --jars also over trees: the class files of versions 51 and 52 in the jars of a folder, a world for each jar.
-It tells how often each sort of line is owed, and how often each line of the table of instructions decides.
+With --jars it also compares trees: the class files of versions 51 and 52 in the jars of a folder, a world for each jar. It
+prints how often each kind of line is expected, and how often each line of the table of instructions decides.
 
-Usage: run.py [--worlds N] [--seed N] [--jars FOLDER]. It wants `./jclink` built.
+Usage: run.py [--worlds N] [--seed N] [--jars FOLDER], once ./jclink is built.
 """
 import argparse
 import pathlib
@@ -24,7 +24,7 @@ STANDARD = (b"java/", b"javax/")
 
 
 def answer(files):
-    """What the report of the files says of the parts, and which classes are circular."""
+    """Returns the sections of the files' report with the parts and the circular classes."""
     with common.Workplace() as folder:
         for at, (_, data) in enumerate(files):
             (folder / f"{at:06}.class").write_bytes(data)
@@ -34,7 +34,7 @@ def answer(files):
 
 
 def sort_of(line):
-    """What a line tells, without its names."""
+    """Returns the kind of a line: what it says without its names."""
     words = line.split(" ")
     if line.startswith("part "):
         return "part " + (words[4] if words[2] == "error" else words[2])
@@ -51,7 +51,7 @@ def flags_of(use, names):
 
 
 def kind_of(use):
-    """What tells apart instructions of one opcode."""
+    """Returns a text that distinguishes uses of one opcode."""
     if use.instruction == "new":
         return flags_of(use, ["INTERFACE"]) or flags_of(use, ["ABSTRACT"])
     if use.instruction == "invokeinterface":
@@ -66,7 +66,7 @@ def kind_of(use):
 
 
 def sorts_of_uses(world):
-    """Each instruction whose reference is answered To: its name, where the table has it as an error, and its kind."""
+    """Yields for each instruction with an answer To its name, the condition by which it does not link, and its kind."""
     for name in world.given:
         for use in world.uses(name):
             line = judge.deciding(use)
@@ -74,7 +74,7 @@ def sorts_of_uses(world):
 
 
 def tell_uses(uses):
-    """How often each line of the table decides, by instruction and kind, and how often none."""
+    """Prints how often each line of the table decides, by instruction and kind, and how often none does."""
     rows, others = [], []
     for (name, where, kind), number in sorted(uses.items()):
         told = " ".join(filter(None, [name, where, kind and f"({kind})", str(number)]))

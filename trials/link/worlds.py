@@ -1,4 +1,4 @@
-"""Random small worlds: class files with supertypes, members, references and instructions, some of them faulty."""
+"""Makes random small worlds: class files with supertypes, members, references and instructions, some of them faulty."""
 import re
 import struct
 
@@ -13,19 +13,19 @@ PUBLIC, PRIVATE, PROTECTED, STATIC, FINAL, NATIVE, ABSTRACT, INTERFACE = 1, 2, 4
 OF_METHOD = [PUBLIC, PUBLIC, PRIVATE, PROTECTED, PROTECTED, 0]
 CLASS, FIELDREF, METHODREF, INTERFACE_METHODREF = 7, 9, 10, 11
 STRING, METHOD_HANDLE, METHOD_TYPE, INVOKE_DYNAMIC = 8, 15, 16, 18
-# The instructions that may not link, and the kinds of constants that each names, of two the second at version 52 alone.
+# The instructions that may not link, and the kinds of constants that each names. A second kind is only for version 52.
 NAMES_OF = {178: [9], 179: [9], 180: [9], 181: [9], 182: [10], 183: [10, 11], 184: [10, 11], 185: [11], 187: [7]}
 PUTFIELD, INVOKESPECIAL, INVOKEINTERFACE, TABLESWITCH, LOOKUPSWITCH = 181, 183, 185, 170, 171
 LDC, LDC_W, INVOKEVIRTUAL, INVOKEDYNAMIC = 18, 19, 182, 186
 # The kinds of a method handle, by the tag of its member.
 HANDLE_KINDS = {FIELDREF: [1, 2, 3, 4], METHODREF: [5, 6, 7], INTERFACE_METHODREF: [9]}
-# Those that may not link in several ways stand here more often.
+# Instructions that may fail to link in several ways are more frequent here.
 OFTEN = [*NAMES_OF, PUTFIELD, INVOKESPECIAL, INVOKESPECIAL, INVOKEINTERFACE]
-# Other instructions, some of whose operands look like those; the last ones name a class.
+# Other instructions. Some of their operands look like those opcodes.
 OTHERS = [(0,), (16, b"\xb2"), (17, b"\xbb\xb5"), (21, b"\3"), (132, b"\2\xb7"), (167, b"\0\3"), (196, b"\x15\0\2"),
           (196, b"\x84\0\1\xb8\xb9"), (TABLESWITCH,), (LOOKUPSWITCH,)]
 NAMING_A_CLASS = [19, 189, 192, 193]
-# Instructions that break a rule: a local variable, a count, a name, a kind of constant, a class with dimensions.
+# Instructions that break a rule for a local variable, a count, a name, a kind of constant, or a class with dimensions.
 FAULTY = [(21, b"\xc8"), (185, (11, b"A", b"m", b"()V"), b"\0\0"), (182, (10, b"A", b"<init>", b"()V")),
           (182, (11, b"A", b"m", b"()V")), (187, (7, b"[LA;"))]
 
@@ -50,8 +50,11 @@ class Pool:
         return self.entry(b"\x0c" + struct.pack(">HH", self.utf8(name), self.utf8(descriptor)))
 
     def refer(self, tag, owner, name=None, descriptor=None):
-        """The index of a constant. Besides a class and a member it may be a string, a method type by its descriptor, a
-        method handle by its kind and member, or a call site by its bootstrap method, with a handle and its arguments, name and descriptor."""
+        """Returns the index of a constant.
+
+        For a class, a string or a method type, `owner` is its text. For a method handle, `owner` is its kind and `name` its
+        member. For a call site, `owner` is the handle and the arguments of its bootstrap method.
+        """
         if tag in (CLASS, STRING, METHOD_TYPE):
             return self.entry(bytes([tag]) + struct.pack(">H", self.utf8(owner)))
         if tag == METHOD_HANDLE:
@@ -60,7 +63,7 @@ class Pool:
         return self.entry(bytes([tag]) + struct.pack(">HH", first, self.pair(name, descriptor)))
 
     def bootstrap(self, handle, arguments):
-        """The number of a bootstrap method."""
+        """Returns the number of a bootstrap method."""
         indexes = [self.refer(*one) for one in (handle, *arguments)]
         method = struct.pack(f">HH{len(arguments)}H", indexes[0], len(arguments), *indexes[1:])
         if method not in self.bootstraps:
@@ -68,7 +71,7 @@ class Pool:
         return self.bootstraps.index(method)
 
     def attributes(self):
-        """Those of the class: its bootstrap methods, where there are some."""
+        """Returns the attributes of the class: its bootstrap methods, if it has any."""
         if not self.bootstraps:
             return b"\0\0"
         body = struct.pack(">H", len(self.bootstraps)) + b"".join(self.bootstraps)
@@ -76,14 +79,17 @@ class Pool:
 
 
 def count_of(descriptor):
-    """The slots of the parameters, and one."""
+    """Returns the number of slots of the parameters, plus one."""
     parameters = re.findall(rb"\[*(?:[BCDFIJSZ]|L[^;]*;)", descriptor[1:descriptor.index(b")")])
     return 1 + sum(2 if one in (b"J", b"D") else 1 for one in parameters)
 
 
 def instruction(pool, at, opcode, operand=b"", more=None):
-    """The bytes of an instruction at an offset. Its operand is bytes, or a reference with more bytes behind it; a
-    switch has one of its own, and only itself for a target. An ldc whose index is too large for it is an ldc_w."""
+    """Returns the bytes of an instruction at an offset.
+
+    Its operand is bytes, or a reference followed by more bytes. The only target of a switch is the switch itself. An ldc whose
+    index is too large becomes an ldc_w.
+    """
     if opcode in (TABLESWITCH, LOOKUPSWITCH):
         operand = bytes(3 - at % 4) + struct.pack(">iiii", 0, opcode == LOOKUPSWITCH, 0, 0)
     if isinstance(operand, bytes):
@@ -98,7 +104,7 @@ def instruction(pool, at, opcode, operand=b"", more=None):
 
 
 def code_of(pool, instructions):
-    """A Code with these instructions and a return."""
+    """Returns a Code with these instructions and a return."""
     code = b""
     for one in instructions:
         code += instruction(pool, len(code), *one)
@@ -107,8 +113,12 @@ def code_of(pool, instructions):
 
 
 def class_file(name, flags, parent, interfaces, fields, methods, references, major=52, codes=None):
-    """A class file; members are (flags, name, descriptor), references what Pool.refer takes, such as (tag, class) and
-    (tag, class, name, descriptor). The code of a method is a return, and before it the instructions that `codes` has for the method's number."""
+    """Returns a class file.
+
+    Members are (flags, name, descriptor). References are arguments of Pool.refer, for example (tag, class) and
+    (tag, class, name, descriptor). The code of a method is the instructions that `codes` has for the method's number, and a
+    return.
+    """
     pool = Pool()
     head = struct.pack(">HHH", flags, pool.named(name), pool.named(parent) if parent is not None else 0)
     tables = struct.pack(">H", len(interfaces)) + b"".join(struct.pack(">H", pool.named(one)) for one in interfaces)
@@ -130,7 +140,7 @@ def some(rng, things, most):
 
 
 def once(members):
-    """Each name and descriptor once."""
+    """Returns the members without those that repeat a name and descriptor."""
     return list({member[1:]: member for member in members}.values())
 
 
@@ -180,13 +190,13 @@ def make_type(rng, names):
 
 
 def make_descriptor(rng, names):
-    """The descriptor of a method, mostly with classes in it."""
+    """Returns the descriptor of a method, mostly with classes in it."""
     parameters = b"".join(make_type(rng, names) for _ in range(rng.randrange(3)))
     return b"(" + parameters + b")" + (b"V" if rng.random() < 0.4 else make_type(rng, names))
 
 
 def make_handle(rng, members, names):
-    """A method handle of a member that there is, or that has a descriptor of its own."""
+    """Returns a method handle of an existing member, or of one with a random descriptor."""
     tag = rng.choice([FIELDREF, METHODREF, METHODREF, INTERFACE_METHODREF])
     fitting = [one for one in members if one[0] == tag and one[2] not in (b"<init>", b"<clinit>")]
     if fitting and rng.random() < 0.4:
@@ -209,7 +219,7 @@ def make_call_site(rng, members, names):
 
 
 def make_described(rng, members, names):
-    """A constant whose descriptor is resolved with it where code names it, and the opcode of an instruction that names it."""
+    """Returns an opcode and a constant whose descriptor is resolved when code names the constant."""
     return rng.choice([
         (rng.choice([LDC, LDC_W]), (METHOD_TYPE, make_descriptor(rng, names))),
         (rng.choice([LDC, LDC_W]), make_handle(rng, members, names)),
@@ -219,7 +229,7 @@ def make_described(rng, members, names):
 
 
 def make_references(rng, names, members=()):
-    """References that no code has to name, among them now and then a class, an array and what describes them."""
+    """Returns references that code need not name. Some are classes, arrays or constants with descriptors."""
     references = [make_reference(rng, rng.choice([7, 9, 9, 10, 10, 11, 11]), names) for _ in range(rng.randrange(10))]
     if rng.random() < 0.3:
         references += [make_reference(rng, CLASS, names) for _ in range(rng.randrange(4))]
@@ -229,7 +239,7 @@ def make_references(rng, names, members=()):
 
 
 def declared(shapes):
-    """References to the members that classes declare, by these and by the classes right below them."""
+    """Yields references to the members that classes declare, by these classes and by their direct subtypes."""
     for name, (_, _, _, fields, methods) in shapes:
         for owner, (flags, parent, interfaces, _, _) in shapes:
             if name in (owner, parent, *interfaces):
@@ -239,7 +249,7 @@ def declared(shapes):
 
 
 def named_by(rng, opcode, tag, user, members, names):
-    """What an instruction names: mostly a member that there is, often one of its class."""
+    """Returns the reference of an instruction, mostly to an existing member, often to one of its own class."""
     if tag == CLASS:
         return CLASS, rng.choice(names)
     makes = opcode == INVOKESPECIAL and tag == METHODREF and rng.random() < 0.5
@@ -272,7 +282,7 @@ def make_code(rng, user, major, members, names):
 
 
 def make_codes(rng, user, major, methods, members, names):
-    """Instructions for most methods, by their numbers."""
+    """Returns instructions for most methods, by the methods' numbers."""
     some_methods = [number for number in range(len(methods)) if rng.random() < 0.85]
     return {number: make_code(rng, user, major, members, names) for number in some_methods}
 
@@ -294,13 +304,16 @@ def object_class(rng):
 
 
 def make_shapes(rng):
-    """For each file a name, a version, and flags, superclass, interfaces, fields and methods; and names to refer to."""
+    """Returns the shapes of all files, and names to refer to.
+
+    A shape is a name, a version, and flags, superclass, interfaces, fields and methods.
+    """
     given = rng.sample(NAMES, rng.randrange(2, 10))
     anything = given * 3 + MISSING + [OBJECT]
     shapes, interfaces = [], set(rng.sample(given, rng.randrange(len(given))))
     for at, name in enumerate(given + some(rng, given, 1)):
         major = rng.choice([51, 52, 52])
-        # Most supertypes are of the right kind and stand earlier, so that not all is circular.
+        # Most supertypes are of the right kind and occur earlier, so that few classes are circular.
         before = given if rng.random() < 0.08 else given[:at]
         supertypes = [one for one in before if one in interfaces] * 9 + [one for one in anything if rng.random() < 0.04]
         downs = [one for one in before if one not in interfaces] * 9 + [one for one in anything if rng.random() < 0.04]
@@ -313,7 +326,7 @@ def make_shapes(rng):
 
 
 def make_world(rng):
-    """Files of a world: pairs of a path and bytes, in the order of their paths."""
+    """Returns the files of a world: pairs of a path and bytes, sorted by path."""
     files, (shapes, anything), has_handle = [], make_shapes(rng), rng.random() < 0.1
     members = list(declared([(name, made) for name, _, made in shapes]))
     members += [(METHODREF, HANDLE, b"invoke", b"(I)V")] * 5 * has_handle

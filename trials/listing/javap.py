@@ -1,15 +1,19 @@
 #!/usr/bin/env python3
 """Compares listings with what `javap -c -p -v` prints.
 
-Compiles the sources of trials/sources for Java 7 and 8, lets the program jc_asked list each class file,
-reads the listings and javap's text into the same words, and compares them line by line: the class with
-its flags, version and superclass, how many interfaces, members and attributes it has, the constants, the
-members with their flags, signatures and source file, each instruction with its operands and the reference
-in its comment, switches and exception tables. A fault that is listed is a difference.
-With --jars also over the class files of versions 51 and 52 in the jars of a folder.
+The trial compiles the sources of trials/sources for Java 7 and 8. The program jc_asked lists each class file. The trial
+rewrites the listings and javap's text into a common form and compares the lines. They have:
 
-Usage: javap.py [--seed N] [--jars FOLDER] [--most N]. It builds the program by `rt run`, and needs javac
-and javap.
+- the class with its flags, version and superclass, and the number of interfaces, members and attributes
+- the constants
+- the members with their flags, signatures, and the source file
+- each instruction with its operands, and the reference in javap's comment
+- switches and exception tables
+
+A fault in a listing is a difference. With --jars the trial also compares the class files of versions 51 and 52 in the jars
+of a folder.
+
+Usage: javap.py [--seed N] [--jars FOLDER] [--most N]. It builds the program by `rt run`, and needs javac and javap.
 """
 import pathlib
 import re
@@ -30,19 +34,19 @@ CONTROL = {"\t": "\\t", "\n": "\\n", "\r": "\\r", "\b": "\\b", "\f": "\\f", '"':
 
 
 def plain(text):
-    """The text that a listing shows, decoded; lone surrogates as javap prints them."""
+    """Returns the decoded text that a listing shows, with lone surrogates as javap prints them."""
     units = ESCAPE.sub(lambda found: "\\" if found[2] is None else chr(int(found[2], 16)), text)
     whole = units.encode("utf-16", "surrogatepass").decode("utf-16", "surrogatepass")
     return "".join("?" if 0xd800 <= ord(c) <= 0xdfff else c for c in whole)
 
 
 def escaped(text):
-    """A Utf8 as javap prints it."""
+    """Returns a Utf8 in the form in which javap prints it."""
     return "".join(CONTROL.get(c, c) if ord(c) > 0x1f and not 0x7f <= ord(c) <= 0x9f or c in CONTROL else f"\\u{ord(c):04x}" for c in plain(text))
 
 
 def reference(words, this):
-    """A reference in the words of javap's comment, without its quotes."""
+    """Returns a reference in the form of javap's comment, without quotes."""
     kind, text = words.split(" ", 1)
     text = plain(text)
     if kind != "class" and text.startswith(this + "."):
@@ -51,7 +55,7 @@ def reference(words, this):
 
 
 def real(size, text):
-    """The bits of a floating point number that javap prints."""
+    """Returns the bits of a floating-point number that javap prints."""
     number = float({"NaN": "nan", "Infinity": "inf", "-Infinity": "-inf"}.get(text, text))
     return "NaN" if number != number else struct.pack(">f" if size == 4 else ">d", number).hex()
 
@@ -64,10 +68,10 @@ def bits(size, text):
 # ---- the listing
 
 def constant(words):
-    """A constant's line in words: its index, its kind and its body."""
+    """Returns a constant's line in the common form: its index, its kind and its body."""
     index, kind, body = words[3:].split(" ", 2)
     if kind == "Utf8":
-        # javap drops blanks at the end of a line.
+        # (javap drops blanks at the end of a line)
         return f"{index} {kind} {escaped(body)}".rstrip()
     elif kind in ("Float", "Double"):
         body = bits(4 if kind == "Float" else 8, body)
@@ -104,13 +108,13 @@ def instruction(line, this, loads):
 
 
 def counts(lines):
-    """How many interfaces, fields, methods and attributes of the class a listing has."""
+    """Returns the numbers of interfaces, fields, methods and attributes of the class in a listing."""
     of = Counter(line.split(" ")[0] for line in lines)
     return f"counts {of['interface']} {of['field']} {of['method']} {of['attribute']}"
 
 
 def ours(lines):
-    """A listing in the words that are compared."""
+    """Returns a listing in the common form."""
     out, this = [], ""
     for line in lines:
         words = line.split(" ")
@@ -163,7 +167,7 @@ def flags(found):
 
 
 def member_name(header, this):
-    """The name in a member's declaration, as javap prints it in Java's words."""
+    """Returns the name in a member's declaration, which javap prints in Java's syntax."""
     if header.endswith("{}"):
         return "<clinit>"
     before = header.split("(")[0] if "(" in header else header
@@ -185,7 +189,7 @@ def javap_constant(index, kind, body):
 
 
 class Reader:
-    """Reads javap's text of one class into the words that are compared."""
+    """Reads javap's text of one class into the common form."""
 
     def __init__(self):
         self.out, self.this, self.header, self.descriptor = [], "", "", ""
@@ -285,7 +289,7 @@ class Reader:
 
 
 def javaps(paths):
-    """The words of each of these files."""
+    """Returns javap's text of each of these files in the common form."""
     done = subprocess.run(["javap", "-J-Dfile.encoding=UTF-8", "-J-Xss8m", "-c", "-p", "-v", *paths], capture_output=True, check=False)
     found, reader = [], None
     for line in done.stdout.decode("utf-8", "replace").split("\n"):
@@ -298,7 +302,7 @@ def javaps(paths):
 
 
 def listings(frames):
-    """The lines of each listing, from the program."""
+    """Returns the lines of each listing of jc_asked."""
     text = common.answer_text("listings", frames)
     found = [[]]
     for line in text.splitlines():
@@ -310,7 +314,7 @@ def listings(frames):
 
 
 def normal(lines):
-    """Signatures and source files stand where each tool prints attributes: they are compared as they come, by sort."""
+    """Returns the lines with signatures and source files last and sorted, since the tools print them in different places."""
     apart = [line for line in lines if line.split(" ")[0] in TWICE_SHOWN]
     return [line for line in lines if line.split(" ")[0] not in TWICE_SHOWN] + sorted(apart)
 

@@ -1,10 +1,10 @@
 #!/usr/bin/env python3
-"""Compares listings, byte for byte, with those of a plain program (plain.rs), and the time that both take.
+"""Compares listings, byte for byte, with those of a plain program (plain.rs), and measures the time of both.
 
-Both read the same class files from a file and write their text to one; the program of the trial judges each
-file too, and the plain one judges nothing. The times are seconds of a processor, the least of several runs.
+Both read the same class files from a file and write their text to a file. jc_asked also judges each class file; the plain
+program does not. The times are seconds of a processor, the least of several runs.
 
-Usage: plain.py [--jars FOLDER] [--seed N]. Without --jars it lists what it compiles from trials/sources. It
+Usage: plain.py [--jars FOLDER] [--seed N]. Without --jars it lists the class files that it compiles from trials/sources. It
 builds jc_asked by `rt run`, and needs javac and rustc.
 """
 import pathlib
@@ -32,7 +32,7 @@ def processor_seconds():
 
 
 def list_all(command, frames, text):
-    """Writes the listings of a file of frames to a file, and gives the least time of several runs."""
+    """Writes the listings of a file of frames to a file, and returns the least time of several runs."""
     least = float("inf")
     for _ in range(RUNS):
         with open(frames, "rb") as taken, open(text, "wb") as given:

@@ -1,11 +1,14 @@
 #!/usr/bin/env python3
-"""Refuses each request for memory of edits in turn, and compares what the session says before and after.
+"""Makes each allocation of edits fail in turn, and compares the answers of the session before and after.
 
-Usage: edits.py, which builds jc_asked. It needs a C compiler.
-Each edit of a few lists is asked for twice. Before the first and behind each, the report, the dependants of the lists'
-names, which of the lists' prefixes are held, and the bytes of each file are asked for. An edit that is refused for want of memory has to leave all of them as
-they were, and the same edit then gives what it would have given. Last, how many requests the edit makes that adds one
-more class to 200, and to 400, that refer to no other: beside 400 at most 60 more. It ends with 1 where something differs.
+Usage: edits.py. It builds jc_asked, and needs a C compiler.
+
+Each edit of a few lists is made twice. Before the first edit and after each edit, the trial asks for the report, dependants,
+prefixes, and the bytes of each file. An edit that runs out of memory must not change these answers. The second edit must then
+have the result that the first one would have had.
+
+At the end the trial counts the allocations of an edit that adds one more class to 200 and to 400 classes without references.
+Beside 400 classes it may make at most 60 more allocations. Status 1: something differs.
 """
 import itertools
 import pathlib
@@ -18,7 +21,7 @@ import common
 worlds = common.load("link/worlds.py")
 OBJECT, CLASS = worlds.OBJECT, 7
 NO_MEMORY = "refused NoMemory"
-# So many more requests may an edit make beside twice as many classes.
+# How many more allocations an edit may make beside twice as many classes.
 MOST_MORE = 60
 
 
@@ -43,7 +46,7 @@ LISTS = {
 }
 NAMES = (b"A", b"B", b"X", b"Y", b"org/Y", b"java/util/ArrayList", OBJECT)
 PREFIXES = (b"java/", b"javax/", b"org/", b"org/x/")
-# Of edits of prefixes: one is added, one is dropped.
+# The commands that add and drop a prefix.
 PREFIX_WORDS = (b"p", b"x")
 
 
@@ -61,7 +64,7 @@ def paths_of(steps):
 
 
 def told_of(text, steps):
-    """Pairs of an edit's answer and what is said behind it. The first has no answer."""
+    """Returns pairs of an edit's answer and the answers after the edit. The first pair has no edit."""
     lines, pairs = iter(text.decode("ascii").splitlines()), []
     for answer in itertools.chain([""], lines):
         if answer == "end":
@@ -76,7 +79,7 @@ def told_of(text, steps):
 
 
 def files_of(steps):
-    """The bytes of the files before the list and behind each edit, as they are said."""
+    """Returns the bytes of the files before the list and after each edit, in the form of the answers."""
     files = dict.fromkeys(paths_of(steps), "none")
     found = [list(files.values())]
     for word, path, data in steps:
@@ -87,7 +90,7 @@ def files_of(steps):
 
 
 def is_owed(pairs, owed):
-    """Whether at most one edit wanted memory, it changed nothing, and all others gave what they owe."""
+    """Returns whether at most one edit ran out of memory, that edit changed nothing, and all others have the right answers."""
     if pairs[0] != owed[0]:
         return False
     before, wanted = owed[0][1], 0
@@ -108,7 +111,7 @@ def is_owed(pairs, owed):
 
 
 def refuse_each(what, steps, folder, shim):
-    """Refuses each request in turn, and counts those that an edit felt."""
+    """Makes each allocation fail in turn, and counts the failures that an edit reports."""
     def run(number):
         return common.run_refused([*common.ANSWERS, "edits"], frames_of(steps), folder, shim, number)
 
@@ -129,7 +132,7 @@ def refuse_each(what, steps, folder, shim):
 
 
 def requests_of_the_last(classes, folder, shim):
-    """How many requests the edit makes that adds one more class to so many."""
+    """Returns the number of allocations of an edit that adds one more class to `classes` classes."""
     names = [b"C%d" % number for number in range(classes + 1)]
     frames = common.framed([common.framed([b""] + [frame for name in names for frame in (b"a" + name, named(name))])])
     _, _, _, number = common.run_refused([*common.ANSWERS, "edits"], frames, folder, shim, 0)

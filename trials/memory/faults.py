@@ -1,8 +1,10 @@
 #!/usr/bin/env python3
-"""Refuses each request for memory of jc_asked in turn while it looks for format faults.
+"""Makes each allocation of jc_asked fail in turn while it searches for format faults.
 
-Usage: faults.py. It builds the program by `rt run`, and needs a C compiler. The line of the file that is being judged is then a refusal for want of memory, and the line of any other
-file is as it is with ample memory; or the program ends with an error before it answers.
+Usage: faults.py. It builds the program by `rt run`, and needs a C compiler.
+
+Then the line of the current file must report out of memory, and the lines of all other files must be those of a run with
+enough memory. Or the program ends with an error before it prints a line.
 """
 import pathlib
 import sys

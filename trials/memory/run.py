@@ -1,9 +1,9 @@
 #!/usr/bin/env python3
-"""Refuses each request for memory of the built program in turn, and compares what it says.
+"""Makes each allocation of the built program fail in turn, and compares its output.
 
 Usage: run.py, once ./jclink is built. It needs a C compiler.
-Each run with one refusal ends with status 4, `jclink: no memory`, and a beginning of the output that it owes (of
-`check` nothing), or gives the whole output, where what was asked for could be done without.
+Each run with one failing allocation must end with status 4, `jclink: no memory` and a beginning of the right output, which is
+empty for `check`. Or it prints the whole output, if it can do without the allocation.
 """
 import pathlib
 import sys
@@ -44,7 +44,8 @@ wrong
 end
 """
 
-# A use of q/E by a descriptor, one of q/F by an instruction, and a `getstatic` of a field that is not static. Nothing uses q/G.
+# A use of q/E by a descriptor, a use of q/F by an instruction, and a `getstatic` of a field that is not static. Nothing uses
+# q/G.
 CODE_OF_D = [(worlds.LDC, (worlds.METHOD_TYPE, b"(Lq/E;[Lp/C;)V")), (NEW, (7, b"q/F")), (GETSTATIC, (9, b"p/D", b"x", b"I"))]
 TREE = {
     "tree/I.class": worlds.class_file(b"I", 0x601, worlds.OBJECT, [], [], [(1, b"m", b"()V")], []),
@@ -57,7 +58,7 @@ TREE = {
 
 
 def refuse_each(words, lines, folder, shim, begun):
-    """Refuses each request in turn; begun says what may be written before the end for want of memory."""
+    """Makes each allocation fail in turn. `begun` decides whether an output is allowed before an end with out of memory."""
     def run(number):
         return common.run_refused([common.JCLINK, *words], lines, folder, shim, number)
 

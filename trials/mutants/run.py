@@ -1,25 +1,26 @@
 #!/usr/bin/env python3
-"""Tries mutants, functions with a wrong body: the prover has to refuse each of them.
+"""Tries mutants, which are functions with a wrong body. The prover must reject each of them.
 
     python3 trials/mutants/run.py              the mutants of every crate
     python3 trials/mutants/run.py jc_base      those of the named crates
-        --only WORD       those whose name has the word
-        --gate            the mutants of the merge gate, crates/CRATE/must-fail
-        --said FOLDER     writes what each check says into files of a folder
-        --jobs N          how many jobs a check gets; 1 where no number is given
+        --only PATTERN    those whose names match a regular expression
+        --gate            the mutants of the gate, crates/CRATE/must-fail
+        --said FOLDER     writes the output of each check into files of a folder
+        --jobs N          the number of jobs of a check, 1 by default
 
-A file CRATE/MODULE-FUNCTION-WHAT.edit has the form of a must-fail edit: a line `file: src/x.rt`, then
-pairs of lines `old: TEXT` and `new: TEXT`, and each old text stands in that file exactly once. The
-merge gate tries one mutant for many of the public functions, and these here are the others.
+A file CRATE/MODULE-FUNCTION-WHAT.edit has the form of a must-fail edit: a line `file: src/x.rt`, then pairs of lines
+`old: TEXT` and `new: TEXT`. Each old text must occur exactly once in that file. docs/MUTANTS.md says which mutants the gate
+tries.
 
-A check of a crate costs far more than one function's proof. So one check, on a copy of the crate and
-of those below it, tries a mutant of each function. It says nothing of a function that calls one which
-is not proved: such a mutant is tried again in the next round. A mutant is refused where the check says
-that the changed function itself is not proved. Where all that it says is that the proof names what the
-mutant took away, it has refused only a name: such a mutant has to be written anew.
+A check of a crate costs far more than the proof of one function. So one check, on a copy of the crate and of the libraries
+that it uses, tries a mutant of each function. It says nothing about a function that calls an unproved one. Such a mutant is
+tried again in the next round.
 
-Behind each crate stands a row: crate, mutants, refused, refused only by a name,
-seconds. The last line says `N mutants, each refused`, or else how many were not, and the status is then 1.
+A mutant is rejected if the check says that the changed function itself is not proved. If the check says only that the proof
+names something that the mutant removed, the mutant shows nothing and must be rewritten.
+
+After each crate the trial prints a row: crate, mutants, rejected, rejected only by a name, seconds. The last line is
+`N mutants, each refused`, or says how many were not rejected. Then the status is 1.
 """
 import argparse
 import re
@@ -35,19 +36,19 @@ ROOT = HERE.parent.parent
 FUNCTION = re.compile(r"( *)(?:pub(?:\(crate\))? )?fn (\w+)")
 ERROR = re.compile(r"^\./proofs/(\S+)/\w+\.antt:\d+:\d+: error: (.*(?:\n  .*)*)", re.M)
 OPEN = re.compile(r"^note: (src/\S+\.rt):(\d+):\d+: (.*)$", re.M)
-# What an error says where a proof names a step or a branch that is not there, or rests on one that does.
+# The texts of errors of a proof that names a missing step or branch, or that depends on such a proof.
 NAMES = re.compile(r"that can be named|has no field|no name that rattle asks for|which was rejected, w(?:as|ere) not checked")
 REFUSED, NAMED, THROUGH = "refused", "REFUSED ONLY BY A NAME", "NOT REFUSED"
 
 
 def owner_of(line):
-    """The type that a line `impl .. {` is about."""
+    """Returns the type of a line `impl .. {`."""
     type_text = line.split(" for ")[1] if " for " in line else re.sub(r"^impl(<.*?>)? ", "", line)
     return re.match(r"&?(?:'\w+ )?(?:mut )?(\w+)", type_text)[1]
 
 
 def functions_of(text):
-    """The functions of a file that `rt fmt` laid out, each with the type of its `impl` and its lines."""
+    """Returns the functions of a file in the format of `rt fmt`, each with the type of its `impl` and its lines."""
     found, owner, lines = {}, "", text.split("\n")
     for at, line in enumerate(lines):
         start = FUNCTION.match(line)
@@ -57,7 +58,7 @@ def functions_of(text):
             owner = ""
         elif start:
             ends = (n for n in range(at, len(lines)) if lines[n] in (start[1] + "}", start[1] + "{}"))
-            # (two impls of one trait, as of From, go under one name)
+            # (several impls of one trait, for example From, have one name)
             found.setdefault((owner, start[2]), {}).update((n, lines[n]) for n in range(at, next(ends, at) + 1))
     return found
 
@@ -85,17 +86,17 @@ class Mutant:
         return text
 
     def meets(self, other):
-        """Whether one of the two writes a text that the other looks for."""
+        """Returns whether one of the two writes a text that the other one replaces."""
         pairs = [(a, b) for a in self.pairs for b in other.pairs]
         return self.file == other.file and any(a[0] in b[1] or b[0] in a[1] for a, b in pairs)
 
     def is_about(self, path):
-        """Whether the name of a function is that of one that the mutant may be refused by."""
+        """Returns whether the check of the function with this name may reject the mutant."""
         module = [] if self.file == "src/lib.rt" else list(Path(self.file).with_suffix("").parts[1:])
         return not self.functions or any(is_named(it, module, path) for it in self.functions)
 
     def verdict(self, said):
-        """What the check says of the changed function. None: a callee of it is not proved."""
+        """Returns the verdict of the check on the changed function, or None if a function that it calls is not proved."""
         fns = re.findall(r"^fn \w+::(\S+): (.*)$", said, re.M)
         reasons = [reason for name, reason in fns if self.is_about(name.split("::"))]
         if any(it != "proved" and "it calls `" not in it for it in reasons):
@@ -103,7 +104,7 @@ class Mutant:
         return None if any("it calls `" in it for it in reasons) else THROUGH
 
     def lost_names_alone(self, said):
-        """Whether all that is wrong with the function's proof is names, and no goal is seen to be false."""
+        """Returns whether the only errors in the function's proof are about names, and no goal is found to be false."""
         errors = [what for path, what in ERROR.findall(said) if self.is_about(path.split("/"))]
         false = any(
             "at which this goal is false" in what and (not self.functions or file == self.file and int(line) in self.lines)
@@ -113,20 +114,20 @@ class Mutant:
 
 
 def is_named(function, module, path):
-    """Whether a name of the check is this function's: a method of another module's type goes under that module."""
+    """Returns whether a name in the check is this function's. A method of another module's type is named by that module."""
     if path[: len(module)] == module:
         return stands_in(function, path[len(module) :])
     return function[0] in path and stands_in(function, path)
 
 
 def stands_in(function, path):
-    """Whether a name of the check, without its module, is this function's or that of a closure in it."""
+    """Returns whether a name in the check, without its module, is this function's or that of a closure in it."""
     owner, name = function
     return name in path and (not owner or any(it.startswith((owner, "Ref" + owner)) for it in path))
 
 
 def below(name):
-    """The crate and those of the repository that it stands on, each with the libraries it uses."""
+    """Returns the crate and all crates of the repository that it depends on, each with the libraries that it uses."""
     rows = (it.split("#")[0].partition(":") for it in (ROOT / "crates.txt").read_text().splitlines())
     uses = {head.split()[0]: rest.split() for head, _, rest in rows if head.strip()}
     found, left = {}, [name]
@@ -139,7 +140,7 @@ def below(name):
 
 
 def copied(name, room):
-    """A copy of the crate and of those below it, with what earlier checks kept of them."""
+    """Copies the crate and the crates that it depends on, with the results of earlier checks."""
     subprocess.run(["git", "init", "-q"], cwd=room, check=True)
     needs = below(name)
     for crate in needs:
@@ -150,7 +151,7 @@ def copied(name, room):
 
 
 def checked(mutants, crate, copy, options):
-    """What the check of the copy says with these mutants in it. They are taken out again."""
+    """Applies the mutants to the copy, returns the output of the check, and restores the copy."""
     for mutant in mutants:
         text = mutant.applied((copy / mutant.file).read_text(encoding="utf-8"))
         (copy / mutant.file).write_text(text, encoding="utf-8")
@@ -167,8 +168,10 @@ def checked(mutants, crate, copy, options):
 
 
 def one_of_each(mutants):
-    """The mutants of which no two are in one function, and none writes what another looks for. One that is in no
-    function, as of a constant, goes by itself: any function may refuse it."""
+    """Chooses mutants for one check. No two are in one function, and none writes a text that another one replaces.
+
+    A mutant outside functions, for example of a constant, is checked separately, because any function may reject it.
+    """
     alone = [mutant for mutant in mutants if not mutant.functions]
     if alone:
         return alone[:1]
@@ -182,7 +185,7 @@ def one_of_each(mutants):
 
 
 def tried(crate, options):
-    """Tries the crate's mutants, and returns what came of each."""
+    """Tries the crate's mutants, and returns the verdict on each."""
     left, verdicts, start = [Mutant(it, crate) for it in mutants_of(crate, options)], [], time.time()
     with tempfile.TemporaryDirectory(prefix="mutants-") as room:
         copy = copied(crate.name, Path(room))

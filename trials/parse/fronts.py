@@ -1,8 +1,8 @@
 #!/usr/bin/env python3
-"""Each proper front of every readable class file that stands in the rows is too short, also of the few of more than 4,096 bytes.
+"""Checks that each truncation of each readable class file in the test rows is too short, also of files over 4,096 bytes.
 
-The gate leaves these out, since their fronts cost the square of their length. Here the program of the rows is built without that
-limit, in a copy of the tree, and judges all rows of class files. It takes some ten minutes, of which half is the proof.
+The gate omits the files over 4,096 bytes, because all truncations of a file cost the square of its length. The trial builds
+jc_rows without that limit, in a copy of the tree, and runs it over all rows.
 """
 import pathlib
 import subprocess

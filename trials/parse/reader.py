@@ -1,11 +1,11 @@
-"""A plain reader of class files, after the table of refusals.
+"""A plain reader of class files, written from the table of refusals.
 
-answer(bytes) gives the line that the program prints: `ok` and the name's bytes in hexadecimal, or the
-number and the name of the first refusal that applies.
+answer(bytes) returns the line that jc_asked prints: `ok` and the name's bytes in hexadecimal, or the number and the name of
+the first refusal that applies.
 """
 import re
 
-# By tag, how many bytes stand behind it; a text has its own length.
+# The number of bytes after each tag. A Utf8 contains its length.
 BODIES = {3: 4, 4: 4, 5: 8, 6: 8, 7: 2, 8: 2, 9: 4, 10: 4, 11: 4, 12: 4, 15: 3, 16: 2, 18: 4}
 
 CHARACTER = (rb"(?:(?![.;\[/])[\x01-\x7f]|\xc0\x80|[\xc2-\xdf][\x80-\xbf]"
@@ -43,7 +43,7 @@ class Reader:
 
 
 def read_constants(reader, count):
-    """Where each constant begins, by index, or the refusal of a tag."""
+    """Returns the offset of each constant by index, and the refusal of a tag or None."""
     places = {}
     index = 1
     while index < count:
@@ -60,7 +60,7 @@ def read_constants(reader, count):
 
 
 def name_place(file, places, this_class):
-    """Where the text begins that this_class names, or None."""
+    """Returns the offset of the text that this_class names, or None."""
     place = places.get(this_class)
     if place is None or file[place] != 7:
         return None
@@ -69,8 +69,7 @@ def name_place(file, places, this_class):
 
 
 def read(file):
-    """The answer; for a readable class also the places of its constants, of its name, and of what
-    stands behind the constants."""
+    """Returns the answer, and for a readable class the offsets of its constants, of its name, and of the end of the constants."""
     if len(file) >= 4 and file[:4] != b"\xca\xfe\xba\xbe":
         return "1 Magic", None
     minor, major = int.from_bytes(file[4:6], "big"), int.from_bytes(file[6:8], "big")

@@ -1,12 +1,11 @@
 #!/usr/bin/env python3
-"""Compares what parse answers with what a plain reader answers, over a real tree of class files.
+"""Compares the answers of `parse` with those of a plain reader (reader.py), over a real tree of class files.
 
-Compiles the sources of trials/sources for Java 7 and 8, and for each class file takes the file itself,
-cuts of it and changes of it. The program jc_asked and the reader beside this file answer each of them,
-and the answers are compared, places included.
+The trial compiles the sources of trials/sources for Java 7 and 8. It tries each class file, truncations of it and changes of
+it. It compares the answers of the program jc_asked and of the reader, with their places.
 
-Usage: run.py [--seed N] [--jars FOLDER]. With a folder of jars it also takes 300 readable class files of
-these, and compares each of the others by itself alone. It builds the program by `rt run`, and needs javac 9 to 19.
+Usage: run.py [--seed N] [--jars FOLDER]. With a folder of jars it also tries 300 of their readable class files in this way.
+It compares the other class files of the jars without changes. It builds the program by `rt run`, and needs javac 9 to 19.
 """
 import argparse
 import collections
@@ -21,14 +20,14 @@ sys.path.insert(0, str(pathlib.Path(__file__).resolve().parent.parent))
 import common
 import reader
 
-# Parts of names, well spelled and not.
+# Parts of names, in valid and invalid spellings.
 SPELLINGS = [bytes.fromhex(text) for text in (
     "41 6162 2f 2f2f 2e 3b 5b 3c 5d 01 7f c080 c281 dfbf e0a080 eda080 edbfbf efbfbf "
     "00 80 bf c081 c1bf c2 c241 e08080 e09fbf e28241 e282 ef f0908080 f8 ff").split()]
 
 
 def files_of_jars(folder):
-    """The different class files in the jars of a folder."""
+    """Returns the different class files in the jars of a folder."""
     files = {}
     for path in sorted(pathlib.Path(folder).glob("*.jar")):
         with zipfile.ZipFile(path) as jar:
@@ -58,7 +57,7 @@ def byte_changes(file, rng):
 
 
 def aimed_changes(file, rng):
-    """Changes of what refusals are about: the count, the last constant, this_class, the name, the end."""
+    """Yields changes that refusals depend on: of the count, the last constant, this_class, the name, and the end."""
     _, (places, name, tail) = reader.read(file)
     count = int.from_bytes(file[8:10], "big")
     for difference in (-3, -2, -1, 1, 2, 3):

@@ -1,5 +1,5 @@
 #!/usr/bin/env python3
-"""Trials of the built program as a session: as many files as it holds, and a coprocess over pipes.
+"""Tries sessions of the built program: one with as many files as possible, and one as a coprocess over pipes.
 
 Usage: run.py, once ./jclink is built.
 """
@@ -27,7 +27,7 @@ def name_of(number, same_class):
 
 
 def many_files(folder, same_class):
-    """Adds as many files as a session holds and one more."""
+    """Adds as many files as a session can have, and one more."""
     for number in range(MOST + 1):
         (folder / f"{number}").write_bytes(common.class_file(name_of(number, same_class)))
     lines = "".join(f"add {number}\n" for number in range(MOST + 1)) + "report\nend\n"
@@ -44,7 +44,7 @@ def many_files(folder, same_class):
 
 
 def prefix_talk(given, lines_of):
-    """A class refers to another that is missing, outside, and missing again."""
+    """Tries a class that refers to another one, which is missing, then outside, then missing again."""
     files = {b"c": given}
     return [
         ("remove a", ["ok"]),
@@ -68,7 +68,7 @@ def prefix_talk(given, lines_of):
 
 
 def coprocess(folder):
-    """Gives each line only when the one before is answered."""
+    """Tries a session that gets each line only after the answer to the line before."""
     a, b = common.class_file(b"A"), common.class_file(b"A")[:-1]
     (folder / "a").write_bytes(a)
     (folder / "b").write_bytes(b)

@@ -1,13 +1,12 @@
 #!/usr/bin/env python3
-"""Measures Insns and faults_in beside parse: over a tree of class files, and over code of doubled size.
+"""Measures `Insns` and `faults_in` beside `parse`, over a tree of class files and over code of doubled size.
 
-The program jc_asked reads the files once, goes over them N times in memory and prints a sum. The
-processor time of N rounds less that of none is the time of the rounds. Each figure is the least of
-several runs.
+The program jc_asked reads the files once, makes N passes over them in memory, and prints a sum. The time of the passes is the
+processor time of a run with N passes less that of a run with none. Each figure is the least of several runs.
 
-Usage: code.py [--tree FOLDER] [--reference PROGRAM]. Without --tree it compiles the sources of
-trials/sources. A reference is a program that parses and decodes the class files below a folder: called
-with `-r FOLDER` it prints `in-memory SECONDS s`. It builds jc_asked by `rt run`, and needs javac.
+Usage: code.py [--tree FOLDER] [--reference PROGRAM]. Without --tree it compiles the sources of trials/sources. PROGRAM
+parses and decodes the class files below a folder. Called with `-r FOLDER` it must print `in-memory SECONDS s`. The trial
+builds jc_asked by `rt run`, and needs javac.
 """
 import argparse
 import pathlib
@@ -28,7 +27,7 @@ WORDS = (("`parse`", "count-parse"), ("`parse` and `Insns`", "count-insns"), ("`
 
 
 def with_code(code, handlers=()):
-    """A class with one method whose code this is."""
+    """Returns a class with one method of this code."""
     body = bytes([0, 2, 0, 2]) + number(4, len(code)) + code + number(2, len(handlers)) + b"".join(handlers) + b"\0\0"
     method = b"\0\x09\0\x06\0\x07\0\x01\0\x05" + number(4, len(body)) + body
     return class_file(constants=[utf8(b"Code"), utf8(b"m"), utf8(b"()V")], methods=[method])
@@ -39,7 +38,7 @@ def plain(size):
 
 
 def branches(size):
-    """Each goes on to the next."""
+    """Branches, each to the next one."""
     return with_code(b"\xa7\0\x03" * (size // 3 - 1) + b"\0\0\xb1")
 
 
@@ -50,13 +49,13 @@ def switches(size):
 
 
 def one_switch(size):
-    """One switch that takes all of the code."""
+    """One tableswitch as long as the code."""
     count = (size - 20) // 4
     return with_code(b"\xaa\0\0\0" + number(4, 16 + 4 * count) + number(4, 1) + number(4, count) + count * number(4, 16 + 4 * count) + b"\xb1")
 
 
 def lookups(size):
-    """One lookupswitch that takes all of the code."""
+    """One lookupswitch as long as the code."""
     count = (size - 20) // 8
     end = 12 + 8 * count
     return with_code(b"\xab\0\0\0" + number(4, end) + number(4, count) + b"".join(number(4, at) + number(4, end) for at in range(count)) + b"\xb1")
@@ -67,7 +66,7 @@ def handlers(count):
 
 
 def broken(size):
-    """Branches of which the last has no target: all rules are gone through."""
+    """Branches, the last of which has no target, so that all rules are tried."""
     return with_code(b"\xa7\0\x03" * (size // 3))
 
 

@@ -1,12 +1,12 @@
 #!/usr/bin/env python3
-"""Measures what edits cost on a standing tree: all its files added one by one, then edits of classes with few and many
-dependants. Milliseconds from a line of `jclink session` to its answer, the reading of the file with them; parts and
-names asked for as jc_asked tells them of the same edits.
+"""Measures edits of a tree: its files added one by one, then edits of classes with few and with many dependants.
 
-Usage: edits.py [--rounds N] [--beside PROGRAM] TREE, once jclink is built; it builds jc_asked. The environment's JCLINK
-may name another program, and PROGRAM, an older build say, is measured in turn with it. What depends on a class is found
-by this script's own reading of the class files. Each edit of the second table is made three times a round, and the
-least time told.
+It prints the milliseconds from a line of `jclink session` to its answer, which include reading the file. The numbers of parts
+and of look-ups are those of jc_asked for the same edits.
+
+Usage: edits.py [--rounds N] [--beside PROGRAM] TREE, once jclink is built. It builds jc_asked. The environment's JCLINK may
+name another program. PROGRAM, for example an older build, is measured in turn with it. The script itself reads the class
+files to find dependants. It makes each edit of the second table three times a round, and prints the least time.
 """
 import argparse
 import collections
@@ -28,7 +28,7 @@ TIMES = 3
 
 
 class ClassNames:
-    """The names that a class file's constants, superclass and interfaces give."""
+    """The names in a class file's constants, and its superclass and interfaces."""
 
     def __init__(self, data):
         texts, classes, at, index = {}, {}, 10, 1
@@ -71,7 +71,7 @@ def all_above(given, name, known):
 
 
 def count_dependants(given):
-    """How many classes' reach holds each name."""
+    """Returns for each name the number of classes whose reach contains it."""
     counts, known = collections.Counter(), {}
     for name, here in given.items():
         reach = {name, OBJECT} | here.named
@@ -80,7 +80,7 @@ def count_dependants(given):
 
 
 def choose(given, counts):
-    """Names of classes to edit, with what is told of each."""
+    """Returns names of classes to edit, each with a description."""
     used = sorted(given, key=lambda name: (-counts[name], name))
     near = min(used, key=lambda name: abs(counts[name] - 1000))
     leaf = min((name for name in used if counts[name] == 1), key=lambda name: (abs(len(given[name].named) - 10), name))
@@ -99,13 +99,13 @@ class Session:
         self.process.stdin.flush()
 
     def answer(self, line):
-        """The answer to a line that has one, and the seconds until it came."""
+        """Sends a line that has an answer, and returns the answer and the seconds until it arrives."""
         start = time.perf_counter()
         self.send([line])
         return self.process.stdout.readline(), time.perf_counter() - start
 
     def answers(self, lines):
-        """The answers to many lines."""
+        """Sends lines, and returns their answers."""
         writer = threading.Thread(target=self.send, args=(lines,))
         writer.start()
         told = [self.process.stdout.readline() for _ in lines]
@@ -117,7 +117,7 @@ class Session:
         return int(text.split("VmHWM:")[1].split()[0]) / 1000
 
     def processor(self):
-        """The seconds of a processor so far."""
+        """Returns the seconds of a processor until now."""
         text = pathlib.Path(f"/proc/{self.process.pid}/stat").read_text()
         words = text[text.rindex(")") + 2:].split()
         return (int(words[11]) + int(words[12])) / os.sysconf("SC_CLK_TCK")
@@ -128,7 +128,7 @@ class Session:
 
 
 def edits_of(kept, fresh, paths, beside):
-    """Each edit as its words: what is told of it, and its lines in order."""
+    """Yields each edit: its description, and its lines in order."""
     for what, name in kept:
         yield f"replace {what}", [b"replace " + paths[name]]
     what, name = kept[-1]
@@ -139,7 +139,7 @@ def edits_of(kept, fresh, paths, beside):
 
 
 def counts_told(folder, lines):
-    """Parts and names asked for by each of these lines."""
+    """Returns the numbers of parts and of look-ups for each of these lines."""
     letters = {b"add": b"a", b"replace": b"r", b"remove": b"d"}
     frames = [b""]
     for line in lines:
@@ -158,7 +158,7 @@ def write_fresh(beside, fresh):
 
 
 def prepare(folder, beside):
-    """The lines that add all files, and the edits behind them."""
+    """Returns the lines that add all files, and the edits after them."""
     paths, given = {}, {}
     for path in sorted(folder.rglob("*.class")):
         names = ClassNames(path.read_bytes())
@@ -170,8 +170,11 @@ def prepare(folder, beside):
 
 
 def measure(program, folder, adds, edits):
-    """What a round takes: seconds of a processor for the adds, MB, milliseconds of a line that asks for nothing and of
-    each line of the edits."""
+    """Returns the costs of a round.
+
+    These are the seconds of a processor for adding the files, the memory in MB, and the milliseconds of an empty line and of
+    each line of the edits.
+    """
     session = Session(program, folder)
     told = session.answers(adds)
     assert set(told) == {b"ok\n"}, collections.Counter(told)
@@ -185,7 +188,7 @@ def measure(program, folder, adds, edits):
 
 
 def tell(programs, least, adds, edits, done):
-    """The least costs of each program, and the counts of each edit."""
+    """Prints the least costs of each program, and the counts of each edit."""
     first, rest = done[:len(adds)], iter(done[len(adds):])
     print(f"{len(adds)} files added: {sum(made for made, _ in first)} parts, {sum(asks for _, asks in first)} asks\n")
     for program in programs:

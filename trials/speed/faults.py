@@ -1,9 +1,8 @@
 #!/usr/bin/env python3
-"""Measures format_faults beside parse: over a real tree, and over files of doubled counts.
+"""Measures `format_faults` beside `parse`, over a real tree and over files of doubled counts.
 
-The program jc_asked reads the files once, goes over them N times in memory and prints a sum. The
-processor time of N rounds less that of none is the time of the rounds. Each figure is the least of
-several runs.
+The program jc_asked reads the files once, makes N passes over them in memory, and prints a sum. The time of the passes is the
+processor time of a run with N passes less that of a run with none. Each figure is the least of several runs.
 
 Usage: faults.py. It builds the program by `rt run`, and needs javac 9 to 19.
 """
@@ -27,7 +26,7 @@ def texts(count):
 
 
 def classes(count):
-    """Each Class constant with a name of its own."""
+    """Class constants, each with its own name."""
     constants = [part for at in range(count) for part in (utf8(b"a/b/C%08x" % at), b"\x07" + number(2, 5 + 2 * at))]
     return class_file(constants=constants)
 
@@ -46,18 +45,18 @@ def call_sites(count):
 
 
 def fields(count):
-    """Fields with a name of their own each."""
+    """Fields, each with its own name."""
     constants = [utf8(b"I")] + [utf8(b"field%08x" % at) for at in range(count)]
     return class_file(constants=constants, fields=[b"\0\x01" + number(2, 6 + at) + b"\0\x05\0\0" for at in range(count)])
 
 
 def fields_of_one_name(count):
-    """Fields of one name, all but the first repeated."""
+    """Fields of one name. All except the first one are repeated."""
     return class_file(constants=[utf8(b"I"), utf8(b"name")], fields=[b"\0\x01\0\x06\0\x05\0\0" for _ in range(count)])
 
 
 def methods(count):
-    """Methods with a name of their own and a Code each."""
+    """Methods, each with its own name and a Code."""
     constants = [utf8(b"()V"), utf8(b"Code")] + [utf8(b"run%08x" % at) for at in range(count)]
     code = b"\0\x06" + number(4, 13) + bytes([0, 2, 0, 2, 0, 0, 0, 1, 0xb1, 0, 0, 0, 0])
     return class_file(constants=constants, methods=[b"\0\x01" + number(2, 7 + at) + b"\0\x05\0\x01" + code for at in range(count)])

@@ -1,9 +1,9 @@
 #!/usr/bin/env python3
-"""Runs the gate from nothing and tells its processor minutes by kind and by crate.
+"""Runs `rt ci` from nothing, and prints its processor minutes by kind and by crate.
 
-The gate is run in a clone of this repository, so files that are not committed don't count. Each process that it
-starts is asked for its processor time four times a second, and its last answer counts; what a process is at is told
-by its words and by its folder. What the sum lacks of the whole stands as the rest: `rt` itself, linking, running.
+It runs in a clone of this repository, so uncommitted files do not count. The trial reads the processor time of each process
+four times a second, and the last value counts. The arguments and the folder of a process say what it does. The rest is the
+difference between the whole time and the sum: `rt` itself, linking and running.
 
     trials/speed/gate.py [--lanes N] [--keep FILE]
 """
@@ -21,12 +21,12 @@ TOP = Path(__file__).resolve().parents[2]
 TICKS = os.sysconf("SC_CLK_TCK")
 PROGRAMS = ("jclink", "jc_rows")
 KINDS = ("proofs", "tests", "programs", "mutants")
-# Some kits keep what was proved, and pass over it where they are told to.
+# Some kits reuse earlier proofs, unless this option is given.
 FROM_NOTHING = [word for word in ("--anew",) if word in subprocess.run(["rt", "help"], capture_output=True, text=True).stdout]
 
 
 def processes():
-    """What /proc tells of each process: its parent, when it started and its seconds of a processor."""
+    """Returns for each process its parent, its start time and its seconds of a processor, from /proc."""
     found = {}
     for name in os.listdir("/proc"):
         if name.isdigit():
@@ -40,7 +40,7 @@ def processes():
 
 
 def below(root, found):
-    """The processes that a process started, and those that these did."""
+    """Yields the descendants of a process."""
     children = collections.defaultdict(list)
     for pid, (parent, _, _) in found.items():
         children[parent].append(pid)
@@ -52,7 +52,7 @@ def below(root, found):
 
 
 def work_of(pid):
-    """What a process is at: kind and crate, or None where it proves and compiles nothing."""
+    """Returns what a process does, as kind and crate, or None if it proves and compiles nothing."""
     try:
         words = Path("/proc", str(pid), "cmdline").read_bytes().decode(errors="replace").split("\0")
         folder = os.readlink(f"/proc/{pid}/cwd")
@@ -69,7 +69,7 @@ def work_of(pid):
 
 
 def watch(ran):
-    """Watches what a process starts until it ends: seconds by kind and crate."""
+    """Watches the descendants of a process until it ends, and returns their seconds by kind and crate."""
     seconds, works = {}, {}
     while ran.poll() is None:
         found = processes()
@@ -101,7 +101,7 @@ def run(lanes, keep):
 def main():
     words = argparse.ArgumentParser(description=__doc__.split("\n")[0])
     words.add_argument("--lanes", type=int, default=2)
-    words.add_argument("--keep", help="a file for what the gate says")
+    words.add_argument("--keep", help="a file for the output of the gate")
     words = words.parse_args()
     status, told, whole, clock = run(words.lanes, words.keep)
     for kind in KINDS:

@@ -1,4 +1,4 @@
-"""Measuring jc_asked: the processor time of N rounds over frames in memory, less that of none."""
+"""Measures jc_asked: the processor time of N passes over frames in memory, less that of a run without a pass."""
 import os
 import subprocess
 import sys
@@ -9,7 +9,7 @@ RUNS = 9
 
 
 def processor_seconds(frames, word, rounds):
-    """The processor time of the program over the file of frames, and the number that it prints."""
+    """Returns the processor time of the program over a file of frames, and the number that it prints."""
     with open(frames, "rb") as text:
         process = subprocess.Popen([*common.ANSWERS, word, str(rounds)], stdin=text, stdout=subprocess.PIPE)
         line = process.stdout.read()
@@ -21,7 +21,7 @@ def processor_seconds(frames, word, rounds):
 
 
 def round_seconds(frames, word, rounds):
-    """The processor time of one round over each of the files of frames, which take turns."""
+    """Returns the processor time of one pass over each file of frames. The files are measured in turn."""
     spent = {(path, count): [] for path, full in zip(frames, rounds) for count in (0, full)}
     for _ in range(RUNS):
         for path, count in spent:
@@ -36,8 +36,11 @@ def write_frames(work, name, files):
 
 
 def doubled_rows(work, makes, counts, word, rounds):
-    """For each kind of file and each count, whose rounds stand beside it: name, count, bytes, the number
-    that is printed, the seconds of a round, and how many times those of the count before it."""
+    """Yields a row for each kind of file and each count.
+
+    A row is name, count, bytes, the number that jc_asked prints, the seconds of a pass, and their ratio to the seconds of the
+    count before. `rounds` has the number of passes for each count.
+    """
     for make in makes:
         files = [make(count) for count in counts]
         frames = [write_frames(work, f"{make.__name__}{count}", [file]) for count, file in zip(counts, files)]

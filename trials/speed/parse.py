@@ -1,12 +1,12 @@
 #!/usr/bin/env python3
-"""Measures parse: megabytes a second over a real tree, and files of doubled counts.
+"""Measures `parse`: megabytes a second over a real tree, and its time over files of doubled counts.
 
-The program jc_asked reads the files once, goes over them N times in memory and prints a sum. The
-processor time of N rounds less that of none is the time of the rounds, so neither the start of the
-program nor its input counts. Each figure is the least of several runs.
+The program jc_asked reads the files once, makes N passes over them in memory, and prints a sum. The time of the passes is the
+processor time of a run with N passes less that of a run with none. So neither the start of the program nor its input counts.
+Each figure is the least of several runs.
 
-Usage: parse.py [--jars FOLDER]. With a folder of jars it also measures the readable class files of these.
-It builds the program by `rt run`, and needs javac 9 to 19.
+Usage: parse.py [--jars FOLDER]. With a folder of jars it also measures their readable class files. It builds the program by
+`rt run`, and needs javac 9 to 19.
 """
 import argparse
 import pathlib
@@ -25,7 +25,7 @@ from measure import RUNS, processor_seconds, round_seconds, write_frames
 ROUNDS = 6
 DOUBLED = (8_000, 16_000, 32_000, 64_000)
 TREE_BYTES = 64_000_000
-# What the rounds over one file go over in all, so that a round's time is well above the clock's step.
+# The bytes of all passes over one file, so that their time is well above the resolution of the clock.
 FILE_BYTES = 200_000_000
 
 

@@ -1,12 +1,12 @@
 #!/usr/bin/env python3
 """Measures `jclink check`, `jdeps --missing-deps` and `javap -c -p` over one tree, and draws docs/speed.svg.
 
-Usage: picture.py [--rounds N] [--to FILE] TREE.., once ./jclink is built; the environment's JCLINK may name another
-program. A TREE is a folder of class files, or a jar, or a folder of jars; of jars the class files of versions 51 and 52
-are taken, of each path the first. All are copied into one folder, and what is printed goes to /dev/null.
+Usage: picture.py [--rounds N] [--to FILE] TREE.., once ./jclink is built. The environment's JCLINK may name another program.
+A TREE is a folder of class files, a jar, or a folder of jars. The trial copies the class files of versions 51 and 52 into
+one folder; if a path occurs several times, the first file counts. The output of the programs goes to /dev/null.
 
-A bar is as long as the processor seconds of the least of N rounds (5), which take turns; beside it stands the most memory
-that a process held. A program that ends with a status that it shouldn't ends the trial.
+A bar shows the least processor seconds of N rounds, 5 by default. The programs run in turn. The text of a bar has the
+greatest memory of a process. The trial ends if a program has a wrong status.
 """
 import argparse
 import os
@@ -19,7 +19,7 @@ sys.dont_write_bytecode = True
 sys.path.insert(0, str(pathlib.Path(__file__).resolve().parent.parent))
 import common
 
-# (of more files than this javap gets several calls, since the words of one have a limit)
+# The greatest number of files in one call of javap, because the length of the arguments is limited.
 FILES_OF_A_CALL = 8000
 LEFT, WIDTH, BAR, STEP, TOP = 190, 400, 26, 44, 78
 COLOURS = ("#2b6cb0", "#a0aec0", "#a0aec0")
@@ -30,7 +30,7 @@ def is_readable(data):
 
 
 def files_of(tree):
-    """The paths and bytes of a tree's class files."""
+    """Yields the paths and bytes of a tree's class files."""
     if tree.is_dir():
         for path in sorted(tree.rglob("*.class")):
             yield str(path.relative_to(tree)), path.read_bytes()
@@ -45,7 +45,7 @@ def files_of(tree):
 
 
 def gather(trees, folder):
-    """Copies the class files that all three programs read, and answers how many they are and their bytes."""
+    """Copies the class files that all three programs read, and returns their number and their bytes."""
     count = size = 0
     for tree in trees:
         for name, data in files_of(tree):
@@ -58,7 +58,7 @@ def gather(trees, folder):
 
 
 def measured(command, folder, statuses):
-    """The processor seconds of a call and its most megabytes."""
+    """Returns the processor seconds and the greatest memory in megabytes of a call."""
     process = subprocess.Popen(command, cwd=folder, stdout=subprocess.DEVNULL, stderr=subprocess.DEVNULL)
     _, status, usage = os.wait4(process.pid, 0)
     process.returncode = os.waitstatus_to_exitcode(status)
@@ -68,7 +68,7 @@ def measured(command, folder, statuses):
 
 
 def calls(folder):
-    """Of each program its calls over the folder, and the statuses of a call that did its work."""
+    """Returns for each program its calls over the folder, and the right statuses of a call."""
     paths = [str(path.relative_to(folder)) for path in sorted(folder.rglob("*.class"))]
     parts = [paths[at:at + FILES_OF_A_CALL] for at in range(0, len(paths), FILES_OF_A_CALL)]
     return {
@@ -79,7 +79,7 @@ def calls(folder):
 
 
 def measure(folder, rounds):
-    """Of each program the seconds and megabytes of its least round."""
+    """Returns for each program the seconds and megabytes of its fastest round."""
     spent = {}
     for _ in range(rounds):
         for name, (commands, statuses) in calls(folder).items():
@@ -94,7 +94,7 @@ def text(x, y, words, size=14, anchor="start", weight="normal"):
 
 
 def picture(found, title, below):
-    """The figures as bars."""
+    """Returns a picture of the figures as bars."""
     most, height = max(seconds for seconds, _ in found.values()), TOP + STEP * len(found) + 34
     lines = [f'<svg xmlns="http://www.w3.org/2000/svg" width="{LEFT + WIDTH + 160}" height="{height}" '
              f'viewBox="0 0 {LEFT + WIDTH + 160} {height}" font-family="sans-serif" role="img">',

@@ -1,10 +1,10 @@
 #!/usr/bin/env python3
-"""Tells what the proof of a crate spends its seconds on: by kind, and its dearest functions.
+"""Prints the seconds of a crate's proof by kind, and the most expensive functions.
 
-The crate is checked from nothing, by one job, with a folder in which what was proved is kept; the files there are
-written one after another, and each is taken to have cost the time since the one before. `Lts` are the steps of a
-function's code, `Proof` and `Answers` the search for its goals and the written answers. The libraries below are built
-first where they are not. Other work beside it stretches all figures.
+The trial checks the crate from nothing, with one job. The check writes files into a folder, one after another. The cost of
+each file is the time since the one before. `Lts` is the steps of a function's code. `Proof` and `Answers` are the search for
+its goals and the written answers. The libraries of the crate are built first if necessary. Other work on the machine
+increases all figures.
 
     trials/speed/proofs.py CRATE [COUNT]
 """
@@ -16,12 +16,12 @@ import sys
 from pathlib import Path
 
 CRATES = Path(__file__).resolve().parents[2] / "crates"
-# The parts of what is written of a function; what stands in front of them names it.
+# The parts that are written for a function. In the name of a file they follow the function.
 PARTS = "Lts Proof Answers Invariants Goals Given Tie Code Statement Met Kinds Key Reads View".split()
 
 
 def checked(crate):
-    """Checks the crate from nothing; the files that were kept, by the time at which they were written."""
+    """Checks the crate from nothing, and returns the written files, sorted by time."""
     kept = CRATES / crate / "out" / "incremental"
     shutil.rmtree(kept, ignore_errors=True)
     done = subprocess.run(["rt", "check", "--jobs", "1"], cwd=CRATES / crate, capture_output=True, text=True)
@@ -31,7 +31,7 @@ def checked(crate):
 
 
 def split(name):
-    """The function that a file is of, and which part of it: `other` where it is none of a function's."""
+    """Returns the function and the part that a file belongs to; the part is `other` if it belongs to no function."""
     words = name.removesuffix(".oantt").removesuffix(".decls").split(".")
     at = next((place for place, word in enumerate(words) if word in PARTS), len(words))
     return ".".join(words[1:at]), words[at] if at < len(words) else "other"

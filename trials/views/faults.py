@@ -1,11 +1,11 @@
 #!/usr/bin/env python3
 """Compares the format faults that the library finds with those of a plain judge, over changed class files.
 
-Compiles the sources of trials/sources for Java 7 and 8, and changes each class file in many single
-places and some in several: indexes, tags of the same size, flags, bytes of texts and of attributes.
-Those that stay readable are judged by the program jc_asked and by judge.py beside this file.
+The trial compiles the sources of trials/sources for Java 7 and 8. It changes each class file in one or several places:
+indexes, tags of the same size, flags, bytes of texts and of attributes. If the changed file is readable, it compares the
+faults that the program jc_asked and judge.py find.
 
-Usage: faults.py [--seed N] [--changes N]. It needs what javap.py needs.
+Usage: faults.py [--seed N] [--changes N]. It builds jc_asked by `rt run`, and needs javac.
 """
 import argparse
 import collections
@@ -25,7 +25,7 @@ NAMES = [b"Code", b"ConstantValue", b"Exceptions", b"BootstrapMethods", b"Source
 
 
 class Places:
-    """What stands where in a class file."""
+    """The offsets of the parts of a class file."""
 
     def __init__(self, data):
         self.data, self.indexes, self.flags, self.tags, self.texts, self.bodies = data, [], [], [], [], []

@@ -1,7 +1,6 @@
-"""A plain judge of the format rules F1 to F30, written from the table of `docs/RULES.md` alone.
+"""A plain judge of the format rules F1 to F30, written only from the table of `docs/RULES.md`.
 
-faults(bytes) lists the faults of a readable class file as pairs of a rule's number and a place, in
-the order of the rules and then of the places.
+faults(bytes) returns the faults of a readable class file, pairs of a rule's number and a place, sorted.
 """
 import re
 
@@ -44,7 +43,7 @@ class Member:
 
 
 def read_attributes(data, at, base=0):
-    """The attributes of a table, and the place behind it."""
+    """Returns the attributes of a table, and the offset after it."""
     count, at, found = number(data, at, 2), at + 2, []
     for _ in range(count):
         name, length = number(data, at, 2), number(data, at + 2, 4)
@@ -100,7 +99,7 @@ class ClassFile:
         return self.text(self.pair(index)[0]) if self.tag(index) == 7 else None
 
     def named(self, index):
-        """Name and descriptor that the reference at the index gives, or None each."""
+        """Returns the name and descriptor of the reference at the index, or None for each."""
         if self.tag(index) in (9, 10, 11, 18):
             entry = self.pair(index)[1]
             if self.tag(entry) == 12:
@@ -112,7 +111,7 @@ class ClassFile:
 
 
 def read_code(attribute):
-    """The attributes inside a well-formed Code, else None."""
+    """Returns the attributes inside a well-formed Code, or None if it is not well-formed."""
     data = attribute.body
     try:
         length = number(data, 4, 4)
@@ -136,7 +135,7 @@ def is_field(text):
 
 
 def slots(text):
-    """The slots of a method descriptor's parameters; None where the text is none."""
+    """Returns the slots of a method descriptor's parameters, or None if the text is not a method descriptor."""
     match = METHOD.fullmatch(text)
     if match is None:
         return None
@@ -170,7 +169,7 @@ WANTED = {7: (1,), 8: (1,), 9: (7, 12), 10: (7, 12), 11: (7, 12), 12: (1, 1), 16
 
 
 def constant_rules(file, index):
-    """The rules that the constant of an index breaks."""
+    """Yields the rules that the constant at an index breaks."""
     tag, body = file.entries[index]
     name, descriptor = file.named(index)
     if tag in WANTED and any(file.tag(k) != want for k, want in zip(file.pair(index), WANTED[tag])):

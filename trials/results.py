@@ -1,0 +1,185 @@
+#!/usr/bin/env python3
+"""Compares the counts in documents with the repository, or writes them.
+
+Usage: results.py [--write]
+
+The repository itself determines these counts. COUNTS has those in sentences. The table in docs/MUTANTS.md has the numbers of
+mutants. The tables in docs/ARCHITECTURE.md have a row for each crate without tests, and its libraries if they have such a
+column. Figures that only a run can give, for example times, are in trials/RESULTS.md, whose sections name the command that
+prints them.
+
+Without --write the script prints each difference. With --write it corrects the counts and prints each change.
+
+Status 0: the documents are correct. 1: something differs, or no document has one of the counts or tables.
+"""
+import argparse
+import pathlib
+import random
+import re
+import sys
+import typing
+
+sys.dont_write_bytecode = True
+sys.path.insert(0, str(pathlib.Path(__file__).resolve().parent))
+import common
+
+DOCUMENTS = ("README.md", "CONTRIBUTING.md", "docs/*.md", "trials/RESULTS.md")
+NUMERALS = """no one two three four five six seven eight nine ten eleven twelve thirteen fourteen fifteen sixteen seventeen
+    eighteen nineteen twenty""".split()
+NUMBER = rf"(\d[\d,]*|{'|'.join(NUMERALS)})"
+MUTANTS_HEAD = "| Crate | In the gate | Outside it |"
+CRATES_HEAD = "| Crate | Contents |"
+USES_HEAD = "| Crate | Contents | Depends on |"
+
+
+class Count(typing.NamedTuple):
+    """A count: what it counts, the pattern of its sentence, whose group is the number, and a function that counts."""
+    what: str
+    pattern: str
+    value: typing.Callable
+
+
+def source(path):
+    return (common.TOP / path).read_text()
+
+
+def last_rule(path, letter):
+    """Returns the number of the last rule in an order of faults."""
+    return max(map(int, re.findall(rf"^rule_number rules\.{letter}\d+ = (\d+)$", source(path), re.M)))
+
+
+def tests():
+    return sum(len(re.findall(r"^#\[test\]$", path.read_text(), re.M)) for path in common.TOP.glob("crates/jc_tests/src/**/*.rt"))
+
+
+def rows():
+    return sum(map(int, re.findall(r": (\d+) rows$", source("crates/jc_rows/stdout"), re.M)))
+
+
+def java_sources(folder):
+    return len(list((common.TRIALS / "sources" / folder).glob("*.java")))
+
+
+def made_sources():
+    with common.Workplace() as work:
+        common.make_sources(work, random.Random(1))
+        return len(list(work.iterdir()))
+
+
+def crates(text=None):
+    """Returns the crates in the order of crates.txt, each with the libraries that it uses."""
+    lines = re.findall(r"^([a-z]\w*):(.*)$", text or source("crates.txt"), re.M)
+    return {name: uses.split() for name, uses in lines}
+
+
+def mutants(crate):
+    """Returns the numbers of a crate's mutants in the gate and outside it."""
+    folders = common.TOP / "crates" / crate / "must-fail", common.TRIALS / "mutants" / crate
+    return [len(list(folder.glob("*.edit"))) for folder in folders]
+
+
+def all_mutants(place):
+    return sum(mutants(crate)[place] for crate in crates())
+
+
+def limit_of_words(name):
+    return int(re.search(r"^SENTENCE, PARAGRAPH = (\d+), (\d+)$", source("trials/words/run.py"), re.M)[name])
+
+
+COUNTS = (
+    Count("test rows", rf"{NUMBER} rows(?:,| and) (?:`jc_tests` has )?[\d,]+ tests", rows),
+    Count("tests", rf"[\d,]+ rows(?:,| and) (?:`jc_tests` has )?{NUMBER} tests", tests),
+    Count("layers of crates", rf"small crates in {NUMBER} layers", lambda: len(re.findall(r"\n\n# ", source("crates.txt")))),
+    Count("crates outside the chain", rf"All but {NUMBER} crates depend on one another in a chain",
+          lambda: len(re.search(r"^ASIDE='([^']*)'", source("scripts/build"), re.M)[1].split())),
+    Count("rules of the format", rf"(?:rules? of the format|its format),? \(?F1 to F{NUMBER}",
+          lambda: last_rule("crates/jc_rules/specs/FaultOrder.antt", "F")),
+    Count("rules of code", rf"\bS1 to S{NUMBER}", lambda: last_rule("crates/jc_code/specs/CodeFaultOrder.antt", "S")),
+    Count("opcodes", rf"{NUMBER} opcodes", lambda: int(re.search(r"length opcodes ≡ (\d+)", source("crates/jc_code/src/laws.rt"))[1])),
+    Count("sources for Java 7 and 8", rf"{NUMBER} sources for Java 7 and 8", lambda: java_sources("seven")),
+    Count("sources for Java 8", rf"sources for Java 7 and 8, {NUMBER} for Java 8", lambda: java_sources("eight")),
+    Count("generated sources", rf"{NUMBER} generated ones", made_sources),
+    Count("words of a sentence", rf"(?:no sentence over|one idea and at most) {NUMBER} words", lambda: limit_of_words(1)),
+    Count("words of a paragraph", rf"(?:no paragraph over|A paragraph has at most) {NUMBER}", lambda: limit_of_words(2)),
+    Count("kinds of hostile class files", rf"{NUMBER} kinds of hostile class files", lambda: len(common.load("hostile/classes.py").KINDS)),
+    Count("mutants in the gate", rf"The gate tries {NUMBER} mutants", lambda: all_mutants(0)),
+    Count("mutants outside the gate", rf"`trials/mutants` has {NUMBER} others", lambda: all_mutants(1)),
+)
+
+
+def in_form(text, value):
+    """Returns a number in the form of a text: as a word or in digits."""
+    return NUMERALS[value] if text.isalpha() and value < len(NUMERALS) else f"{value:,}"
+
+
+def with_table(text, head, row_of):
+    """Returns a text and the crates of its tables with this head. A function returns the rows of these tables."""
+    lines, is_table, found = text.split("\n"), False, []
+    for at, line in enumerate(lines):
+        is_table = line.startswith(head) or is_table and line.startswith("|")
+        if is_table and (row := re.match(r"\| `(\w+)` \|", line)):
+            found.append(row[1])
+            lines[at] = row_of(row[1], line)
+    return "\n".join(lines), found
+
+
+def same_row(_, line):
+    return line
+
+
+def mutants_row(crate, _):
+    return f"| `{crate}` | " + " | ".join(str(number or "") for number in mutants(crate)) + " |"
+
+
+def uses_row(crate, line):
+    return line.rsplit("|", 2)[0] + "| " + ", ".join(f"`{library}`" for library in crates().get(crate, [])) + " |"
+
+
+def with_counts(text, found):
+    """Returns a text with the right counts, and adds each count that it has to `found`."""
+    for count in COUNTS:
+        matches = list(re.finditer(count.pattern, text))
+        found.update([count.what] if matches else [])
+        for match in reversed(matches):
+            text = text[:match.start(1)] + in_form(match[1], count.value()) + text[match.end(1):]
+    return text
+
+
+def wrong_rows(name, head, wanted):
+    """Yields the crates that the tables with a head lack, and the wrong ones that they have."""
+    _, found = with_table(source(name), head, same_row)
+    yield from (f"{name}: no table has a row for {crate}" for crate in wanted if crate not in found)
+    yield from (f"{name}: a table has a row for {crate}, which is no crate" for crate in found if crate not in crates())
+
+
+def differences(write):
+    """Yields each difference between the documents and the repository. With `write` it corrects the documents."""
+    found = set()
+    for path in (path for pattern in DOCUMENTS for path in sorted(common.TOP.glob(pattern))):
+        before = path.read_text()
+        after = with_counts(before, found)
+        for head, row_of in ((MUTANTS_HEAD, mutants_row), (USES_HEAD, uses_row)):
+            after, _ = with_table(after, head, row_of)
+        for number, (old, new) in enumerate(zip(before.split("\n"), after.split("\n")), 1):
+            if old != new:
+                yield f"{path.relative_to(common.TOP)}:{number}: {old}\n  {'is now' if write else 'should be'}: {new}"
+        if write and before != after:
+            path.write_text(after)
+    for count in COUNTS:
+        if count.what not in found:
+            yield f"no document has the number of {count.what}: {count.value()}"
+    with_mutants = [crate for crate in crates() if any(mutants(crate))]
+    yield from wrong_rows("docs/MUTANTS.md", MUTANTS_HEAD, with_mutants)
+    yield from wrong_rows("docs/ARCHITECTURE.md", CRATES_HEAD, crates(source("crates.txt").split("\n# Tests")[0]))
+
+
+def main():
+    parser = argparse.ArgumentParser(description=__doc__.split("\n")[0])
+    parser.add_argument("--write", action="store_true", help="corrects the documents")
+    found = list(differences(parser.parse_args().write))
+    print(*found, f"{len(COUNTS)} counts and two kinds of tables, {len(found)} differences", sep="\n")
+    sys.exit(1 if found else 0)
+
+
+if __name__ == "__main__":
+    main()
