@@ -285,26 +285,26 @@ def main():
     specs = Specs()
     reached = specs.reach(set().union(*roots(specs).values()))
     files = {str(specs.files[module][0].relative_to(TOP)) for module, _ in reached}
-    amiss = 0
+    wrong = 0
     for module, (path, _, found, _) in specs.files.items():
         inside = ".inside" in module
         for name in found:
             if ((module, name) in reached) == inside:
                 print(f"{path.relative_to(TOP)}: {name} is {'reached by' if inside else 'reached by no'} public clause")
-                amiss += 1
+                wrong += 1
     for fault in passed_on():
         print(fault)
-        amiss += 1
+        wrong += 1
     for name in sorted(files ^ listed()):
         print(f"{name}: {'not ' if name in files else ''}listed in docs/BELIEVE.md")
-        amiss += 1
+        wrong += 1
     if "list" in sys.argv[1:]:
         for name in sorted(files):
             count = sum(1 for module, _ in reached if str(specs.files[module][0].relative_to(TOP)) == name)
             print(f"{name}: {count}")
     total = sum(len(found) for _, _, found, _ in specs.files.values())
-    print(f"{total} definitions, {len(reached)} of them reached by public clauses, in {len(files)} files; {amiss} amiss")
-    sys.exit(1 if amiss else 0)
+    print(f"{total} definitions, {len(reached)} of them reached by public clauses, in {len(files)} files; {wrong} wrong")
+    sys.exit(1 if wrong else 0)
 
 
 if __name__ == "__main__":

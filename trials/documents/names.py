@@ -9,6 +9,7 @@ checks(path) yields for each name in a document its line and what is wrong, or N
 - An option of jclink is in `./jclink --help`, and an option of a script is in the script. If a code span begins with an
   option, some script or the help text has it.
 - A status in a table with the first heading Status is one that `./jclink --help` lists. README lists exactly these statuses.
+- The picture of the crates in docs/ARCHITECTURE.md is the one that scripts/layers.py draws.
 """
 import functools
 import pathlib
@@ -194,6 +195,12 @@ def readme_check(prose):
     return 1, "there is no list of statuses"
 
 
+def picture_check():
+    """Returns the check of the picture of the crates."""
+    drawn = subprocess.run([common.TOP / "scripts/layers.py", "--check"], capture_output=True, text=True)
+    return 1, None if drawn.returncode == 0 else "the picture of the crates is not that of scripts/layers.py"
+
+
 def checks(path):
     """Yields for each name in a document its line, and what is wrong or None."""
     prose, code = split(path.read_text())
@@ -203,3 +210,5 @@ def checks(path):
     yield from status_checks(prose)
     if path.name == "README.md":
         yield readme_check(prose)
+    if path.name == "ARCHITECTURE.md":
+        yield picture_check()

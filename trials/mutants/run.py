@@ -221,9 +221,9 @@ def main():
         options.said.mkdir(parents=True, exist_ok=True)
     crates = [ROOT / "crates" / name for name in options.crates] or sorted((ROOT / "crates").iterdir())
     verdicts = [it for crate in crates if mutants_of(crate, options) for it in tried(crate, options)]
-    amiss = len(verdicts) - verdicts.count(REFUSED)
-    print(f"{len(verdicts)} mutants, {amiss} of them not refused" if amiss else f"{len(verdicts)} mutants, each refused")
-    sys.exit(amiss > 0)
+    wrong = len(verdicts) - verdicts.count(REFUSED)
+    print(f"{len(verdicts)} mutants, {wrong} of them not refused" if wrong else f"{len(verdicts)} mutants, each refused")
+    sys.exit(wrong > 0)
 
 
 if __name__ == "__main__":

@@ -5,7 +5,10 @@ It runs in a clone of this repository, so uncommitted files do not count. The tr
 four times a second, and the last value counts. The arguments and the folder of a process say what it does. The rest is the
 difference between the whole time and the sum: `rt` itself, linking and running.
 
-    trials/speed/gate.py [--lanes N] [--keep FILE]
+    trials/speed/gate.py [--lanes N] [--keep FILE] [--resume]
+
+With --resume it continues a run that was stopped on this machine. What that run proved is not proved again, so the minutes
+of both runs add up to those of one.
 """
 import argparse
 import collections
@@ -85,11 +88,11 @@ def watch(ran):
     return told
 
 
-def run(lanes, keep):
+def run(lanes, keep, is_resumed):
     with tempfile.TemporaryDirectory() as room:
         subprocess.run(["git", "clone", "--quiet", "--local", TOP, f"{room}/jclink"], check=True)
         began = time.time()
-        words = ["rt", "ci", *FROM_NOTHING]
+        words = ["rt", "ci", *([] if is_resumed else FROM_NOTHING)]
         with open(keep, "wb") if keep else tempfile.TemporaryFile() as log:
             how = {"cwd": f"{room}/jclink", "stdin": subprocess.DEVNULL, "stdout": log, "stderr": subprocess.STDOUT}
             ran = subprocess.Popen(words, env={**os.environ, "RT_JOBS": str(lanes)}, **how)
@@ -102,8 +105,9 @@ def main():
     words = argparse.ArgumentParser(description=__doc__.split("\n")[0])
     words.add_argument("--lanes", type=int, default=2)
     words.add_argument("--keep", help="a file for the output of the gate")
+    words.add_argument("--resume", action="store_true", help="continue a run that was stopped")
     words = words.parse_args()
-    status, told, whole, clock = run(words.lanes, words.keep)
+    status, told, whole, clock = run(words.lanes, words.keep, words.resume)
     for kind in KINDS:
         crates = {crate: seconds for (of, crate), seconds in told.items() if of == kind}
         each = ", ".join(f"{crate} {seconds / 60:.1f}" for crate, seconds in sorted(crates.items(), key=lambda it: -it[1]))

@@ -1,4 +1,4 @@
-//! The errors of loading, of resolution and of instructions (JVMS 5.3.5, 5.4.3, 6.5).
+//! The errors of loading, of resolution and of instructions (JVMS 5.3, 5.4.3, 6.5).
 
 ghost use Rattle.std.specs.Prelude.{◌≡◌};
 ghost use Rattle.jc_classes.specs.LinkageErrors.{error_code, error_name};
@@ -6,9 +6,9 @@ ghost use Rattle.jc_classes.specs.LinkageErrors.{error_code, error_name};
 /// Why a class does not load, a reference has no class, field or method, or an instruction does not link.
 #[derive(Clone, Copy)]
 pub enum LinkageError {
-    /// No class has the name (`NoClassDefFoundError`, JVMS 5.3.5).
+    /// No class has the name (`NoClassDefFoundError`, JVMS 5.3).
     NoClass,
-    /// The class breaks a rule of the format (`ClassFormatError`, JVMS 5.3.5).
+    /// The class breaks a rule of the format (`ClassFormatError`, JVMS 4.8, 5.3.5).
     Format,
     /// The class is its own superclass or superinterface (`ClassCircularityError`, JVMS 5.3.5).
     Circular,
@@ -21,7 +21,7 @@ pub enum LinkageError {
     IllegalAccess,
     /// Look-up finds no field (`NoSuchFieldError`, JVMS 5.4.3.2).
     NoField,
-    /// Look-up finds no method (`NoSuchMethodError`, JVMS 5.4.3.3, 5.4.3.4).
+    /// Look-up finds no method (`NoSuchMethodError`, JVMS 5.4.3.3, 5.4.3.4, 6.5).
     NoMethod,
     /// The class is an interface or abstract, and `new` names it (`InstantiationError`, JVMS 6.5).
     Instantiation,

@@ -9,7 +9,7 @@ ghost use Rattle.jc_classes.specs.inside.Using.{are_marks, mark_at};
 
 use crate::names::same;
 use crate::read_facts::push_some;
-use crate::used::is_marked;
+use crate::used::{is_marked, named_by_handle};
 use jc_base::NoMemory;
 use jc_view::{ClassView, Constant, ConstantIndex};
 use std::alloc::Global;
@@ -119,10 +119,7 @@ fn add_by_handles(descriptors: &mut Vec<ConstantIndex>, class: &ClassView) -> Re
 fn handle_descriptor(class: &ClassView, index: u16) -> Option<ConstantIndex>
     ensures { result ≡ option_and_then (handle_descriptor class.now) (constant_at class.now (record { 0 = index })) }
 {
-    match class.constant(index)? {
-        Constant::MethodHandle(_, reference) => member_descriptor(class, reference),
-        _ => None,
-    }
+    member_descriptor(class, named_by_handle(class, index)?)
 }
 
 /// Returns the descriptor of the member that the constant at `index` refers to.

@@ -14,14 +14,16 @@ use crate::descriptor_classes::add_resolved_classes;
 use crate::read_facts::push_some;
 use jc_base::{Cursor, NoMemory};
 use jc_view::{
-    Attribute, AttributeKind, ClassView, Constant, ConstantIndex, Indexes, read_index, read_indexes,
+    Attribute, AttributeKind, ClassView, Constant, ConstantIndex, ConstantKind, Indexes,
+    read_index, read_indexes,
 };
 use std::alloc::Global;
 
-/// Returns a mark for each constant of a class file by its index, set if the constant is used. A constant is used if an instruction, an
-/// exception handler, a method handle or an argument of a bootstrap method names it. A Class constant is also used if
-/// a reference to a member that is named so is of this class, or if its class is in a descriptor that code resolves.
-/// `marks` has the constants that the code of methods names.
+/// Returns a mark for each constant of a class file by its index, set if the constant is used.
+///
+/// A constant is used if an instruction, an exception handler, a method handle or an argument of a bootstrap method
+/// names it. A Class constant is also used if a reference to a member that is named so is of this class, or if its
+/// class is in a descriptor that code resolves. `marks` has the constants that the code of methods names.
 ///
 /// Returns `NoMemory` only when an allocation fails.
 pub(crate) fn used(
@@ -62,9 +64,13 @@ fn add_by_handles(names: &mut Vec<ConstantIndex>, class: &ClassView) -> Result<(
     Ok(())
 }
 
-fn named_by_handle(class: &ClassView, index: u16) -> Option<ConstantIndex>
+/// Returns the member that the method handle at `index` refers to.
+pub(crate) fn named_by_handle(class: &ClassView, index: u16) -> Option<ConstantIndex>
     ensures { result ≡ option_and_then named_by_handle (constant_at class.now (record { 0 = index })) }
 {
+    if !class.is_entry(ConstantKind::MethodHandle, ConstantIndex(index)) {
+        return None;
+    }
     match class.constant(index)? {
         Constant::MethodHandle(_, reference) => Some(reference),
         _ => None,

@@ -27,10 +27,11 @@ use jc_list::write_format_line;
 use jc_resolve::Loading;
 use jc_text::TextWriter;
 
-/// Writes what makes a report wrong, a line each that stands for itself, as far as it is asked for. Unreadable files are
-/// first, by path. Then follow the classes by name: the load error or the format faults of each, its code faults by
-/// method, its instructions that do not link by method and offset, and its references by index. An output that fails
-/// has a beginning of this text.
+/// Writes what makes a report wrong, as far as it is asked for, in one line each.
+///
+/// Unreadable files are first, by path. Then follow the classes by name: the load error or the format faults of each, its
+/// code faults by method, its instructions that do not link by method and offset, and its references by index. An output
+/// that fails has a beginning of this text.
 pub fn write_errors<W: Output>(
     report: &TreeReport<'_>,
     asked: Asked<'_>,

@@ -1,4 +1,4 @@
--- Whether an answer is an error that is told, by the answers that are left.
+-- Whether an answer is an error that is listed, by the answers that are left.
 use Rattle.std.proofs.Common.{◌≡◌, ◌∙◌, ◌∷◌, ◌||◌, ◌+◌, [], ℕ, Bool, true, false, List, ap, sym}
 use Rattle.jc_classes.specs.Facts.{Facts}
 use Rattle.jc_classes.specs.Resolution.{Answer}
