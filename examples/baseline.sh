@@ -6,8 +6,9 @@
 #
 # BASELINE is a folder, for example under version control, with the files provided.txt, required.txt and errors.txt.
 # --write writes them. Without it the script compares them and prints the differences. With --errors-only it neither reads
-# nor writes files other than errors.txt. OPTION is an option of `jclink check`, for example --outside=org/ or
-# --only=PREFIX. --only and --used apply to errors.txt only.
+# nor writes files other than errors.txt. OPTION is an option of `jclink check`, for example --used or --only=PREFIX, which
+# apply to errors.txt only. --outside replaces java/ and javax/: to add org/, give --outside=java/ --outside=javax/
+# --outside=org/.
 #
 # errors.txt has the lines of `jclink check --errors` without the parts that change with each build: offsets and places.
 # Equal lines are written as one line that begins with their number.

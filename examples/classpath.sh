@@ -19,7 +19,8 @@
 #                     javax/annotation/.
 #
 # --only PREFIX       prints only the errors of classes whose names begin with PREFIX, and of unreadable files whose paths in
-#                     their entries do; up to 54 times
+#                     their entries do; up to 54 times. PREFIX has slashes, for example com/acme/. If no class file with such a
+#                     path is read, standard error says so.
 #
 # --outside PREFIX    names that begin with PREFIX are outside too
 #
@@ -29,11 +30,11 @@
 # Each line is an error of `jclink check --errors --used`. The path of an unreadable file begins with its entry, for example
 # lib/x.jar!a/B.class. Standard error says how many class files there are. If several entries have a file of one path, the
 # first is read and the others are shadowed. Within a jar the last is read. Class files below META-INF/versions/ and
-# module-info.class do not count.
+# module-info.class do not count. Jars inside a jar are not read, but counted.
 #
 # Class files of other versions than 51 and 52 are skipped. They are counted for each entry, and their packages are outside.
 # No prefix covers a class that is read. If 64 prefixes are too few, the longest common prefixes replace the prefixes that
-# begin with them. Standard error names the packages that are still left.
+# begin with them. Standard error names the packages that are still left: references to their classes are printed as errors.
 #
 # The name of a class is the one in its file, whatever the path of the file in its entry is. A virtual machine finds only
 # files whose paths are the names of their classes. The script needs python3.
@@ -124,6 +125,10 @@ select_own() {
 mapfile -t entries <"$tree/entries"
 mapfile -t prefixes <"$tree/outside"
 folders=("$tree"/[0-9]*)
+for prefix in "${only[@]}"; do
+  found=("$tree"/[0-9]*/"$prefix"*)
+  [ -e "${found[0]}" ] || echo "--only $prefix: no class file with such a path is read" >&2
+done
 first=${folders[0]##*/} options=("${prefixes[@]/#/--outside=}" "${only[@]/#/--only=}")
 if [ ${#only[@]} -gt 0 ]; then
   # The path of an unreadable file begins with the number of its entry.

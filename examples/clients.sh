@@ -3,13 +3,17 @@
 #
 #     clients.sh OLD NEW CLIENT [OPTION]...
 #
-# OLD and NEW are the library's versions. Each of the three is a jar or a folder of class files. OPTION is an option of
-# `jclink check --errors`, for example --used, --outside=org/ or --only=PREFIX. The lines are those of `jclink check --errors`
-# for the client's classes. The library's own errors are left out. A class that both the library and the client give is the
-# library's.
+# OLD and NEW are the library's versions. Each of the three is a jar or a folder of class files; jars in a folder are not
+# read. OPTION is an option of `jclink check --errors`, for example --used or --only=PREFIX. --outside replaces java/ and
+# javax/: to add org/, give --outside=java/ --outside=javax/ --outside=org/.
 #
-# Other libraries that the client needs can be in the folder of CLIENT. So can the API of Java 8 (api.py): without it, a
-# missing member of a class with a supertype in java/ or javax/ is no error.
+# The lines are those of `jclink check --errors` for the client's classes. The library's own errors are left out. A class that
+# both the library and the client give is the library's.
+#
+# Unpack the other libraries that the client and the library need into the folder of CLIENT. If a supertype of a class is
+# missing, the references of that class are not checked. Standard error counts the classes that do not load with OLD. The API
+# of Java 8 (api.py) can be in this folder too: without it, a missing member of a class with a supertype in java/ or javax/ is
+# no error.
 #
 # META-INF/versions and module-info.class are left out. Standard error says how many other class files are not read.
 #
@@ -51,6 +55,13 @@ count() {
   [ "$unread" -eq 0 ] || echo "clients.sh: $unread class files of $3 are not read" >&2
 }
 
+# Says how many classes do not load with the old version, and shows the line of the first.
+count_unloaded() {
+  grep '^[^:]*: error [1-8] ' "$work/old.lines" >"$work/unloaded" || return 0
+  echo "clients.sh: $(wc -l <"$work/unloaded") of the classes do not load with $1, and their references are not checked; the first is" \
+    "$(head -n 1 "$work/unloaded")" >&2
+}
+
 # The lines of the client's classes, sorted. A line begins with the name of its class, before a colon or a full stop.
 of_client() {
   awk 'NR == FNR { is_client[$0]; next } { name = $0; sub(/(: |\.).*/, "", name) } name in is_client' "$work/names" "$work/$1" | sort
@@ -69,6 +80,7 @@ count new.report 1 "$3"
 sed -n '1,/^\[parts\]$/s/^1\/.*: class //p' "$work/new.report" >"$work/names"
 check old.lines --errors "${@:4}" -- "$work/old"
 check new.lines --errors "${@:4}" -- "$work/new"
+count_unloaded "$1"
 of_client old.lines >"$work/old.txt"
 of_client new.lines >"$work/new.txt"
 comm -13 "$work/old.txt" "$work/new.txt" >"$work/errors"

@@ -24,6 +24,7 @@ import zipfile
 
 READ = {51, 52}
 MAX_PREFIXES, MAX_PREFIX, MAX_FILES, MAX_FILE = 64, 256, 65535, 16777216
+JAR = (".jar", ".JAR")
 # The packages of Java 8. Those of java/, javax/ and org/ are in the API specification of Java SE 8, and in lib/ct.sym for
 # --release 8. javax/smartcardio/, sun/, com/sun/ and jdk/ are the JDK's own.
 JAVA = """java/ javax/accessibility/ javax/activation/ javax/activity/ javax/annotation/ javax/crypto/ javax/imageio/ javax/jws/
@@ -45,7 +46,7 @@ class Folder:
 
     def __init__(self, shown):
         self.path, self.shown, self.name = shown, shown.rstrip("/") + "/", shown
-        self.hidden = 0
+        self.hidden = self.jars = 0
 
     def class_files(self):
         return self.below("", ())
@@ -91,6 +92,7 @@ class Jar:
         infos = [info for info in self.archive.infolist() if is_class_file(info.filename)]
         self.files = {utf8_name(info): info for info in infos}
         self.hidden = len(infos) - len(self.files)
+        self.jars = sum(name.endswith(JAR) for name in self.archive.namelist())
 
     def class_path(self):
         """Returns the URLs in the manifest's Class-Path."""
@@ -142,7 +144,8 @@ def elements_of(class_path):
         if element != "*" and not element.endswith("/*") or os.path.exists(element):
             yield element or "."
             continue
-        jars = [name for name in os.listdir(element[:-1] or ".") if name.endswith((".jar", ".JAR")) and ":" not in name]
+        names = guarded(element, lambda folder=element[:-1] or ".": os.listdir(folder))
+        jars = [name for name in names if name.endswith(JAR) and ":" not in name]
         if not jars:
             raise Failure(f"{element}: there is no jar")
         yield from (element[:-1] + name for name in sorted(jars))
@@ -234,6 +237,8 @@ class Tree:
         self.skipped += sum(versions.values())
         if versions:
             print(f"{entry.name}: {skipped_text(versions)} not read", file=sys.stderr)
+        if entry.jars:
+            print(f"{entry.name}: {counted(entry.jars, 'jar in it is', 'jars in it are')} not read", file=sys.stderr)
 
     def write(self, entry, file, folder, path):
         if entry.size(file) > MAX_FILE:
@@ -362,7 +367,8 @@ def outside_of(tree, given):
     added, left = prefixes_of(unread, tree.read, MAX_PREFIXES - len(given))
     if left:
         packages = sorted({name[:name.rfind("/") + 1] or "(no package)" for name in left})
-        print(f"no prefix is left for {len(left)} class files that are not read, of {' '.join(packages)}", file=sys.stderr)
+        which = f"{len(left)} class files that are not read, of {' '.join(packages)}"
+        print(f"no prefix is left for {which}: references to them are errors, unless --outside covers them", file=sys.stderr)
     return given + added or ["/"]
 
 

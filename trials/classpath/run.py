@@ -157,7 +157,7 @@ def try_wildcards(place):
     yield place.agrees("classes:*", place="a")
     place.path("none").mkdir()
     yield fails(place.run("classes:none/*"), "none/*")
-    yield fails(place.run("classes:nowhere/*"), "nowhere/")
+    yield fails(place.run("classes:nowhere/*"), "nowhere/*: ")
 
 
 def try_names(place):
@@ -276,7 +276,7 @@ def try_prefixes(place):
     yield set(found) - set(usual) == {"com/a/", "com/b/", "lib/Store"}
     words = [f"--outside={chr(97 + at % 26)}{at}/" for at in range(64 - len(usual))]
     found, err = covered_by(place, ["com/a/X", "d/X"], *words)
-    yield len(found) == 64 and "no prefix is left for 2 class files that are not read, of com/a/ d/\n" in err
+    yield len(found) == 64 and "no prefix is left for 2 class files that are not read, of com/a/ d/: references" in err
     yield is_so(place.run(*words, "--outside", "z/z/", "classes:old"), 2, "", "64")
     yield is_so(place.run(*words, "--outside", words[0][10:] + "z/", "classes:old"), 0, "")
 
@@ -294,6 +294,8 @@ def try_empty(place):
     place.jar("multi.jar", *multi, ("lib/Store.class", place.bytes("new/lib/Store")))
     yield is_so(place.run("classes:multi.jar"), 1, ".* NoMethod lib/Store\n", "2 class files: 2 read, 0 shadowed, 0 skipped")
     yield "not read" not in place.run("classes:multi.jar")[2]
+    place.jar("inside.jar", ("lib/store.jar", b""), ("store.JAR", b""), ("lib/Store.class", place.bytes("old/lib/Store")))
+    yield is_so(place.run("classes:inside.jar"), 0, "", "inside.jar: 2 jars in it are not read\n")
     shutil.copytree(place.folder / "old", place.folder / "tree" / "META-INF" / "versions" / "9")
     shutil.copytree(place.folder / "classes", place.folder / "tree", dirs_exist_ok=True)
     yield place.agrees("tree")
@@ -391,6 +393,9 @@ def try_only(place):
                        ("--only app/Main", main), ("--only lib/ --only app/U", lib + user), ("--only none/", ""),
                        ("--only 0", ""), ("--only app/Cut.", app), ("--only app/ --outside lib/", app + jar)):
         yield is_so(place.run(*words.split(), both), 1 if out else 0, out)
+    # A prefix that is the prefix of no path is named.
+    yield is_so(place.run("--only", "app.", "--only", "lib/", both), 1, lib, "--only app.: no class file")
+    yield "--only" not in place.run("--only", "app/", both)[2]
     # A reference that no code uses is not printed.
     place.path("outer/app/Outer$Inner.class").unlink()
     command = [common.JCLINK, "check", "--errors", place.folder / "outer"]

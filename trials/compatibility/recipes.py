@@ -133,6 +133,11 @@ def try_clients(work, old, new):
     shutil.copy(later / "Later.class", client)
     found = run("clients.sh", old, old, client)
     yield passes("clients.sh, a file of Java 11", found == (0, f"clients.sh: 1 class files of {client} are not read\n"), found)
+    lone = compile_to(work / "lone", {"Lone": "class Lone extends Missing {}", "Missing": "class Missing {}"})
+    (lone / "Missing.class").unlink()
+    found = run("clients.sh", old, old, lone)
+    line = "and their references are not checked; the first is Lone: error 1 NoClass Missing\n"
+    yield passes("clients.sh, a missing supertype", found[0] == 0 and found[1].endswith(line), found)
 
 
 # The errors of a tree that `build` makes, without offsets and places.
