@@ -4,8 +4,8 @@ checks(path) yields for each name in a document its line and what is wrong, or N
 
 - A relative link leads to a file of the repository, and its `#anchor` to a heading of that file.
 - A file name in a code span exists. It begins with a folder of the repository and a slash, or it has a suffix of the
-  repository's files. It may be the end of a longer path. A word in capitals, for example NAME, means any text. A file that a
-  script names, or that a code block of the document shows, need not exist.
+  repository's files. It may be the end of a longer path. A word in capitals, for example NAME, means any text, except in the
+  name of a document. A file that a script names, or that a code block of the document shows, need not exist.
 - An option of jclink is in `./jclink --help`, and an option of a script is in the script. If a code span begins with an
   option, some script or the help text has it.
 - A status in a table with the first heading Status is one that `./jclink --help` lists. README lists exactly these statuses.
@@ -109,8 +109,8 @@ def link_checks(path, prose):
 
 
 def form_of(part):
-    """Returns a part of a file name as a regular expression. A word in capitals means any text."""
-    if any(part in parts for parts in tracked()):
+    """Returns a part of a file name as a regular expression. A word in capitals means any text, except in a document's name."""
+    if part.endswith(".md") or any(part in parts for parts in tracked()):
         return re.escape(part)
     return "".join("[^/]*" if piece == "*" or piece.isupper() else re.escape(piece) for piece in re.split(r"([A-Z]{2,}|\*)", part))
 

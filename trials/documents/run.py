@@ -2,7 +2,7 @@
 """Runs the commands that documents show, and compares their output with what the documents show.
 
 Usage: run.py [--names] [--netty FOLDER] [--maven FOLDER], once ./jclink is built. The environment's JCLINK may name another
-program. It needs a JDK. With --names it only checks names, and needs neither a JDK nor the program.
+program. It needs a JDK. With --names it only checks names and counts, and needs neither a JDK nor the program.
 
 A command is a line of an indented block that begins with `$`. The lines below it, up to the next command, are its output; `..`
 means any lines. The lines of `cat FILE..` are the files, one line for each if there are several. The trial writes these files.
@@ -12,10 +12,11 @@ A block whose commands name netty or maven runs only if its FOLDER is given; the
 is the Debian package libnetty-java as `dpkg -x` unpacks it. For maven it has the jars of the Debian package maven in boot/ and
 lib/, for example /usr/share/maven. Nothing is downloaded: commands that begin with `apt-get` do not run.
 
-The trial also checks three things:
+The trial also checks four things:
 
 - The lines of a block that begins with `use` are lines of a crate's source, in the same order.
 - The links, files, options and statuses that documents name exist (names.py).
+- The counts in documents are those of the repository (trials/results.py).
 - examples/hold.py prints the changes of a folder.
 """
 import argparse
@@ -193,6 +194,11 @@ def try_hold(folder):
     yield subprocess.run([*HOLD, tree, ""], stderr=subprocess.DEVNULL, check=False).returncode == 2
 
 
+def try_counts():
+    """Returns whether the counts in documents are right. The other script prints what differs."""
+    return subprocess.run([sys.executable, common.TOP / "trials/results.py"], check=False).returncode == 0
+
+
 def try_commands(applications):
     """Yields whether the commands of all documents, and hold.py, print what they should."""
     for path in names.documents():
@@ -213,6 +219,7 @@ def main():
     only_names = options.pop("names")
     named = [right for path in names.documents() for right in try_names(path)]
     print(f"{len(named)} names, {named.count(False)} wrong", flush=True)
+    named.append(try_counts())
     right = [right for path in names.documents() for right in try_quotes(path)]
     if not only_names:
         right += try_commands({name: folder for name, folder in options.items() if folder})

@@ -1,0 +1,9 @@
+pub mod AttributesAdded
+pub mod KeysApart
+pub mod KnownTexts
+pub mod OfKinds
+pub mod PlacesAdded
+pub mod RepeatsAdded
+pub mod RuleBits
+pub mod RuleChains
+pub mod WholePlaces

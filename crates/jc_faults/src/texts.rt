@@ -1,0 +1,203 @@
+//! The texts of a class file, and what each was found to be. Any number of constants and members may name the same
+//! long text, and no text is read twice for the same question.
+
+ghost use Rattle.std.specs.Prelude.{◌≡◌, IfOk, option_map, slice_get};
+ghost use Rattle.jc_base.specs.TextTests.{is_class_text, is_method_name_text, is_unqualified_text};
+ghost use Rattle.jc_view.specs.declared.constant_pool.ConstantIndex.{ConstantIndex};
+ghost use Rattle.jc_view.specs.ClassFile.{ClassFile};
+ghost use Rattle.jc_view.specs.Lookups.{utf8_at};
+ghost use Rattle.jc_faults.specs.inside.Texts.{IsKnown, dims_of, shape_of};
+
+use jc_base::{FieldDesc, MethodDesc, NoMemory, is_class_name, is_method_name, is_unqualified};
+use jc_view::{ClassView, ConstantIndex};
+use std::alloc::Global;
+use std::marker::Model;
+
+/// How many slots the parameters of a method take, without the receiver, and whether it has a result.
+#[derive(Clone, Copy)]
+pub(crate) struct MethodShape {
+    pub(crate) slots: u8,
+    pub(crate) returns_value: bool,
+}
+
+/// The answers about a text that are known.
+#[derive(Clone, Copy)]
+struct Known {
+    is_class: Option<bool>,
+    is_unqualified: Option<bool>,
+    is_method_name: Option<bool>,
+    dims: Option<Option<u8>>,
+    shape: Option<Option<MethodShape>>,
+}
+
+impl Known {
+    fn nothing() -> Known
+        ensures { (c : ClassFile) (index : ConstantIndex) → IsKnown c index result }
+    {
+        Known {
+            is_class: None,
+            is_unqualified: None,
+            is_method_name: None,
+            dims: None,
+            shape: None,
+        }
+    }
+}
+
+/// A class file, and what is known of its texts.
+#[derive(Drop)]
+pub(crate) struct Texts<'v, 'a> {
+    class: &'v ClassView<'a>,
+    known: Vec<Known>,
+}
+
+impl<'v, 'a> Model for Texts<'v, 'a> {
+    ghost use Rattle.jc_view.specs.ClassFile.{ClassFile};
+
+    ghost Value = { ClassFile };
+
+    ghost use Rattle.jc_faults.specs.inside.Texts.{AreKnown};
+
+    ghost view = { λ t. t.class.now };
+
+    ghost invariant = { AreKnown };
+}
+
+impl<'v, 'a> Texts<'v, 'a> {
+    pub(crate) fn new(alloc: Global, class: &'v ClassView<'a>) -> Result<Texts<'v, 'a>, NoMemory>
+        ensures { IfOk result (λ texts. texts ≡ class.now) }
+    {
+        let known = vec![in alloc; Known::nothing(); class.constant_count() as usize]?;
+        Ok(Texts { class, known })
+    }
+
+    pub(crate) fn class(&self) -> &'v ClassView<'a>
+        ensures { result.now ≡ self.now }
+    {
+        self.class
+    }
+
+    /// Returns whether the text at `index` is the name of a class or interface (JVMS 4.2.1).
+    pub(crate) fn is_class(&mut self, index: ConstantIndex) -> Option<bool>
+        ensures same { self.new ≡ self.old }
+        ensures answer { result ≡ option_map is_class_text (utf8_at self.old index) }
+    {
+        let known = self.known(index);
+        if known.is_class.is_some() {
+            return known.is_class;
+        }
+        let is_class = Some(is_class_name(self.class.utf8(index)?));
+        self.note(index, Known { is_class, ..known });
+        is_class
+    }
+
+    /// Returns whether the text at `index` is an unqualified name (JVMS 4.2.2).
+    pub(crate) fn is_unqualified(&mut self, index: ConstantIndex) -> Option<bool>
+        ensures same { self.new ≡ self.old }
+        ensures answer { result ≡ option_map is_unqualified_text (utf8_at self.old index) }
+    {
+        let known = self.known(index);
+        if known.is_unqualified.is_some() {
+            return known.is_unqualified;
+        }
+        let is_unqualified = Some(is_unqualified(self.class.utf8(index)?));
+        self.note(
+            index,
+            Known {
+                is_unqualified,
+                ..known
+            },
+        );
+        is_unqualified
+    }
+
+    /// Returns whether the text at `index` is the name of a method (JVMS 4.2.2).
+    pub(crate) fn is_method_name(&mut self, index: ConstantIndex) -> Option<bool>
+        ensures same { self.new ≡ self.old }
+        ensures answer { result ≡ option_map is_method_name_text (utf8_at self.old index) }
+    {
+        let known = self.known(index);
+        if known.is_method_name.is_some() {
+            return known.is_method_name;
+        }
+        let is_method_name = Some(is_method_name(self.class.utf8(index)?));
+        self.note(
+            index,
+            Known {
+                is_method_name,
+                ..known
+            },
+        );
+        is_method_name
+    }
+
+    /// Returns how many dimensions the text at `index` has if it is the descriptor of a field (JVMS 4.3.2).
+    pub(crate) fn dims(&mut self, index: ConstantIndex) -> Option<Option<u8>>
+        ensures same { self.new ≡ self.old }
+        ensures answer { result ≡ option_map dims_of (utf8_at self.old index) }
+    {
+        let known = self.known(index);
+        if known.dims.is_some() {
+            return known.dims;
+        }
+        let dims = Some(dims_of(self.class.utf8(index)?));
+        self.note(index, Known { dims, ..known });
+        dims
+    }
+
+    /// Returns the shape of the text at `index` if it is the descriptor of a method (JVMS 4.3.3).
+    pub(crate) fn shape(&mut self, index: ConstantIndex) -> Option<Option<MethodShape>>
+        ensures same { self.new ≡ self.old }
+        ensures answer { result ≡ option_map shape_of (utf8_at self.old index) }
+    {
+        let known = self.known(index);
+        if known.shape.is_some() {
+            return known.shape;
+        }
+        let shape = Some(shape_of(self.class.utf8(index)?));
+        self.note(index, Known { shape, ..known });
+        shape
+    }
+
+    fn known(&self, index: ConstantIndex) -> Known
+        ensures { IsKnown self.now index result }
+    {
+        match known_at(&self.known, index) {
+            Some(known) => known,
+            None => Known::nothing(),
+        }
+    }
+
+    fn note(&mut self, index: ConstantIndex, known: Known)
+        requires { IsKnown self.old index known }
+        ensures { self.new ≡ self.old }
+    {
+        let place = index.0 as usize;
+        if place < self.known.len() {
+            self.known[place] = known;
+        }
+    }
+}
+
+/// Returns what is known at an index.
+fn known_at(known: &[Known], index: ConstantIndex) -> Option<Known>
+    ensures { result ≡ slice_get known.now index.0 }
+{
+    Some(*known.get(index.0 as usize)?)
+}
+
+fn dims_of(text: &[u8]) -> Option<u8>
+    ensures { result ≡ dims_of text.now }
+{
+    Some(FieldDesc::read(text)?.dims())
+}
+
+fn shape_of(text: &[u8]) -> Option<MethodShape>
+    ensures { result ≡ shape_of text.now }
+{
+    let method = MethodDesc::read(text)?;
+    Some(MethodShape {
+        slots: method.slots(),
+        returns_value: method.result().is_some(),
+    })
+}
