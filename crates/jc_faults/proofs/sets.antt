@@ -6,4 +6,5 @@ pub mod PlacesAdded
 pub mod RepeatsAdded
 pub mod RuleBits
 pub mod RuleChains
+pub mod SpelledTexts
 pub mod WholePlaces

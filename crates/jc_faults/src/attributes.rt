@@ -2,7 +2,9 @@
 
 ghost use Rattle.std.specs.Prelude.{◌≡◌, [], ◌∷◌, OnOk};
 ghost use Rattle.jc_base.specs.Bytes.{same_bytes};
+ghost use Rattle.std.specs.Option.{option_copied};
 ghost use Rattle.jc_view.specs.Attributes.{attribute_name};
+ghost use Rattle.jc_view.specs.Lookups.{utf8_at};
 ghost use Rattle.jc_rules.specs.FormatRules.{breaks_f29, breaks_f30};
 ghost use Rattle.jc_faults.specs.inside.AttributePlaces.{has_rules, places_among, places_of_members, places_of_one, places_with_inner};
 ghost use Rattle.jc_faults.specs.inside.Broken.{AddsPlaces};
@@ -76,25 +78,23 @@ fn add_own(broken: &mut Vec<Broken>, attribute: &Attribute) -> Result<(), NoMemo
 fn attribute_rules(attribute: &Attribute) -> RuleSet
     ensures { AreBroken (attribute_tests attribute.now.class attribute.now.attribute) result }
 {
-    let (f29, f30) = breaks_by_name(attribute);
+    let name = attribute.name();
+    let (f29, f30) = breaks_by_name(attribute, name);
     RuleSet::none()
-        .with(FormatRule::F28, attribute.name().is_none())
+        .with(FormatRule::F28, name.is_none())
         .with(FormatRule::F29, f29)
         .with(FormatRule::F30, f30)
 }
 
 /// Returns whether an attribute breaks F29 and F30. Those of most names break neither.
-fn breaks_by_name(attribute: &Attribute) -> (bool, bool)
+fn breaks_by_name(attribute: &Attribute, name: Option<&[u8]>) -> (bool, bool)
+    requires { option_copied name ≡ utf8_at attribute.now.class attribute.now.attribute.attribute.name }
     ensures f29 { result.0 ≡ breaks_f29 attribute.now.class attribute.now.attribute }
     ensures f30 { result.1 ≡ breaks_f30 attribute.now.class attribute.now.attribute }
 {
-    let Some(name) = attribute.name() else {
-        return (false, false);
-    };
-    if has_rules(name) {
-        (breaks_f29(attribute), breaks_f30(attribute))
-    } else {
-        (false, false)
+    match name {
+        Some(name) if has_rules(name) => (breaks_f29(attribute), breaks_f30(attribute)),
+        _ => (false, false),
     }
 }
 

@@ -18,6 +18,7 @@ use crate::rule_set::RuleSet;
 use crate::texts::Texts;
 use jc_base::NoMemory;
 use jc_rules::rules::bootstraps::told_methods;
+use jc_view::ConstantIndex;
 
 /// Adds the rules that constants break.
 pub(crate) fn add_constants(broken: &mut Vec<Broken>, texts: &mut Texts) -> Result<(), NoMemory>
@@ -32,13 +33,16 @@ pub(crate) fn add_constants(broken: &mut Vec<Broken>, texts: &mut Texts) -> Resu
     Ok(())
 }
 
-/// Returns the rules that the constant of an index breaks, if it is there.
+/// Returns the rules that the constant of an index breaks, if it is there. A text that is a name or a descriptor breaks none.
 fn rules_at(texts: &mut Texts, bootstraps: u16, index: u16) -> RuleSet
     requires { bootstraps ≡ told_by (bootstrap_attributes texts.old) }
     ensures same { texts.new ≡ texts.old }
     ensures rules { (rule : FormatRule) → has result rule
         ≡ option_map_or (λ constant. breaks_in (constant_tests texts.old constant) rule) (constant_at texts.old (record { 0 = index })) false }
 {
+    if texts.is_name_or_descriptor(ConstantIndex(index)) {
+        return RuleSet::none();
+    }
     match texts.class().constant(index) {
         Some(constant) => constant_rules(texts, bootstraps, constant),
         None => RuleSet::none(),

@@ -1,12 +1,12 @@
 //! The texts of a class file, and what each was found to be. Any number of constants and members may name the same
 //! long text, and no text is read twice for the same question.
 
-ghost use Rattle.std.specs.Prelude.{◌≡◌, IfOk, option_map, slice_get};
+ghost use Rattle.std.specs.Prelude.{◌≡◌, IfOk, option_map, slice_get, true};
 ghost use Rattle.jc_base.specs.TextTests.{is_class_text, is_method_name_text, is_unqualified_text};
 ghost use Rattle.jc_view.specs.declared.constant_pool.ConstantIndex.{ConstantIndex};
 ghost use Rattle.jc_view.specs.ClassFile.{ClassFile};
-ghost use Rattle.jc_view.specs.Lookups.{utf8_at};
-ghost use Rattle.jc_faults.specs.inside.Texts.{IsKnown, dims_of, shape_of};
+ghost use Rattle.jc_view.specs.Lookups.{passes, utf8_at};
+ghost use Rattle.jc_faults.specs.inside.Texts.{IsKnown, dims_of, is_known_text, is_spelled, shape_of};
 
 use jc_base::{FieldDesc, MethodDesc, NoMemory, is_class_name, is_method_name, is_unqualified};
 use jc_view::{ClassView, ConstantIndex};
@@ -42,6 +42,17 @@ impl Known {
             shape: None,
         }
     }
+
+    /// Returns whether the text is known to be a name or a descriptor. Then it is modified UTF-8.
+    fn is_name_or_descriptor(self) -> bool
+        ensures { result ≡ is_known_text self }
+    {
+        matches!(self.is_class, Some(true))
+            || matches!(self.is_unqualified, Some(true))
+            || matches!(self.is_method_name, Some(true))
+            || matches!(self.dims, Some(Some(_)))
+            || matches!(self.shape, Some(Some(_)))
+    }
 }
 
 /// A class file, and what is known of its texts.
@@ -75,6 +86,13 @@ impl<'v, 'a> Texts<'v, 'a> {
         ensures { result.now ≡ self.now }
     {
         self.class
+    }
+
+    /// Returns whether the text at `index` is known to be a name or a descriptor. Then it is modified UTF-8.
+    pub(crate) fn is_name_or_descriptor(&self, index: ConstantIndex) -> bool
+        ensures { result ≡ true → passes is_spelled (utf8_at self.now index) ≡ true }
+    {
+        self.known(index).is_name_or_descriptor()
     }
 
     /// Returns whether the text at `index` is the name of a class or interface (JVMS 4.2.1).
