@@ -221,6 +221,8 @@ def main():
         options.said.mkdir(parents=True, exist_ok=True)
     crates = [ROOT / "crates" / name for name in options.crates] or sorted((ROOT / "crates").iterdir())
     verdicts = [it for crate in crates if mutants_of(crate, options) for it in tried(crate, options)]
+    if not verdicts:
+        sys.exit("no mutant is of these crates and names")
     wrong = len(verdicts) - verdicts.count(REFUSED)
     print(f"{len(verdicts)} mutants, {wrong} of them not refused" if wrong else f"{len(verdicts)} mutants, each refused")
     sys.exit(wrong > 0)

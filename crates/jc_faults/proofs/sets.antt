@@ -5,6 +5,5 @@ pub mod OfKinds
 pub mod PlacesAdded
 pub mod RepeatsAdded
 pub mod RuleBits
-pub mod RuleChains
 pub mod SpelledTexts
 pub mod WholePlaces

@@ -1,14 +1,16 @@
 //! The rules over constants (JVMS 4.4).
 
-ghost use Rattle.std.specs.Prelude.{◌≡◌};
+ghost use Rattle.std.specs.Prelude.{◌≡◌, ◌||◌};
 ghost use Rattle.std.specs.Option.{option_copied};
 ghost use Rattle.jc_view.specs.Attributes.{bootstrap_attributes};
 ghost use Rattle.jc_view.specs.ClassFile.{ClassFile};
 ghost use Rattle.jc_view.specs.Lent.{constant_of};
-ghost use Rattle.jc_view.specs.Lookups.{fails, member_descriptor_at, name_and_type_at, name_of, passes, utf8_at};
+ghost use Rattle.jc_view.specs.declared.constant_pool.ConstantKind.TheVariants as kinds;
+ghost use Rattle.jc_view.specs.ConstantPool.{Utf8, Class, String, Fieldref, Methodref, InterfaceMethodref};
+ghost use Rattle.jc_view.specs.ConstantPool.{NameAndType, MethodHandle, MethodType, InvokeDynamic};
+ghost use Rattle.jc_view.specs.Lookups.{fails, is_entry, member_descriptor_at, member_name_at, name_and_type_at, name_of, passes, utf8_at};
 ghost use Rattle.jc_base.specs.DescriptorTests.{is_field_text, is_method_text};
-ghost use Rattle.jc_rules.specs.FormatRules.{breaks_f1, breaks_f2, breaks_f3, breaks_f4, breaks_f5, breaks_f6, breaks_f7};
-ghost use Rattle.jc_rules.specs.FormatRules.{breaks_f8, breaks_f9, breaks_f10, breaks_f11, is_bad_special};
+ghost use Rattle.jc_rules.specs.FormatRules.{breaks_f3, breaks_f5, breaks_f8, breaks_f9, is_bad_special};
 ghost use Rattle.jc_rules.specs.FormatRules.{lacks_member_entries, returns_value, told_by};
 ghost use Rattle.jc_faults.specs.inside.RuleTables.{AreBroken, constant_tests};
 
@@ -25,37 +27,147 @@ pub(crate) fn constant_rules(texts: &mut Texts, bootstraps: u16, constant: Const
     ensures same { texts.new ≡ texts.old }
     ensures rules { AreBroken (constant_tests texts.old (constant_of constant.entry)) result }
 {
-    RuleSet::none()
-        .with(FormatRule::F1, breaks_f1(texts.class(), constant))
-        .with(FormatRule::F2, breaks_f2(constant))
-        .with(FormatRule::F3, breaks_f3(texts, constant))
-        .with(FormatRule::F4, breaks_f4(texts, constant))
-        .with(FormatRule::F5, breaks_f5(texts, constant))
-        .with(FormatRule::F6, breaks_f6(texts, constant))
-        .with(FormatRule::F7, breaks_f7(texts, constant))
-        .with(FormatRule::F8, breaks_f8(texts.class(), constant))
-        .with(FormatRule::F9, breaks_f9(texts.class(), constant))
-        .with(FormatRule::F10, breaks_f10(texts, constant))
-        .with(FormatRule::F11, breaks_f11(bootstraps, constant))
+    match constant {
+        Constant::Utf8(text) => utf8_rules(text),
+        Constant::Class(name) => class_rules(texts, name),
+        Constant::String(text) => string_rules(texts.class(), text),
+        Constant::Fieldref(class, entry) => fieldref_rules(texts, class, entry),
+        Constant::Methodref(class, entry) => methodref_rules(texts, class, entry),
+        Constant::InterfaceMethodref(class, entry) => {
+            interface_methodref_rules(texts, class, entry)
+        }
+        Constant::NameAndType(name, descriptor) => name_and_type_rules(texts, name, descriptor),
+        Constant::MethodHandle(kind, reference) => {
+            method_handle_rules(texts.class(), kind, reference)
+        }
+        Constant::MethodType(descriptor) => method_type_rules(texts, descriptor),
+        Constant::InvokeDynamic(method, entry) => {
+            invoke_dynamic_rules(texts, bootstraps, method, entry)
+        }
+        Constant::Integer(_) | Constant::Float(_) | Constant::Long(_) | Constant::Double(_) => {
+            RuleSet::none()
+        }
+    }
 }
 
-fn breaks_f1(class: &ClassView, constant: Constant) -> bool
-    ensures { result ≡ breaks_f1 class.now (constant_of constant.entry) }
+fn utf8_rules(text: &[u8]) -> RuleSet
+    ensures { (c : ClassFile) → AreBroken (constant_tests c (Utf8 text.now)) result }
 {
-    match constant {
-        Constant::Class(text) | Constant::String(text) | Constant::MethodType(text) => {
-            !class.is_entry(ConstantKind::Utf8, text)
-        }
-        Constant::Fieldref(owner, entry)
-        | Constant::Methodref(owner, entry)
-        | Constant::InterfaceMethodref(owner, entry) => lacks_member_entries(class, owner, entry),
-        Constant::NameAndType(name, descriptor) => {
-            !class.is_entry(ConstantKind::Utf8, name)
-                || !class.is_entry(ConstantKind::Utf8, descriptor)
-        }
-        Constant::InvokeDynamic(_, entry) => !class.is_entry(ConstantKind::NameAndType, entry),
-        _ => false,
-    }
+    RuleSet::none().with(FormatRule::F2, !is_well_spelled(text))
+}
+
+fn class_rules(texts: &mut Texts, name: ConstantIndex) -> RuleSet
+    ensures same { texts.new ≡ texts.old }
+    ensures rules { AreBroken (constant_tests texts.old (Class name)) result }
+{
+    RuleSet::none()
+        .with(FormatRule::F1, !is_utf8(texts.class(), name))
+        .with(FormatRule::F3, breaks_f3(texts, name))
+}
+
+fn string_rules(class: &ClassView, text: ConstantIndex) -> RuleSet
+    ensures { AreBroken (constant_tests class.now (String text)) result }
+{
+    RuleSet::none().with(FormatRule::F1, !is_utf8(class, text))
+}
+
+fn fieldref_rules(texts: &mut Texts, class: ConstantIndex, entry: ConstantIndex) -> RuleSet
+    ensures same { texts.new ≡ texts.old }
+    ensures rules { AreBroken (constant_tests texts.old (Fieldref class entry)) result }
+{
+    RuleSet::none()
+        .with(
+            FormatRule::F1,
+            lacks_member_entries(texts.class(), class, entry),
+        )
+        .with(FormatRule::F6, is_no_field(texts, entry))
+}
+
+fn methodref_rules(texts: &mut Texts, class: ConstantIndex, entry: ConstantIndex) -> RuleSet
+    ensures same { texts.new ≡ texts.old }
+    ensures rules { AreBroken (constant_tests texts.old (Methodref class entry)) result }
+{
+    RuleSet::none()
+        .with(
+            FormatRule::F1,
+            lacks_member_entries(texts.class(), class, entry),
+        )
+        .with(FormatRule::F6, is_no_method(texts, entry))
+        .with(FormatRule::F7, breaks_f7(texts, entry))
+}
+
+fn interface_methodref_rules(
+    texts: &mut Texts,
+    class: ConstantIndex,
+    entry: ConstantIndex,
+) -> RuleSet
+    ensures same { texts.new ≡ texts.old }
+    ensures rules { AreBroken (constant_tests texts.old (InterfaceMethodref class entry)) result }
+{
+    RuleSet::none()
+        .with(
+            FormatRule::F1,
+            lacks_member_entries(texts.class(), class, entry),
+        )
+        .with(FormatRule::F6, is_no_method(texts, entry))
+}
+
+fn name_and_type_rules(texts: &mut Texts, name: ConstantIndex, descriptor: ConstantIndex) -> RuleSet
+    ensures same { texts.new ≡ texts.old }
+    ensures rules { AreBroken (constant_tests texts.old (NameAndType name descriptor)) result }
+{
+    RuleSet::none()
+        .with(
+            FormatRule::F1,
+            !is_utf8(texts.class(), name) || !is_utf8(texts.class(), descriptor),
+        )
+        .with(FormatRule::F4, breaks_f4(texts, descriptor))
+        .with(FormatRule::F5, breaks_f5(texts, name, descriptor))
+}
+
+fn method_handle_rules(class: &ClassView, kind: u8, reference: ConstantIndex) -> RuleSet
+    ensures { AreBroken (constant_tests class.now (MethodHandle kind reference)) result }
+{
+    RuleSet::none()
+        .with(FormatRule::F8, breaks_f8(class, kind, reference))
+        .with(FormatRule::F9, breaks_f9(class, kind, reference))
+}
+
+fn method_type_rules(texts: &mut Texts, descriptor: ConstantIndex) -> RuleSet
+    ensures same { texts.new ≡ texts.old }
+    ensures rules { AreBroken (constant_tests texts.old (MethodType descriptor)) result }
+{
+    RuleSet::none()
+        .with(FormatRule::F1, !is_utf8(texts.class(), descriptor))
+        .with(
+            FormatRule::F10,
+            matches!(texts.shape(descriptor), Some(None)),
+        )
+}
+
+fn invoke_dynamic_rules(
+    texts: &mut Texts,
+    bootstraps: u16,
+    method: u16,
+    entry: ConstantIndex,
+) -> RuleSet
+    requires { bootstraps ≡ told_by (bootstrap_attributes texts.old) }
+    ensures same { texts.new ≡ texts.old }
+    ensures rules { AreBroken (constant_tests texts.old (InvokeDynamic method entry)) result }
+{
+    RuleSet::none()
+        .with(
+            FormatRule::F1,
+            !texts.class().is_entry(ConstantKind::NameAndType, entry),
+        )
+        .with(FormatRule::F6, is_no_method(texts, entry))
+        .with(FormatRule::F11, method >= bootstraps)
+}
+
+fn is_utf8(class: &ClassView, index: ConstantIndex) -> bool
+    ensures { result ≡ is_entry class.now kinds.Utf8 index }
+{
+    class.is_entry(ConstantKind::Utf8, index)
 }
 
 fn lacks_member_entries(class: &ClassView, owner: ConstantIndex, entry: ConstantIndex) -> bool
@@ -64,65 +176,31 @@ fn lacks_member_entries(class: &ClassView, owner: ConstantIndex, entry: Constant
     !class.is_entry(ConstantKind::Class, owner) || !class.is_entry(ConstantKind::NameAndType, entry)
 }
 
-fn breaks_f2(constant: Constant) -> bool
-    ensures { (c : ClassFile) → result ≡ breaks_f2 c (constant_of constant.entry) }
+/// Returns whether the text of a `Class` is neither a class name nor the descriptor of an array.
+fn breaks_f3(texts: &mut Texts, name: ConstantIndex) -> bool
+    ensures same { texts.new ≡ texts.old }
+    ensures breaks { result ≡ breaks_f3 texts.old (Class name) }
 {
-    match constant {
-        Constant::Utf8(text) => !is_well_spelled(text),
-        _ => false,
-    }
+    matches!(texts.is_class(name), Some(false)) && !matches!(texts.dims(name), Some(Some(1..)))
 }
 
-fn breaks_f3(texts: &mut Texts, constant: Constant) -> bool
+/// Returns whether the descriptor of a `NameAndType` is none.
+fn breaks_f4(texts: &mut Texts, descriptor: ConstantIndex) -> bool
     ensures same { texts.new ≡ texts.old }
-    ensures breaks { result ≡ breaks_f3 texts.old (constant_of constant.entry) }
+    ensures breaks { result ≡ fails (λ text. is_field_text text || is_method_text text) (utf8_at texts.old descriptor) }
 {
-    match constant {
-        Constant::Class(name) => {
-            matches!(texts.is_class(name), Some(false))
-                && !matches!(texts.dims(name), Some(Some(1..)))
-        }
-        _ => false,
-    }
+    matches!(texts.dims(descriptor), Some(None)) && matches!(texts.shape(descriptor), Some(None))
 }
 
-fn breaks_f4(texts: &mut Texts, constant: Constant) -> bool
+/// Returns whether the name of a `NameAndType` does not fit its descriptor.
+fn breaks_f5(texts: &mut Texts, name: ConstantIndex, descriptor: ConstantIndex) -> bool
     ensures same { texts.new ≡ texts.old }
-    ensures breaks { result ≡ breaks_f4 texts.old (constant_of constant.entry) }
+    ensures breaks { result ≡ breaks_f5 texts.old (NameAndType name descriptor) }
 {
-    match constant {
-        Constant::NameAndType(_, descriptor) => {
-            matches!(texts.dims(descriptor), Some(None))
-                && matches!(texts.shape(descriptor), Some(None))
-        }
-        _ => false,
-    }
-}
-
-fn breaks_f5(texts: &mut Texts, constant: Constant) -> bool
-    ensures same { texts.new ≡ texts.old }
-    ensures breaks { result ≡ breaks_f5 texts.old (constant_of constant.entry) }
-{
-    let Constant::NameAndType(name, descriptor) = constant else {
-        return false;
-    };
     (matches!(texts.dims(descriptor), Some(Some(_)))
         && matches!(texts.is_unqualified(name), Some(false)))
         || (matches!(texts.shape(descriptor), Some(Some(_)))
             && matches!(texts.is_method_name(name), Some(false)))
-}
-
-fn breaks_f6(texts: &mut Texts, constant: Constant) -> bool
-    ensures same { texts.new ≡ texts.old }
-    ensures breaks { result ≡ breaks_f6 texts.old (constant_of constant.entry) }
-{
-    match constant {
-        Constant::Fieldref(_, entry) => is_no_field(texts, entry),
-        Constant::Methodref(_, entry)
-        | Constant::InterfaceMethodref(_, entry)
-        | Constant::InvokeDynamic(_, entry) => is_no_method(texts, entry),
-        _ => false,
-    }
 }
 
 /// Returns whether a `NameAndType` has a descriptor, and it is not that of a field.
@@ -160,13 +238,11 @@ fn name_and_type_at(
     }
 }
 
-fn breaks_f7(texts: &mut Texts, constant: Constant) -> bool
+/// Returns whether a method with this `NameAndType` has a special name that it may not have.
+fn breaks_f7(texts: &mut Texts, entry: ConstantIndex) -> bool
     ensures same { texts.new ≡ texts.old }
-    ensures breaks { result ≡ breaks_f7 texts.old (constant_of constant.entry) }
+    ensures breaks { result ≡ passes (is_bad_special (member_descriptor_at texts.old entry)) (member_name_at texts.old entry) }
 {
-    let Constant::Methodref(_, entry) = constant else {
-        return false;
-    };
     let Some((name, descriptor)) = name_and_type_at(texts.class(), entry) else {
         return false;
     };
@@ -195,30 +271,24 @@ fn returns_value(texts: &mut Texts, descriptor: ConstantIndex) -> bool
     }
 }
 
-fn breaks_f8(class: &ClassView, constant: Constant) -> bool
-    ensures { result ≡ breaks_f8 class.now (constant_of constant.entry) }
+fn breaks_f8(class: &ClassView, kind: u8, reference: ConstantIndex) -> bool
+    ensures { result ≡ breaks_f8 class.now (MethodHandle kind reference) }
 {
-    match constant {
-        Constant::MethodHandle(kind, reference) => match class.constant(reference.0) {
-            Some(entry) => !fits_handle(class.version().major, kind, entry),
-            None => true,
-        },
-        _ => false,
+    match class.constant(reference.0) {
+        Some(entry) => !fits_handle(class.version().major, kind, entry),
+        None => true,
     }
 }
 
-fn breaks_f9(class: &ClassView, constant: Constant) -> bool
-    ensures { result ≡ breaks_f9 class.now (constant_of constant.entry) }
+fn breaks_f9(class: &ClassView, kind: u8, reference: ConstantIndex) -> bool
+    ensures { result ≡ breaks_f9 class.now (MethodHandle kind reference) }
 {
-    match constant {
-        Constant::MethodHandle(kind, reference) => match class.constant(reference.0) {
-            Some(entry) => {
-                fits_handle(class.version().major, kind, entry)
-                    && name_of(class, entry).is_some_and(|name| is_name_amiss(kind, name))
-            }
-            None => false,
-        },
-        _ => false,
+    match class.constant(reference.0) {
+        Some(entry) => {
+            fits_handle(class.version().major, kind, entry)
+                && name_of(class, entry).is_some_and(|name| is_name_amiss(kind, name))
+        }
+        None => false,
     }
 }
 
@@ -232,24 +302,5 @@ fn name_of<'a>(class: &ClassView<'a>, reference: Constant) -> Option<&'a [u8]>
         | Constant::InterfaceMethodref(_, entry)
         | Constant::InvokeDynamic(_, entry) => class.member_name_at(entry),
         _ => None,
-    }
-}
-
-fn breaks_f10(texts: &mut Texts, constant: Constant) -> bool
-    ensures same { texts.new ≡ texts.old }
-    ensures breaks { result ≡ breaks_f10 texts.old (constant_of constant.entry) }
-{
-    match constant {
-        Constant::MethodType(descriptor) => matches!(texts.shape(descriptor), Some(None)),
-        _ => false,
-    }
-}
-
-fn breaks_f11(bootstraps: u16, constant: Constant) -> bool
-    ensures { (c : ClassFile) → bootstraps ≡ told_by (bootstrap_attributes c) → result ≡ breaks_f11 c (constant_of constant.entry) }
-{
-    match constant {
-        Constant::InvokeDynamic(bootstrap, _) => bootstrap >= bootstraps,
-        _ => false,
     }
 }
