@@ -1,14 +1,16 @@
 #!/usr/bin/env python3
 """Compares the counts in documents with the repository, or writes them.
 
-Usage: results.py [--write]
+Usage: results.py [--write] [--run COMMAND]
 
 The repository itself determines these counts. COUNTS has those in sentences. The table in docs/MUTANTS.md has the numbers of
 mutants. The tables in docs/ARCHITECTURE.md have a row for each crate without tests, and its libraries if they have such a
 column. Figures that only a run can give, for example times, are in trials/RESULTS.md, whose sections name the command that
 prints them.
 
-Without --write the script prints each difference. With --write it corrects the counts and prints each change.
+Without --write the script prints each difference. With --write it corrects the counts and prints each change. With --run it
+runs a trial, for example "held/run.py 1 2000", and writes the trial's row in trials/RESULTS.md: the command, the commit of the
+checkout, and the lines of the output that say what differs. An absolute path in the command is written as FOLDER.
 
 Status 0: the documents are correct. 1: something differs, or no document has one of the counts or tables.
 """
@@ -16,6 +18,8 @@ import argparse
 import pathlib
 import random
 import re
+import shlex
+import subprocess
 import sys
 import typing
 
@@ -30,6 +34,11 @@ NUMBER = rf"(\d[\d,]*|{'|'.join(NUMERALS)})"
 MUTANTS_HEAD = "| Crate | In the gate | Outside it |"
 CRATES_HEAD = "| Crate | Contents |"
 USES_HEAD = "| Crate | Contents | Depends on |"
+
+
+ROW_HEAD = "    trial "
+ROW = "    {:<59}{:<9}{}"
+VERDICT = re.compile(r"\b\d+ (?:differ|wrong|of them not refused)\b|, each refused$")
 
 
 class Count(typing.NamedTuple):
@@ -173,10 +182,48 @@ def differences(write):
     yield from wrong_rows("docs/ARCHITECTURE.md", CRATES_HEAD, crates(source("crates.txt").split("\n# Tests")[0]))
 
 
+def output_of(command):
+    """Runs a trial, prints its output, and returns the lines."""
+    script, *arguments = shlex.split(command)
+    lines = []
+    with subprocess.Popen([sys.executable, common.TRIALS / script, *arguments], stdout=subprocess.PIPE, text=True) as trial:
+        for line in trial.stdout:
+            print(line, end="", flush=True)
+            lines.append(line.rstrip("\n"))
+    return lines
+
+
+def with_row(text, command, verdict):
+    """Returns the text of trials/RESULTS.md with the row of a trial. A new row stands behind those of its script."""
+    commit = subprocess.run(["git", "rev-parse", "--short", "HEAD"], cwd=common.TOP, capture_output=True, text=True, check=True).stdout
+    lines = text.split("\n")
+    first = next(at for at, line in enumerate(lines) if line.startswith(ROW_HEAD)) + 1
+    last = next(at for at in range(first, len(lines)) if not lines[at].strip())
+    same = [at for at in range(first, last) if lines[at][4:63].strip() == command]
+    near = [at + 1 for at in range(first, last) if lines[at].split()[0].rstrip(",") == command.split()[0]]
+    at = same[0] if same else near[-1] if near else last
+    lines[at:at + len(same)] = [ROW.format(command, commit.strip(), verdict)]
+    return "\n".join(lines)
+
+
+def record(command):
+    """Runs a trial and writes its row."""
+    verdict = "; ".join(line for line in output_of(command) if VERDICT.search(line))
+    if not verdict:
+        sys.exit("no line of the output says what differs")
+    path = common.TRIALS / "RESULTS.md"
+    shown = " ".join("FOLDER" if word.startswith("/") else word for word in command.split())
+    path.write_text(with_row(path.read_text(), shown, verdict))
+
+
 def main():
     parser = argparse.ArgumentParser(description=__doc__.split("\n")[0])
     parser.add_argument("--write", action="store_true", help="corrects the documents")
-    found = list(differences(parser.parse_args().write))
+    parser.add_argument("--run", metavar="COMMAND", help="runs a trial and writes its row in trials/RESULTS.md")
+    options = parser.parse_args()
+    if options.run:
+        record(options.run)
+    found = list(differences(options.write))
     print(*found, f"{len(COUNTS)} counts and two kinds of tables, {len(found)} differences", sep="\n")
     sys.exit(1 if found else 0)
 
