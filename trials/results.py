@@ -9,8 +9,8 @@ column. Figures that only a run can give, for example times, are in trials/RESUL
 prints them.
 
 Without --write the script prints each difference. With --write it corrects the counts and prints each change. With --run it
-runs a trial, for example "held/run.py 1 2000", and writes the trial's row in trials/RESULTS.md: the command, the commit of the
-checkout, and the lines of the output that say what differs. An absolute path in the command is written as FOLDER.
+runs a trial, for example "held/run.py 1 2000", and writes the trial's row in trials/RESULTS.md. The row has the command, the
+commit of the checkout, and the lines of the output that say what differs. An absolute path is written as FOLDER.
 
 Status 0: the documents are correct. 1: something differs, or no document has one of the counts or tables.
 """
@@ -183,18 +183,18 @@ def differences(write):
 
 
 def output_of(command):
-    """Runs a trial, prints its output, and returns the lines."""
+    """Runs a trial, prints its output, and returns the lines and the status."""
     script, *arguments = shlex.split(command)
     lines = []
     with subprocess.Popen([sys.executable, common.TRIALS / script, *arguments], stdout=subprocess.PIPE, text=True) as trial:
         for line in trial.stdout:
             print(line, end="", flush=True)
             lines.append(line.rstrip("\n"))
-    return lines
+    return lines, trial.returncode
 
 
 def with_row(text, command, verdict):
-    """Returns the text of trials/RESULTS.md with the row of a trial. A new row stands behind those of its script."""
+    """Returns the text of trials/RESULTS.md with the row of a trial. A new row follows those of its script."""
     commit = subprocess.run(["git", "rev-parse", "--short", "HEAD"], cwd=common.TOP, capture_output=True, text=True, check=True).stdout
     lines = text.split("\n")
     first = next(at for at, line in enumerate(lines) if line.startswith(ROW_HEAD)) + 1
@@ -206,9 +206,19 @@ def with_row(text, command, verdict):
     return "\n".join(lines)
 
 
+def verdict_of(lines):
+    """Returns the lines of an output that say what differs. A line that says only that has the line before it in front."""
+    found = []
+    for before, line in zip(["", *lines], lines):
+        if VERDICT.search(line):
+            found.append(f"{before}, {line}" if re.fullmatch(r"\d+ differ", line) else line)
+    return "; ".join(found)
+
+
 def record(command):
-    """Runs a trial and writes its row."""
-    verdict = "; ".join(line for line in output_of(command) if VERDICT.search(line))
+    """Runs a trial and writes its row. A trial without a line on what differs must have status 0."""
+    lines, status = output_of(command)
+    verdict = verdict_of(lines) or status == 0 and "; ".join(lines)
     if not verdict:
         sys.exit("no line of the output says what differs")
     path = common.TRIALS / "RESULTS.md"
