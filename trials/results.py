@@ -1,7 +1,7 @@
 #!/usr/bin/env python3
 """Compares the counts in documents with the repository, or writes them.
 
-Usage: results.py [--write] [--run COMMAND]
+Usage: results.py [--write] [--run COMMAND | --output COMMAND]
 
 The repository itself determines these counts. COUNTS has those in sentences. The table in docs/MUTANTS.md has the numbers of
 mutants. The tables in docs/ARCHITECTURE.md have a row for each crate without tests, and its libraries if they have such a
@@ -11,6 +11,7 @@ prints them.
 Without --write the script prints each difference. With --write it corrects the counts and prints each change. With --run it
 runs a trial, for example "held/run.py 1 2000", and writes the trial's row in trials/RESULTS.md. The row has the command, the
 commit of the checkout, and the lines of the output that say what differs. An absolute path is written as FOLDER.
+--output runs a trial that prints figures, and writes its whole output into the section Outputs there.
 
 Status 0: the documents are correct. 1: something differs, or no document has one of the counts or tables.
 """
@@ -38,6 +39,7 @@ USES_HEAD = "| Crate | Contents | Depends on |"
 
 ROW_HEAD = "    trial "
 ROW = "    {:<59}{:<9}{}"
+OUTPUTS = "## Outputs\n"
 VERDICT = re.compile(r"\b\d+ (?:differ|wrong|of them not refused)\b|, each refused$")
 
 
@@ -193,46 +195,65 @@ def output_of(command):
     return lines, trial.returncode
 
 
+def commit_of():
+    """Returns the commit of the checkout in short."""
+    command = ["git", "rev-parse", "--short", "HEAD"]
+    return subprocess.run(command, cwd=common.TOP, capture_output=True, text=True, check=True).stdout.strip()
+
+
 def with_row(text, command, verdict):
     """Returns the text of trials/RESULTS.md with the row of a trial. A new row follows those of its script."""
-    commit = subprocess.run(["git", "rev-parse", "--short", "HEAD"], cwd=common.TOP, capture_output=True, text=True, check=True).stdout
     lines = text.split("\n")
     first = next(at for at, line in enumerate(lines) if line.startswith(ROW_HEAD)) + 1
     last = next(at for at in range(first, len(lines)) if not lines[at].strip())
     same = [at for at in range(first, last) if lines[at][4:63].strip() == command]
     near = [at + 1 for at in range(first, last) if lines[at].split()[0].rstrip(",") == command.split()[0]]
     at = same[0] if same else near[-1] if near else last
-    lines[at:at + len(same)] = [ROW.format(command, commit.strip(), verdict)]
+    lines[at:at + len(same)] = [ROW.format(command, commit_of(), verdict)]
     return "\n".join(lines)
 
 
 def verdict_of(lines):
-    """Returns the lines of an output that say what differs. A line that says only that has the line before it in front."""
+    """Returns the lines of an output that say what differs, without those of parts (`try_`).
+
+    A line that says only that has the line before it in front.
+    """
     found = []
     for before, line in zip(["", *lines], lines):
-        if VERDICT.search(line):
+        if VERDICT.search(line) and not line.startswith("try_"):
             found.append(f"{before}, {line}" if re.fullmatch(r"\d+ differ", line) else line)
     return "; ".join(found)
 
 
-def record(command):
-    """Runs a trial and writes its row. A trial without a line on what differs must have status 0."""
+def with_output(text, command, lines):
+    """Returns the text of trials/RESULTS.md with the output of a trial, in its place in the last section."""
+    before, _, outputs = text.partition(OUTPUTS)
+    blocks = dict(re.findall(r"^### `([^`]*)`(.*?)(?=^### |\Z)", outputs, re.M | re.S))
+    shown = "\n".join(f"    {line}".rstrip() for line in lines)
+    blocks[command] = f", {commit_of()}\n\n{shown}\n\n"
+    return before + OUTPUTS + "\n" + "".join(f"### `{name}`{blocks[name]}" for name in sorted(blocks)).rstrip("\n") + "\n"
+
+
+def record(command, is_output):
+    """Runs a trial and writes its row or its output. A trial without a line on what differs must have status 0."""
     lines, status = output_of(command)
     verdict = verdict_of(lines) or status == 0 and "; ".join(lines)
     if not verdict:
         sys.exit("no line of the output says what differs")
     path = common.TRIALS / "RESULTS.md"
     shown = " ".join("FOLDER" if word.startswith("/") else word for word in command.split())
-    path.write_text(with_row(path.read_text(), shown, verdict))
+    text = path.read_text()
+    path.write_text(with_output(text, shown, lines) if is_output else with_row(text, shown, verdict))
 
 
 def main():
     parser = argparse.ArgumentParser(description=__doc__.split("\n")[0])
     parser.add_argument("--write", action="store_true", help="corrects the documents")
     parser.add_argument("--run", metavar="COMMAND", help="runs a trial and writes its row in trials/RESULTS.md")
+    parser.add_argument("--output", metavar="COMMAND", help="runs a trial and writes its output there")
     options = parser.parse_args()
-    if options.run:
-        record(options.run)
+    if options.run or options.output:
+        record(options.run or options.output, options.output is not None)
     found = list(differences(options.write))
     print(*found, f"{len(COUNTS)} counts and two kinds of tables, {len(found)} differences", sep="\n")
     sys.exit(1 if found else 0)

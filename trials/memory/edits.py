@@ -33,14 +33,14 @@ A, B, C, X = (named(name) for name in (b"A", b"B", b"C", b"X"))
 D_OF_ORG, D_OF_LIST = named(b"D", OBJECT, b"org/Y"), named(b"D", b"java/util/ArrayList")
 D_OF_X, E_OF_X, X_OF_Y, Y = named(b"D", OBJECT, b"X"), named(b"E", OBJECT, b"X"), named(b"X", b"Y"), named(b"Y")
 LISTS = {
-    "a class that is missed comes, and its superclass": [(b"a", b"D", D_OF_X), (b"a", b"X", X_OF_Y), (b"a", b"Y", Y), (b"d", b"D", b"")],
+    "a missing class is added, and its superclass": [(b"a", b"D", D_OF_X), (b"a", b"X", X_OF_Y), (b"a", b"Y", Y), (b"d", b"D", b"")],
     "a ring of classes is broken": [(b"a", b"A", named(b"A", b"B")), (b"a", b"B", named(b"B", b"A")), (b"a", b"C", named(b"C", b"A")), (b"r", b"B", B)],
     "bytes name another class": [(b"a", b"R", named(b"R", OBJECT, b"A", b"B")), (b"a", b"p", A), (b"r", b"p", B)],
-    "a file comes and goes": [(b"a", b"A", A), (b"d", b"A", b"")],
+    "a file is added and removed": [(b"a", b"A", A), (b"d", b"A", b"")],
     "a file loses, and wins": [(b"a", b"b", A), (b"a", b"c", A), (b"d", b"b", b""), (b"r", b"c", b"")],
     "two classes miss another": [(b"a", b"D", D_OF_X), (b"a", b"E", E_OF_X), (b"d", b"D", b""), (b"d", b"E", b"")],
     "the built-in class is replaced": [(b"a", b"A", A), (b"a", b"B", B), (b"a", b"C", C), (b"a", b"O", named(OBJECT, None)), (b"d", b"O", b"")],
-    "a superclass goes and comes": [(b"a", b"A", A), (b"a", b"B", named(b"B", b"A")), (b"d", b"A", b""), (b"a", b"A", A)],
+    "a superclass is removed and added": [(b"a", b"A", A), (b"a", b"B", named(b"B", b"A")), (b"d", b"A", b""), (b"a", b"A", A)],
     "a missing class is outside": [(b"a", b"D", D_OF_ORG), (b"p", b"org/", b""), (b"p", b"org/x/", b""), (b"x", b"org/", b"")],
     "a superclass is outside": [(b"a", b"D", D_OF_LIST), (b"x", b"java/", b""), (b"p", b"java/", b"")],
 }

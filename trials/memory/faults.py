@@ -42,7 +42,7 @@ def main():
             else:
                 sys.exit(f"request {number}: {lines!r}")
         print(f"requests for memory: {count}, each refused in turn")
-        print(f"one file refused for want of memory, the others as ever: {refused}")
+        print(f"one file without memory, the others unchanged: {refused}")
         print(f"the program ended with an error: {ended}; answered in full without that memory: {unfelt}")
 
 

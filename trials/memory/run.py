@@ -75,7 +75,7 @@ def refuse_each(words, lines, folder, shim, begun):
         else:
             sys.exit(f"request {number}: status {status}, {said!r}, {out!r}")
     print(f"{' '.join(words)}: requests for memory: {count}, each refused in turn")
-    print(f"ended with status 4 and a beginning of what is owed: {ended}")
+    print(f"ended with status 4 and a beginning of the output: {ended}")
     print(f"answered in full without that memory: {unfelt}")
 
 

@@ -55,8 +55,8 @@ def measure_tree(work, files):
     print("| | megabytes a second | microseconds a file |")
     print("|---|---|---|")
     read_in = min(processor_seconds(frames, "count-parse", 0)[0] for _ in range(RUNS))
-    for what, seconds in (("reading the input alone", read_in),
-                          ("summing the bytes alone", round_seconds([frames], "count-bytes", [ROUNDS])[0]),
+    for what, seconds in (("only reading the input", read_in),
+                          ("only summing the bytes", round_seconds([frames], "count-bytes", [ROUNDS])[0]),
                           ("`parse`", round_seconds([frames], "count-parse", [ROUNDS])[0])):
         each = seconds / (len(files) * times)
         print(f"| {what} | {size * times / seconds / 1e6:.0f} | {each * 1e6:.2f} |")
