@@ -11,7 +11,7 @@ prints them.
 Without --write the script prints each difference. With --write it corrects the counts and prints each change. With --run it
 runs a trial, for example "held/run.py 1 2000", and writes the trial's row in trials/RESULTS.md. The row has the command, the
 commit of the checkout, and the lines of the output that say what differs. An absolute path is written as FOLDER.
---output runs a trial that prints figures, and writes its whole output into the section Outputs there.
+--output runs a trial that prints figures, and writes its whole output into trials/outputs.txt.
 
 Status 0: the documents are correct. 1: something differs, or no document has one of the counts or tables.
 """
@@ -39,8 +39,7 @@ USES_HEAD = "| Crate | Contents | Depends on |"
 
 ROW_HEAD = "    trial "
 ROW = "    {:<59}{:<9}{}"
-OUTPUTS = "## Outputs\n"
-VERDICT = re.compile(r"\b\d+ (?:differ|wrong|of them not refused)\b|, each refused$")
+VERDICT = re.compile(r"\b\d+ differ\b|\bnames, \d+ wrong\b|\bof them not refused$|, each refused$")
 
 
 class Count(typing.NamedTuple):
@@ -220,18 +219,17 @@ def verdict_of(lines):
     """
     found = []
     for before, line in zip(["", *lines], lines):
-        if VERDICT.search(line) and not line.startswith("try_"):
-            found.append(f"{before}, {line}" if re.fullmatch(r"\d+ differ", line) else line)
+        if (verdict := VERDICT.search(line)) and not line.startswith("try_"):
+            found.append(f"{before}, {line}" if re.fullmatch(r"\d+ differ", line) else line[:verdict.end()])
     return "; ".join(found)
 
 
 def with_output(text, command, lines):
-    """Returns the text of trials/RESULTS.md with the output of a trial, in its place in the last section."""
-    before, _, outputs = text.partition(OUTPUTS)
-    blocks = dict(re.findall(r"^### `([^`]*)`(.*?)(?=^### |\Z)", outputs, re.M | re.S))
-    shown = "\n".join(f"    {line}".rstrip() for line in lines)
-    blocks[command] = f", {commit_of()}\n\n{shown}\n\n"
-    return before + OUTPUTS + "\n" + "".join(f"### `{name}`{blocks[name]}" for name in sorted(blocks)).rstrip("\n") + "\n"
+    """Returns the text of trials/outputs.txt with the output of a trial. The outputs are in the order of the commands."""
+    blocks = dict(re.findall(r"^== (.*), (\w+\n\n.*?)(?=^== |\Z)", text, re.M | re.S))
+    shown = "\n".join(lines).strip("\n")
+    blocks[command] = f"{commit_of()}\n\n{shown}\n\n"
+    return "".join(f"== {name}, {blocks[name]}" for name in sorted(blocks)).rstrip("\n") + "\n"
 
 
 def record(command, is_output):
@@ -240,17 +238,17 @@ def record(command, is_output):
     verdict = verdict_of(lines) or status == 0 and "; ".join(lines)
     if not verdict:
         sys.exit("no line of the output says what differs")
-    path = common.TRIALS / "RESULTS.md"
+    path, change = ("outputs.txt", lambda text: with_output(text, shown, lines)) if is_output else (
+        "RESULTS.md", lambda text: with_row(text, shown, verdict))
     shown = " ".join("FOLDER" if word.startswith("/") else word for word in command.split())
-    text = path.read_text()
-    path.write_text(with_output(text, shown, lines) if is_output else with_row(text, shown, verdict))
+    (common.TRIALS / path).write_text(change((common.TRIALS / path).read_text()))
 
 
 def main():
     parser = argparse.ArgumentParser(description=__doc__.split("\n")[0])
     parser.add_argument("--write", action="store_true", help="corrects the documents")
     parser.add_argument("--run", metavar="COMMAND", help="runs a trial and writes its row in trials/RESULTS.md")
-    parser.add_argument("--output", metavar="COMMAND", help="runs a trial and writes its output there")
+    parser.add_argument("--output", metavar="COMMAND", help="runs a trial and writes its output in trials/outputs.txt")
     options = parser.parse_args()
     if options.run or options.output:
         record(options.run or options.output, options.output is not None)
