@@ -232,6 +232,13 @@ def with_output(text, command, lines):
     return "".join(f"== {name}, {blocks[name]}" for name in sorted(blocks)).rstrip("\n") + "\n"
 
 
+def without_paths(text, command):
+    """Returns a text in which each absolute path of a command is FOLDER, and a path in the checkout begins there."""
+    for word in sorted(filter(lambda word: word.startswith("/"), command.split()), key=len, reverse=True):
+        text = text.replace(word, "FOLDER")
+    return text.replace(f"{common.TOP}/", "")
+
+
 def record(command, is_output):
     """Runs a trial and writes its row or its output. A trial without a line on what differs must have status 0."""
     lines, status = output_of(command)
@@ -240,7 +247,8 @@ def record(command, is_output):
         sys.exit("no line of the output says what differs")
     path, change = ("outputs.txt", lambda text: with_output(text, shown, lines)) if is_output else (
         "RESULTS.md", lambda text: with_row(text, shown, verdict))
-    shown = " ".join("FOLDER" if word.startswith("/") else word for word in command.split())
+    shown = without_paths(command, command)
+    lines = [without_paths(line, command) for line in lines]
     (common.TRIALS / path).write_text(change((common.TRIALS / path).read_text()))
 
 
