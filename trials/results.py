@@ -226,7 +226,7 @@ def verdict_of(lines):
 
 def with_output(text, command, lines):
     """Returns the text of trials/outputs.txt with the output of a trial. The outputs are in the order of the commands."""
-    blocks = dict(re.findall(r"^== (.*), (\w+\n\n.*?)(?=^== |\Z)", text, re.M | re.S))
+    blocks = dict(re.findall(r"^== ([^\n]*), (\w+\n\n.*?)(?=^== |\Z)", text, re.M | re.S))
     shown = "\n".join(lines).strip("\n")
     blocks[command] = f"{commit_of()}\n\n{shown}\n\n"
     return "".join(f"== {name}, {blocks[name]}" for name in sorted(blocks)).rstrip("\n") + "\n"
