@@ -1,5 +1,7 @@
 pub mod AttributesAdded
+pub mod DescriptorTexts
 pub mod KeysApart
+pub mod KindNames
 pub mod KnownTexts
 pub mod OfKinds
 pub mod PlacesAdded

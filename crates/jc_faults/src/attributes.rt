@@ -1,57 +1,52 @@
 //! The rules over attributes (JVMS 4.7).
 
 ghost use Rattle.std.specs.Prelude.{◌≡◌, [], ◌∷◌, OnOk};
-ghost use Rattle.jc_base.specs.Bytes.{same_bytes};
-ghost use Rattle.std.specs.Option.{option_copied};
-ghost use Rattle.jc_view.specs.Attributes.{attribute_name};
-ghost use Rattle.jc_view.specs.Lookups.{utf8_at};
-ghost use Rattle.jc_rules.specs.FormatRules.{breaks_f29, breaks_f30};
-ghost use Rattle.jc_faults.specs.inside.AttributePlaces.{has_rules, places_among, places_of_members, places_of_one, places_with_inner};
+ghost use Rattle.std.specs.Option.{option_map};
+ghost use Rattle.jc_view.specs.AttributeReading.{code_of};
+ghost use Rattle.jc_view.specs.Lent.{lent_code};
+ghost use Rattle.jc_rules.specs.FormatRules.{breaks_f29, breaks_f30, lacks_method};
+ghost use Rattle.jc_faults.specs.inside.AttributePlaces.{places_among, places_of_one, places_with_inner};
 ghost use Rattle.jc_faults.specs.inside.Broken.{AddsPlaces};
-ghost use Rattle.jc_faults.specs.inside.RuleTables.{AreBroken, attribute_places, attribute_tests};
+ghost use Rattle.jc_faults.specs.inside.Kinds.{IsRecognisedAs, has_other_length, length_of, names_no_method, names_no_text, names_other};
+ghost use Rattle.jc_faults.specs.inside.RuleTables.{AreBroken, attribute_tests};
 
 use crate::broken::{Broken, add_broken};
+use crate::kinds::kind_of;
 use crate::rule_set::RuleSet;
 use jc_base::NoMemory;
 use jc_rules::FormatRule;
-use jc_rules::rules::attributes::{breaks_f29, breaks_f30};
-use jc_view::{Attribute, AttributeKind, Attributes, ClassView, Members};
+use jc_view::{
+    Attribute, AttributeKind, Attributes, ClassView, Code, ConstantIndex, ConstantKind, index_at,
+};
 
-/// Adds the rules that attributes break.
-pub(crate) fn add_attributes(broken: &mut Vec<Broken>, class: &ClassView) -> Result<(), NoMemory>
-    ensures { OnOk result (AddsPlaces (attribute_places class.now) broken.old.items broken.new.items) }
-{
-    add_of_members(broken, class.fields())?;
-    add_of_members(broken, class.methods())?;
-    add_with_inner(broken, class.attributes())
-}
-
-/// Adds those of the attributes of members, and of what is inside them.
-fn add_of_members(broken: &mut Vec<Broken>, members: Members) -> Result<(), NoMemory>
-    ensures { OnOk result (AddsPlaces (places_of_members members.entry) broken.old.items broken.new.items) }
-{
-    for member in members {
-        add_with_inner(broken, member.attributes())?;
-    }
-    Ok(())
-}
-
-/// Adds those of attributes, and of what is inside them.
-fn add_with_inner(broken: &mut Vec<Broken>, attributes: Attributes) -> Result<(), NoMemory>
+/// Adds the rules that attributes break, and those inside them.
+pub(crate) fn add_with_inner(
+    broken: &mut Vec<Broken>,
+    attributes: Attributes,
+) -> Result<(), NoMemory>
     ensures { OnOk result (AddsPlaces (places_with_inner attributes.entry) broken.old.items broken.new.items) }
 {
     for attribute in attributes {
-        add_of_one(broken, &attribute)?;
+        let kind = kind_of(&attribute);
+        let code = attribute.code();
+        add_of_one(broken, &attribute, kind, &code)?;
     }
     Ok(())
 }
 
-/// Adds those of an attribute, and of what is inside it.
-fn add_of_one(broken: &mut Vec<Broken>, attribute: &Attribute) -> Result<(), NoMemory>
+/// Adds those of an attribute of this kind, and of the attributes inside it if it is this code.
+pub(crate) fn add_of_one(
+    broken: &mut Vec<Broken>,
+    attribute: &Attribute,
+    kind: Option<AttributeKind>,
+    code: &Option<Code>,
+) -> Result<(), NoMemory>
+    requires kind { IsRecognisedAs attribute.now.class attribute.now.attribute.holder attribute.now.attribute.attribute kind }
+    requires code { code.now ≡ option_map (lent_code attribute.now) (code_of attribute.now.class attribute.now.attribute) }
     ensures { OnOk result (AddsPlaces (places_of_one attribute.now) broken.old.items broken.new.items) }
 {
-    add_own(broken, attribute)?;
-    if let Some(code) = attribute.code() {
+    add_own(broken, attribute, kind)?;
+    if let Some(code) = code {
         add_each(broken, code.attributes())?;
     }
     Ok(())
@@ -62,56 +57,122 @@ fn add_each(broken: &mut Vec<Broken>, attributes: Attributes) -> Result<(), NoMe
     ensures { OnOk result (AddsPlaces (λ rule. places_among rule attributes.entry.class attributes.entry.left) broken.old.items broken.new.items) }
 {
     for attribute in attributes {
-        add_own(broken, &attribute)?;
+        let kind = kind_of(&attribute);
+        add_own(broken, &attribute, kind)?;
     }
     Ok(())
 }
 
-/// Adds those of an attribute itself.
-fn add_own(broken: &mut Vec<Broken>, attribute: &Attribute) -> Result<(), NoMemory>
+/// Adds those of an attribute of this kind itself.
+fn add_own(
+    broken: &mut Vec<Broken>,
+    attribute: &Attribute,
+    kind: Option<AttributeKind>,
+) -> Result<(), NoMemory>
+    requires { IsRecognisedAs attribute.now.class attribute.now.attribute.holder attribute.now.attribute.attribute kind }
     ensures { OnOk result (AddsPlaces (λ rule. places_among rule attribute.now.class (attribute.now.attribute ∷ [])) broken.old.items broken.new.items) }
 {
-    add_broken(broken, attribute.place(), attribute_rules(attribute))
+    add_broken(broken, attribute.place(), attribute_rules(attribute, kind))
 }
 
-/// Returns the rules that an attribute breaks.
-fn attribute_rules(attribute: &Attribute) -> RuleSet
+/// Returns the rules that an attribute of this kind breaks.
+fn attribute_rules(attribute: &Attribute, kind: Option<AttributeKind>) -> RuleSet
+    requires { IsRecognisedAs attribute.now.class attribute.now.attribute.holder attribute.now.attribute.attribute kind }
     ensures { AreBroken (attribute_tests attribute.now.class attribute.now.attribute) result }
 {
-    let name = attribute.name();
-    let (f29, f30) = breaks_by_name(attribute, name);
     RuleSet::none()
-        .with(FormatRule::F28, name.is_none())
-        .with(FormatRule::F29, f29)
-        .with(FormatRule::F30, f30)
+        .with(FormatRule::F28, attribute.name().is_none())
+        .with(FormatRule::F29, breaks_f29(attribute, kind))
+        .with(FormatRule::F30, breaks_f30(attribute, kind))
 }
 
-/// Returns whether an attribute breaks F29 and F30. Those of most names break neither.
-fn breaks_by_name(attribute: &Attribute, name: Option<&[u8]>) -> (bool, bool)
-    requires { option_copied name ≡ utf8_at attribute.now.class attribute.now.attribute.attribute.name }
-    ensures f29 { result.0 ≡ breaks_f29 attribute.now.class attribute.now.attribute }
-    ensures f30 { result.1 ≡ breaks_f30 attribute.now.class attribute.now.attribute }
+/// Returns whether an attribute has not the length of its kind.
+fn breaks_f29(attribute: &Attribute, kind: Option<AttributeKind>) -> bool
+    requires { IsRecognisedAs attribute.now.class attribute.now.attribute.holder attribute.now.attribute.attribute kind }
+    ensures { result ≡ breaks_f29 attribute.now.class attribute.now.attribute }
 {
-    match name {
-        Some(name) if has_rules(name) => (breaks_f29(attribute), breaks_f30(attribute)),
-        _ => (false, false),
+    match kind {
+        Some(kind) => is_missized(attribute, kind),
+        None => false,
     }
 }
 
-/// Returns whether an attribute of this name may break F29 or F30.
-fn has_rules(name: &[u8]) -> bool
-    ensures { result ≡ has_rules name.now }
+/// Returns whether the kind has a length, and the attribute has another one.
+fn is_missized(attribute: &Attribute, kind: AttributeKind) -> bool
+    ensures { result ≡ has_other_length kind attribute.now.attribute.attribute }
 {
-    is_name_of(name, AttributeKind::ConstantValue)
-        || is_name_of(name, AttributeKind::SourceFile)
-        || is_name_of(name, AttributeKind::Signature)
-        || is_name_of(name, AttributeKind::EnclosingMethod)
-        || is_name_of(name, AttributeKind::Synthetic)
-        || is_name_of(name, AttributeKind::Deprecated)
+    match length_of(kind) {
+        Some(length) => attribute.bytes().len() != length,
+        None => false,
+    }
 }
 
-fn is_name_of(name: &[u8], kind: AttributeKind) -> bool
-    ensures { result ≡ same_bytes name.now (attribute_name kind) }
+/// Returns the length of all attributes of a kind (JVMS 4.7.2, 4.7.7 to 4.7.10, 4.7.15).
+fn length_of(kind: AttributeKind) -> Option<usize>
+    ensures { result ≡ length_of kind }
 {
-    name == kind.name()
+    match kind {
+        AttributeKind::ConstantValue | AttributeKind::SourceFile | AttributeKind::Signature => {
+            Some(2)
+        }
+        AttributeKind::EnclosingMethod => Some(4),
+        AttributeKind::Synthetic | AttributeKind::Deprecated => Some(0),
+        AttributeKind::Code | AttributeKind::Exceptions | AttributeKind::BootstrapMethods => None,
+    }
+}
+
+/// Returns whether an attribute of the right length names what it may not.
+fn breaks_f30(attribute: &Attribute, kind: Option<AttributeKind>) -> bool
+    requires { IsRecognisedAs attribute.now.class attribute.now.attribute.holder attribute.now.attribute.attribute kind }
+    ensures { result ≡ breaks_f30 attribute.now.class attribute.now.attribute }
+{
+    match kind {
+        Some(kind) => names_other(attribute, kind),
+        None => false,
+    }
+}
+
+/// Returns whether an attribute of this kind names what it may not. Only one of the right length does.
+fn names_other(attribute: &Attribute, kind: AttributeKind) -> bool
+    ensures { result ≡ names_other kind attribute.now.class attribute.now.attribute }
+{
+    match kind {
+        AttributeKind::SourceFile | AttributeKind::Signature => names_no_text(attribute),
+        AttributeKind::EnclosingMethod => names_no_method(attribute),
+        AttributeKind::ConstantValue
+        | AttributeKind::Code
+        | AttributeKind::Exceptions
+        | AttributeKind::BootstrapMethods
+        | AttributeKind::Synthetic
+        | AttributeKind::Deprecated => false,
+    }
+}
+
+/// Returns whether an attribute of two bytes names no text.
+fn names_no_text(attribute: &Attribute) -> bool
+    ensures { result ≡ names_no_text attribute.now.class attribute.now.attribute }
+{
+    let bytes = attribute.bytes();
+    bytes.len() == 2
+        && !attribute
+            .class()
+            .is_entry(ConstantKind::Utf8, index_at(bytes, 0))
+}
+
+/// Returns whether an attribute of four bytes names no class, or a method that is no `NameAndType`.
+fn names_no_method(attribute: &Attribute) -> bool
+    ensures { result ≡ names_no_method attribute.now.class attribute.now.attribute }
+{
+    let class = attribute.class();
+    let bytes = attribute.bytes();
+    bytes.len() == 4
+        && (!class.is_entry(ConstantKind::Class, index_at(bytes, 0))
+            || is_no_method(class, index_at(bytes, 2)))
+}
+
+/// Returns whether an index other than 0 is that of no `NameAndType`.
+fn is_no_method(class: &ClassView, index: ConstantIndex) -> bool
+    ensures { result ≡ lacks_method class.now index }
+{
+    index.0 != 0 && !class.is_entry(ConstantKind::NameAndType, index)
 }

@@ -11,11 +11,12 @@ ghost use Rattle.jc_view.specs.ConstantPool.{NameAndType, MethodHandle, MethodTy
 ghost use Rattle.jc_view.specs.Lookups.{fails, is_entry, member_descriptor_at, member_name_at, name_and_type_at, name_of, passes, utf8_at};
 ghost use Rattle.jc_base.specs.DescriptorTests.{is_field_text, is_method_text};
 ghost use Rattle.jc_rules.specs.FormatRules.{breaks_f3, breaks_f5, breaks_f8, breaks_f9, is_bad_special};
-ghost use Rattle.jc_rules.specs.FormatRules.{lacks_member_entries, returns_value, told_by};
+ghost use Rattle.jc_rules.specs.FormatRules.{is_array_text, lacks_member_entries, returns_value, told_by};
 ghost use Rattle.jc_faults.specs.inside.RuleTables.{AreBroken, constant_tests};
+ghost use Rattle.jc_faults.specs.inside.Texts.{fails_with};
 
 use crate::rule_set::RuleSet;
-use crate::texts::Texts;
+use crate::texts::{Descriptor, Texts};
 use jc_rules::FormatRule;
 use jc_rules::rules::constants::{fits_handle, is_name_amiss};
 use jc_rules::texts::{begins_with, is_init, is_well_spelled};
@@ -139,10 +140,7 @@ fn method_type_rules(texts: &mut Texts, descriptor: ConstantIndex) -> RuleSet
 {
     RuleSet::none()
         .with(FormatRule::F1, !is_utf8(texts.class(), descriptor))
-        .with(
-            FormatRule::F10,
-            matches!(texts.shape(descriptor), Some(None)),
-        )
+        .with(FormatRule::F10, is_no_method_text(texts, descriptor))
 }
 
 fn invoke_dynamic_rules(
@@ -181,7 +179,7 @@ fn breaks_f3(texts: &mut Texts, name: ConstantIndex) -> bool
     ensures same { texts.new ≡ texts.old }
     ensures breaks { result ≡ breaks_f3 texts.old (Class name) }
 {
-    matches!(texts.is_class(name), Some(false)) && !matches!(texts.dims(name), Some(Some(1..)))
+    matches!(texts.is_class(name), Some(false)) && !is_array_text(texts, name)
 }
 
 /// Returns whether the descriptor of a `NameAndType` is none.
@@ -189,7 +187,10 @@ fn breaks_f4(texts: &mut Texts, descriptor: ConstantIndex) -> bool
     ensures same { texts.new ≡ texts.old }
     ensures breaks { result ≡ fails (λ text. is_field_text text || is_method_text text) (utf8_at texts.old descriptor) }
 {
-    matches!(texts.dims(descriptor), Some(None)) && matches!(texts.shape(descriptor), Some(None))
+    match texts.descriptor(descriptor) {
+        Some(descriptor) => !descriptor.is_field() && !descriptor.is_method(),
+        None => false,
+    }
 }
 
 /// Returns whether the name of a `NameAndType` does not fit its descriptor.
@@ -197,10 +198,22 @@ fn breaks_f5(texts: &mut Texts, name: ConstantIndex, descriptor: ConstantIndex) 
     ensures same { texts.new ≡ texts.old }
     ensures breaks { result ≡ breaks_f5 texts.old (NameAndType name descriptor) }
 {
-    (matches!(texts.dims(descriptor), Some(Some(_)))
-        && matches!(texts.is_unqualified(name), Some(false)))
-        || (matches!(texts.shape(descriptor), Some(Some(_)))
-            && matches!(texts.is_method_name(name), Some(false)))
+    match texts.descriptor(descriptor) {
+        Some(descriptor) => fails_beside(texts, descriptor, name),
+        None => false,
+    }
+}
+
+/// Returns whether a name does not fit a descriptor.
+fn fails_beside(texts: &mut Texts, descriptor: Descriptor, name: ConstantIndex) -> bool
+    ensures same { texts.new ≡ texts.old }
+    ensures fails { result ≡ fails_with descriptor (utf8_at texts.old name) }
+{
+    match descriptor {
+        Descriptor::Field(_) => matches!(texts.is_unqualified(name), Some(false)),
+        Descriptor::Method { .. } => matches!(texts.is_method_name(name), Some(false)),
+        Descriptor::Other => false,
+    }
 }
 
 /// Returns whether a `NameAndType` has a descriptor, and it is not that of a field.
@@ -209,7 +222,7 @@ fn is_no_field(texts: &mut Texts, entry: ConstantIndex) -> bool
     ensures fails { result ≡ fails is_field_text (member_descriptor_at texts.old entry) }
 {
     match name_and_type_at(texts.class(), entry) {
-        Some((_, descriptor)) => matches!(texts.dims(descriptor), Some(None)),
+        Some((_, descriptor)) => is_no_field_text(texts, descriptor),
         None => false,
     }
 }
@@ -220,7 +233,40 @@ fn is_no_method(texts: &mut Texts, entry: ConstantIndex) -> bool
     ensures fails { result ≡ fails is_method_text (member_descriptor_at texts.old entry) }
 {
     match name_and_type_at(texts.class(), entry) {
-        Some((_, descriptor)) => matches!(texts.shape(descriptor), Some(None)),
+        Some((_, descriptor)) => is_no_method_text(texts, descriptor),
+        None => false,
+    }
+}
+
+/// Returns whether there is a text at an index, and it is not the descriptor of a field.
+fn is_no_field_text(texts: &mut Texts, index: ConstantIndex) -> bool
+    ensures same { texts.new ≡ texts.old }
+    ensures fails { result ≡ fails is_field_text (utf8_at texts.old index) }
+{
+    match texts.descriptor(index) {
+        Some(descriptor) => !descriptor.is_field(),
+        None => false,
+    }
+}
+
+/// Returns whether there is a text at an index, and it is not the descriptor of a method.
+fn is_no_method_text(texts: &mut Texts, index: ConstantIndex) -> bool
+    ensures same { texts.new ≡ texts.old }
+    ensures fails { result ≡ fails is_method_text (utf8_at texts.old index) }
+{
+    match texts.descriptor(index) {
+        Some(descriptor) => !descriptor.is_method(),
+        None => false,
+    }
+}
+
+/// Returns whether the text at an index is the descriptor of an array.
+fn is_array_text(texts: &mut Texts, index: ConstantIndex) -> bool
+    ensures same { texts.new ≡ texts.old }
+    ensures passes { result ≡ passes is_array_text (utf8_at texts.old index) }
+{
+    match texts.descriptor(index) {
+        Some(descriptor) => descriptor.is_array(),
         None => false,
     }
 }
@@ -265,9 +311,9 @@ fn returns_value(texts: &mut Texts, descriptor: ConstantIndex) -> bool
     ensures same { texts.new ≡ texts.old }
     ensures is { result ≡ passes returns_value (utf8_at texts.old descriptor) }
 {
-    match texts.shape(descriptor) {
-        Some(Some(shape)) => shape.returns_value,
-        _ => false,
+    match texts.descriptor(descriptor) {
+        Some(descriptor) => descriptor.returns_value(),
+        None => false,
     }
 }
 

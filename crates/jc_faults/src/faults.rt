@@ -11,7 +11,7 @@ ghost use Rattle.jc_rules.specs.Faults.{fault_at, faults, places};
 ghost use Rattle.jc_rules.specs.Violations.{Violates};
 ghost use Rattle.jc_faults.specs.inside.Broken.{places_in};
 
-use crate::attributes::add_attributes;
+use crate::attributes::add_with_inner;
 use crate::broken::{Broken, add_broken, add_faults};
 use crate::classes::class_rules;
 use crate::repeats::add_repeats;
@@ -50,14 +50,16 @@ fn broken_rules(alloc: Global, class: &ClassView) -> Result<Vec<Broken>, NoMemor
     ensures { IfOk result (λ broken. (rule : FormatRule) → places_in rule broken.items ≡ places class.now rule) }
 {
     let mut broken = Vec::new(alloc);
+    let mut attributes = Vec::new(alloc);
     let mut texts = Texts::new(alloc, class)?;
     add_broken(&mut broken, 0, class_rules(class))?;
     add_constants(&mut broken, &mut texts)?;
     add_interfaces(&mut broken, &mut texts)?;
-    add_fields(&mut broken, &mut texts)?;
-    add_methods(&mut broken, &mut texts)?;
+    add_fields(&mut broken, &mut attributes, &mut texts)?;
+    add_methods(&mut broken, &mut attributes, &mut texts)?;
     add_repeats(alloc, &mut broken, class)?;
-    add_attributes(&mut broken, class)?;
+    add_with_inner(&mut attributes, class.attributes())?;
+    broken.extend_from_slice(&attributes)?;
     Ok(broken)
 }
 

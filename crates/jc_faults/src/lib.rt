@@ -6,6 +6,7 @@ mod broken;
 mod classes;
 mod constants;
 mod faults;
+mod kinds;
 mod members;
 mod repeats;
 mod rule_set;

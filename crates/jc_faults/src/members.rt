@@ -1,15 +1,22 @@
 //! The rules over fields and methods (JVMS 4.5, 4.6).
 
-ghost use Rattle.std.specs.Prelude.{◌≡◌, ◌+◌, ◌||◌, min};
+ghost use Rattle.std.specs.Prelude.{◌≡◌, ◌||◌, IfOk, OnOk};
 ghost use Rattle.jc_view.specs.declared.attribute_kind.Holder.TheVariants as holders;
 ghost use Rattle.jc_view.specs.declared.attribute_kind.AttributeKind.TheVariants as kinds;
 ghost use Rattle.jc_view.specs.Attributes.{codes_of, exceptions_of};
-ghost use Rattle.jc_rules.specs.FormatRules.{breaks_f15, breaks_f16, breaks_f19, breaks_f20, breaks_f23, breaks_f24, breaks_f26, has_bad_exceptions};
-ghost use Rattle.jc_faults.specs.inside.MemberAttributes.{AddsAttribute, Counts, are_bad_exceptions, is_bad_code};
+ghost use Rattle.jc_rules.specs.FormatRules.{breaks_f15, breaks_f16, breaks_f19, breaks_f20, breaks_f23, breaks_f24, breaks_f26, has_bad_exceptions, lacks_classes};
+ghost use Rattle.jc_faults.specs.inside.AttributePlaces.{places_of_member};
+ghost use Rattle.jc_faults.specs.inside.Broken.{AddsPlaces};
+ghost use Rattle.jc_faults.specs.inside.Kinds.{is_kind};
+ghost use Rattle.jc_faults.specs.inside.MemberAttributes.{AddsIf, AreOf, Counts};
 ghost use Rattle.jc_faults.specs.inside.RuleTables.{AreBroken, field_tests, method_tests};
 
+use crate::attributes::add_of_one;
+use crate::broken::Broken;
+use crate::kinds::{is, kind_of};
 use crate::rule_set::RuleSet;
 use crate::texts::Texts;
+use jc_base::NoMemory;
 use jc_rules::rules::fields::{breaks_f17, breaks_f25};
 use jc_rules::rules::methods::{breaks_f21, is_named_clinit, lacks_classes};
 use jc_rules::{AccessFlag, FormatRule};
@@ -42,17 +49,26 @@ fn breaks_f16(texts: &mut Texts, field: &Member) -> bool
     ensures same { texts.new ≡ texts.old }
     ensures breaks { result ≡ breaks_f16 texts.old field.now.member.member }
 {
-    !matches!(texts.dims(field.descriptor_index()), Some(Some(_)))
+    match texts.descriptor(field.descriptor_index()) {
+        Some(descriptor) => !descriptor.is_field(),
+        None => true,
+    }
 }
 
-/// Returns the rules that a method breaks, other than that it repeats an earlier one.
-pub(crate) fn method_rules(texts: &mut Texts, method: &Member) -> RuleSet
+/// Returns the rules that a method with these `Code` and `Exceptions` attributes breaks, other than that it repeats an
+/// earlier one.
+pub(crate) fn method_rules(
+    texts: &mut Texts,
+    method: &Member,
+    codes: OfKind,
+    exceptions: OfKind,
+) -> RuleSet
     requires class { method.now.class ≡ texts.old }
     requires holder { method.now.member.holder ≡ holders.Method }
+    requires found { AreOf texts.old method.now.member.member codes exceptions }
     ensures same { texts.new ≡ texts.old }
     ensures rules { AreBroken (method_tests texts.old method.now.member.member) result }
 {
-    let (codes, exceptions) = attributes_of(method);
     RuleSet::none()
         .with(FormatRule::F19, breaks_f19(texts, method))
         .with(FormatRule::F20, breaks_f20(texts, method))
@@ -75,9 +91,9 @@ fn breaks_f20(texts: &mut Texts, method: &Member) -> bool
     ensures same { texts.new ≡ texts.old }
     ensures breaks { result ≡ breaks_f20 texts.old method.now.member.member }
 {
-    match texts.shape(method.descriptor_index()) {
-        Some(Some(shape)) => !AccessFlag::Static.is_in(method.flags()) && shape.slots == 255,
-        _ => true,
+    match texts.descriptor(method.descriptor_index()) {
+        Some(descriptor) => !descriptor.fits(AccessFlag::Static.is_in(method.flags())),
+        None => true,
     }
 }
 
@@ -107,7 +123,7 @@ fn breaks_f26(method: &Member, exceptions: OfKind) -> bool
 
 /// The attributes of a kind.
 #[derive(Clone, Copy)]
-struct OfKind {
+pub(crate) struct OfKind {
     /// How many there are, and 2 if there are more.
     count: u8,
     /// Whether one of them is not as it must be.
@@ -115,11 +131,13 @@ struct OfKind {
 }
 
 impl OfKind {
-    /// Returns these and one more.
-    fn with(self, is_bad: bool) -> OfKind
-        ensures count { min 2 result.count ≡ min 2 (self.count + 1) }
-        ensures has_bad { result.has_bad ≡ (self.has_bad || is_bad) }
+    /// Returns these and one more, if there is one.
+    fn with(self, is_one: bool, is_bad: bool) -> OfKind
+        ensures { AddsIf is_one is_bad self result }
     {
+        if !is_one {
+            return self;
+        }
         OfKind {
             count: if self.count == 0 { 1 } else { 2 },
             has_bad: self.has_bad || is_bad,
@@ -127,14 +145,15 @@ impl OfKind {
     }
 }
 
-/// Returns the `Code` and the `Exceptions` attributes of a method. A `Code` is bad if it is not well-formed, and an
-/// `Exceptions` if it is no list of classes.
-fn attributes_of(method: &Member) -> (OfKind, OfKind)
+/// Adds the rules that the attributes of a method break, and those inside them. Returns its `Code` and `Exceptions`
+/// attributes. A `Code` is bad if it is not well-formed, and an `Exceptions` if it is no list of classes.
+pub(crate) fn add_attributes_of(
+    broken: &mut Vec<Broken>,
+    method: &Member,
+) -> Result<(OfKind, OfKind), NoMemory>
     requires { method.now.member.holder ≡ holders.Method }
-    ensures codes { Counts result.0.count (codes_of method.now.class method.now.member.member) }
-    ensures bad_code { result.0.has_bad ≡ breaks_f24 method.now.class method.now.member.member }
-    ensures exceptions { Counts result.1.count (exceptions_of method.now.class method.now.member.member) }
-    ensures bad_exceptions { result.1.has_bad ≡ has_bad_exceptions method.now.class method.now.member.member }
+    ensures added { OnOk result (AddsPlaces (places_of_member method.now) broken.old.items broken.new.items) }
+    ensures found { IfOk result (λ found. AreOf method.now.class method.now.member.member found.0 found.1) }
 {
     let none = OfKind {
         count: 0,
@@ -142,29 +161,25 @@ fn attributes_of(method: &Member) -> (OfKind, OfKind)
     };
     let (mut codes, mut exceptions) = (none, none);
     for attribute in method.attributes() {
-        codes = with_code(codes, &attribute);
-        exceptions = with_exceptions(exceptions, &attribute);
+        let kind = kind_of(&attribute);
+        let code = attribute.code();
+        add_of_one(broken, &attribute, kind, &code)?;
+        codes = codes.with(is(kind, AttributeKind::Code), code.is_none());
+        exceptions = with_exceptions(exceptions, &attribute, kind);
     }
-    (codes, exceptions)
+    Ok((codes, exceptions))
 }
 
-/// Returns these and an attribute, if it is a `Code`.
-fn with_code(codes: OfKind, attribute: &Attribute) -> OfKind
-    ensures { AddsAttribute kinds.Code is_bad_code attribute.now codes result }
+/// Returns these and an attribute of this kind, if it is an `Exceptions`.
+fn with_exceptions(
+    exceptions: OfKind,
+    attribute: &Attribute,
+    kind: Option<AttributeKind>,
+) -> OfKind
+    ensures { AddsIf (is_kind kinds.Exceptions kind) (lacks_classes attribute.now.class attribute.now.attribute.attribute.bytes) exceptions result }
 {
-    if attribute.is(AttributeKind::Code) {
-        codes.with(attribute.code().is_none())
-    } else {
-        codes
-    }
-}
-
-/// Returns these and an attribute, if it is an `Exceptions`.
-fn with_exceptions(exceptions: OfKind, attribute: &Attribute) -> OfKind
-    ensures { AddsAttribute kinds.Exceptions (are_bad_exceptions attribute.now.class) attribute.now exceptions result }
-{
-    if attribute.is(AttributeKind::Exceptions) {
-        exceptions.with(lacks_classes(attribute.class(), attribute.bytes()))
+    if is(kind, AttributeKind::Exceptions) {
+        exceptions.with(true, lacks_classes(attribute.class(), attribute.bytes()))
     } else {
         exceptions
     }

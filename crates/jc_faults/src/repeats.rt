@@ -19,10 +19,10 @@ use std::alloc::Global;
 /// The name and the descriptor of a member.
 type Key<'a> = (&'a [u8], &'a [u8]);
 
-/// So many members are compared with each other. Among more, a map finds equal ones sooner.
+/// The largest number of members that are compared with each other. For more members, a map finds equal ones sooner.
 const MOST_KEYS: usize = 64;
 
-/// So long may their texts be then: many members may have the same text.
+/// The largest number of bytes of a text that is compared in this way, because many members may have the same text.
 const LONGEST_TEXT: usize = 128;
 
 /// Adds the rules that fields and methods break that repeat an earlier one.

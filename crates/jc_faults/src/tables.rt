@@ -6,14 +6,17 @@ ghost use Rattle.jc_view.specs.Attributes.{bootstrap_attributes};
 ghost use Rattle.jc_view.specs.ClassFile.{constant_at};
 ghost use Rattle.jc_rules.specs.declared.fault.FormatRule.{FormatRule};
 ghost use Rattle.jc_rules.specs.FormatRules.{told_by};
+ghost use Rattle.jc_view.specs.Places.{fields_in, methods_in};
+ghost use Rattle.jc_faults.specs.inside.AttributePlaces.{places_of_members};
 ghost use Rattle.jc_faults.specs.inside.Broken.{AddsPlaces};
 ghost use Rattle.jc_faults.specs.inside.RuleSets.{has};
 ghost use Rattle.jc_faults.specs.inside.RuleTables.{breaks_in, constant_places, constant_tests, field_places, interface_places, method_places};
 
+use crate::attributes::add_with_inner;
 use crate::broken::{Broken, add_broken};
 use crate::classes::interface_rules;
 use crate::constants::constant_rules;
-use crate::members::{field_rules, method_rules};
+use crate::members::{add_attributes_of, field_rules, method_rules};
 use crate::rule_set::RuleSet;
 use crate::texts::Texts;
 use jc_base::NoMemory;
@@ -61,25 +64,37 @@ pub(crate) fn add_interfaces(broken: &mut Vec<Broken>, texts: &mut Texts) -> Res
     Ok(())
 }
 
-/// Adds the rules that fields break, other than that they repeat earlier ones.
-pub(crate) fn add_fields(broken: &mut Vec<Broken>, texts: &mut Texts) -> Result<(), NoMemory>
+/// Adds the rules that fields break, other than that they repeat earlier ones, and those that their attributes break.
+pub(crate) fn add_fields(
+    broken: &mut Vec<Broken>,
+    attributes: &mut Vec<Broken>,
+    texts: &mut Texts,
+) -> Result<(), NoMemory>
     ensures same { texts.new ≡ texts.old }
     ensures added { OnOk result (AddsPlaces (field_places texts.old) broken.old.items broken.new.items) }
+    ensures attributes { OnOk result (AddsPlaces (places_of_members (record { class = texts.old; left = fields_in texts.old })) attributes.old.items attributes.new.items) }
 {
     for (place, field) in texts.class().fields().enumerate() {
         let rules = field_rules(texts, &field);
         add_broken(broken, place, rules)?;
+        add_with_inner(attributes, field.attributes())?;
     }
     Ok(())
 }
 
-/// Adds the rules that methods break, other than that they repeat earlier ones.
-pub(crate) fn add_methods(broken: &mut Vec<Broken>, texts: &mut Texts) -> Result<(), NoMemory>
+/// Adds the rules that methods break, other than that they repeat earlier ones, and those that their attributes break.
+pub(crate) fn add_methods(
+    broken: &mut Vec<Broken>,
+    attributes: &mut Vec<Broken>,
+    texts: &mut Texts,
+) -> Result<(), NoMemory>
     ensures same { texts.new ≡ texts.old }
     ensures added { OnOk result (AddsPlaces (method_places texts.old) broken.old.items broken.new.items) }
+    ensures attributes { OnOk result (AddsPlaces (places_of_members (record { class = texts.old; left = methods_in texts.old })) attributes.old.items attributes.new.items) }
 {
     for (place, method) in texts.class().methods().enumerate() {
-        let rules = method_rules(texts, &method);
+        let (codes, exceptions) = add_attributes_of(attributes, &method)?;
+        let rules = method_rules(texts, &method, codes, exceptions);
         add_broken(broken, place, rules)?;
     }
     Ok(())

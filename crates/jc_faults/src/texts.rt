@@ -6,18 +6,65 @@ ghost use Rattle.jc_base.specs.TextTests.{is_class_text, is_method_name_text, is
 ghost use Rattle.jc_view.specs.declared.constant_pool.ConstantIndex.{ConstantIndex};
 ghost use Rattle.jc_view.specs.ClassFile.{ClassFile};
 ghost use Rattle.jc_view.specs.Lookups.{passes, utf8_at};
-ghost use Rattle.jc_faults.specs.inside.Texts.{IsKnown, dims_of, is_known_text, is_spelled, shape_of};
+ghost use Rattle.jc_faults.specs.inside.Texts.{IsKnown, descriptor_of, fits, is_array, is_field, is_known_text, is_method, is_spelled, returns};
 
 use jc_base::{FieldDesc, MethodDesc, NoMemory, is_class_name, is_method_name, is_unqualified};
 use jc_view::{ClassView, ConstantIndex};
 use std::alloc::Global;
 use std::marker::Model;
 
-/// How many slots the parameters of a method take, without the receiver, and whether it has a result.
+/// What a text is as a descriptor (JVMS 4.3).
 #[derive(Clone, Copy)]
-pub(crate) struct MethodShape {
-    pub(crate) slots: u8,
-    pub(crate) returns_value: bool,
+pub(crate) enum Descriptor {
+    /// That of a field, with this number of dimensions.
+    Field(u8),
+    /// That of a method. The parameters take this number of slots, without the receiver.
+    Method { slots: u8, returns_value: bool },
+    /// None.
+    Other,
+}
+
+impl Descriptor {
+    pub(crate) fn is_field(self) -> bool
+        ensures { result ≡ is_field self }
+    {
+        matches!(self, Descriptor::Field(_))
+    }
+
+    pub(crate) fn is_array(self) -> bool
+        ensures { result ≡ is_array self }
+    {
+        match self {
+            Descriptor::Field(dims) => dims > 0,
+            Descriptor::Method { .. } | Descriptor::Other => false,
+        }
+    }
+
+    pub(crate) fn is_method(self) -> bool
+        ensures { result ≡ is_method self }
+    {
+        matches!(self, Descriptor::Method { .. })
+    }
+
+    pub(crate) fn returns_value(self) -> bool
+        ensures { result ≡ returns self }
+    {
+        match self {
+            Descriptor::Method { returns_value, .. } => returns_value,
+            Descriptor::Field(_) | Descriptor::Other => false,
+        }
+    }
+
+    /// Returns whether it is that of a method whose parameters take at most 255 slots, with the receiver unless the
+    /// method is static.
+    pub(crate) fn fits(self, is_static: bool) -> bool
+        ensures { result ≡ fits is_static self }
+    {
+        match self {
+            Descriptor::Method { slots, .. } => is_static || slots < 255,
+            Descriptor::Field(_) | Descriptor::Other => false,
+        }
+    }
 }
 
 /// The answers about a text that are known.
@@ -26,8 +73,7 @@ struct Known {
     is_class: Option<bool>,
     is_unqualified: Option<bool>,
     is_method_name: Option<bool>,
-    dims: Option<Option<u8>>,
-    shape: Option<Option<MethodShape>>,
+    descriptor: Option<Descriptor>,
 }
 
 impl Known {
@@ -38,8 +84,7 @@ impl Known {
             is_class: None,
             is_unqualified: None,
             is_method_name: None,
-            dims: None,
-            shape: None,
+            descriptor: None,
         }
     }
 
@@ -50,8 +95,9 @@ impl Known {
         matches!(self.is_class, Some(true))
             || matches!(self.is_unqualified, Some(true))
             || matches!(self.is_method_name, Some(true))
-            || matches!(self.dims, Some(Some(_)))
-            || matches!(self.shape, Some(Some(_)))
+            || self
+                .descriptor
+                .is_some_and(|descriptor| descriptor.is_field() || descriptor.is_method())
     }
 }
 
@@ -149,32 +195,18 @@ impl<'v, 'a> Texts<'v, 'a> {
         is_method_name
     }
 
-    /// Returns how many dimensions the text at `index` has if it is the descriptor of a field (JVMS 4.3.2).
-    pub(crate) fn dims(&mut self, index: ConstantIndex) -> Option<Option<u8>>
+    /// Returns what the text at `index` is as a descriptor (JVMS 4.3).
+    pub(crate) fn descriptor(&mut self, index: ConstantIndex) -> Option<Descriptor>
         ensures same { self.new ≡ self.old }
-        ensures answer { result ≡ option_map dims_of (utf8_at self.old index) }
+        ensures answer { result ≡ option_map descriptor_of (utf8_at self.old index) }
     {
         let known = self.known(index);
-        if known.dims.is_some() {
-            return known.dims;
+        if known.descriptor.is_some() {
+            return known.descriptor;
         }
-        let dims = Some(dims_of(self.class.utf8(index)?));
-        self.note(index, Known { dims, ..known });
-        dims
-    }
-
-    /// Returns the shape of the text at `index` if it is the descriptor of a method (JVMS 4.3.3).
-    pub(crate) fn shape(&mut self, index: ConstantIndex) -> Option<Option<MethodShape>>
-        ensures same { self.new ≡ self.old }
-        ensures answer { result ≡ option_map shape_of (utf8_at self.old index) }
-    {
-        let known = self.known(index);
-        if known.shape.is_some() {
-            return known.shape;
-        }
-        let shape = Some(shape_of(self.class.utf8(index)?));
-        self.note(index, Known { shape, ..known });
-        shape
+        let descriptor = Some(descriptor_of(self.class.utf8(index)?));
+        self.note(index, Known { descriptor, ..known });
+        descriptor
     }
 
     fn known(&self, index: ConstantIndex) -> Known
@@ -204,18 +236,17 @@ fn known_at(known: &[Known], index: ConstantIndex) -> Option<Known>
     Some(*known.get(index.0 as usize)?)
 }
 
-fn dims_of(text: &[u8]) -> Option<u8>
-    ensures { result ≡ dims_of text.now }
+fn descriptor_of(text: &[u8]) -> Descriptor
+    ensures { result ≡ descriptor_of text.now }
 {
-    Some(FieldDesc::read(text)?.dims())
-}
-
-fn shape_of(text: &[u8]) -> Option<MethodShape>
-    ensures { result ≡ shape_of text.now }
-{
-    let method = MethodDesc::read(text)?;
-    Some(MethodShape {
-        slots: method.slots(),
-        returns_value: method.result().is_some(),
-    })
+    if let Some(field) = FieldDesc::read(text) {
+        return Descriptor::Field(field.dims());
+    }
+    match MethodDesc::read(text) {
+        Some(method) => Descriptor::Method {
+            slots: method.slots(),
+            returns_value: method.result().is_some(),
+        },
+        None => Descriptor::Other,
+    }
 }

@@ -1,10 +1,15 @@
 -- The places of each rule, while the things of a table are looked at one after the other.
-use Rattle.std.proofs.Common.{◌≡◌, ◌∙◌, ℕ, zero, suc, ◌+◌, ◌-◌, ◌≤◌, Bool, cond, List, [], ◌∷◌, ◌++◌, filter, refl, ap, sym, arith, add-one, append-nil, append_assoc}
+use Rattle.std.proofs.Common.{◌≡◌, ◌∙◌, ℕ, zero, suc, ◌+◌, ◌-◌, ◌≤◌, Bool, cond, List, [], ◌∷◌, ◌++◌, filter, map, refl, ap, sym, arith, add-one, append-nil, append_assoc}
 use Rattle.std.specs.List.{range_with_len}
+use Rattle.std.proofs.lemmas.List.{map-append}
 use Rattle.std.proofs.lemmas.List.Elements.{filter-append}
+use Rattle.jc_rules.specs.declared.fault.FormatRule.{FormatRule}
 use Rattle.jc_rules.specs.Faults.{passing, those_with}
 use Rattle.jc_rules.specs.inside.RuleTests.{numbered}
 use Rattle.jc_rules.proofs.orders.NumberedItems.{those_with-numbered}
+use Rattle.jc_faults.specs.declared.broken.Broken.{Broken}
+use Rattle.jc_faults.specs.inside.Broken.{places_in}
+use Rattle.jc_faults.specs.inside.RuleSets.{has}
 
 -- ---- numbers from 1 on
 
@@ -52,3 +57,10 @@ module _ {X : Type 0} (test : X → Bool) where
   -- at the end
   pub items_end : (n : ℕ) (left : List X) (before all : List ℕ) → left ≡ [] → before ++ numbered test n left ≡ all → before ≡ all
   items_end n left before all none so_far = sym (append-nil before) ∙ ap (λ ys. before ++ numbered test n ys) (sym none) ∙ so_far
+
+-- ---- two lists of broken rules
+
+pub in_both : (rule : FormatRule) (xs ys : List Broken) → places_in rule (xs ++ ys) ≡ places_in rule xs ++ places_in rule ys
+in_both rule xs ys =
+    ap (map (λ b. b.place)) (filter-append (λ b. has b.rules rule) xs ys)
+    ∙ map-append (λ b. b.place) (filter (λ b. has b.rules rule) xs) (filter (λ b. has b.rules rule) ys)

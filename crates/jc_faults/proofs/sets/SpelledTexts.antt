@@ -3,10 +3,11 @@ use Rattle.std.proofs.Common.{◌≡◌, ◌∙◌, ℕ, Bool, true, false, ◌|
 use Rattle.std.specs.Option.{option_map_or}
 use Rattle.std.specs.Prelude.{⊤, option_and_then}
 use Rattle.std.proofs.lemmas.Bool.{false≢true}
+use Rattle.jc_base.specs.Descriptors.{FieldType, MethodType}
 use Rattle.jc_base.specs.TextTests.{units_of, is_class_text, is_method_name_text, is_unqualified_text}
 use Rattle.jc_base.specs.DescriptorTests.{field_type_of, method_type_of}
 use Rattle.jc_base.proofs.texts.Names.{class_name_spelled, method_name_spelled}
-use Rattle.jc_base.proofs.texts.TestsDecide.{class_decides, is_some_of, method_name_decides, spelled_decides, unqualified_decides}
+use Rattle.jc_base.proofs.texts.TestsDecide.{class_decides, method_name_decides, spelled_decides, unqualified_decides}
 use Rattle.jc_base.proofs.types.DescriptorsAreTexts.{field_spelled, method_spelled}
 use Rattle.jc_base.proofs.types.TestsDecide.{field_decides, method_decides}
 use Rattle.jc_view.specs.declared.constant_pool.ConstantIndex.{ConstantIndex}
@@ -15,10 +16,10 @@ use Rattle.jc_view.specs.ClassFile.{ClassFile, constant_at}
 use Rattle.jc_view.specs.Lookups.{passes, utf8_at}
 use Rattle.jc_rules.specs.declared.fault.FormatRule.{FormatRule}
 use Rattle.jc_faults.specs.declared.texts.Known.{Known}
-use Rattle.jc_faults.specs.declared.texts.MethodShape.{MethodShape}
+use Rattle.jc_faults.specs.declared.texts.Descriptor.{Descriptor}
 use Rattle.jc_faults.specs.inside.RuleSets.{same_rule}
 use Rattle.jc_faults.specs.inside.RuleTables.{breaks_after, breaks_in, constant_tests}
-use Rattle.jc_faults.specs.inside.Texts.{IsKnown, dims_of, has_some, is_known_text, is_spelled, is_yes, shape_of}
+use Rattle.jc_faults.specs.inside.Texts.{IsKnown, as_field, as_method, descriptor_of, is_descriptor, is_field, is_known_text, is_method, is_spelled, is_yes}
 
 -- ---- names and descriptors
 
@@ -31,19 +32,22 @@ unqualified_spelled t e = (spelled_decides t).1 ((unqualified_decides t).0 e).0
 method_name_spelled_text : (t : List ℕ) → is_method_name_text t ≡ true → is_spelled t ≡ true
 method_name_spelled_text t e = (spelled_decides t).1 (method_name_spelled t ((method_name_decides t).0 e))
 
-was_some : {X Y : Type 0} (f : X → Y) (o : Option X) (y : Y) → option_map f o ≡ Some y → is_some o ≡ true
-was_some f None y e = absurd cc
-was_some f (Some x) y e = refl
+field_spelled_text : (t : List ℕ) (type : FieldType) → field_type_of t ≡ Some type → is_spelled t ≡ true
+field_spelled_text t type e = (spelled_decides t).1 (field_spelled t (type, (field_decides t type).0 e))
 
-dims_spelled : (t : List ℕ) (n : ℕ) → dims_of t ≡ Some n → is_spelled t ≡ true
-dims_spelled t n e =
-    let type = is_some_of (field_type_of t) (was_some _ (field_type_of t) n e) in
-    (spelled_decides t).1 (field_spelled t (type.0, (field_decides t type.0).0 type.1))
+method_spelled_text : (t : List ℕ) (type : MethodType) → method_type_of t ≡ Some type → is_spelled t ≡ true
+method_spelled_text t type e = (spelled_decides t).1 (method_spelled t (type, (method_decides t type).0 e))
 
-shape_spelled : (t : List ℕ) (s : MethodShape) → shape_of t ≡ Some s → is_spelled t ≡ true
-shape_spelled t s e =
-    let type = is_some_of (method_type_of t) (was_some _ (method_type_of t) s e) in
-    (spelled_decides t).1 (method_spelled t (type.0, (method_decides t type.0).0 type.1))
+-- a field's or a method's descriptor
+either_spelled : (t : List ℕ) (f : Option FieldType) (m : Option MethodType) → field_type_of t ≡ f → method_type_of t ≡ m
+    → (is_field (as_field f (as_method m)) || is_method (as_field f (as_method m))) ≡ true → is_spelled t ≡ true
+either_spelled t None None e g h = absurd (false≢true h)
+either_spelled t None (Some type) e g h = method_spelled_text t type g
+either_spelled t (Some type) m e g h = field_spelled_text t type e
+
+descriptor_spelled : (t : List ℕ) (d : Descriptor) → descriptor_of t ≡ d → (is_field d || is_method d) ≡ true → is_spelled t ≡ true
+descriptor_spelled t d e h =
+    either_spelled t (field_type_of t) (method_type_of t) refl refl (ap (λ x. is_field x || is_method x) e ∙ h)
 
 -- ---- by what is known
 
@@ -61,11 +65,8 @@ by_unqualified = by_answer is_unqualified_text true unqualified_spelled
 pub by_method_name : (o : Option (List ℕ)) → option_map is_method_name_text o ≡ Some true → passes is_spelled o ≡ true
 by_method_name = by_answer is_method_name_text true method_name_spelled_text
 
-pub by_dims : (o : Option (List ℕ)) (n : ℕ) → option_map dims_of o ≡ Some (Some n) → passes is_spelled o ≡ true
-by_dims o n = by_answer dims_of (Some n) (λ t. dims_spelled t n) o
-
-pub by_shape : (o : Option (List ℕ)) (s : MethodShape) → option_map shape_of o ≡ Some (Some s) → passes is_spelled o ≡ true
-by_shape o s = by_answer shape_of (Some s) (λ t. shape_spelled t s) o
+pub by_descriptor : (o : Option (List ℕ)) (d : Descriptor) → (is_field d || is_method d) ≡ true → option_map descriptor_of o ≡ Some d → passes is_spelled o ≡ true
+by_descriptor o d h = by_answer descriptor_of d (λ t e. descriptor_spelled t d e h) o
 
 or_else : {P : Type 0} (a b : Bool) → (a ≡ true → P) → (b ≡ true → P) → (a || b) ≡ true → P
 or_else true b f g e = f refl
@@ -75,21 +76,18 @@ yes : (o : Option Bool) → is_yes o ≡ true → o ≡ Some true
 yes None e = absurd (false≢true e)
 yes (Some b) e = ap Some e
 
-there : {A : Type 0} (o : Option (Option A)) → has_some o ≡ true → (a : A) × (o ≡ Some (Some a))
+there : (o : Option Descriptor) → is_descriptor o ≡ true → (d : Descriptor) × (o ≡ Some d) × ((is_field d || is_method d) ≡ true)
 there None e = absurd (false≢true e)
-there (Some None) e = absurd (false≢true e)
-there (Some (Some a)) e = (a, refl)
+there (Some d) e = (d, refl, e)
 
 pub known_spelled : (c : ClassFile) (index : ConstantIndex) (k : Known) → IsKnown c index k → is_known_text k ≡ true → passes is_spelled (utf8_at c index) ≡ true
 known_spelled c index k is e =
     let o = utf8_at c index in
     or_else _ _
     (or_else _ _
-    (or_else _ _
     (or_else _ _ (λ a. by_class o (is.is_class true (yes k.is_class a))) (λ a. by_unqualified o (is.is_unqualified true (yes k.is_unqualified a))))
     (λ a. by_method_name o (is.is_method_name true (yes k.is_method_name a))))
-    (λ a. let t = there k.dims a in by_dims o t.0 (is.dims (Some t.0) t.1)))
-    (λ a. let t = there k.shape a in by_shape o t.0 (is.shape (Some t.0) t.1)) e
+    (λ a. let d = there k.descriptor a in by_descriptor o d.0 d.2 (is.descriptor d.0 d.1)) e
 
 -- ---- such a text breaks no rule
 

@@ -1,12 +1,9 @@
 -- The places of attributes that break a rule.
-use Rattle.std.specs.Prelude.{ℕ, Bool, ◌||◌, List, filter, map}
+use Rattle.std.specs.Prelude.{ℕ, List, filter, map}
 use Rattle.std.specs.List.{flat_map}
-use Rattle.jc_base.specs.Bytes.{same_bytes}
-use Rattle.jc_view.specs.declared.attribute_kind.AttributeKind.TheVariants as kinds
-use Rattle.jc_view.specs.Attributes.{attribute_name}
 use Rattle.jc_view.specs.AttributeReading.{with_inner}
 use Rattle.jc_view.specs.ClassFile.{ClassFile}
-use Rattle.jc_view.specs.Lent.{AttributesLeft, LentAttribute, MembersLeft}
+use Rattle.jc_view.specs.Lent.{AttributesLeft, LentAttribute, LentMember, MembersLeft}
 use Rattle.jc_view.specs.Places.{PlacedAttribute, member_attributes}
 use Rattle.jc_rules.specs.declared.fault.FormatRule.{FormatRule}
 use Rattle.jc_faults.specs.inside.RuleTables.{attribute_tests, breaks_in}
@@ -23,16 +20,11 @@ places_of_one lent rule = places_among rule lent.class (with_inner lent.class le
 abbrev pub places_with_inner : AttributesLeft → FormatRule → List ℕ
 places_with_inner attributes rule = places_among rule attributes.class (flat_map (with_inner attributes.class) attributes.left)
 
+-- of those of a member
+abbrev pub places_of_member : LentMember → FormatRule → List ℕ
+places_of_member lent rule = places_among rule lent.class (flat_map (with_inner lent.class) (member_attributes lent.member))
+
 -- of those of the members that are left
 abbrev pub places_of_members : MembersLeft → FormatRule → List ℕ
 places_of_members members rule =
     places_among rule members.class (flat_map (with_inner members.class) (flat_map member_attributes members.left))
-
--- ---- names
-
--- an attribute of this name may break a rule over attributes, other than that it has a name
-abbrev pub has_rules : List ℕ → Bool
-has_rules name =
-    same_bytes name (attribute_name kinds.ConstantValue) || same_bytes name (attribute_name kinds.SourceFile)
-    || same_bytes name (attribute_name kinds.Signature) || same_bytes name (attribute_name kinds.EnclosingMethod)
-    || same_bytes name (attribute_name kinds.Synthetic) || same_bytes name (attribute_name kinds.Deprecated)

@@ -7,7 +7,7 @@ use Rattle.jc_faults.proofs.attributes.add_of_one.Goals as goal
 pub returns-in_ok-add_each : goal.returns-in_ok-add_each
 returns-in_ok-add_each c =
     let lent = c.args.attribute.now in
-    let inner = inner_of lent c.in-Some.code c.attributes.result (sym c.code.ensures ∙ c.in-Some.is) c.attributes.ensures in
+    let inner = inner_of lent c.in-Some.code c.attributes.result (sym c.requires.code ∙ c.in-Some.is) c.attributes.ensures in
     λ rule.
     own_and_inner rule lent.class lent.attribute c.attributes.result.left (places_in rule c.args.broken.now.items) (places_in rule c.add_own.new.broken.items) _
     (c.in_ok-add_own.ensures rule)

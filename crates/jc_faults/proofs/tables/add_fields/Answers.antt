@@ -1,11 +1,13 @@
-use Rattle.std.proofs.Common.{◌≡◌, ◌∙◌, ◌+◌, refl, ap, subst}
+use Rattle.std.proofs.Common.{◌≡◌, ◌∙◌, ◌+◌, ◌++◌, refl, ap, subst}
 use Rattle.std.specs.Iterator.Adapters.{enumerate_count, enumerate_source}
 use Rattle.jc_view.specs.declared.attribute_kind.Holder.TheVariants as holders
 use Rattle.jc_view.specs.Places.{fields_in, fields_place}
 use Rattle.jc_rules.proofs.kinds.PlacedMembers.{AreOf, are_of_all, members_of, members_of_all}
+use Rattle.jc_faults.specs.inside.AttributePlaces.{places_with_inner}
 use Rattle.jc_faults.specs.inside.Broken.{places_in}
 use Rattle.jc_faults.specs.inside.RuleSets.{has}
 use Rattle.jc_faults.specs.inside.RuleTables.{breaks_in, field_tests}
+use Rattle.jc_faults.proofs.sets.AttributesAdded.{member_added}
 use Rattle.jc_faults.proofs.sets.PlacesAdded.{item_more, items_begin}
 use Rattle.jc_faults.proofs.tables.add_fields.Goals as goal
 
@@ -21,6 +23,7 @@ loop-place-init c =
       places = λ rule.
           items_begin (λ m. breaks_in (field_tests class m) rule) 0 (members_of (fields_in class)) class.fields (places_in rule c.args.broken.now.items)
           refl (members_of_all holders.Field (fields_place class + 2) class.fields);
+      attributes = λ rule. refl;
     })
 
 pub loop-place-preserved : goal.loop-place-preserved
@@ -41,4 +44,7 @@ loop-place-preserved c =
           (ap members_of is_left) steps.1 steps.2
           (c.field_rules-rules.ensures.rules rule ∙ ap (λ t. breaks_in (field_tests t c.in-Some.field.member.member) rule) so_far.same)
           (c.in_ok-add_broken.ensures rule) (so_far.places rule);
+      attributes = λ rule.
+          member_added rule class c.in-Some.field.class c.in-Some.field.member (enumerate_source on).left (enumerate_source it).left (places_in rule c.loop-place.attributes.items) _ _
+          (steps.0.1.1 ∙ so_far.class) is_left (c.in_ok-add_with_inner.ensures rule ∙ ap (λ l. places_in rule c.loop-place.attributes.items ++ places_with_inner l rule) c.attributes.ensures) (so_far.attributes rule);
     }

@@ -6,6 +6,7 @@ use Rattle.jc_rules.proofs.kinds.PlacedMembers.{AreOf, are_of_all, members_of, m
 use Rattle.jc_faults.specs.inside.Broken.{places_in}
 use Rattle.jc_faults.specs.inside.RuleSets.{has}
 use Rattle.jc_faults.specs.inside.RuleTables.{breaks_in, method_tests}
+use Rattle.jc_faults.proofs.sets.AttributesAdded.{member_added}
 use Rattle.jc_faults.proofs.sets.PlacesAdded.{item_more, items_begin}
 use Rattle.jc_faults.proofs.tables.add_methods.Goals as goal
 
@@ -21,6 +22,7 @@ loop-place-init c =
       places = λ rule.
           items_begin (λ m. breaks_in (method_tests class m) rule) 0 (members_of (methods_in class)) class.methods (places_in rule c.args.broken.now.items)
           refl (members_of_all holders.Method (methods_place class + 2) class.methods);
+      attributes = λ rule. refl;
     })
 
 pub loop-place-preserved : goal.loop-place-preserved
@@ -41,4 +43,7 @@ loop-place-preserved c =
           (ap members_of is_left) steps.1 steps.2
           (c.method_rules-rules.ensures.rules rule ∙ ap (λ t. breaks_in (method_tests t c.in-Some.method.member.member) rule) so_far.same)
           (c.in_ok-add_broken.ensures rule) (so_far.places rule);
+      attributes = λ rule.
+          member_added rule class c.in-Some.method.class c.in-Some.method.member (enumerate_source on).left (enumerate_source it).left (places_in rule c.loop-place.attributes.items) _ _
+          (steps.0.1.1 ∙ so_far.class) is_left (c.in_ok-codes.ensures.added rule) (so_far.attributes rule);
     }

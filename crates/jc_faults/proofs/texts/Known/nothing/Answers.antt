@@ -5,6 +5,5 @@ returns c = λ class index. record {
   is_class = λ a e. absurd cc;
   is_unqualified = λ a e. absurd cc;
   is_method_name = λ a e. absurd cc;
-  dims = λ a e. absurd cc;
-  shape = λ a e. absurd cc;
+  descriptor = λ a e. absurd cc;
 }
