@@ -5,8 +5,7 @@ Usage: results.py [--write] [--run COMMAND | --output COMMAND]
 
 The repository itself determines these counts. COUNTS has those in sentences. The table in docs/MUTANTS.md has the numbers of
 mutants. The tables in docs/ARCHITECTURE.md have a row for each crate without tests, and its libraries if they have such a
-column. Figures that only a run can give, for example times, are in trials/RESULTS.md, whose sections name the command that
-prints them.
+column. FIGURES has those that a run of a trial determined. They are compared with trials/outputs.txt.
 
 Without --write the script prints each difference. With --write it corrects the counts and prints each change. With --run it
 runs a trial, for example "held/run.py 1 2000", and writes the trial's row in trials/RESULTS.md. The row has the command, the
@@ -22,11 +21,11 @@ import re
 import shlex
 import subprocess
 import sys
-import typing
 
 sys.dont_write_bytecode = True
 sys.path.insert(0, str(pathlib.Path(__file__).resolve().parent))
 import common
+from figures import FIGURES, Count, outputs_in, source
 
 DOCUMENTS = ("README.md", "CONTRIBUTING.md", "docs/*.md", "trials/RESULTS.md")
 NUMERALS = """no one two three four five six seven eight nine ten eleven twelve thirteen fourteen fifteen sixteen seventeen
@@ -40,17 +39,6 @@ USES_HEAD = "| Crate | Contents | Depends on |"
 ROW_HEAD = "    trial "
 ROW = "    {:<59}{:<9}{}"
 VERDICT = re.compile(r"\b\d+ differ\b|\bnames, \d+ wrong\b|\bof them not refused$|, each refused$")
-
-
-class Count(typing.NamedTuple):
-    """A count: what it counts, the pattern of its sentence, whose group is the number, and a function that counts."""
-    what: str
-    pattern: str
-    value: typing.Callable
-
-
-def source(path):
-    return (common.TOP / path).read_text()
 
 
 def last_rule(path, letter):
@@ -119,6 +107,8 @@ COUNTS = (
 
 def in_form(text, value):
     """Returns a number in the form of a text: as a word or in digits."""
+    if isinstance(value, str):
+        return value
     return NUMERALS[value] if text.isalpha() and value < len(NUMERALS) else f"{value:,}"
 
 
@@ -147,10 +137,10 @@ def uses_row(crate, line):
 
 def with_counts(text, found):
     """Returns a text with the right counts, and adds each count that it has to `found`."""
-    for count in COUNTS:
+    for count in (*COUNTS, *FIGURES):
         matches = list(re.finditer(count.pattern, text))
         found.update([count.what] if matches else [])
-        for match in reversed(matches):
+        for match in reversed(matches if count.value() is not None else []):
             text = text[:match.start(1)] + in_form(match[1], count.value()) + text[match.end(1):]
     return text
 
@@ -175,9 +165,11 @@ def differences(write):
                 yield f"{path.relative_to(common.TOP)}:{number}: {old}\n  {'is now' if write else 'should be'}: {new}"
         if write and before != after:
             path.write_text(after)
-    for count in COUNTS:
+    for count in (*COUNTS, *FIGURES):
         if count.what not in found:
             yield f"no document has the number of {count.what}: {count.value()}"
+        elif count.value() is None:
+            yield f"trials/outputs.txt does not have the number of {count.what}"
     with_mutants = [crate for crate in crates() if any(mutants(crate))]
     yield from wrong_rows("docs/MUTANTS.md", MUTANTS_HEAD, with_mutants)
     yield from wrong_rows("docs/ARCHITECTURE.md", CRATES_HEAD, crates(source("crates.txt").split("\n# Tests")[0]))
@@ -226,10 +218,10 @@ def verdict_of(lines):
 
 def with_output(text, command, lines):
     """Returns the text of trials/outputs.txt with the output of a trial. The outputs are in the order of the commands."""
-    blocks = dict(re.findall(r"^== ([^\n]*), (\w+\n\n.*?)(?=^== |\Z)", text, re.M | re.S))
+    outputs = outputs_in(text)
     shown = "\n".join(lines).strip("\n")
-    blocks[command] = f"{commit_of()}\n\n{shown}\n\n"
-    return "".join(f"== {name}, {blocks[name]}" for name in sorted(blocks)).rstrip("\n") + "\n"
+    outputs[command] = f"{commit_of()}\n\n{shown}\n\n"
+    return "".join(f"== {name}, {outputs[name]}" for name in sorted(outputs)).rstrip("\n") + "\n"
 
 
 def without_paths(text, command):
@@ -261,7 +253,7 @@ def main():
     if options.run or options.output:
         record(options.run or options.output, options.output is not None)
     found = list(differences(options.write))
-    print(*found, f"{len(COUNTS)} counts and two kinds of tables, {len(found)} differences", sep="\n")
+    print(*found, f"{len(COUNTS)} counts, {len(FIGURES)} figures and two kinds of tables, {len(found)} differences", sep="\n")
     sys.exit(1 if found else 0)
 
 

@@ -187,10 +187,14 @@ def measure(program, folder, adds, edits):
     return costs
 
 
+def shown(milliseconds):
+    return f"{milliseconds:.3f}" if milliseconds < 10 else f"{milliseconds:.0f}"
+
+
 def tell(programs, least, adds, edits, done):
     """Prints the least costs of each program, and the counts of each edit."""
     first, rest = done[:len(adds)], iter(done[len(adds):])
-    print(f"{len(adds)} files added: {sum(made for made, _ in first)} parts, {sum(asks for _, asks in first)} asks\n")
+    print(f"{len(adds):,} files added: {sum(made for made, _ in first):,} parts, {sum(asks for _, asks in first):,} asks\n")
     for program in programs:
         seconds, memory, idle = least[program][:3]
         print(f"{program}: {seconds:.1f} seconds of a processor, {memory:.0f} MB; {idle:.3f} milliseconds for a line that asks for nothing")
@@ -198,7 +202,7 @@ def tell(programs, least, adds, edits, done):
     print("\n| edit | parts | asks |" + " milliseconds |" * len(programs) + "\n|---|---|---|" + "---|" * len(programs))
     for what, lines in edits:
         counts = [next(rest) for _ in lines]
-        cells = [f"{made:,}" for made, _ in counts], [f"{asks:,}" for _, asks in counts], *([f"{next(one):.3f}" for _ in lines] for one in times)
+        cells = [f"{made:,}" for made, _ in counts], [f"{asks:,}" for _, asks in counts], *([shown(next(one)) for _ in lines] for one in times)
         print(f"| {what} | " + " | ".join(", ".join(texts) for texts in cells) + " |")
 
 

@@ -113,7 +113,9 @@ def main():
         each = ", ".join(f"{crate} {seconds / 60:.1f}" for crate, seconds in sorted(crates.items(), key=lambda it: -it[1]))
         print(f"{kind}: {sum(crates.values()) / 60:.1f} ({each})")
     print(f"the rest: {(whole - sum(told.values())) / 60:.1f}")
+    unit = told["proofs", "jc_base"]
     print(f"{whole / 60:.1f} processor minutes, {clock / 60:.0f} by the clock, status {status}")
+    print(f"{whole / unit:.1f} times the proofs of jc_base" if unit else "jc_base was not proved in this run")
     return status
 
 

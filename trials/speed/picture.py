@@ -1,16 +1,20 @@
 #!/usr/bin/env python3
 """Measures `jclink check`, `jdeps --missing-deps` and `javap -c -p` over one tree, and draws docs/speed.svg.
 
-Usage: picture.py [--rounds N] [--to FILE] TREE.., once ./jclink is built. The environment's JCLINK may name another program.
-A TREE is a folder of class files, a jar, or a folder of jars. The trial copies the class files of versions 51 and 52 into
-one folder; if a path occurs several times, the first file counts. The output of the programs goes to /dev/null.
+Usage: picture.py [--rounds N] [--to FILE] [--beside COMMAND].. TREE.., once ./jclink is built. The environment's JCLINK may
+name another program. A TREE is a folder of class files, a jar, or a folder of jars. The trial copies the class files of
+versions 51 and 52 into one folder; if a path occurs several times, the first file counts. The output of the programs goes to
+/dev/null.
 
 A bar shows the least processor seconds of N rounds, 5 by default. The programs run in turn. The text of a bar has the
-greatest memory of a process. The trial ends if a program has a wrong status.
+greatest memory of a process. The trial ends if a program has a wrong status. It also measures `check --errors` and each
+COMMAND, which it calls with the folder as last argument. They have no bars.
 """
 import argparse
+import itertools
 import os
 import pathlib
+import shlex
 import subprocess
 import sys
 import zipfile
@@ -67,7 +71,7 @@ def measured(command, folder, statuses):
     return usage.ru_utime + usage.ru_stime, usage.ru_maxrss / 1024
 
 
-def calls(folder):
+def calls(folder, beside):
     """Returns for each program its calls over the folder, and the right statuses of a call."""
     paths = [str(path.relative_to(folder)) for path in sorted(folder.rglob("*.class"))]
     parts = [paths[at:at + FILES_OF_A_CALL] for at in range(0, len(paths), FILES_OF_A_CALL)]
@@ -75,14 +79,16 @@ def calls(folder):
         "jclink check": ([[common.JCLINK, "check", "."]], (0, 1)),
         "jdeps --missing-deps": ([["jdeps", "--missing-deps", "."]], (0,)),
         "javap -c -p": ([["javap", "-c", "-p", *part] for part in parts], (0,)),
+        "jclink check --errors": ([[common.JCLINK, "check", "--errors", "."]], (0, 1)),
+        **{command: ([[*shlex.split(command), "."]], (0,)) for command in beside},
     }
 
 
-def measure(folder, rounds):
+def measure(folder, rounds, beside):
     """Returns for each program the seconds and megabytes of its fastest round."""
     spent = {}
     for _ in range(rounds):
-        for name, (commands, statuses) in calls(folder).items():
+        for name, (commands, statuses) in calls(folder, beside).items():
             told = [measured(command, folder, statuses) for command in commands]
             spent.setdefault(name, []).append((sum(seconds for seconds, _ in told), max(size for _, size in told)))
     return {name: min(told) for name, told in spent.items()}
@@ -94,7 +100,8 @@ def text(x, y, words, size=14, anchor="start", weight="normal"):
 
 
 def picture(found, title, below):
-    """Returns a picture of the figures as bars."""
+    """Returns a picture of the first figures as bars."""
+    found = dict(itertools.islice(found.items(), len(COLOURS)))
     most, height = max(seconds for seconds, _ in found.values()), TOP + STEP * len(found) + 34
     lines = [f'<svg xmlns="http://www.w3.org/2000/svg" width="{LEFT + WIDTH + 160}" height="{height}" '
              f'viewBox="0 0 {LEFT + WIDTH + 160} {height}" font-family="sans-serif" role="img">',
@@ -105,7 +112,7 @@ def picture(found, title, below):
     for at, (name, (seconds, size)) in enumerate(found.items()):
         y, long = TOP + STEP * at, max(1, round(WIDTH * seconds / most))
         lines += [text(LEFT - 12, y + 18, name, anchor="end"),
-                  f'  <rect x="{LEFT}" y="{y}" width="{long}" height="{BAR}" fill="{COLOURS[at % len(COLOURS)]}"/>',
+                  f'  <rect x="{LEFT}" y="{y}" width="{long}" height="{BAR}" fill="{COLOURS[at]}"/>',
                   text(LEFT + long + 8, y + 18, f"{seconds:.3g} s, {size:,.0f} MB")]
     lines += [text(16, height - 16, below, 12), "</svg>"]
     return "\n".join(lines) + "\n"
@@ -115,6 +122,7 @@ def main():
     parser = argparse.ArgumentParser()
     parser.add_argument("trees", nargs="+", type=pathlib.Path, metavar="TREE")
     parser.add_argument("--rounds", type=int, default=5)
+    parser.add_argument("--beside", action="append", default=[], metavar="COMMAND")
     parser.add_argument("--to", type=pathlib.Path, default=common.TOP / "docs" / "speed.svg")
     options = parser.parse_args()
     version = subprocess.run(["javac", "-version"], capture_output=True, text=True, check=True).stdout.split()[-1]
@@ -122,7 +130,7 @@ def main():
         count, size = gather(options.trees, work)
         if not count:
             sys.exit("no class files of versions 51 and 52")
-        found = measure(work, options.rounds)
+        found = measure(work, options.rounds, options.beside)
     title = f"One tree of {count:,} class files, {size / 1e6:.0f} MB"
     below = f"jdeps and javap of version {version}; the least of {options.rounds} in turn (trials/speed/picture.py)"
     options.to.write_text(picture(found, title, below))
