@@ -171,11 +171,7 @@ pub(crate) fn add_attributes_of(
 }
 
 /// Returns these and an attribute of this kind, if it is an `Exceptions`.
-fn with_exceptions(
-    exceptions: OfKind,
-    attribute: &Attribute,
-    kind: Option<AttributeKind>,
-) -> OfKind
+fn with_exceptions(exceptions: OfKind, attribute: &Attribute, kind: Option<AttributeKind>) -> OfKind
     ensures { AddsIf (is_kind kinds.Exceptions kind) (lacks_classes attribute.now.class attribute.now.attribute.attribute.bytes) exceptions result }
 {
     if is(kind, AttributeKind::Exceptions) {

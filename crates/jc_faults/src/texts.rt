@@ -95,9 +95,8 @@ impl Known {
         matches!(self.is_class, Some(true))
             || matches!(self.is_unqualified, Some(true))
             || matches!(self.is_method_name, Some(true))
-            || self
-                .descriptor
-                .is_some_and(|descriptor| descriptor.is_field() || descriptor.is_method())
+            || self.descriptor.is_some_and(|descriptor| descriptor.is_field()
+                || descriptor.is_method())
     }
 }
 
@@ -205,7 +204,13 @@ impl<'v, 'a> Texts<'v, 'a> {
             return known.descriptor;
         }
         let descriptor = Some(descriptor_of(self.class.utf8(index)?));
-        self.note(index, Known { descriptor, ..known });
+        self.note(
+            index,
+            Known {
+                descriptor,
+                ..known
+            },
+        );
         descriptor
     }
 

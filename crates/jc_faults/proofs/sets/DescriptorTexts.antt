@@ -1,6 +1,6 @@
 -- What a text is as a descriptor, and the tests of descriptors.
-use Rattle.std.proofs.Common.{◌≡◌, ◌≢◌, ◌∙◌, ℕ, Bool, true, false, not, ◌&&◌, ◌||◌, nat_lt, cond, List, [], ◌∷◌, Option, Some, None, is_some, option_map, inl, inr, refl, sym, ap, arith}
-use Rattle.std.proofs.lemmas.Bool.{cases_Bool, cond-false, false≢true}
+use Rattle.std.proofs.Common.{◌≡◌, ◌∙◌, ℕ, true, false, not, ◌&&◌, ◌||◌, nat_lt, List, [], ◌∷◌, Option, Some, None, is_some, option_map, inl, inr, refl, ap, arith}
+use Rattle.std.proofs.lemmas.Bool.{cases_Bool, false≢true}
 use Rattle.jc_base.specs.Descriptors.{FieldType, MethodType}
 use Rattle.jc_base.specs.DescriptorTests.{begins_with, field_type_of, is_element_text, is_field_text, is_method_text, leading_dims, method_type_of}
 use Rattle.jc_base.specs.TextTests.{is_method_name_text, is_unqualified_text}
@@ -8,8 +8,6 @@ use Rattle.jc_view.specs.ClassFile.{Member}
 use Rattle.jc_view.specs.Lookups.{fails, lacks, passes}
 use Rattle.jc_rules.specs.AccessFlags.{has, static}
 use Rattle.jc_rules.specs.FormatRules.{fails_beside, fits_slots, is_array_text, returns_value}
-use Rattle.jc_faults.specs.declared.texts.Descriptor.{Descriptor}
-use Rattle.jc_faults.specs.declared.texts.Descriptor.TheVariants.{Field, Method, Other}
 use Rattle.jc_faults.specs.inside.Texts.{as_field, as_method, descriptor_of, fails_with, fits, is_array, is_field, is_method, returns}
 
 -- ---- no text is both

@@ -1,5 +1,5 @@
 use Rattle.std.proofs.Common.{◌∙◌, ap, sym}
-use Rattle.jc_view.specs.Lookups.{fails, passes, utf8_at}
+use Rattle.jc_view.specs.Lookups.{passes, utf8_at}
 use Rattle.jc_faults.specs.inside.Texts.{fails_with}
 use Rattle.jc_faults.proofs.sets.DescriptorTexts.{beside}
 use Rattle.jc_faults.proofs.constants.breaks_f5.Goals as goal
