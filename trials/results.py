@@ -38,7 +38,7 @@ USES_HEAD = "| Crate | Contents | Depends on |"
 
 ROW_HEAD = "    trial "
 ROW = "    {:<59}{:<9}{}"
-VERDICT = re.compile(r"\b\d+ differ\b|\bnames, \d+ wrong\b|\bof them not refused$|, each refused$")
+VERDICT = re.compile(r"\b\d+(?: worlds)? differ\b|\bdifferences \d+\b|\bnames, \d+ wrong\b|\bof them not refused$|, each refused$")
 
 
 def last_rule(path, letter):
@@ -207,12 +207,13 @@ def with_row(text, command, verdict):
 def verdict_of(lines):
     """Returns the lines of an output that say what differs, without those of parts (`try_`).
 
-    A line that says only that has the line before it in front.
+    A line that says only that has the last line in front that is not indented.
     """
-    found = []
-    for before, line in zip(["", *lines], lines):
+    found, before = [], ""
+    for line in lines:
         if (verdict := VERDICT.search(line)) and not line.startswith("try_"):
-            found.append(f"{before}, {line}" if re.fullmatch(r"\d+ differ", line) else line[:verdict.end()])
+            found.append(f"{before}, {line}" if verdict[0] == line else line[:verdict.end()])
+        before = before if line.startswith(" ") else line
     return "; ".join(found)
 
 
