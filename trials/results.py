@@ -38,7 +38,7 @@ USES_HEAD = "| Crate | Contents | Depends on |"
 
 ROW_HEAD = "    trial "
 ROW = "    {:<59}{:<9}{}"
-VERDICT = re.compile(r"\b\d+(?: worlds)? differ\b|\bdifferences \d+\b|\bnames, \d+ wrong\b|\bof them not refused$|, each refused$")
+VERDICT = re.compile(r"\b\d+(?: \w+)? differ\b|\b\d+ differences\b|\bdifferences \d+\b|\bnames, \d+ wrong\b|\bof them not refused$|, each refused$")
 
 
 def last_rule(path, letter):

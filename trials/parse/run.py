@@ -29,7 +29,7 @@ SPELLINGS = [bytes.fromhex(text) for text in (
 def files_of_jars(folder):
     """Returns the different class files in the jars of a folder."""
     files = {}
-    for path in sorted(pathlib.Path(folder).glob("*.jar")):
+    for path in sorted(pathlib.Path(folder).rglob("*.jar")):
         with zipfile.ZipFile(path) as jar:
             for name in jar.namelist():
                 if name.endswith(".class"):
@@ -110,7 +110,9 @@ def main():
     unread = sum(not reader.answer(file).startswith("ok ") for file in files)
     print(f"class files {len(files)}, bytes {sum(map(len, files))}, not readable {unread}")
     others = files_of_jars(options.jars) if options.jars else []
-    if others:
+    if options.jars:
+        if not others:
+            sys.exit("no class files in the jars")
         print(f"class files in jars {len(others)}, bytes {sum(map(len, others))}")
         files += rng.sample([file for file in others if reader.answer(file).startswith("ok ")], 300)
     groups = itertools.chain((list(cases(file, rng)) for file in files),
