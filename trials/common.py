@@ -4,6 +4,7 @@ A trial can be run from any folder by its path, for example trials/parse/run.py.
 input. Its first argument says what the answers are. Its sources are in trials/asked, outside the crates that `rt ci` proves.
 """
 import argparse
+import fcntl
 import importlib.util
 import os
 import pathlib
@@ -81,9 +82,11 @@ def make_copy():
 
 
 def build():
-    """Proves and builds jc_asked, unless its build is up to date."""
-    make_copy()
-    done = subprocess.run(["rt", "run", "--", "faults"], cwd=ASKED, stdin=subprocess.DEVNULL, capture_output=True, check=False)
+    """Proves and builds jc_asked, unless its build is up to date. Trials that run at the same time build one after another."""
+    with open(COPY.with_suffix(".lock"), "w") as lock:
+        fcntl.flock(lock, fcntl.LOCK_EX)
+        make_copy()
+        done = subprocess.run(["rt", "run", "--", "faults"], cwd=ASKED, stdin=subprocess.DEVNULL, capture_output=True, check=False)
     if done.returncode != 0 or not ANSWERS[0].exists():
         sys.exit("the program was not built:\n" + done.stdout.decode() + done.stderr.decode())
 
