@@ -34,7 +34,7 @@ pub(crate) fn add_with_inner(
     Ok(())
 }
 
-/// Adds those of an attribute of this kind, and of the attributes inside it if it is this code.
+/// Adds those of an attribute, and of the attributes inside `code`. Kind and code are those of the attribute.
 pub(crate) fn add_of_one(
     broken: &mut Vec<Broken>,
     attribute: &Attribute,
@@ -86,7 +86,7 @@ fn attribute_rules(attribute: &Attribute, kind: Option<AttributeKind>) -> RuleSe
         .with(FormatRule::F30, breaks_f30(attribute, kind))
 }
 
-/// Returns whether an attribute has not the length of its kind.
+/// Returns whether all attributes of its kind have one length, and this attribute has another.
 fn breaks_f29(attribute: &Attribute, kind: Option<AttributeKind>) -> bool
     requires { IsRecognisedAs attribute.now.class attribute.now.attribute.holder attribute.now.attribute.attribute kind }
     ensures { result ≡ breaks_f29 attribute.now.class attribute.now.attribute }
@@ -159,7 +159,7 @@ fn names_no_text(attribute: &Attribute) -> bool
             .is_entry(ConstantKind::Utf8, index_at(bytes, 0))
 }
 
-/// Returns whether an attribute of four bytes names no class, or a method that is no `NameAndType`.
+/// Returns whether an attribute of four bytes names no class, or its second index is neither 0 nor a `NameAndType`.
 fn names_no_method(attribute: &Attribute) -> bool
     ensures { result ≡ names_no_method attribute.now.class attribute.now.attribute }
 {

@@ -47,7 +47,7 @@ abbrev pub fits : Bool → Descriptor → Bool
 fits has_none (Method slots with_value) = has_none || nat_lt slots 255
 fits has_none descriptor = false
 
--- the name that stands beside a descriptor
+-- whether there is a name, and it does not fit the descriptor
 abbrev pub fails_with : Descriptor → Option (List ℕ) → Bool
 fails_with descriptor name =
     is_field descriptor && fails is_unqualified_text name || is_method descriptor && fails is_method_name_text name
