@@ -91,7 +91,7 @@ COUNTS = (
     Count("crates outside the chain", rf"All but {NUMBER} crates depend on one another in a chain",
           lambda: len(re.search(r"^ASIDE='([^']*)'", source("scripts/build"), re.M)[1].split())),
     Count("rules of the format", rf"(?:rules? of the format|its format),? \(?F1 to F{NUMBER}",
-          lambda: last_rule("crates/jc_rules/specs/FaultOrder.antt", "F")),
+          lambda: last_rule("crates/jc_file/specs/FaultOrder.antt", "F")),
     Count("rules of code", rf"\bS1 to S{NUMBER}", lambda: last_rule("crates/jc_code/specs/CodeFaultOrder.antt", "S")),
     Count("opcodes", rf"{NUMBER} opcodes", lambda: int(re.search(r"length opcodes ≡ (\d+)", source("crates/jc_code/src/laws.rt"))[1])),
     Count("sources for Java 7 and 8", rf"{NUMBER} sources for Java 7 and 8", lambda: java_sources("seven")),

@@ -40,14 +40,12 @@ pub fn is_class_name(text: &[u8]) -> bool
 fn is_plain_class_name(text: &[u8]) -> bool
     ensures { result ≡ are_plain_parts true text.now }
 {
-    let mut begins = true;
+    let (mut is_plain, mut begins) = (true, true);
     for byte in text {
-        if !may_follow(begins, *byte) {
-            return false;
-        }
+        is_plain &= may_follow(begins, *byte);
         begins = *byte == b'/';
     }
-    !begins
+    is_plain && !begins
 }
 
 // Whether a character below 0x80 may stand here: a `/` not where a part of the name begins.

@@ -2,7 +2,7 @@
 use Rattle.std.specs.Prelude.{◌≡◌, ◌⊎◌, ◌||◌, ◌&&◌, not, Bool, true, codes}
 use Rattle.jc_classes.specs.Facts.{Member, Named}
 use Rattle.jc_classes.specs.Names.{Name, same_name, object, package_of}
-use Rattle.jc_rules.specs.AccessFlags.{has, public, private, protected, static}
+use Rattle.jc_file.specs.AccessFlags.{has, public, private, protected, static}
 use Rattle.jc_classes.specs.Worlds.{World, Extends, Found, is_array}
 use Rattle.jc_classes.specs.Facts.Named.{Class, Array}
 

@@ -1,6 +1,6 @@
 -- The built-in java/lang/Object, which stands where no file gives the class: its public and protected methods.
 use Rattle.std.specs.Prelude.{ℕ, List, [], ◌∷◌, None, codes}
-use Rattle.jc_rules.specs.AccessFlags.{public, protected}
+use Rattle.jc_file.specs.AccessFlags.{public, protected}
 use Rattle.jc_classes.specs.Names.{object}
 use Rattle.jc_classes.specs.Facts.{Facts, Member}
 

@@ -1,7 +1,7 @@
 -- What linking keeps of a class file.
 use Rattle.std.specs.Prelude.{◌≡◌, ℕ, ◌<◌, Bool, List, Option, Some, length, slice_get, ◌==◌, not}
 use Rattle.std.specs.List.{All, Contains}
-use Rattle.jc_rules.specs.declared.fault.Fault.{Fault}
+use Rattle.jc_file.specs.declared.fault.Fault.{Fault}
 use Rattle.jc_code.specs.declared.code_fault.CodeFault.{CodeFault}
 use Rattle.jc_code.specs.declared.method_use.MethodUse.{MethodUse}
 use Rattle.jc_classes.specs.Names.{Name}

@@ -7,7 +7,7 @@ use Rattle.jc_view.specs.ConstantPool as pool
 use Rattle.jc_view.specs.ClassFile as file
 use Rattle.jc_view.specs.ClassFile.{ClassFile, all_slots, class_text_at, constant_at}
 use Rattle.jc_view.specs.Lookups.{member_descriptor_at, member_name_at, utf8_at}
-use Rattle.jc_rules.specs.Faults.{faults}
+use Rattle.jc_file.specs.Faults.{faults}
 use Rattle.jc_code.specs.MethodFaults.{code_faults}
 use Rattle.jc_code.specs.MethodUses.{uses}
 use Rattle.jc_classes.specs.declared.reference_kind.ReferenceKind.{ReferenceKind}

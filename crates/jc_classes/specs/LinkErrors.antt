@@ -4,7 +4,7 @@ use Rattle.std.specs.Prelude.{ℕ, ◌==◌, Bool, ◌&&◌, ◌||◌, not, code
 use Rattle.std.specs.Prelude.{Option, Some, None, option_and_then, slice_get, if◌then◌else◌}
 use Rattle.std.specs.List.{flat_map}
 use Rattle.std.specs.Option.{option_map_or, option_to_list}
-use Rattle.jc_rules.specs.AccessFlags.{abstract, final, has, interface, private, static}
+use Rattle.jc_file.specs.AccessFlags.{abstract, final, has, interface, private, static}
 use Rattle.jc_code.specs.declared.insn.LinkKind.{LinkKind}
 use Rattle.jc_code.specs.declared.insn.LinkKind.TheVariants as kinds
 use Rattle.jc_code.specs.declared.method_use.MethodUse.{MethodUse}

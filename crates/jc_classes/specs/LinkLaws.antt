@@ -6,7 +6,7 @@ use Rattle.std.specs.declared.cmp.Ordering.{Ordering}
 use Rattle.jc_view.specs.Attributes.{Code}
 use Rattle.jc_view.specs.ClassFile.{ClassFile, Member}
 use Rattle.jc_view.specs.Lookups.{utf8_at}
-use Rattle.jc_rules.specs.Faults.{faults}
+use Rattle.jc_file.specs.Faults.{faults}
 use Rattle.jc_code.specs.declared.insn.Insn.{Insn}
 use Rattle.jc_code.specs.declared.insn.LinkKind.{LinkKind}
 use Rattle.jc_code.specs.CodeFaults.{code_of_member, faults_of}

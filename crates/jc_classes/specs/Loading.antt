@@ -2,7 +2,7 @@
 use Rattle.std.specs.Prelude.{◌≡◌, Bool, true, false, ◌||◌, not, cond, List, [], ◌∷◌, ◌++◌, map, Option, Some, None}
 use Rattle.std.specs.Option.{option_map_or}
 use Rattle.jc_classes.specs.Names.{Name, same_name, package_of}
-use Rattle.jc_rules.specs.AccessFlags.{has, public}
+use Rattle.jc_file.specs.AccessFlags.{has, public}
 use Rattle.jc_classes.specs.Worlds.{World, Stands, is_interface, flags_of, Above}
 use Rattle.jc_classes.specs.Worlds.{Stands as stands}
 use Rattle.jc_classes.specs.Facts.{Facts, is_faulty}

@@ -4,7 +4,7 @@ use Rattle.std.specs.Prelude.{◌||◌, not, cond, List, [], ◌∷◌, Option, 
 use Rattle.std.specs.Option.{option_or}
 use Rattle.jc_classes.specs.Facts.{Key, Member}
 use Rattle.jc_classes.specs.Names.{Name, same_name, name_less, object, method_handle, polymorphic_descriptor}
-use Rattle.jc_rules.specs.AccessFlags.{has, public, private, static, varargs, native, abstract}
+use Rattle.jc_file.specs.AccessFlags.{has, public, private, static, varargs, native, abstract}
 use Rattle.jc_classes.specs.Worlds.{Stands, World, superclass_of, methods_of, is_interface, Above, member, Found}
 
 abbrev pub is_polymorphic : Member → Bool

@@ -2,7 +2,7 @@
 use Rattle.std.specs.Prelude.{◌≡◌, ℕ, Bool, true, false, List, [], ◌∷◌, ◌++◌, Option, Some}
 use Rattle.std.specs.List.{Contains}
 use Rattle.std.specs.Option.{option_to_list}
-use Rattle.jc_rules.specs.declared.fault.Fault.{Fault}
+use Rattle.jc_file.specs.declared.fault.Fault.{Fault}
 use Rattle.jc_code.specs.declared.code_fault.CodeFault.{CodeFault}
 use Rattle.jc_classes.specs.Facts.{Named, Reference}
 use Rattle.jc_classes.specs.LinkErrors.{LinkFault, links_of}

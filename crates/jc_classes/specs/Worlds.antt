@@ -3,9 +3,9 @@ use Rattle.std.specs.Prelude.{◌≡◌, ℕ, Bool, true, false, ◌&&◌, cond,
 use Rattle.std.specs.Option.{option_to_list}
 use Rattle.std.specs.List.{Contains}
 use Rattle.jc_classes.specs.Names.{Name, same_name}
-use Rattle.jc_rules.specs.declared.fault.Fault.{Fault}
+use Rattle.jc_file.specs.declared.fault.Fault.{Fault}
 use Rattle.jc_code.specs.declared.code_fault.CodeFault.{CodeFault}
-use Rattle.jc_rules.specs.AccessFlags.{has, interface}
+use Rattle.jc_file.specs.AccessFlags.{has, interface}
 use Rattle.jc_classes.specs.Facts.{Facts, Member, Key, Named, Reference}
 use Rattle.jc_classes.specs.Facts.{Named as named}
 

@@ -16,7 +16,7 @@ use crate::reference::{class_in_descriptor, class_named, without_dimensions};
 use crate::resolved_descriptors::resolved_descriptors;
 use crate::used::{is_marked, marked};
 use jc_base::{ByteMap, MethodDesc, NoMemory};
-use jc_view::{ClassView, Constant, ConstantIndex};
+use jc_view::{ClassView, Constant, ConstantIndex, ConstantKind};
 use std::alloc::Global;
 
 /// Adds the Class constants whose classes, or of arrays the innermost ones, are in descriptors that code resolves.
@@ -176,6 +176,9 @@ fn add_marked(
 fn class_if_marked(class: &ClassView, marks: &[bool], index: u16) -> Option<ConstantIndex>
     ensures { result ≡ class_marked marks.now class.now index }
 {
+    if !class.is_entry(ConstantKind::Class, ConstantIndex(index)) {
+        return None;
+    }
     let Constant::Class(text) = class.constant(index)? else {
         return None;
     };

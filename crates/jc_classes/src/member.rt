@@ -1,7 +1,7 @@
 //! Fields and methods, as a class declares them (JVMS 4.5, 4.6).
 
 ghost use Rattle.std.specs.Prelude.{◌≡◌, ◌&&◌, codes, not};
-ghost use Rattle.jc_rules.specs.AccessFlags.{has, mask_of};
+ghost use Rattle.jc_file.specs.AccessFlags.{has, mask_of};
 ghost use Rattle.jc_classes.specs.Names.{same_name};
 ghost use Rattle.jc_classes.specs.Access.{is_package_private};
 ghost use Rattle.jc_classes.specs.MethodLookup.{is_polymorphic};

@@ -6,7 +6,7 @@ ghost use Rattle.std.specs.Option.{option_to_list};
 ghost use Rattle.jc_view.specs.declared.attribute_kind.Holder.TheVariants as holders;
 ghost use Rattle.jc_view.specs.ClassFile.{class_text_at};
 ghost use Rattle.jc_view.specs.Lookups.{utf8_at};
-ghost use Rattle.jc_rules.specs.Faults.{faults};
+ghost use Rattle.jc_file.specs.Faults.{faults};
 ghost use Rattle.jc_code.specs.MethodFaults.{code_faults, numbered_faults};
 ghost use Rattle.jc_code.specs.MethodUses.{method_uses, uses};
 ghost use Rattle.jc_code.specs.NamedConstants.{named_by_method};

@@ -1,5 +1,4 @@
 pub mod appended
-pub mod clean_code
 pub mod decoding
 pub mod marks
 pub mod orders

@@ -1,5 +1,5 @@
 pub mod InsnPlaces
 pub mod RulePlaces
 pub mod CodeFaultOrder
-pub mod FoundAtPlaces
+pub mod ByRule
 pub mod FaultsOfCode

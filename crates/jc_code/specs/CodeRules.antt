@@ -99,9 +99,9 @@ abbrev pub breaks_s9 : Scope → Insn → Bool
 breaks_s9 s (insns.Invoke opcode index) = opcode == invokevirtual && not (is_entry s.class kinds.Methodref index)
 breaks_s9 s insn = false
 
--- a Methodref, and at 52 also an InterfaceMethodref
+-- a Methodref, and from 52 on also an InterfaceMethodref
 abbrev pub is_either_method : ClassFile → ConstantIndex → Bool
-is_either_method c index = is_entry c kinds.Methodref index || c.major == 52 && is_entry c kinds.InterfaceMethodref index
+is_either_method c index = is_entry c kinds.Methodref index || nat_le 52 c.major && is_entry c kinds.InterfaceMethodref index
 
 -- invokespecial and invokestatic name one of these
 abbrev pub breaks_s10 : Scope → Insn → Bool

@@ -1,14 +1,17 @@
 //! The faults of a method's code (JVMS 4.7.3, 4.9.1).
 
-ghost use Rattle.std.specs.Prelude.{◌≡◌, ◌++◌, ◌↔◌, [], ◌∷◌, cond, Contains, IfOk, OnErr, OnOk};
+ghost use Rattle.std.specs.Prelude.{◌≡◌, ◌<◌, ◌≤◌, ◌++◌, ◌↔◌, [], ◌∷◌, Contains, IfOk, OnErr, OnOk, length};
+ghost use Rattle.std.specs.List.{flat_map};
 ghost use Rattle.std.specs.Option.{option_map};
 ghost use Rattle.std.specs.List.Sorted.{IsStrictlySortedBy};
 ghost use Rattle.jc_view.specs.declared.attribute_kind.Holder.TheVariants as holders;
 ghost use Rattle.jc_view.specs.Lent.{handler_of};
 ghost use Rattle.jc_code.specs.declared.code_fault.CodeFault.{CodeFault};
+ghost use Rattle.jc_code.specs.declared.code_fault.CodeRule.TheVariants as rules;
 ghost use Rattle.jc_code.specs.CodeFaults.{AreFaultsIfAny, AreFaultsOf, AreFaultsOfMethod};
-ghost use Rattle.jc_code.specs.CodeFaults.{code_of_member, faults_of, handler_breaks, insn_breaks, scope_with};
-ghost use Rattle.jc_code.specs.inside.AddedFaults.{AddsFaults, faults_of_rule, faults_of_rules, handler_faults, insn_faults};
+ghost use Rattle.jc_code.specs.CodeFaults.{code_of_member, fault_at, faults_of, handler_breaks, scope_with};
+ghost use Rattle.jc_code.specs.inside.FirstPass.{IsFirstPass};
+ghost use Rattle.jc_code.specs.inside.Found.{by_rule, faults_at, handler_faults, insn_faults};
 ghost use Rattle.jc_code.specs.CodeFaultOrder.{fault_cmp};
 ghost use Rattle.jc_code.specs.CodeViolations.{BreaksCode, ViolatesCode};
 ghost use Rattle.jc_code.specs.InsnReading.{insns_of};
@@ -16,22 +19,16 @@ ghost use Rattle.jc_code.specs.MethodUses.{code_uses, uses_among};
 ghost use Rattle.jc_code.specs.NamedConstants.{named_by_code, named_by_insns};
 ghost use Rattle.jc_code.specs.inside.Fronts.{BeginsWith};
 
-use crate::clean::is_clean;
 use crate::code_fault::{CodeFault, CodeRule};
 use crate::first_pass::{FirstPass, first_pass};
+use crate::found::{add_if, by_rule};
 use crate::insn::Insn;
-use crate::insns::Insns;
+use crate::insn_faults::add_insn_faults;
 use crate::laws::{codes_are_read, instructions_are_apart};
 use crate::method_use::MethodUse;
 use crate::named_constants::push_catch_types;
 use crate::numbers::as_bytes;
-use crate::rules::constants::{
-    breaks_s6, breaks_s7, breaks_s8, breaks_s9, breaks_s10, breaks_s11, breaks_s12, breaks_s13,
-    breaks_s14, breaks_s15, breaks_s16, breaks_s17, breaks_s18, breaks_s19, breaks_s20, breaks_s21,
-};
 use crate::rules::handlers::{breaks_s23, breaks_s24};
-use crate::rules::locals::breaks_s22;
-use crate::rules::targets::{breaks_s2, breaks_s3, breaks_s4, breaks_s5};
 use crate::scope::Scope;
 use crate::starts::Starts;
 use crate::text_sizes::TextSizes;
@@ -204,26 +201,59 @@ fn list_faults(
     ensures uses_kept { BeginsWith uses.new.items uses.old.items }
     ensures names_kept { BeginsWith names.new.items names.old.items }
 {
-    let bytes = code.bytes();
-    let size = bytes.len();
     let bare = scope_with(sizes, code, Starts::none(alloc));
-    let found = first_pass(alloc, &bare, bytes, method, uses, names)?;
+    let pass = first_pass(alloc, &bare, code.bytes(), method, uses, names)?;
+    list_passed(alloc, sizes, code, pass)
+}
+
+/// The faults of a code that was looked at once.
+fn list_passed(
+    alloc: Global,
+    sizes: &TextSizes,
+    code: &Code,
+    pass: FirstPass,
+) -> Result<Vec<CodeFault>, NoMemory>
+    requires { IsFirstPass (scope_with sizes.now code.now.code []) code.now.code.code pass }
+    ensures { IfOk result (λ found. AreFaultsOf sizes.now code.now.code found.items) }
+{
     let FirstPass {
         starts,
         end,
         jumps,
-        is_kept,
-    } = found;
+        mut found,
+    } = pass;
     let scope = scope_with(sizes, code, starts);
-    let mut faults = Vec::new(alloc);
-    if (end as usize) < size {
-        faults.push(CodeFault {
-            rule: CodeRule::S1,
-            place: end,
-        })?;
-    } else if !is_clean(&scope, is_kept, &jumps, code.handlers()) {
-        add_all_faults(&mut faults, &scope, code)?;
+    list_all(alloc, &scope, code, end, &jumps, &mut found)
+}
+
+/// The faults that were found, and those of the instructions with targets and of the handlers: only S1 if the instructions
+/// end before the code does.
+fn list_all(
+    alloc: Global,
+    scope: &Scope,
+    code: &Code,
+    end: u32,
+    jumps: &[(u32, Insn)],
+    found: &mut Vec<CodeFault>,
+) -> Result<Vec<CodeFault>, NoMemory>
+    ensures cut { IfOk result (λ faults. end < length code.now.code.code → faults.items ≡ fault_at rules.S1 end ∷ []) }
+    ensures whole { IfOk result (λ faults. length code.now.code.code ≤ end → faults.items
+        ≡ by_rule (found.old.items ++ flat_map (insn_faults scope.now) jumps.now ++ handler_faults scope.now 0 code.now.code.handlers)) }
+{
+    if (end as usize) < code.bytes().len() {
+        return only_s1(alloc, end);
     }
+    add_jump_faults(found, scope, jumps)?;
+    add_handler_faults(found, scope, code)?;
+    by_rule(alloc, found)
+}
+
+/// The fault of a code whose instructions end here, before the code does.
+fn only_s1(alloc: Global, place: u32) -> Result<Vec<CodeFault>, NoMemory>
+    ensures { IfOk result (λ faults. faults.items ≡ fault_at rules.S1 place ∷ []) }
+{
+    let mut faults = Vec::new(alloc);
+    add_if(&mut faults, true, CodeRule::S1, place)?;
     Ok(faults)
 }
 
@@ -239,120 +269,44 @@ fn scope_with<'c, 'a>(sizes: &'c TextSizes<'c, 'a>, code: &Code, starts: Starts)
     }
 }
 
-/// Adds the faults against all rules, in the order of the rules.
-fn add_all_faults(faults: &mut Vec<CodeFault>, scope: &Scope, code: &Code) -> Result<(), NoMemory>
-    ensures { AddsFaults (faults_of_rules scope.now code.now.code) code.now.code result faults.old.items faults.new.items }
+/// Adds the faults of the instructions with targets.
+fn add_jump_faults(
+    found: &mut Vec<CodeFault>,
+    scope: &Scope,
+    jumps: &[(u32, Insn)],
+) -> Result<(), NoMemory>
+    ensures { OnOk result (found.new.items ≡ found.old.items ++ flat_map (insn_faults scope.now) jumps.now) }
 {
-    for rule in CodeRule::ALL {
-        add_faults(faults, scope, code, rule)?;
+    for jump in jumps {
+        add_insn_faults(found, scope, jump.0, &jump.1)?;
     }
     Ok(())
 }
 
-/// Adds the faults against a rule.
-fn add_faults(
-    faults: &mut Vec<CodeFault>,
-    scope: &Scope,
-    code: &Code,
-    rule: CodeRule,
-) -> Result<(), NoMemory>
-    ensures { AddsFaults (faults_of_rule rule scope.now code.now.code) code.now.code result faults.old.items faults.new.items }
-{
-    add_insn_faults(faults, scope, code, rule)?;
-    add_handler_faults(faults, scope, code, rule)
-}
-
-/// Adds the faults of the instructions against a rule.
-fn add_insn_faults(
-    faults: &mut Vec<CodeFault>,
-    scope: &Scope,
-    code: &Code,
-    rule: CodeRule,
-) -> Result<(), NoMemory>
-    ensures { AddsFaults (insn_faults rule scope.now) code.now.code result faults.old.items faults.new.items }
-{
-    instructions_are_apart();
-    for (place, insn) in Insns::new(code.bytes()) {
-        add_if(
-            faults,
-            insn_breaks(scope, rule, &insn),
-            CodeFault { rule, place },
-        )?;
-    }
-    Ok(())
-}
-
-/// Adds the faults of the exception handlers against a rule.
+/// Adds the faults of the exception handlers.
 fn add_handler_faults(
-    faults: &mut Vec<CodeFault>,
+    found: &mut Vec<CodeFault>,
     scope: &Scope,
     code: &Code,
-    rule: CodeRule,
 ) -> Result<(), NoMemory>
-    ensures { OnOk result (faults.new.items ≡ faults.old.items ++ handler_faults rule scope.now code.now.code.handlers) }
+    ensures { OnOk result (found.new.items ≡ found.old.items ++ handler_faults scope.now 0 code.now.code.handlers) }
 {
     for (place, handler) in code.handlers().enumerate() {
-        add_if(
-            faults,
-            handler_breaks(scope, rule, handler),
-            CodeFault {
-                rule,
-                place: place as u32,
-            },
-        )?;
+        add_of_handler(found, scope, place as u32, handler)?;
     }
     Ok(())
 }
 
-/// Adds a fault where there is one.
-fn add_if(faults: &mut Vec<CodeFault>, is_broken: bool, fault: CodeFault) -> Result<(), NoMemory>
-    ensures { OnOk result (faults.new.items ≡ faults.old.items ++ cond is_broken (fault ∷ []) []) }
-{
-    if is_broken {
-        faults.push(fault)?;
-    }
-    Ok(())
-}
-
-/// Whether an instruction breaks a rule over instructions.
-#[tactic(auto, unfolding(crate::specs::CodeFaults::insn_breaks))]
-fn insn_breaks(scope: &Scope, rule: CodeRule, insn: &Insn) -> bool
-    ensures { result ≡ insn_breaks rule scope.now insn.now }
-{
-    match rule {
-        CodeRule::S2 => breaks_s2(scope, insn),
-        CodeRule::S3 => breaks_s3(scope, insn),
-        CodeRule::S4 => breaks_s4(scope, insn),
-        CodeRule::S5 => breaks_s5(scope, insn),
-        CodeRule::S6 => breaks_s6(scope, insn),
-        CodeRule::S7 => breaks_s7(scope, insn),
-        CodeRule::S8 => breaks_s8(scope, insn),
-        CodeRule::S9 => breaks_s9(scope, insn),
-        CodeRule::S10 => breaks_s10(scope, insn),
-        CodeRule::S11 => breaks_s11(scope, insn),
-        CodeRule::S12 => breaks_s12(scope, insn),
-        CodeRule::S13 => breaks_s13(scope, insn),
-        CodeRule::S14 => breaks_s14(scope, insn),
-        CodeRule::S15 => breaks_s15(scope, insn),
-        CodeRule::S16 => breaks_s16(scope, insn),
-        CodeRule::S17 => breaks_s17(scope, insn),
-        CodeRule::S18 => breaks_s18(scope, insn),
-        CodeRule::S19 => breaks_s19(scope, insn),
-        CodeRule::S20 => breaks_s20(scope, insn),
-        CodeRule::S21 => breaks_s21(scope, insn),
-        CodeRule::S22 => breaks_s22(scope, insn),
-        CodeRule::S1 | CodeRule::S23 | CodeRule::S24 => false,
-    }
-}
-
-/// Whether an exception handler breaks a rule over handlers.
+/// Adds the faults of an exception handler of this number.
 #[tactic(auto, unfolding(crate::specs::CodeFaults::handler_breaks))]
-fn handler_breaks(scope: &Scope, rule: CodeRule, handler: ExceptionHandler) -> bool
-    ensures { result ≡ handler_breaks rule scope.now (handler_of handler) }
+fn add_of_handler(
+    found: &mut Vec<CodeFault>,
+    scope: &Scope,
+    place: u32,
+    handler: ExceptionHandler,
+) -> Result<(), NoMemory>
+    ensures { OnOk result (found.new.items ≡ found.old.items ++ faults_at (λ rule. handler_breaks rule scope.now (handler_of handler)) place) }
 {
-    match rule {
-        CodeRule::S23 => breaks_s23(scope, handler),
-        CodeRule::S24 => breaks_s24(scope, handler),
-        _ => false,
-    }
+    add_if(found, breaks_s23(scope, handler), CodeRule::S23, place)?;
+    add_if(found, breaks_s24(scope, handler), CodeRule::S24, place)
 }

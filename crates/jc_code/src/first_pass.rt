@@ -1,15 +1,16 @@
 //! One look at each instruction of a code, in their order.
 
-ghost use Rattle.std.specs.Prelude.{◌≡◌, ◌<◌, ◌^◌, ◌++◌, ◌∷◌, [], ◌||◌, cond, length, IfOk, OnOk};
-ghost use Rattle.jc_code.specs.inside.Clean.{has_targets, keeps_rules};
+ghost use Rattle.std.specs.Prelude.{◌≡◌, ◌<◌, ◌^◌, ◌++◌, ◌∷◌, [], cond, length, IfOk, OnOk};
 ghost use Rattle.jc_code.specs.InsnReading.{insns_of};
 ghost use Rattle.jc_code.specs.MethodUses.{uses_among};
 ghost use Rattle.jc_code.specs.NamedConstants.{named_by_insns};
 ghost use Rattle.jc_code.specs.inside.FirstPass.{IsFirstPass};
+ghost use Rattle.jc_code.specs.inside.Found.{has_targets, insn_faults};
 ghost use Rattle.jc_code.specs.inside.Fronts.{BeginsWith};
 
-use crate::clean::keeps_rules;
+use crate::code_fault::CodeFault;
 use crate::insn::Insn;
+use crate::insn_faults::add_insn_faults;
 use crate::insns::Insns;
 use crate::method_use::{MethodUse, push_use};
 use crate::named_constants::push_named;
@@ -19,18 +20,18 @@ use jc_base::NoMemory;
 use jc_view::ConstantIndex;
 use std::alloc::Global;
 
-/// What one look finds: where instructions start and where they end, those whose targets are still to be
-/// compared with the starts, and whether all others keep their rules.
+/// What one look finds: where instructions start and where they end, those whose targets are still to be compared with
+/// the starts, with their places, and the faults of all others.
 #[derive(Drop)]
 pub(crate) struct FirstPass<'a> {
     pub(crate) starts: Starts,
     pub(crate) end: u32,
-    pub(crate) jumps: Vec<Insn<'a>>,
-    pub(crate) is_kept: bool,
+    pub(crate) jumps: Vec<(u32, Insn<'a>)>,
+    pub(crate) found: Vec<CodeFault>,
 }
 
-/// The instructions of the code of a method, looked at once. No start is known to the scope. Uses, and the
-/// constants that are named, are put behind others.
+/// Looks at each instruction of the code of a method once. No start is known to the scope. Appends uses, and the constants
+/// that instructions name.
 pub(crate) fn first_pass<'a>(
     alloc: Global,
     scope: &Scope,
@@ -40,7 +41,7 @@ pub(crate) fn first_pass<'a>(
     names: &mut Vec<ConstantIndex>,
 ) -> Result<FirstPass<'a>, NoMemory>
     requires { length code.now < 2 ^ 16 }
-    ensures found { IfOk result (λ found. IsFirstPass scope.now code.now found) }
+    ensures found { IfOk result (λ pass. IsFirstPass scope.now code.now pass) }
     ensures uses { OnOk result (uses.new.items ≡ uses.old.items ++ uses_among method (insns_of code.now)) }
     ensures names { OnOk result (names.new.items ≡ names.old.items ++ named_by_insns (insns_of code.now)) }
     ensures uses_kept { BeginsWith uses.new.items uses.old.items }
@@ -48,33 +49,38 @@ pub(crate) fn first_pass<'a>(
 {
     let mut marks = vec![in alloc; false; code.len()]?;
     let mut jumps = Vec::new(alloc);
-    let mut is_kept = true;
+    let mut found = Vec::new(alloc);
     let mut insns = Insns::new(code);
     while let Some((place, insn)) = insns.next() {
         marks[place as usize] = true;
         push_use(uses, method, place as u16, &insn)?;
         push_named(names, &insn)?;
-        let keeps = look(scope, insn, &mut jumps)?;
-        is_kept &= keeps;
+        look(&mut found, &mut jumps, scope, place, insn)?;
     }
     Ok(FirstPass {
         starts: Starts { marks },
         end: insns.rest(),
         jumps,
-        is_kept,
+        found,
     })
 }
 
-/// Whether an instruction keeps its rules; one with targets does so far, and is put behind the others.
-fn look<'a>(scope: &Scope, insn: Insn<'a>, jumps: &mut Vec<Insn<'a>>) -> Result<bool, NoMemory>
-    ensures jumps { OnOk result (jumps.new.items ≡ jumps.old.items ++ cond (has_targets insn.entry) (insn.entry ∷ []) []) }
-    ensures keeps { IfOk result (λ keeps. keeps ≡ (has_targets insn.entry || keeps_rules scope.now insn.entry)) }
+/// Adds an instruction with targets to the others of its sort, or else its faults.
+fn look<'a>(
+    found: &mut Vec<CodeFault>,
+    jumps: &mut Vec<(u32, Insn<'a>)>,
+    scope: &Scope,
+    place: u32,
+    insn: Insn<'a>,
+) -> Result<(), NoMemory>
+    ensures jumps { OnOk result (jumps.new.items ≡ jumps.old.items ++ cond (has_targets insn.entry) ((place, insn.entry) ∷ []) []) }
+    ensures found { OnOk result (found.new.items ≡ found.old.items ++ cond (has_targets insn.entry) [] (insn_faults scope.now (place, insn.entry))) }
 {
     if has_targets(&insn) {
-        jumps.push(insn)?;
-        return Ok(true);
+        jumps.push((place, insn))?;
+        return Ok(());
     }
-    Ok(keeps_rules(scope, &insn))
+    add_insn_faults(found, scope, place, &insn)
 }
 
 /// Whether the rules over an instruction ask where instructions start.

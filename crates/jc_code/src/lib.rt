@@ -2,13 +2,14 @@
 //! 4.9.1, 6).
 #![tactic(auto)]
 
-mod clean;
 mod code_fault;
 mod decoder;
 mod fault_laws;
 mod faults;
 mod first_pass;
+mod found;
 mod insn;
+mod insn_faults;
 mod insns;
 mod known_slots;
 mod laws;

@@ -1,22 +1,31 @@
 //! The format faults of a class file (JVMS 4.1 to 4.8).
 
-ghost use Rattle.std.specs.Prelude.{◌↔◌, ◌≡◌, IfOk};
-ghost use Rattle.std.specs.List.{Contains};
+ghost use Rattle.std.specs.Prelude.{◌↔◌, ◌≡◌, IfOk, map};
+ghost use Rattle.std.specs.List.{Contains, flat_map};
 ghost use Rattle.std.specs.List.Sorted.{IsStrictlySortedBy};
-ghost use Rattle.jc_rules.specs.declared.fault.Fault.{Fault};
-ghost use Rattle.jc_rules.specs.FaultOrder.{fault_cmp};
-ghost use Rattle.jc_rules.specs.Faults.{faults};
-ghost use Rattle.jc_rules.specs.Violations.{Violates};
+ghost use Rattle.jc_file.specs.declared.fault.Fault.{Fault};
+ghost use Rattle.jc_file.specs.declared.fault.FormatRule.{FormatRule};
+ghost use Rattle.jc_file.specs.declared.fault.TheConstants.FormatRule.{ALL};
+ghost use Rattle.jc_file.specs.FaultOrder.{fault_cmp};
+ghost use Rattle.jc_file.specs.Faults.{fault_at, faults, places};
+ghost use Rattle.jc_file.specs.Violations.{Violates};
+ghost use Rattle.jc_file.specs.inside.Broken.{places_in};
 
+use crate::attributes::add_with_inner;
+use crate::broken::{Broken, add_broken, add_faults};
+use crate::classes::class_rules;
+use crate::fault::{Fault, FormatRule};
+use crate::fault_laws::{faults_are_exact, faults_are_violations};
+use crate::repeats::add_repeats;
+use crate::tables::{add_constants, add_fields, add_interfaces, add_methods};
+use crate::texts::Texts;
 use jc_base::NoMemory;
-use jc_clean::is_clean;
-use jc_rules::{Fault, faults_are_exact, faults_are_violations, faults_by_rule};
 use jc_view::ClassView;
 use std::alloc::Global;
 
-/// All places of a class file where a rule of the format is broken, by rule and then by place.
+/// Returns all places of a class file where a rule of the format is broken, by rule and then by place.
 ///
-/// Answers `NoMemory` only where memory was refused.
+/// Returns `NoMemory` only when an allocation fails.
 pub fn format_faults(alloc: Global, class: &ClassView) -> Result<Vec<Fault>, NoMemory>
     ensures listed { IfOk result (λ found. found.items ≡ faults class.now) }
     ensures violated { IfOk result (λ found. (fault : Fault)
@@ -29,12 +38,42 @@ pub fn format_faults(alloc: Global, class: &ClassView) -> Result<Vec<Fault>, NoM
     find_faults(alloc, class)
 }
 
-/// Looks for faults rule by rule only where not all is clean at one look.
+/// Looks at each constant, member and attribute once, and lists the faults by rule if there are any.
 fn find_faults(alloc: Global, class: &ClassView) -> Result<Vec<Fault>, NoMemory>
     ensures { IfOk result (λ found. found.items ≡ faults class.now) }
 {
-    if is_clean(alloc, class)? {
-        return Ok(Vec::new(alloc));
+    let broken = broken_rules(alloc, class)?;
+    list_faults(alloc, &broken)
+}
+
+/// Returns the rules that are broken at each place.
+fn broken_rules(alloc: Global, class: &ClassView) -> Result<Vec<Broken>, NoMemory>
+    ensures { IfOk result (λ broken. (rule : FormatRule) → places_in rule broken.items ≡ places class.now rule) }
+{
+    let mut broken = Vec::new(alloc);
+    let mut attributes = Vec::new(alloc);
+    let mut texts = Texts::new(alloc, class)?;
+    add_broken(&mut broken, 0, class_rules(class))?;
+    add_constants(&mut broken, &mut texts)?;
+    add_interfaces(&mut broken, &mut texts)?;
+    add_fields(&mut broken, &mut attributes, &mut texts)?;
+    add_methods(&mut broken, &mut attributes, &mut texts)?;
+    add_repeats(alloc, &mut broken, class)?;
+    add_with_inner(&mut attributes, class.attributes())?;
+    broken.extend_from_slice(&attributes)?;
+    Ok(broken)
+}
+
+/// Returns the faults by rule and then by place.
+fn list_faults(alloc: Global, broken: &[Broken]) -> Result<Vec<Fault>, NoMemory>
+    ensures { IfOk result (λ found. found.items ≡ flat_map (λ rule. map (fault_at rule) (places_in rule broken.now)) ALL) }
+{
+    let mut faults = Vec::new(alloc);
+    if broken.is_empty() {
+        return Ok(faults);
     }
-    faults_by_rule(alloc, class)
+    for rule in FormatRule::ALL {
+        add_faults(&mut faults, broken, rule)?;
+    }
+    Ok(faults)
 }

@@ -1,15 +1,35 @@
-//! The faults of a class file's format (JVMS 4.1 to 4.8): which rules a readable class file breaks, and
-//! where. The rules are `jc_rules`'s, reading a class file and what it lends `jc_view`'s, and stand here
-//! under the same names.
+//! The faults of a class file's format (JVMS 4.1 to 4.8): which rules a readable class file breaks, and where. What a
+//! class file is and lends is `jc_view`'s, and has the same names here.
 #![tactic(auto)]
 
+mod access_flag;
+mod attributes;
+mod bootstraps;
+mod broken;
+mod classes;
+mod constants;
+mod fault;
+mod fault_laws;
 mod faults;
+mod fields;
+mod flags;
+mod method_attributes;
+mod methods;
+mod names;
+mod recognised;
+mod repeated;
+mod repeats;
+mod rule_set;
+mod tables;
+mod text_numbers;
+mod texts;
 
-pub use faults::format_faults;
-pub use jc_rules::{
-    AccessFlag, Fault, FormatRule, access_flags_are_tabled, attributes_are_recognised,
-    fault_examples, faults_are_exact, faults_are_violations,
+pub use access_flag::{AccessFlag, access_flags_are_tabled};
+pub use fault::{Fault, FormatRule};
+pub use fault_laws::{
+    attributes_are_recognised, fault_examples, faults_are_exact, faults_are_violations,
 };
+pub use faults::format_faults;
 pub use jc_view::{
     Attribute, AttributeKind, Attributes, ClassView, Code, Constant, ConstantIndex, ConstantKind,
     ExceptionHandler, Handlers, Holder, Interfaces, Member, Members, ParseError, Version, parse,

@@ -3,7 +3,7 @@ use Rattle.std.specs.Prelude.{ℕ, List, ◌++◌, codes, decimal, ◌==◌, if�
 use Rattle.std.specs.List.{flat_map}
 use Rattle.jc_view.specs.declared.constant_pool.ConstantIndex.{ConstantIndex}
 use Rattle.jc_view.specs.ClassFile.{ClassFile, all_slots, class_text_at}
-use Rattle.jc_rules.specs.AccessFlags.{class_flags}
+use Rattle.jc_file.specs.AccessFlags.{class_flags}
 use Rattle.jc_list.specs.Texts.{shown_text, flags_text}
 
 abbrev pub name_line : ClassFile → List ℕ

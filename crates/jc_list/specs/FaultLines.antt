@@ -1,9 +1,9 @@
 -- A line for each fault of the format, and one for each fault of a method's code.
 use Rattle.std.specs.Prelude.{ℕ, ◌==◌, Bool, not, ◌||◌, List, ◌++◌, length, codes, decimal}
 use Rattle.jc_view.specs.ClassFile.{ClassFile}
-use Rattle.jc_rules.specs.declared.fault.Fault.{Fault}
-use Rattle.jc_rules.specs.FaultOrder as format
-use Rattle.jc_rules.specs.Faults.{faults}
+use Rattle.jc_file.specs.declared.fault.Fault.{Fault}
+use Rattle.jc_file.specs.FaultOrder as format
+use Rattle.jc_file.specs.Faults.{faults}
 use Rattle.jc_code.specs.declared.code_fault.CodeFault.{CodeFault}
 use Rattle.jc_code.specs.CodeFaultOrder as code
 use Rattle.jc_code.specs.MethodFaults.{code_faults}

@@ -4,7 +4,7 @@ use Rattle.std.specs.Io.KnownBytes.{Appends}
 use Rattle.std.specs.List.{flat_map}
 use Rattle.jc_view.specs.ClassFile.{ClassFile}
 use Rattle.jc_view.specs.Places.{attributes_in}
-use Rattle.jc_rules.specs.Faults.{faults}
+use Rattle.jc_file.specs.Faults.{faults}
 use Rattle.jc_list.specs.ClassLines.{class_lines}
 use Rattle.jc_list.specs.ConstantLines.{constant_lines}
 use Rattle.jc_list.specs.AttributeLines.{attribute_lines}

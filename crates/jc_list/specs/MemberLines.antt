@@ -4,8 +4,8 @@ use Rattle.std.specs.List.{flat_map}
 use Rattle.jc_view.specs.ClassFile.{ClassFile, Member}
 use Rattle.jc_view.specs.Lookups.{utf8_at}
 use Rattle.jc_view.specs.Places.{PlacedMember, fields_in, methods_in, member_attributes}
-use Rattle.jc_rules.specs.declared.access_flag.AccessFlag.{AccessFlag}
-use Rattle.jc_rules.specs.AccessFlags.{field_flags, method_flags}
+use Rattle.jc_file.specs.declared.access_flag.AccessFlag.{AccessFlag}
+use Rattle.jc_file.specs.AccessFlags.{field_flags, method_flags}
 use Rattle.jc_list.specs.Texts.{shown_text, flags_text}
 use Rattle.jc_list.specs.AttributeLines.{attribute_lines}
 

@@ -9,8 +9,8 @@ use Rattle.jc_view.specs.declared.constant_pool.ConstantIndex.{ConstantIndex}
 use Rattle.jc_view.specs.ConstantPool.{Constant, Class, Fieldref, Methodref, InterfaceMethodref}
 use Rattle.jc_view.specs.ClassFile.{ClassFile, class_text_at, constant_at}
 use Rattle.jc_view.specs.Lookups.{utf8_at, member_name_at, member_descriptor_at}
-use Rattle.jc_rules.specs.declared.access_flag.AccessFlag.{AccessFlag}
-use Rattle.jc_rules.specs.AccessFlags.{flag_name, has, mask_of}
+use Rattle.jc_file.specs.declared.access_flag.AccessFlag.{AccessFlag}
+use Rattle.jc_file.specs.AccessFlags.{flag_name, has, mask_of}
 
 -- a text, or `?` where it is missing
 abbrev pub shown_text : Option (List ℕ) → List ℕ

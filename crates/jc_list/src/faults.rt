@@ -4,7 +4,7 @@ ghost use Rattle.std.specs.Prelude.{◌≡◌, ◌==◌, IfOk, length, not};
 ghost use Rattle.std.specs.List.{flat_map};
 ghost use Rattle.jc_text.specs.Sends.{Sends};
 ghost use Rattle.jc_view.specs.declared.attribute_kind.Holder.TheVariants as holders;
-ghost use Rattle.jc_rules.specs.Faults.{faults};
+ghost use Rattle.jc_file.specs.Faults.{faults};
 ghost use Rattle.jc_list.specs.FaultLines.{code_fault_line, format_line};
 ghost use Rattle.jc_code.specs.MethodFaults.{code_faults, method_faults, numbered_faults};
 ghost use Rattle.jc_list.specs.inside.Fronts.{Lists};

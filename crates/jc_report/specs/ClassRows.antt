@@ -1,7 +1,7 @@
 -- The rows that a class gives.
 use Rattle.std.specs.Prelude.{Bool, true, false, ◌&&◌, ◌||◌, not, List, [], ◌∷◌, ◌++◌, map, codes, if◌then◌else◌}
 use Rattle.std.specs.List.{filter}
-use Rattle.jc_rules.specs.AccessFlags.{has, protected, public}
+use Rattle.jc_file.specs.AccessFlags.{has, protected, public}
 use Rattle.jc_classes.specs.Facts.{Facts, Member, Reference}
 use Rattle.jc_classes.specs.Loading.{Loading}
 use Rattle.jc_classes.specs.Loading.{Loading as loading}

@@ -2,7 +2,7 @@
 use Rattle.std.specs.Prelude.{ℕ, List, [], ◌∷◌, ◌++◌, codes, decimal}
 use Rattle.std.specs.List.{flat_map}
 use Rattle.jc_text.specs.Escapes.{shown}
-use Rattle.jc_rules.specs.declared.fault.Fault.{Fault}
+use Rattle.jc_file.specs.declared.fault.Fault.{Fault}
 use Rattle.jc_code.specs.declared.code_fault.CodeFault.{CodeFault}
 use Rattle.jc_list.specs.FaultLines.{code_fault_line, format_line}
 use Rattle.jc_classes.specs.declared.linkage_error.LinkageError.{LinkageError}

@@ -1,7 +1,7 @@
 //! The rows that a class gives.
 
 ghost use Rattle.std.specs.Prelude.{◌≡◌, ◌&&◌, ◌++◌, OnOk};
-ghost use Rattle.jc_rules.specs.AccessFlags.{has, public};
+ghost use Rattle.jc_file.specs.AccessFlags.{has, public};
 ghost use Rattle.jc_classes.specs.Lent.{member_lent, reference_lent};
 ghost use Rattle.jc_classes.specs.Resolution.{Answer};
 ghost use Rattle.jc_resolve.specs.Answers.{kind_of, loading_of};

@@ -9,8 +9,8 @@ ghost use Rattle.jc_report.specs.FileRowView.{state_lent, row_lent};
 use crate::file_row::{FileRow, FileState};
 use crate::part_text::write_shown;
 use jc_base::Output;
-use jc_file::ParseError;
 use jc_text::TextWriter;
+use jc_view::ParseError;
 
 /// The line of a file: its path and what it is.
 pub fn write_file_row<W: Output>(text: &mut TextWriter<'_, W>, row: &FileRow)

@@ -4,7 +4,7 @@ ghost use Rattle.std.specs.Prelude.{◌≡◌, IfOk};
 ghost use Rattle.jc_report.specs.inside.Outcomes.{outcome_lent};
 
 use jc_base::NoMemory;
-use jc_file::{ClassView, ParseError};
+use jc_view::{ClassView, ParseError};
 use std::alloc::Global;
 use std::marker::Model;
 

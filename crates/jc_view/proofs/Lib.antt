@@ -1,3 +1,4 @@
 pub mod reading
 pub mod refusals
 pub mod places
+pub mod kinds

@@ -1,6 +1,7 @@
 -- The attributes that are recognised, and what is read in them (JVMS 4.7).
 use Rattle.std.specs.Prelude.{◌≡◌, ℕ, ◌+◌, ◌<◌, ◌^◌, Bool, true, false}
-use Rattle.std.specs.Prelude.{◌&&◌, List, ◌++◌, length, drop, filter, codes}
+use Rattle.std.specs.Prelude.{◌&&◌, List, ◌++◌, length, drop, filter, codes, Option}
+use Rattle.std.specs.Option.{option_map_or}
 use Rattle.jc_base.specs.Bytes.{same_bytes}
 use Rattle.jc_base.specs.Endian.{big_bytes}
 use Rattle.jc_view.specs.declared.constant_pool.ConstantIndex.{ConstantIndex}
@@ -57,6 +58,14 @@ belongs_to kinds.Deprecated holder = is_outer holder
 -- an attribute of this holder is recognised as of this kind
 abbrev pub is_recognised : ClassFile → AttributeKind → Holder → Attribute → Bool
 is_recognised c kind holder a = belongs_to kind holder && passes (λ name. same_bytes name (attribute_name kind)) (utf8_at c a.name)
+
+-- whether this kind was found: kinds with the same name are the same
+abbrev pub is_kind : AttributeKind → Option AttributeKind → Bool
+is_kind kind found = option_map_or (λ other. same_bytes (attribute_name other) (attribute_name kind)) found false
+
+-- the attribute is recognised as of the kind that was found, and as of no other
+abbrev pub IsRecognisedAs : ClassFile → Holder → Attribute → Option AttributeKind → Type 0
+IsRecognisedAs c holder a found = (kind : AttributeKind) → is_recognised c kind holder a ≡ is_kind kind found
 
 -- those of a kind
 abbrev pub of_kind : ClassFile → AttributeKind → Holder → List Attribute → List Attribute

@@ -1,7 +1,8 @@
 //! The attributes that are recognised (JVMS 4.7).
 
 ghost use Rattle.std.specs.Prelude.{◌≡◌};
-ghost use Rattle.jc_view.specs.Attributes.{attribute_name, belongs_to};
+ghost use Rattle.jc_base.specs.Bytes.{same_bytes};
+ghost use Rattle.jc_view.specs.Attributes.{attribute_name, belongs_to, is_kind};
 
 /// What an attribute belongs to.
 #[derive(Clone, Copy)]
@@ -26,6 +27,19 @@ pub enum AttributeKind {
     Synthetic,
     Deprecated,
 }
+
+/// All kinds of attributes, those first that are found most often.
+const KINDS: [AttributeKind; 9] = [
+    AttributeKind::Code,
+    AttributeKind::Signature,
+    AttributeKind::Exceptions,
+    AttributeKind::ConstantValue,
+    AttributeKind::SourceFile,
+    AttributeKind::EnclosingMethod,
+    AttributeKind::Synthetic,
+    AttributeKind::Deprecated,
+    AttributeKind::BootstrapMethods,
+];
 
 impl AttributeKind {
     /// The name by which an attribute of this kind is recognised.
@@ -60,4 +74,17 @@ impl AttributeKind {
             }
         }
     }
+}
+
+/// Returns the kind of attributes of this name.
+#[tactic(auto, using(crate::proofs::kinds::KindNames::named, crate::proofs::kinds::KindNames::not_named))]
+pub(crate) fn kind_named(name: &[u8]) -> Option<AttributeKind>
+    ensures { (kind : AttributeKind) → same_bytes name.now (attribute_name kind) ≡ is_kind kind result }
+{
+    for kind in KINDS {
+        if name == kind.name() {
+            return Some(kind);
+        }
+    }
+    None
 }

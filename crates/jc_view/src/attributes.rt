@@ -5,12 +5,12 @@ ghost use Rattle.std.specs.Option.{option_copied, option_map};
 ghost use Rattle.jc_base.specs.Cursor.{Reading};
 ghost use Rattle.jc_view.specs.Reading.{after_attribute};
 ghost use Rattle.jc_view.specs.Lookups.{utf8_at};
-ghost use Rattle.jc_view.specs.Attributes.{is_recognised};
+ghost use Rattle.jc_view.specs.Attributes.{IsRecognisedAs, is_recognised};
 ghost use Rattle.jc_view.specs.AttributeReading.{code_of};
 ghost use Rattle.jc_view.specs.Lent.{LentCode, lent_code};
 ghost use Rattle.jc_view.specs.inside.Entries.{LendsAttribute};
 
-use crate::attribute_kind::{AttributeKind, Holder};
+use crate::attribute_kind::{AttributeKind, Holder, kind_named};
 use crate::code::{Code, read_code};
 use crate::constant_pool::ConstantIndex;
 use crate::constant_reader::read_index;
@@ -125,6 +125,18 @@ impl<'v, 'a> Attribute<'v, 'a> {
         ensures { result.now ≡ self.now.attribute.attribute.bytes }
     {
         self.entry.body.rest()
+    }
+
+    /// The kind as which it is recognised: by its name, in the holder that the kind belongs to.
+    pub fn kind(&self) -> Option<AttributeKind>
+        ensures { IsRecognisedAs self.now.class self.now.attribute.holder self.now.attribute.attribute result }
+    {
+        let kind = kind_named(self.name()?)?;
+        if kind.belongs_to(self.holder) {
+            Some(kind)
+        } else {
+            None
+        }
     }
 
     /// Whether it is recognised as of a kind: by its name, in the holder that the kind belongs to.

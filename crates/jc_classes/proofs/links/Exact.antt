@@ -7,8 +7,8 @@ use Rattle.std.specs.declared.cmp.Ordering.TheVariants.{Less}
 use Rattle.jc_base.proofs.Membership.{Has, has_from, from_has}
 use Rattle.jc_view.specs.ClassFile.{ClassFile, all_slots}
 use Rattle.jc_view.proofs.reading.BigEndian.{then_some}
-use Rattle.jc_rules.specs.declared.fault.Fault as fault
-use Rattle.jc_rules.specs.Faults.{faults}
+use Rattle.jc_file.specs.declared.fault.Fault as fault
+use Rattle.jc_file.specs.Faults.{faults}
 use Rattle.jc_code.specs.declared.method_use.MethodUse.{MethodUse}
 use Rattle.jc_code.specs.InsnReading.{insns_of}
 use Rattle.jc_code.specs.MethodUses.{uses}

@@ -8,13 +8,13 @@ use Rattle.jc_view.specs.ClassFile.{ClassFile}
 use Rattle.jc_view.specs.Lookups.{lacks, passes, utf8_at}
 use Rattle.jc_base.specs.DescriptorTests.{method_type_of}
 use Rattle.jc_base.specs.TextTests.{is_method_name_text}
-use Rattle.jc_rules.specs.declared.fault.FormatRule.{FormatRule}
-use Rattle.jc_rules.specs.declared.fault.FormatRule.TheVariants as rules
-use Rattle.jc_rules.specs.declared.fault.Fault.{Fault}
-use Rattle.jc_rules.specs.Faults.{fault_at, faults, places}
-use Rattle.jc_rules.specs.FormatRules.{breaks_f19, breaks_f20, fits_slots}
-use Rattle.jc_rules.proofs.orders.FaultOrder.{placed_fault}
-use Rattle.jc_rules.proofs.violations.Decisions.{numbers_decided}
+use Rattle.jc_file.specs.declared.fault.FormatRule.{FormatRule}
+use Rattle.jc_file.specs.declared.fault.FormatRule.TheVariants as rules
+use Rattle.jc_file.specs.declared.fault.Fault.{Fault}
+use Rattle.jc_file.specs.Faults.{fault_at, faults, places}
+use Rattle.jc_file.specs.FormatRules.{breaks_f19, breaks_f20, fits_slots}
+use Rattle.jc_file.proofs.orders.FaultOrder.{placed_fault}
+use Rattle.jc_file.proofs.violations.Decisions.{numbers_decided}
 use Rattle.jc_classes.specs.Facts.{Member}
 use Rattle.jc_classes.specs.FactsOf.{member_of, sound_facts}
 use Rattle.jc_classes.specs.LinkErrors.{method_name}

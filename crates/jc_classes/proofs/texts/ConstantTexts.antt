@@ -12,7 +12,7 @@ use Rattle.jc_view.specs.ConstantPool as pool
 use Rattle.jc_view.specs.ConstantPool.{Constant, utf8_text}
 use Rattle.jc_view.specs.ClassFile.{ClassFile, all_slots, constant_at}
 use Rattle.jc_view.specs.Lookups.{is_entry, is_kind, utf8_at}
-use Rattle.jc_rules.proofs.violations.Constants.{usable_within}
+use Rattle.jc_file.proofs.violations.Constants.{usable_within}
 use Rattle.jc_classes.specs.inside.ConstantTexts.{text_or_empty, texts_of}
 use Rattle.jc_classes.specs.inside.FactsShown.{text_at}
 

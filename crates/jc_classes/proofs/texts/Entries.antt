@@ -8,7 +8,7 @@ use Rattle.std.proofs.lemmas.List.Folds.{flat_map-map}
 use Rattle.jc_view.specs.declared.attribute_kind.Holder.{Holder}
 use Rattle.jc_view.specs.ClassFile.{ClassFile, Member}
 use Rattle.jc_view.specs.Places.{PlacedMember, members_from}
-use Rattle.jc_rules.proofs.kinds.PlacedMembers.{members_of_all}
+use Rattle.jc_file.proofs.kinds.PlacedMembers.{members_of_all}
 use Rattle.jc_classes.specs.FactsOf.{member_of, members_in}
 use Rattle.jc_classes.specs.Facts.{Facts}
 

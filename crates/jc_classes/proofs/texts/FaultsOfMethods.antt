@@ -2,7 +2,7 @@
 use Rattle.std.proofs.Common.{◌≡◌, ◌∙◌, ℕ, ◌+◌, List, ◌∷◌, ◌++◌, map, ap, sym}
 use Rattle.jc_view.specs.ClassFile.{ClassFile}
 use Rattle.jc_view.specs.Places.{PlacedMember}
-use Rattle.jc_rules.proofs.kinds.PlacedMembers.{members_of}
+use Rattle.jc_file.proofs.kinds.PlacedMembers.{members_of}
 use Rattle.jc_code.specs.MethodFaults.{code_faults_from, method_faults}
 use Rattle.jc_code.specs.MethodUses.{method_uses, uses_from}
 

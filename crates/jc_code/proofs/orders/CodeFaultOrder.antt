@@ -1,5 +1,5 @@
 -- The faults of a code stand in order, and are those at the places of each rule.
-use Rattle.std.proofs.Common.{◌≡◌, ◌∙◌, inl, inr, ℕ, ◌+◌, ◌<◌, List, [], ◌∷◌, ◌++◌, length, map, eqb, refl, ap, sym, subst, arith, lit<, lit≤}
+use Rattle.std.proofs.Common.{◌≡◌, ◌∙◌, inl, inr, ℕ, ◌+◌, ◌-◌, ◌<◌, List, [], ◌∷◌, ◌++◌, length, map, eqb, refl, ap, sym, subst, arith, lit<}
 use Rattle.std.specs.List.{Contains, AllByRecursion, flat_map}
 use Rattle.std.specs.List.Sorted.{IsStrictlySortedBy}
 use Rattle.std.specs.declared.cmp.Ordering.TheVariants.{Less, Equal}
@@ -79,8 +79,8 @@ module _ (s : Scope) (items : List (ℕ × Insn)) (handlers : List Handler) wher
       (sorted_places r 0 rise.0 (places s items handlers r) rise.1)
       (sorted_rules end up (rule_number r + 1) hi rs h.1)
 
-rules_rise : RisesBy rule_number 1 25 ALL
-rules_rise = (lit≤ tt, (lit≤ tt, (lit≤ tt, (lit≤ tt, (lit≤ tt, (lit≤ tt, (lit≤ tt, (lit≤ tt, (lit≤ tt, (lit≤ tt, (lit≤ tt, (lit≤ tt, (lit≤ tt, (lit≤ tt, (lit≤ tt, (lit≤ tt, (lit≤ tt, (lit≤ tt, (lit≤ tt, (lit≤ tt, (lit≤ tt, (lit≤ tt, (lit≤ tt, (lit≤ tt, lit≤ tt))))))))))))))))))))))))
+rules_rise : RisesBy rule_number 1 (length ALL + 1) ALL
+rules_rise = grind arith
 
 sorted_one : (fault : CodeFault) → IsStrictlySortedBy fault_cmp (fault ∷ [])
 unfolding IsStrictlySortedBy
@@ -99,7 +99,7 @@ pub faults_sorted : (c : ClassFile) (k : Code) (items : List (ℕ × Insn)) (end
 faults_sorted c k items end is_code =
     elim (cases_eq end (length k.code)) [
       | inl e ↦ subst (IsStrictlySortedBy fault_cmp) (sym (whole c k items end e))
-          (sorted_rules (scope_of c k items) items k.handlers end (items_rise k.code 0 end items is_code) 1 25 ALL rules_rise)
+          (sorted_rules (scope_of c k items) items k.handlers end (items_rise k.code 0 end items is_code) 1 (length ALL + 1) ALL rules_rise)
       | inr apart ↦ subst (IsStrictlySortedBy fault_cmp) (sym (cut c k items end apart)) (sorted_one (fault_at rules.S1 end))
     ]
 
@@ -107,29 +107,7 @@ faults_sorted c k items end is_code =
 
 is_rule : (rule : CodeRule) → Contains ALL rule
 is_rule rules.S1 = (0, lit< tt, refl)
-is_rule rules.S2 = (1, lit< tt, refl)
-is_rule rules.S3 = (2, lit< tt, refl)
-is_rule rules.S4 = (3, lit< tt, refl)
-is_rule rules.S5 = (4, lit< tt, refl)
-is_rule rules.S6 = (5, lit< tt, refl)
-is_rule rules.S7 = (6, lit< tt, refl)
-is_rule rules.S8 = (7, lit< tt, refl)
-is_rule rules.S9 = (8, lit< tt, refl)
-is_rule rules.S10 = (9, lit< tt, refl)
-is_rule rules.S11 = (10, lit< tt, refl)
-is_rule rules.S12 = (11, lit< tt, refl)
-is_rule rules.S13 = (12, lit< tt, refl)
-is_rule rules.S14 = (13, lit< tt, refl)
-is_rule rules.S15 = (14, lit< tt, refl)
-is_rule rules.S16 = (15, lit< tt, refl)
-is_rule rules.S17 = (16, lit< tt, refl)
-is_rule rules.S18 = (17, lit< tt, refl)
-is_rule rules.S19 = (18, lit< tt, refl)
-is_rule rules.S20 = (19, lit< tt, refl)
-is_rule rules.S21 = (20, lit< tt, refl)
-is_rule rules.S22 = (21, lit< tt, refl)
-is_rule rules.S23 = (22, lit< tt, refl)
-is_rule rules.S24 = (23, lit< tt, refl)
+is_rule rule = (rule_number rule - 1, lit< tt, refl)
 
 module _ (s : Scope) (items : List (ℕ × Insn)) (handlers : List Handler) where
   fault_placed : (fault : CodeFault) → Has (flat_map (faults_against s items handlers) ALL) fault → Has (places s items handlers fault.rule) fault.place

@@ -1,22 +1,20 @@
 -- What follows from the list of faults of a code, and from that of a method.
-use Rattle.std.proofs.Common.{◌≡◌, ◌∙◌, ℕ, ◌+◌, ◌<◌, ◌≤◌, cond, List, [], ◌∷◌, ◌++◌, length, map, filter, Option, Some, None, refl, ap, sym, subst, arith}
-use Rattle.std.specs.List.{Contains, AllByRecursion, flat_map}
+use Rattle.std.proofs.Common.{◌≡◌, ◌∙◌, ℕ, ◌<◌, ◌≤◌, List, [], ◌∷◌, length, map, Option, Some, None, refl, ap, sym, subst, arith}
+use Rattle.std.specs.List.{Contains, flat_map}
 use Rattle.std.specs.List.Sorted.{IsStrictlySortedBy}
 use Rattle.std.specs.Option.{MatchOption}
 use Rattle.jc_view.specs.ClassFile.{ClassFile}
-use Rattle.jc_view.specs.Attributes.{Code, Handler}
+use Rattle.jc_view.specs.Attributes.{Code}
 use Rattle.jc_code.specs.declared.code_fault.CodeFault.{CodeFault}
-use Rattle.jc_code.specs.declared.code_fault.CodeRule.{CodeRule}
 use Rattle.jc_code.specs.declared.code_fault.CodeRule.TheVariants as rules
 use Rattle.jc_code.specs.declared.code_fault.TheConstants.CodeRule.{ALL}
 use Rattle.jc_code.specs.declared.insn.Insn.{Insn}
 use Rattle.jc_code.specs.Insns.{IsCode}
 use Rattle.jc_code.specs.InsnReading.{insns_of, end_of}
 use Rattle.jc_code.specs.CodeRules.{Scope}
-use Rattle.jc_code.specs.CodeFaults.{AreFaultsOf, AreFaultsOfMethod, code_of_method, fault_at, faults_against, faults_of, faults_over, handler_breaks, insn_breaks, numbers_of, places, places_of, scope_of}
+use Rattle.jc_code.specs.CodeFaults.{AreFaultsOf, AreFaultsOfMethod, code_of_method, fault_at, faults_against, faults_of, faults_over, scope_of}
 use Rattle.jc_code.specs.CodeFaultOrder.{fault_cmp}
 use Rattle.jc_code.specs.CodeViolations.{BreaksCode, ViolatesCode, ViolatesIn}
-use Rattle.jc_code.specs.inside.Clean.{AreKept, IsKept, IsKeptBy}
 use Rattle.jc_code.proofs.orders.InsnPlaces.{items_end}
 use Rattle.jc_code.proofs.orders.CodeFaultOrder.{cut, whole, faults_sorted, listed_violates, violating_listed}
 
@@ -111,23 +109,3 @@ module _ (c : ClassFile) (k : Code) (items : List (ℕ × Insn)) (end : ℕ) (is
     is_code = is_code;
     listed = e ∙ ap (λ t. flat_map (faults_against t items k.handlers) ALL) (scope_is s class max_locals size same) ∙ sym (whole c k items end (ends le));
   }
-
--- ---- where all rules are kept
-
-module _ (s : Scope) (rule : CodeRule) where
-  kept_places : (items : List (ℕ × Insn)) → AllByRecursion (IsKept s) items → places_of (insn_breaks rule s) items ≡ []
-  kept_places [] h = refl
-  kept_places (item ∷ items) h =
-      ap (λ b. map (λ i. i.0) (cond b (item ∷ filter (λ i. insn_breaks rule s i.1) items) (filter (λ i. insn_breaks rule s i.1) items))) (h.0 rule)
-      ∙ kept_places items h.1
-
-  kept_numbers : (n : ℕ) (handlers : List Handler) → AllByRecursion (IsKeptBy s) handlers → numbers_of (handler_breaks rule s) n handlers ≡ []
-  kept_numbers n [] h = refl
-  kept_numbers n (x ∷ xs) h = ap (λ b. cond b (n ∷ []) [] ++ numbers_of (handler_breaks rule s) (n + 1) xs) (h.0 rule) ∙ kept_numbers (n + 1) xs h.1
-
-pub none_against : (s : Scope) (items : List (ℕ × Insn)) (handlers : List Handler) (rs : List CodeRule) → AreKept s items handlers → flat_map (faults_against s items handlers) rs ≡ []
-none_against s items handlers [] kept = refl
-none_against s items handlers (r ∷ rs) kept =
-    let here : places s items handlers r ≡ [] =
-    ap (λ ns. ns ++ numbers_of (handler_breaks r s) 0 handlers) (kept_places s r items kept.by_insns) ∙ kept_numbers s r 0 handlers kept.by_handlers in
-    ap (λ ns. map (fault_at r) ns ++ flat_map (faults_against s items handlers) rs) here ∙ none_against s items handlers rs kept

@@ -24,7 +24,7 @@ over_one rules.S23 = inl (λ s insn. refl)
 over_one rules.S24 = inl (λ s insn. refl)
 over_one rule = inr (λ s h. refl)
 
-no_places : (test : Insn → Bool) (items : List (ℕ × Insn)) → ((insn : Insn) → test insn ≡ false) → places_of test items ≡ []
+pub no_places : (test : Insn → Bool) (items : List (ℕ × Insn)) → ((insn : Insn) → test insn ≡ false) → places_of test items ≡ []
 no_places test [] none = refl
 no_places test (item ∷ items) none =
     ap (λ b. map (λ item. item.0) (cond b (item ∷ filter (λ item. test item.1) items) (filter (λ item. test item.1) items))) (none item.1)

@@ -4,12 +4,12 @@ use Rattle.jc_code.specs.declared.first_pass.FirstPass.{FirstPass}
 use Rattle.jc_code.specs.declared.insn.Insn.{Insn}
 use Rattle.jc_code.specs.CodeRules.{Scope}
 use Rattle.jc_code.specs.Insns.{IsCode}
-use Rattle.jc_code.specs.inside.Clean.{jumps_of, others_keep}
+use Rattle.jc_code.specs.inside.Found.{faults_of_others, jumps_of}
 
 -- of the instructions of a code
-pub record IsFirstPass (s : Scope) (code : List ℕ) (found : FirstPass) : Type 0 where
+pub record IsFirstPass (s : Scope) (code : List ℕ) (pass : FirstPass) : Type 0 where
   pub items : List (ℕ × Insn)
-  pub is_code : IsCode code items found.end
-  pub are_starts : found.starts ≡ map (λ item. item.0) items
-  pub are_jumps : found.jumps.items ≡ jumps_of items
-  pub is_kept : found.is_kept ≡ others_keep s items
+  pub is_code : IsCode code items pass.end
+  pub are_starts : pass.starts ≡ map (λ item. item.0) items
+  pub are_jumps : pass.jumps.items ≡ jumps_of items
+  pub are_faults : pass.found.items ≡ faults_of_others s items

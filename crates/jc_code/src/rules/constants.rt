@@ -1,13 +1,12 @@
 //! The rules over the constants that instructions name, and over other operands.
 
-ghost use Rattle.std.specs.Prelude.{◌≡◌};
-ghost use Rattle.jc_view.specs.Lookups.{passes};
+ghost use Rattle.std.specs.Prelude.{◌≡◌, ◌&&◌, nat_le, not};
+ghost use Rattle.jc_view.specs.declared.constant_pool.ConstantKind.TheVariants as kinds;
+ghost use Rattle.jc_view.specs.Lookups.{is_entry, passes};
+ghost use Rattle.jc_code.specs.declared.insn.Insn.TheVariants as insns;
 ghost use Rattle.jc_code.specs.CodeRules.{is_bad_special, is_other_count, is_right_entry, is_special, referred_name};
-ghost use Rattle.jc_code.specs.CodeRules.{breaks_s6, breaks_s7, breaks_s8, breaks_s9, breaks_s10, breaks_s11};
-ghost use Rattle.jc_code.specs.CodeRules.{breaks_s12, breaks_s13, breaks_s14, breaks_s15, breaks_s16};
-ghost use Rattle.jc_code.specs.CodeRules.{breaks_s17, breaks_s18, breaks_s19, breaks_s20, breaks_s21};
+ghost use Rattle.jc_code.specs.CodeRules.{breaks_s6, breaks_s7, breaks_s18, breaks_s19, breaks_s20};
 
-use crate::insn::Insn;
 use crate::opcode::Opcode;
 use crate::rules::lookups::{
     is_double, is_either_method, is_init, is_single, is_special, referred_name,
@@ -15,80 +14,32 @@ use crate::rules::lookups::{
 use crate::scope::Scope;
 use jc_view::{ConstantIndex, ConstantKind};
 
-pub(crate) fn breaks_s6(scope: &Scope, insn: &Insn) -> bool
-    ensures { result ≡ breaks_s6 scope.now insn.now }
+/// Returns whether `ldc` or `ldc_w` loads what does not take one slot.
+pub(crate) fn breaks_s6(scope: &Scope, opcode: Opcode, index: ConstantIndex) -> bool
+    ensures { result ≡ breaks_s6 scope.now (insns.Load opcode index) }
 {
-    match insn {
-        Insn::Load { opcode, index } => {
-            *opcode != Opcode::LDC2_W && !is_single(scope.class(), *index)
-        }
-        _ => false,
-    }
+    opcode != Opcode::LDC2_W && !is_single(scope.class(), index)
 }
 
-pub(crate) fn breaks_s7(scope: &Scope, insn: &Insn) -> bool
-    ensures { result ≡ breaks_s7 scope.now insn.now }
+/// Returns whether `ldc2_w` loads neither a `Long` nor a `Double`.
+pub(crate) fn breaks_s7(scope: &Scope, opcode: Opcode, index: ConstantIndex) -> bool
+    ensures { result ≡ breaks_s7 scope.now (insns.Load opcode index) }
 {
-    match insn {
-        Insn::Load { opcode, index } => {
-            *opcode == Opcode::LDC2_W && !is_double(scope.class(), *index)
-        }
-        _ => false,
-    }
+    opcode == Opcode::LDC2_W && !is_double(scope.class(), index)
 }
 
-pub(crate) fn breaks_s8(scope: &Scope, insn: &Insn) -> bool
-    ensures { result ≡ breaks_s8 scope.now insn.now }
+pub(crate) fn breaks_s8(scope: &Scope, index: ConstantIndex) -> bool
+    ensures { result ≡ not (is_entry scope.now.class kinds.Fieldref index) }
 {
-    match insn {
-        Insn::Field { index, .. } => !scope.class().is_entry(ConstantKind::Fieldref, *index),
-        _ => false,
-    }
+    !scope.class().is_entry(ConstantKind::Fieldref, index)
 }
 
-pub(crate) fn breaks_s9(scope: &Scope, insn: &Insn) -> bool
-    ensures { result ≡ breaks_s9 scope.now insn.now }
+pub(crate) fn is_interface_method(scope: &Scope, index: ConstantIndex) -> bool
+    ensures { result ≡ is_entry scope.now.class kinds.InterfaceMethodref index }
 {
-    match insn {
-        Insn::Invoke { opcode, index } => {
-            *opcode == Opcode::INVOKEVIRTUAL
-                && !scope.class().is_entry(ConstantKind::Methodref, *index)
-        }
-        _ => false,
-    }
-}
-
-pub(crate) fn breaks_s10(scope: &Scope, insn: &Insn) -> bool
-    ensures { result ≡ breaks_s10 scope.now insn.now }
-{
-    match insn {
-        Insn::Invoke { opcode, index } => {
-            *opcode != Opcode::INVOKEVIRTUAL && !is_either_method(scope.class(), *index)
-        }
-        _ => false,
-    }
-}
-
-pub(crate) fn breaks_s11(scope: &Scope, insn: &Insn) -> bool
-    ensures { result ≡ breaks_s11 scope.now insn.now }
-{
-    match insn {
-        Insn::InvokeInterface { index, .. } => {
-            !scope
-                .class()
-                .is_entry(ConstantKind::InterfaceMethodref, *index)
-        }
-        _ => false,
-    }
-}
-
-pub(crate) fn breaks_s12(scope: &Scope, insn: &Insn) -> bool
-    ensures { result ≡ breaks_s12 scope.now insn.now }
-{
-    match insn {
-        Insn::InvokeInterface { index, count, .. } => is_other_count(scope, *index, *count),
-        _ => false,
-    }
+    scope
+        .class()
+        .is_entry(ConstantKind::InterfaceMethodref, index)
 }
 
 /// Whether the method of an interface takes another number of slots, with the receiver.
@@ -101,50 +52,10 @@ pub(crate) fn is_other_count(scope: &Scope, index: ConstantIndex, count: u8) -> 
     }
 }
 
-pub(crate) fn breaks_s13(scope: &Scope, insn: &Insn) -> bool
-    ensures { result ≡ breaks_s13 scope.now insn.now }
+pub(crate) fn breaks_s14(scope: &Scope, index: ConstantIndex) -> bool
+    ensures { result ≡ not (is_entry scope.now.class kinds.InvokeDynamic index) }
 {
-    match insn {
-        Insn::InvokeInterface { last, .. } => *last != 0,
-        _ => false,
-    }
-}
-
-pub(crate) fn breaks_s14(scope: &Scope, insn: &Insn) -> bool
-    ensures { result ≡ breaks_s14 scope.now insn.now }
-{
-    match insn {
-        Insn::InvokeDynamic { index, .. } => {
-            !scope.class().is_entry(ConstantKind::InvokeDynamic, *index)
-        }
-        _ => false,
-    }
-}
-
-pub(crate) fn breaks_s15(scope: &Scope, insn: &Insn) -> bool
-    ensures { result ≡ breaks_s15 scope.now insn.now }
-{
-    match insn {
-        Insn::InvokeDynamic { last, .. } => *last != 0,
-        _ => false,
-    }
-}
-
-pub(crate) fn breaks_s16(scope: &Scope, insn: &Insn) -> bool
-    ensures { result ≡ breaks_s16 scope.now insn.now }
-{
-    match insn {
-        Insn::Invoke { opcode, index } => {
-            is_right_entry(scope, *opcode, *index) && is_bad_special(scope, *opcode, *index)
-        }
-        Insn::InvokeInterface { index, .. } => {
-            scope
-                .class()
-                .is_entry(ConstantKind::InterfaceMethodref, *index)
-                && names_special(scope, *index)
-        }
-        _ => false,
-    }
+    !scope.class().is_entry(ConstantKind::InvokeDynamic, index)
 }
 
 /// Whether an invocation names an entry that it may name.
@@ -168,7 +79,14 @@ pub(crate) fn is_bad_special(scope: &Scope, opcode: Opcode, index: ConstantIndex
     }
 }
 
-pub(crate) fn names_special(scope: &Scope, index: ConstantIndex) -> bool
+/// Returns whether `invokeinterface` names an entry that it may name, and that is a special method.
+pub(crate) fn is_right_special(scope: &Scope, is_right: bool, index: ConstantIndex) -> bool
+    ensures { result ≡ (is_right && passes is_special (referred_name scope.now.class index)) }
+{
+    is_right && names_special(scope, index)
+}
+
+fn names_special(scope: &Scope, index: ConstantIndex) -> bool
     ensures { result ≡ passes is_special (referred_name scope.now.class index) }
 {
     match referred_name(scope.class(), index) {
@@ -177,68 +95,41 @@ pub(crate) fn names_special(scope: &Scope, index: ConstantIndex) -> bool
     }
 }
 
-pub(crate) fn breaks_s17(scope: &Scope, insn: &Insn) -> bool
-    ensures { result ≡ breaks_s17 scope.now insn.now }
+pub(crate) fn breaks_s17(scope: &Scope, index: ConstantIndex) -> bool
+    ensures { result ≡ not (is_entry scope.now.class kinds.Class index) }
 {
-    match insn {
-        Insn::Type { index, .. } | Insn::MultiNewArray { index, .. } => {
-            !scope.class().is_entry(ConstantKind::Class, *index)
-        }
-        _ => false,
-    }
+    !scope.class().is_entry(ConstantKind::Class, index)
 }
 
-pub(crate) fn breaks_s18(scope: &Scope, insn: &Insn) -> bool
-    ensures { result ≡ breaks_s18 scope.now insn.now }
+pub(crate) fn breaks_s18(scope: &Scope, opcode: Opcode, index: ConstantIndex) -> bool
+    ensures { result ≡ breaks_s18 scope.now (insns.Type opcode index) }
 {
-    match insn {
-        Insn::Type { opcode, index } => {
-            *opcode == Opcode::NEW
-                && scope
-                    .sizes
-                    .dimensions(*index)
-                    .is_some_and(|count| count > 0)
-        }
-        _ => false,
-    }
+    opcode == Opcode::NEW && scope.sizes.dimensions(index).is_some_and(|count| count > 0)
 }
 
-pub(crate) fn breaks_s19(scope: &Scope, insn: &Insn) -> bool
-    ensures { result ≡ breaks_s19 scope.now insn.now }
+pub(crate) fn breaks_s19(scope: &Scope, opcode: Opcode, index: ConstantIndex) -> bool
+    ensures { result ≡ breaks_s19 scope.now (insns.Type opcode index) }
 {
-    match insn {
-        Insn::Type { opcode, index } => {
-            *opcode == Opcode::ANEWARRAY
-                && scope
-                    .sizes
-                    .dimensions(*index)
-                    .is_some_and(|count| count == 255)
-        }
-        _ => false,
-    }
+    opcode == Opcode::ANEWARRAY
+        && scope
+            .sizes
+            .dimensions(index)
+            .is_some_and(|count| count == 255)
 }
 
-pub(crate) fn breaks_s20(scope: &Scope, insn: &Insn) -> bool
-    ensures { result ≡ breaks_s20 scope.now insn.now }
+/// Returns whether `multianewarray` makes no dimension, or more than the class has.
+pub(crate) fn breaks_s20(scope: &Scope, index: ConstantIndex, made: u8) -> bool
+    ensures { result ≡ breaks_s20 scope.now (insns.MultiNewArray index made) }
 {
-    match insn {
-        Insn::MultiNewArray { index, dimensions } => {
-            let made = *dimensions;
-            made == 0
-                || scope
-                    .sizes
-                    .dimensions(*index)
-                    .is_some_and(|count| count < made)
-        }
-        _ => false,
-    }
+    made == 0
+        || scope
+            .sizes
+            .dimensions(index)
+            .is_some_and(|count| count < made)
 }
 
-pub(crate) fn breaks_s21(scope: &Scope, insn: &Insn) -> bool
-    ensures { result ≡ breaks_s21 scope.now insn.now }
+pub(crate) fn breaks_s21(element: u8) -> bool
+    ensures { result ≡ not (nat_le 4 element && nat_le element 11) }
 {
-    match insn {
-        Insn::NewArray { element } => *element < 4 || *element > 11,
-        _ => false,
-    }
+    element < 4 || element > 11
 }

@@ -42,7 +42,7 @@ pub(crate) fn is_either_method(class: &ClassView, index: ConstantIndex) -> bool
 {
     match class.constant(index.0) {
         Some(Constant::Methodref(..)) => true,
-        Some(Constant::InterfaceMethodref(..)) => class.version().major == 52,
+        Some(Constant::InterfaceMethodref(..)) => class.version().major >= 52,
         _ => false,
     }
 }

@@ -1,44 +1,39 @@
 //! The rules over branches and switches.
 
-ghost use Rattle.std.specs.Prelude.{◌≡◌, map};
+ghost use Rattle.std.specs.Prelude.{◌≡◌, ◌==◌, ◌||◌, map, not};
 ghost use Rattle.std.specs.List.{list_all};
-ghost use Rattle.jc_code.specs.CodeRules.{breaks_s2, breaks_s3, breaks_s4, breaks_s5, do_rise, is_target};
+ghost use Rattle.jc_code.specs.declared.insn.Insn.TheVariants as insns;
+ghost use Rattle.jc_code.specs.CodeRules.{breaks_s4, do_rise, is_target};
+ghost use Rattle.jc_code.specs.Insns.{jsr, jsr_w};
 
-use crate::insn::Insn;
 use crate::opcode::Opcode;
 use crate::scope::Scope;
-use crate::switch::{Cases, Targets};
+use crate::switch::{Cases, LookupSwitch, TableSwitch, Targets};
 
-pub(crate) fn breaks_s2(scope: &Scope, insn: &Insn) -> bool
-    ensures { result ≡ breaks_s2 scope.now insn.now }
+pub(crate) fn breaks_s2(opcode: Opcode) -> bool
+    ensures { result ≡ (opcode == jsr || opcode == jsr_w) }
 {
-    match insn {
-        Insn::Branch { opcode, .. } => *opcode == Opcode::JSR || *opcode == Opcode::JSR_W,
-        _ => false,
-    }
+    opcode == Opcode::JSR || opcode == Opcode::JSR_W
 }
 
-pub(crate) fn breaks_s3(scope: &Scope, insn: &Insn) -> bool
-    ensures { result ≡ breaks_s3 scope.now insn.now }
+pub(crate) fn breaks_s3(scope: &Scope, target: i64) -> bool
+    ensures { result ≡ not (is_target scope.now target) }
 {
-    match insn {
-        Insn::Branch { target, .. } => !scope.is_target(*target),
-        _ => false,
-    }
+    !scope.is_target(target)
 }
 
-pub(crate) fn breaks_s4(scope: &Scope, insn: &Insn) -> bool
-    ensures { result ≡ breaks_s4 scope.now insn.now }
+/// Returns whether a target of a `tableswitch` is no instruction.
+pub(crate) fn table_breaks_s4(scope: &Scope, switch: &TableSwitch) -> bool
+    ensures { result ≡ breaks_s4 scope.now (insns.TableSwitch switch.now) }
 {
-    match insn {
-        Insn::TableSwitch(switch) => {
-            !(scope.is_target(switch.default) && all_hit(scope, switch.targets()))
-        }
-        Insn::LookupSwitch(switch) => {
-            !(scope.is_target(switch.default) && all_cases_hit(scope, switch.cases()))
-        }
-        _ => false,
-    }
+    !(scope.is_target(switch.default) && all_hit(scope, switch.targets()))
+}
+
+/// Returns whether a target of a `lookupswitch` is no instruction.
+pub(crate) fn lookup_breaks_s4(scope: &Scope, switch: &LookupSwitch) -> bool
+    ensures { result ≡ breaks_s4 scope.now (insns.LookupSwitch switch.now) }
+{
+    !(scope.is_target(switch.default) && all_cases_hit(scope, switch.cases()))
 }
 
 /// Whether each target is the start of an instruction.
@@ -64,13 +59,10 @@ fn all_cases_hit(scope: &Scope, cases: Cases) -> bool
     true
 }
 
-pub(crate) fn breaks_s5(scope: &Scope, insn: &Insn) -> bool
-    ensures { result ≡ breaks_s5 scope.now insn.now }
+pub(crate) fn breaks_s5(switch: &LookupSwitch) -> bool
+    ensures { result ≡ not (do_rise (map (λ case. case.value) switch.now.cases.left)) }
 {
-    match insn {
-        Insn::LookupSwitch(switch) => !values_rise(switch.cases()),
-        _ => false,
-    }
+    !values_rise(switch.cases())
 }
 
 /// Whether each value is above the one before it.

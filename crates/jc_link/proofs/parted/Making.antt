@@ -4,7 +4,7 @@ use Rattle.std.proofs.lemmas.Bool.{false≢true}
 use Rattle.std.proofs.lemmas.List.{get_or-map}
 use Rattle.std.specs.Bool.{Decides}
 use Rattle.jc_code.specs.declared.code_fault.CodeFault.{CodeFault}
-use Rattle.jc_rules.specs.declared.fault.Fault.{Fault}
+use Rattle.jc_file.specs.declared.fault.Fault.{Fault}
 use Rattle.jc_classes.specs.Names.{Name}
 use Rattle.jc_classes.specs.Numbers.{name_at}
 use Rattle.jc_classes.specs.LinkErrors.{LinkFault, links_of}

@@ -1,8 +1,8 @@
 -- Which of two texts a line has.
 use Rattle.std.proofs.Common.{◌≡◌, ◌∙◌, ◌++◌, sym, ℕ, true, false, [], ◌∷◌, codes, decimal, length}
 use Rattle.std.proofs.lemmas.Bool.{eq-eqb, ne_eqb}
-use Rattle.jc_rules.specs.declared.access_flag.AccessFlag.{AccessFlag}
-use Rattle.jc_rules.specs.AccessFlags.{flag_name, has, mask_of}
+use Rattle.jc_file.specs.declared.access_flag.AccessFlag.{AccessFlag}
+use Rattle.jc_file.specs.AccessFlags.{flag_name, has, mask_of}
 use Rattle.jc_view.specs.ClassFile.{ClassFile, class_text_at}
 use Rattle.jc_view.specs.declared.constant_pool.ConstantIndex.{ConstantIndex}
 use Rattle.jc_view.specs.Attributes.{Code}

@@ -9,7 +9,7 @@ use Rattle.jc_view.specs.ClassFile.{ClassFile, Member}
 use Rattle.jc_view.specs.Places.{PlacedMember}
 use Rattle.jc_view.specs.Attributes.{Code}
 use Rattle.jc_view.specs.Lent.{LentCode}
-use Rattle.jc_rules.proofs.kinds.PlacedMembers.{members_of}
+use Rattle.jc_file.proofs.kinds.PlacedMembers.{members_of}
 use Rattle.jc_code.specs.declared.code_fault.CodeFault.{CodeFault}
 use Rattle.jc_code.specs.CodeFaults.{code_of_member, faults_of}
 use Rattle.jc_list.specs.FaultLines.{code_fault_line}

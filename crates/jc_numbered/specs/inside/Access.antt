@@ -2,7 +2,7 @@
 use Rattle.std.specs.Prelude.{◌≡◌, ◌⊎◌, ℕ, ◌<◌, ◌||◌, Bool, true, Option}
 use Rattle.std.specs.Bool.{Decides}
 use Rattle.jc_classes.specs.Names.{package_of, Name, same_name}
-use Rattle.jc_rules.specs.AccessFlags.{has, public, protected, private, static}
+use Rattle.jc_file.specs.AccessFlags.{has, public, protected, private, static}
 use Rattle.jc_classes.specs.Worlds.{World, Found, is_array}
 use Rattle.jc_classes.specs.Facts.{Named}
 use Rattle.jc_classes.specs.Facts.Named.{Class, Array}

@@ -2,7 +2,7 @@
 use Rattle.std.specs.Prelude.{◌≡◌, ℕ, ◌<◌, Bool, false, not, ◌&&◌, List, Option, Some, None, is_some, cond}
 use Rattle.std.specs.List.{Contains}
 use Rattle.jc_classes.specs.Names.{name_less}
-use Rattle.jc_rules.specs.AccessFlags.{has, abstract}
+use Rattle.jc_file.specs.AccessFlags.{has, abstract}
 use Rattle.jc_classes.specs.Facts.{Member, Key}
 use Rattle.jc_classes.specs.MethodLookup.{given_by}
 use Rattle.jc_classes.specs.Worlds.{is_interface}

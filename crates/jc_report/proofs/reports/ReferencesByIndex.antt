@@ -6,7 +6,7 @@ use Rattle.std.specs.List.Sorted.{IsStrictlySortedBy}
 use Rattle.jc_view.specs.declared.parse_error.ParseError.{ParseError}
 use Rattle.jc_view.specs.ClassFile.{ClassFile}
 use Rattle.jc_view.specs.Outcome.{class_read}
-use Rattle.jc_rules.specs.Faults.{faults}
+use Rattle.jc_file.specs.Faults.{faults}
 use Rattle.jc_classes.specs.Facts.{Facts}
 use Rattle.jc_classes.specs.FactsOf.{facts_of, faulty_facts, sound_facts}
 use Rattle.jc_classes.specs.FactsOrder.{AreByIndex}

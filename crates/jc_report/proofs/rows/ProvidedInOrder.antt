@@ -9,7 +9,7 @@ use Rattle.std.specs.List.Sorted.{IsStrictlySortedBy}
 use Rattle.std.specs.Ordering.{nat_cmp, ordering_then}
 use Rattle.jc_base.proofs.Membership.{Has, from_has, has_from, has-cases, has-from_map, has-left, has-map, has-right}
 use Rattle.jc_base.proofs.maps.FiniteMaps.{bytes_cmp_total}
-use Rattle.jc_rules.specs.AccessFlags.{has, public}
+use Rattle.jc_file.specs.AccessFlags.{has, public}
 use Rattle.jc_classes.specs.Facts.{Facts, Key, Member}
 use Rattle.jc_classes.specs.MemberOrder.{IsOrder, key_cmp}
 use Rattle.jc_classes.specs.Names.{Name}

@@ -9,7 +9,7 @@ use Rattle.jc_view.specs.ClassFile.{ClassFile, class_text_at}
 use Rattle.jc_view.specs.Reading.{◌>>=◌, or_refusal, parts_at, PartsRead, class_value}
 use Rattle.jc_base.specs.Cursor.{Reading}
 use Rattle.jc_view.specs.Outcome.{class_text, name_in, class_named, class_read}
-use Rattle.jc_rules.specs.Faults.{faults}
+use Rattle.jc_file.specs.Faults.{faults}
 use Rattle.jc_classes.specs.FactsOf.{class_name, facts_of, sound_facts, faulty_facts}
 
 -- ---- the name of a class file

@@ -6,7 +6,7 @@ use Rattle.jc_classes.specs.Lent.{member_lent}
 use Rattle.jc_classes.specs.MethodLookup.{count_named, declared, first_named, given_by, if_polymorphic, is_polymorphic, of_object, only_inheritable, only_open, polymorphic, sole_named}
 use Rattle.jc_classes.specs.Names.{Name, method_handle, polymorphic_descriptor, same_name}
 use Rattle.jc_classes.specs.Worlds.{Stands, is_at, is_interface, member, methods_of}
-use Rattle.jc_rules.specs.AccessFlags.{has, native, private, public, static, varargs}
+use Rattle.jc_file.specs.AccessFlags.{has, native, private, public, static, varargs}
 use Rattle.jc_classes.proofs.worlds.NameTests.{same_is, same_self}
 use Rattle.std.proofs.lemmas.Bool.{false≢true}
 use Rattle.jc_classes.specs.Resolution.Answer.{ToMember}

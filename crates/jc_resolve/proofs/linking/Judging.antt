@@ -3,7 +3,7 @@ use Rattle.std.proofs.Common.{◌≡◌, ◌∙◌, ◌==◌, ◌&&◌, not, Boo
 use Rattle.std.specs.List.{slice_get}
 use Rattle.std.specs.Option.{option_map_or}
 use Rattle.std.specs.Prelude.{if◌then◌else◌, codes, option_and_then, option_map}
-use Rattle.jc_rules.specs.AccessFlags.{final, has, static}
+use Rattle.jc_file.specs.AccessFlags.{final, has, static}
 use Rattle.jc_code.specs.declared.insn.LinkKind.{LinkKind}
 use Rattle.jc_code.specs.declared.insn.LinkKind.TheVariants as kinds
 use Rattle.jc_code.specs.declared.method_use.MethodUse.{MethodUse}

@@ -3,7 +3,7 @@ use Rattle.std.proofs.Common.{◌≡◌, ℕ, ◌<◌, zero, Bool, true, false, 
 use Rattle.std.proofs.lemmas.Bool.{false≢true}
 use Rattle.std.specs.List.{Contains, filter}
 use Rattle.jc_classes.specs.Names.{name_less}
-use Rattle.jc_rules.specs.AccessFlags.{has, abstract}
+use Rattle.jc_file.specs.AccessFlags.{has, abstract}
 use Rattle.jc_classes.specs.Worlds.{World, Found, Above}
 use Rattle.jc_classes.specs.Facts.{Member, Key}
 use Rattle.jc_classes.specs.MethodLookup.{given_by, IsCandidate, IsMaximal, IsOnly, IsLeast, FindsAbove, FindsAbove as up}

@@ -1,7 +1,7 @@
 -- What instructions are judged by, of the references that they name.
 use Rattle.std.specs.Prelude.{◌≡◌, ℕ, ◌+◌, ◌==◌, Bool, ◌&&◌, ◌||◌, not, if◌then◌else◌, codes}
 use Rattle.std.specs.Prelude.{List, [], ◌∷◌, Option, Some, None, drop, option_map, slice_index_or}
-use Rattle.jc_rules.specs.AccessFlags.{abstract, final, has, interface, private, static}
+use Rattle.jc_file.specs.AccessFlags.{abstract, final, has, interface, private, static}
 use Rattle.jc_code.specs.declared.insn.LinkKind.{LinkKind}
 use Rattle.jc_code.specs.declared.insn.LinkKind.TheVariants as kinds
 use Rattle.jc_classes.specs.Facts.{Facts, Reference}

@@ -3,7 +3,7 @@ use Rattle.std.specs.List.{flat_map}
 use Rattle.std.specs.Iterator.Adapters.{enumerate_source, enumerate_count}
 use Rattle.jc_view.specs.declared.attribute_kind.Holder.TheVariants as holders
 use Rattle.jc_view.specs.Places.{methods_in, methods_place}
-use Rattle.jc_rules.proofs.kinds.PlacedMembers.{AreOf, are_of_all, members_of, members_of_all}
+use Rattle.jc_file.proofs.kinds.PlacedMembers.{AreOf, are_of_all, members_of, members_of_all}
 use Rattle.jc_code.specs.MethodFaults.{code_faults, code_faults_from, method_faults}
 use Rattle.jc_code.specs.MethodUses.{method_uses, uses, uses_from}
 use Rattle.jc_code.specs.NamedConstants.{named_by_method}

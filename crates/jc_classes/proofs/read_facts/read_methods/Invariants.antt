@@ -2,7 +2,7 @@ use Rattle.std.proofs.Common.{◌≡◌, ◌+◌, ◌<◌, ◌^◌, ◌++◌, le
 use Rattle.std.specs.List.{flat_map}
 use Rattle.std.specs.Iterator.Adapters.{enumerate_source, enumerate_count}
 use Rattle.jc_view.specs.declared.attribute_kind.Holder.TheVariants as holders
-use Rattle.jc_rules.proofs.kinds.PlacedMembers.{members_of, AreOf}
+use Rattle.jc_file.proofs.kinds.PlacedMembers.{members_of, AreOf}
 use Rattle.jc_code.specs.MethodFaults.{code_faults, code_faults_from}
 use Rattle.jc_code.specs.MethodUses.{uses, uses_from}
 use Rattle.jc_code.specs.NamedConstants.{named_by_method}

@@ -1,10 +1,9 @@
-use Rattle.std.proofs.Common.{◌≡◌, ◌++◌, ◌∷◌, [], ◌∙◌, ◌&&◌, ap, sym, subst, refl, false, length, map, append-nil, append_assoc, replicate, arith}
+use Rattle.std.proofs.Common.{◌≡◌, ◌++◌, ◌∷◌, [], ◌∙◌, ap, cond, sym, subst, refl, false, length, map, append-nil, append_assoc, replicate, arith}
 use Rattle.std.specs.Option.{option_to_list}
 use Rattle.jc_code.specs.Insns.{IsCode}
-use Rattle.jc_code.specs.inside.Clean.{has_targets, jumps_of, others_keep}
+use Rattle.jc_code.specs.inside.Found.{faults_of_others, has_targets, insn_faults, jumps_of}
 use Rattle.jc_code.specs.inside.Marks.{marked}
-use Rattle.jc_code.proofs.clean_code.Passed.{and_true, jumps_more, keep_more}
-use Rattle.jc_code.proofs.appended.Fronts.{begins_longer, begins_whole}
+use Rattle.jc_code.proofs.appended.Fronts.{begins_longer, begins_whole, one_kept}
 use Rattle.jc_code.proofs.marks.Marked.{has_marked, marked_none, marks_long, none_marked, place_within}
 use Rattle.jc_code.specs.InsnsLeft.{InsnsLeft}
 use Rattle.jc_code.specs.MethodUses.{use_at, uses_among}
@@ -16,13 +15,14 @@ loop-place-init c =
     let code = c.args.code.now in
     let none : c.in_ok-marks.marks.items ≡ replicate (length code) false = c.in_ok-marks.ensures.items_if_clones_equal (λ y e. e) in
     let no_jumps = c.new-jumps.ensures.items in
-    rw no_jumps
+    let none_found = c.new-found.ensures.items in
+    rw (no_jumps, none_found)
     (record {
       end = refl;
       all = ap (λ starts. starts ++ map (λ item. item.0) c.new-insns.result.left) (marked_none (length code) none);
       marks = none_marked code c.new-insns.result.left c.new-insns.ensures.code none;
       jumps = refl;
-      keep = refl;
+      found = refl;
       uses = refl;
       names = refl;
       uses_kept = begins_whole c.args.uses.now.items;
@@ -55,15 +55,15 @@ loop-place-preserved c =
           ∙ c.loop-place.invariant.all;
       marks = more.marks;
       jumps =
-          ap (λ jumps. jumps ++ jumps_of left) c.in_ok-keeps.ensures.jumps
-          ∙ jumps_more c.loop-place.jumps.items (jumps_of left) insn (has_targets insn)
+          ap (λ jumps. jumps ++ jumps_of left) c.in_ok-look.ensures.jumps
+          ∙ one_kept c.loop-place.jumps.items (jumps_of left) (place, insn) (has_targets insn)
           ∙ ap (λ items. c.loop-place.jumps.items ++ jumps_of items) (sym c.in-Some.ensures.steps.1.0)
           ∙ c.loop-place.invariant.jumps;
-      keep =
-          keep_more c.loop-place.is_kept c.in_ok-keeps.keeps (others_keep c.args.scope.now left)
-          ∙ ap (λ b. c.loop-place.is_kept && (b && others_keep c.args.scope.now left)) c.in_ok-keeps.ensures.keeps
-          ∙ ap (λ items. c.loop-place.is_kept && others_keep c.args.scope.now items) (sym c.in-Some.ensures.steps.1.0)
-          ∙ c.loop-place.invariant.keep;
+      found =
+          ap (λ found. found ++ faults_of_others c.args.scope.now left) c.in_ok-look.ensures.found
+          ∙ append_assoc c.loop-place.found.items (cond (has_targets insn) [] (insn_faults c.args.scope.now (place, insn))) (faults_of_others c.args.scope.now left)
+          ∙ ap (λ items. c.loop-place.found.items ++ faults_of_others c.args.scope.now items) (sym c.in-Some.ensures.steps.1.0)
+          ∙ c.loop-place.invariant.found;
       uses =
           ap (λ uses. uses ++ uses_among c.args.method left) c.in_ok-push_use.ensures.ok
           ∙ append_assoc c.loop-place.uses.items (option_to_list (use_at c.args.method (place, insn))) (uses_among c.args.method left)
@@ -92,7 +92,10 @@ returns-clause-found c =
           sym (append-nil c.loop-place.jumps.items)
           ∙ ap (λ items. c.loop-place.jumps.items ++ jumps_of items) (sym none)
           ∙ c.loop-place.invariant.jumps;
-      is_kept = sym (and_true c.loop-place.is_kept) ∙ ap (λ items. c.loop-place.is_kept && others_keep c.args.scope.now items) (sym none) ∙ c.loop-place.invariant.keep;
+      are_faults =
+          sym (append-nil c.loop-place.found.items)
+          ∙ ap (λ items. c.loop-place.found.items ++ faults_of_others c.args.scope.now items) (sym none)
+          ∙ c.loop-place.invariant.found;
     }
 
 pub returns-clause-uses : goal.returns-clause-uses

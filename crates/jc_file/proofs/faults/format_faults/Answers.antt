@@ -1,11 +1,11 @@
 use Rattle.std.proofs.Common.{◌≡◌, List, sym, subst}
 use Rattle.std.proofs.lemmas.Result.{IfOk-weaker}
 use Rattle.std.specs.List.{Contains}
-use Rattle.jc_rules.specs.declared.fault.Fault.{Fault}
+use Rattle.jc_file.specs.declared.fault.Fault.{Fault}
 use Rattle.jc_view.specs.ClassFile.{layout}
 use Rattle.jc_view.specs.Outcome.{AreBytes}
-use Rattle.jc_rules.specs.Faults.{faults}
-use Rattle.jc_rules.specs.Violations.{Violates}
+use Rattle.jc_file.specs.Faults.{faults}
+use Rattle.jc_file.specs.Violations.{Violates}
 use Rattle.jc_file.proofs.faults.format_faults.Goals as goal
 
 are_bytes : (c : goal.After-find_faults) → AreBytes (layout c.args.class.now)

@@ -1,5 +1,5 @@
 use Rattle.std.proofs.Common.{ap}
-use Rattle.jc_rules.specs.AccessFlags.{class_flags}
+use Rattle.jc_file.specs.AccessFlags.{class_flags}
 use Rattle.jc_text.proofs.Sending.{◌⟫◌, sends_equal}
 use Rattle.jc_list.specs.Texts.{flags_text}
 use Rattle.jc_list.proofs.class_lines.write_flags_line.Goals as goal

@@ -2,9 +2,9 @@ use Rattle.std.proofs.Common.{ℕ, List, ap, codes}
 use Rattle.std.specs.List.{flat_map}
 use Rattle.jc_view.specs.Lent.{MembersLeft}
 use Rattle.jc_view.specs.Places.{attributes_in}
-use Rattle.jc_rules.specs.declared.access_flag.AccessFlag.{AccessFlag}
-use Rattle.jc_rules.specs.AccessFlags.{field_flags, method_flags}
-use Rattle.jc_rules.specs.Faults.{faults}
+use Rattle.jc_file.specs.declared.access_flag.AccessFlag.{AccessFlag}
+use Rattle.jc_file.specs.AccessFlags.{field_flags, method_flags}
+use Rattle.jc_file.specs.Faults.{faults}
 use Rattle.jc_text.proofs.Sending.{◌⟫◌, sends_equal}
 use Rattle.jc_list.specs.AttributeLines.{attribute_lines}
 use Rattle.jc_list.specs.FaultLines.{code_fault_line, format_line}

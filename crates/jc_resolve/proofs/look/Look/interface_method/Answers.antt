@@ -11,7 +11,7 @@ use Rattle.jc_numbered.specs.declared.access.Target.{Target}
 use Rattle.jc_resolve.specs.declared.resolve.Begun.{Begun}
 use Rattle.std.proofs.Common.{true, false, refl, ap, ◌∙◌}
 use Rattle.jc_classes.specs.Worlds.{is_interface}
-use Rattle.jc_rules.specs.AccessFlags.{has, interface as interface_flag}
+use Rattle.jc_file.specs.AccessFlags.{has, interface as interface_flag}
 use Rattle.jc_numbered.proofs.lookups.Bridge.{record_is}
 use Rattle.jc_resolve.proofs.answering.Begins.{begun_ends}
 use Rattle.jc_classes.specs.Lent.{key_lent}

@@ -1,6 +1,0 @@
-use Rattle.jc_faults.proofs.sets.KeysApart.{DecideAll}
-use Rattle.jc_faults.proofs.repeats.are_few_and_apart.Given as goal
-
--- what is left decides
-abbrev pub invariant-loop-member : goal.invariant-loop-member
-invariant-loop-member l = DecideAll l.fn.members l.keys.items l.member-iterator

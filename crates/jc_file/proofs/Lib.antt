@@ -1,0 +1,5 @@
+pub mod orders
+pub mod kinds
+pub mod keys
+pub mod sets
+pub mod violations

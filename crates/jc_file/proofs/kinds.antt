@@ -1,0 +1,4 @@
+pub mod AnyOfKind
+pub mod AttributesOfKind
+pub mod CountOfKind
+pub mod PlacedMembers

@@ -1,0 +1,2 @@
+pub mod NumberedItems
+pub mod FaultOrder

@@ -1,0 +1,10 @@
+pub mod AttributesAdded
+pub mod DescriptorTexts
+pub mod KeysApart
+pub mod KnownTexts
+pub mod OfKinds
+pub mod PlacesAdded
+pub mod RepeatsAdded
+pub mod RuleBits
+pub mod SpelledTexts
+pub mod WholePlaces

@@ -1,0 +1,142 @@
+//! Access flags and their names (JVMS 4.1, table 4.1-B; 4.5, table 4.5-A; 4.6, table 4.6-A).
+
+ghost use Rattle.std.specs.Prelude.{◌≡◌};
+ghost use Rattle.jc_file.specs.declared.access_flag.TheConstants.AccessFlag.{OF_CLASS, OF_FIELD, OF_METHOD};
+ghost use Rattle.jc_file.specs.AccessFlags.{class_flags, field_flags, flag_name, has, mask_of, method_flags};
+
+use crate::flags::{
+    ABSTRACT, ANNOTATION, BRIDGE, ENUM, FINAL, INTERFACE, NATIVE, PRIVATE, PROTECTED, PUBLIC,
+    STATIC, STRICT, SUPER, SYNCHRONIZED, SYNTHETIC, TRANSIENT, VARARGS, VOLATILE, has,
+};
+
+/// An access flag. Some share a bit, which means one thing on a class and another on a field or a method.
+#[derive(Clone, Copy)]
+pub enum AccessFlag {
+    Public,
+    Private,
+    Protected,
+    Static,
+    Final,
+    Super,
+    Synchronized,
+    Volatile,
+    Bridge,
+    Transient,
+    Varargs,
+    Native,
+    Interface,
+    Abstract,
+    Strict,
+    Synthetic,
+    Annotation,
+    Enum,
+}
+
+impl AccessFlag {
+    /// The flags of a class, by rising bit.
+    pub const OF_CLASS: [AccessFlag; 8] = [
+        AccessFlag::Public,
+        AccessFlag::Final,
+        AccessFlag::Super,
+        AccessFlag::Interface,
+        AccessFlag::Abstract,
+        AccessFlag::Synthetic,
+        AccessFlag::Annotation,
+        AccessFlag::Enum,
+    ];
+
+    /// The flags of a field, by rising bit.
+    pub const OF_FIELD: [AccessFlag; 9] = [
+        AccessFlag::Public,
+        AccessFlag::Private,
+        AccessFlag::Protected,
+        AccessFlag::Static,
+        AccessFlag::Final,
+        AccessFlag::Volatile,
+        AccessFlag::Transient,
+        AccessFlag::Synthetic,
+        AccessFlag::Enum,
+    ];
+
+    /// The flags of a method, by rising bit.
+    pub const OF_METHOD: [AccessFlag; 12] = [
+        AccessFlag::Public,
+        AccessFlag::Private,
+        AccessFlag::Protected,
+        AccessFlag::Static,
+        AccessFlag::Final,
+        AccessFlag::Synchronized,
+        AccessFlag::Bridge,
+        AccessFlag::Varargs,
+        AccessFlag::Native,
+        AccessFlag::Abstract,
+        AccessFlag::Strict,
+        AccessFlag::Synthetic,
+    ];
+
+    /// Returns its bit.
+    pub fn mask(self) -> u16
+        ensures { result ≡ mask_of self }
+    {
+        match self {
+            AccessFlag::Public => PUBLIC,
+            AccessFlag::Private => PRIVATE,
+            AccessFlag::Protected => PROTECTED,
+            AccessFlag::Static => STATIC,
+            AccessFlag::Final => FINAL,
+            AccessFlag::Super => SUPER,
+            AccessFlag::Synchronized => SYNCHRONIZED,
+            AccessFlag::Volatile => VOLATILE,
+            AccessFlag::Bridge => BRIDGE,
+            AccessFlag::Transient => TRANSIENT,
+            AccessFlag::Varargs => VARARGS,
+            AccessFlag::Native => NATIVE,
+            AccessFlag::Interface => INTERFACE,
+            AccessFlag::Abstract => ABSTRACT,
+            AccessFlag::Strict => STRICT,
+            AccessFlag::Synthetic => SYNTHETIC,
+            AccessFlag::Annotation => ANNOTATION,
+            AccessFlag::Enum => ENUM,
+        }
+    }
+
+    /// Returns its name in the standard, without `ACC_`.
+    pub fn name(self) -> &'static str
+        ensures { result.now ≡ flag_name self }
+    {
+        match self {
+            AccessFlag::Public => "PUBLIC",
+            AccessFlag::Private => "PRIVATE",
+            AccessFlag::Protected => "PROTECTED",
+            AccessFlag::Static => "STATIC",
+            AccessFlag::Final => "FINAL",
+            AccessFlag::Super => "SUPER",
+            AccessFlag::Synchronized => "SYNCHRONIZED",
+            AccessFlag::Volatile => "VOLATILE",
+            AccessFlag::Bridge => "BRIDGE",
+            AccessFlag::Transient => "TRANSIENT",
+            AccessFlag::Varargs => "VARARGS",
+            AccessFlag::Native => "NATIVE",
+            AccessFlag::Interface => "INTERFACE",
+            AccessFlag::Abstract => "ABSTRACT",
+            AccessFlag::Strict => "STRICT",
+            AccessFlag::Synthetic => "SYNTHETIC",
+            AccessFlag::Annotation => "ANNOTATION",
+            AccessFlag::Enum => "ENUM",
+        }
+    }
+
+    /// Returns whether it is one of the flags.
+    pub fn is_in(self, flags: u16) -> bool
+        ensures { result ≡ has flags (mask_of self) }
+    {
+        has(flags, self.mask())
+    }
+}
+
+/// The tables of flags are those of the standard.
+pub fn access_flags_are_tabled()
+    ensures class { OF_CLASS ≡ class_flags }
+    ensures field { OF_FIELD ≡ field_flags }
+    ensures method { OF_METHOD ≡ method_flags }
+{}

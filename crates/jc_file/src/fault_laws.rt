@@ -1,0 +1,48 @@
+//! Laws of the format faults: functions without a body, whose contracts say what the tests of the
+//! rules mean.
+
+ghost use Rattle.std.specs.Prelude.{◌≡◌, [], ◌∷◌, ◌↔◌, ℕ, Contains};
+ghost use Rattle.jc_view.specs.declared.attribute_kind.AttributeKind.{AttributeKind};
+ghost use Rattle.jc_view.specs.declared.attribute_kind.Holder.{Holder};
+ghost use Rattle.jc_file.specs.declared.fault.FormatRule.{FormatRule};
+ghost use Rattle.jc_view.specs.ClassFile.{ClassFile, layout};
+ghost use Rattle.jc_view.specs.Outcome.{AreBytes};
+ghost use Rattle.std.specs.List.Sorted.{IsStrictlySortedBy};
+ghost use Rattle.jc_file.specs.declared.fault.Fault.{Fault};
+ghost use Rattle.jc_file.specs.FaultOrder.{fault_cmp};
+ghost use Rattle.jc_file.specs.Faults.{faults, places};
+ghost use Rattle.jc_file.specs.Examples.{final_and_abstract, with_nameless_class, without_code};
+ghost use Rattle.jc_view.specs.Examples.{class_a_data};
+ghost use Rattle.jc_file.specs.Violations.{AreRecognised, Violates};
+
+use jc_base::{descriptors_are_decided, texts_are_decided};
+use jc_view::attributes_are_read;
+
+/// In a class file whose bytes are below 256, the places of a rule are those where it is broken.
+pub fn faults_are_violations()
+    ensures { (c : ClassFile) (rule : FormatRule) (place : ℕ) → AreBytes (layout c)
+        → Contains (places c rule) place ↔ Violates rule c place }
+{
+    texts_are_decided();
+    descriptors_are_decided();
+    attributes_are_read();
+}
+
+/// The attributes of a kind are those with its name, in the holder that the kind belongs to.
+pub fn attributes_are_recognised()
+    ensures { (c : ClassFile) (kind : AttributeKind) (holder : Holder) → AreRecognised c kind holder }
+{}
+
+/// The faults of a class file are sorted by rule and then by place, each once. There is one for each place of each rule.
+pub fn faults_are_exact()
+    ensures rising { (c : ClassFile) → IsStrictlySortedBy fault_cmp (faults c) }
+    ensures exact { (c : ClassFile) (fault : Fault) → Contains (faults c) fault ↔ Contains (places c fault.rule) fault.place }
+{}
+
+/// The faults of a class file of 53 bytes, and of three that differ little from it.
+pub fn fault_examples()
+    ensures none { faults class_a_data ≡ [] }
+    ensures nameless { faults with_nameless_class ≡ record { rule = FormatRule.F1; place = 5 } ∷ [] }
+    ensures flags { faults final_and_abstract ≡ record { rule = FormatRule.F12; place = 0 } ∷ [] }
+    ensures code { faults without_code ≡ record { rule = FormatRule.F23; place = 0 } ∷ [] }
+{}

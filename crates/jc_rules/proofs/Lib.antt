@@ -1,4 +1,0 @@
-pub mod orders
-pub mod kinds
-pub mod repeats
-pub mod violations

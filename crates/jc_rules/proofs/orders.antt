@@ -1,4 +1,0 @@
-pub mod FoundAtPlaces
-pub mod NumberedItems
-pub mod FaultOrder
-pub mod TextTables
