@@ -1,10 +1,10 @@
 //! What is kept of a class file, read from its view.
 
-ghost use Rattle.std.specs.Prelude.{◌≡◌, ◌<◌, ◌^◌, ◌++◌, option_map, IfOk, OnOk};
-ghost use Rattle.std.specs.List.{flat_map};
+ghost use Rattle.std.specs.Prelude.{◌≡◌, ◌+◌, ◌<◌, ◌^◌, ◌++◌, [], map, option_map, IfOk, OnOk};
+ghost use Rattle.std.specs.List.{All, flat_map};
 ghost use Rattle.std.specs.Option.{option_to_list};
 ghost use Rattle.jc_view.specs.declared.attribute_kind.Holder.TheVariants as holders;
-ghost use Rattle.jc_view.specs.ClassFile.{class_text_at};
+ghost use Rattle.jc_view.specs.ClassFile.{all_slots, class_text_at};
 ghost use Rattle.jc_view.specs.Lookups.{utf8_at};
 ghost use Rattle.jc_file.specs.Faults.{faults};
 ghost use Rattle.jc_code.specs.MethodFaults.{code_faults, numbered_faults};
@@ -13,7 +13,7 @@ ghost use Rattle.jc_code.specs.NamedConstants.{named_by_method};
 ghost use Rattle.jc_classes.specs.FactsOf.{class_name, class_reference, facts_of, faulty_facts, interfaces_in};
 ghost use Rattle.jc_classes.specs.FactsOf.{member_of, member_reference, reference_at, references_in, sound_facts};
 ghost use Rattle.jc_classes.specs.UsedConstants.{named_by_methods};
-ghost use Rattle.jc_classes.specs.Users.{uses_constant};
+ghost use Rattle.jc_classes.specs.Users.{user_of, uses_constant};
 ghost use Rattle.jc_classes.specs.inside.ClassTexts.{Tells};
 ghost use Rattle.jc_classes.specs.inside.Entries.{AreEntries};
 ghost use Rattle.jc_classes.specs.inside.FirstUsers.{AddsFirst, AreFirst, AreSeen};
@@ -26,6 +26,7 @@ use crate::facts::{Facts, Faults, MemberEntry, ReferenceEntry, no_references};
 use crate::first_users::FirstUsers;
 use crate::reference_kind::ReferenceKind;
 use crate::text_list::TextList;
+use crate::user::User;
 use crate::users::users;
 use jc_base::NoMemory;
 use jc_code::{CodeFault, MethodUse, TextSizes, faults_and_uses, method_code};
@@ -71,11 +72,9 @@ fn sound_facts(alloc: Global, class: &ClassView, path: &[u8]) -> Result<Facts, N
     let path = Vec::from_slice(alloc, path)?;
     let mut texts = ClassTexts::new(alloc, class)?;
     let entries = read_entries(&mut texts, class)?;
-    let codes = read_codes(alloc, class)?;
-    let users = users(alloc, class, codes.first, &entries.references)?;
+    let (uses, users, faults) = code_facts(alloc, class, &entries.references)?;
     let texts_shared = Rc::new(alloc, texts.into_list())?;
     let references = Rc::new(alloc, entries.references)?;
-    let faults = Faults::shared(alloc, Vec::new(alloc), codes.faults)?;
     Ok(Facts {
         path,
         texts: texts_shared,
@@ -88,10 +87,29 @@ fn sound_facts(alloc: Global, class: &ClassView, path: &[u8]) -> Result<Facts, N
         field_order: entries.field_order,
         method_order: entries.method_order,
         references,
-        uses: codes.uses,
+        uses,
         users,
         faults,
     })
+}
+
+/// Reads the code of a class file without a format fault. Returns its uses of references, what uses each of these
+/// references, and its faults.
+fn code_facts(
+    alloc: Global,
+    class: &ClassView,
+    references: &[ReferenceEntry],
+) -> Result<(Vec<MethodUse>, Vec<User>, Rc<Faults>), NoMemory>
+    requires { All (λ entry. entry.index < 1 + all_slots class.now.constants) references.now }
+    ensures uses { IfOk result (λ code. code.0.items ≡ uses class.now) }
+    ensures users { IfOk result (λ code. code.1.items ≡ map (λ entry. user_of class.now entry.index) references.now) }
+    ensures format { IfOk result (λ code. code.2.value.format.items ≡ []) }
+    ensures faults { IfOk result (λ code. code.2.value.code.items ≡ code_faults class.now) }
+{
+    let codes = read_codes(alloc, class)?;
+    let users = users(alloc, class, codes.first, references)?;
+    let faults = Faults::shared(alloc, Vec::new(alloc), codes.faults)?;
+    Ok((codes.uses, users, faults))
 }
 
 /// Reads the entries of a class file, and numbers their texts.
@@ -382,8 +400,20 @@ fn read_code(
         return Ok(());
     };
     let (uses, names) = (&mut codes.uses, &mut codes.names);
-    for fault in &faults_and_uses(alloc, sizes, &code, number as u16, uses, names)? {
-        codes.faults.push((number, *fault))?;
+    let faults = faults_and_uses(alloc, sizes, &code, number as u16, uses, names)?;
+    add_numbered(&mut codes.faults, number, &faults)
+}
+
+/// Adds faults, each with the number of its method.
+fn add_numbered(
+    numbered: &mut Vec<(usize, CodeFault)>,
+    number: usize,
+    faults: &[CodeFault],
+) -> Result<(), NoMemory>
+    ensures { OnOk result (numbered.new.items ≡ numbered.old.items ++ map (λ fault. (number, fault)) faults.now) }
+{
+    for fault in faults {
+        numbered.push((number, *fault))?;
     }
     Ok(())
 }

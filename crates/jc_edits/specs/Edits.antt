@@ -2,7 +2,7 @@
 use Rattle.std.specs.Prelude.{nat_lt, List, length, ℕ, Option, Some, None, if◌then◌else◌}
 use Rattle.jc_classes.specs.Names.{Name}
 use Rattle.jc_input.specs.Changes.{PrefixChange, AddsPrefix, DropsPrefix, EditChange, OfFiles, OfPrefixes}
-use Rattle.jc_limits.specs.FileEdits.{after, judge, ◌or_else◌}
+use Rattle.jc_input.specs.FileEdits.{after, judge, ◌or_else◌}
 use Rattle.jc_link.specs.Prefixes.{holds, is_bad_prefix, with_one, without}
 use Rattle.jc_edits.specs.SessionState.{Contents}
 use Rattle.jc_input.specs.declared.edit.EditError.{EditError}

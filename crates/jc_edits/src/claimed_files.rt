@@ -4,7 +4,7 @@
 ghost use Rattle.std.specs.Prelude.{◌≡◌, [], IfOk, None, OnErr, OnOk, Some, false, true};
 ghost use Rattle.std.specs.FinMap as map;
 ghost use Rattle.jc_input.specs.Changes.{change_lent};
-ghost use Rattle.jc_limits.specs.FileEdits.{after, judge};
+ghost use Rattle.jc_input.specs.FileEdits.{after, judge};
 ghost use Rattle.jc_edits.specs.inside.Claims.{AreClaims};
 ghost use Rattle.jc_edits.specs.inside.Growth.{AreClaimsBesides, HasPlace, IsGrown, committed, undone};
 

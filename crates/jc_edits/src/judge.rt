@@ -2,13 +2,12 @@
 
 ghost use Rattle.std.specs.Prelude.{◌≡◌};
 ghost use Rattle.jc_edits.specs.Edits as edits;
-ghost use Rattle.jc_limits.specs.FileEdits as files_of;
+ghost use Rattle.jc_input.specs.FileEdits as files_of;
 ghost use Rattle.jc_input.specs.Changes.{Adds, Replaces, change_lent, prefix_change};
 
 use crate::file::File;
 use jc_base::ByteMap;
-use jc_input::{EditError, LentEdit, PrefixEdit};
-use jc_limits::{path_fault, room_fault, size_fault};
+use jc_input::{EditError, LentEdit, PrefixEdit, path_fault, room_fault, size_fault};
 use jc_link::{MOST_PREFIXES, Outside, is_bad_prefix};
 
 /// The first refusal of the edit that applies, but for memory.

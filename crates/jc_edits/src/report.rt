@@ -8,7 +8,7 @@ ghost use Rattle.jc_report.specs.FileRows.{rows, winner};
 ghost use Rattle.jc_report.specs.Reports as reports;
 ghost use Rattle.jc_report.specs.Reports.{facts_at, is_wrong, world_of};
 ghost use Rattle.jc_input.specs.Changes.{OfFiles, OfPrefixes, change_lent, prefix_change};
-ghost use Rattle.jc_limits.specs.FileEdits.{after, judge};
+ghost use Rattle.jc_input.specs.FileEdits.{after, judge};
 ghost use Rattle.jc_edits.specs.Edits.{after_prefix};
 ghost use Rattle.jc_edits.specs.Reported.{CountsHoldersAt, IsReportOf};
 ghost use Rattle.jc_edits.specs.Touched.{gives};

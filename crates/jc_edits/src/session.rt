@@ -9,7 +9,7 @@ ghost use Rattle.jc_classes.specs.Parts.{IsPart};
 ghost use Rattle.jc_report.specs.FileRows.{winner};
 ghost use Rattle.jc_report.specs.Reports.{world_of};
 ghost use Rattle.jc_input.specs.Changes.{OfFiles, OfPrefixes, change_lent, change_of, prefix_change};
-ghost use Rattle.jc_limits.specs.FileEdits.{after, judge};
+ghost use Rattle.jc_input.specs.FileEdits.{after, judge};
 ghost use Rattle.jc_edits.specs.Edits.{after_edit, after_prefix, judge_edit, judge_prefix};
 ghost use Rattle.jc_edits.specs.Judged.{IsAnswered};
 ghost use Rattle.jc_edits.specs.Reported.{CountsHoldersAt, IsDependant};

@@ -1,5 +1,6 @@
 pub mod AttributesAdded
 pub mod DescriptorTexts
+pub mod FaultsAdded
 pub mod KeysApart
 pub mod KnownTexts
 pub mod OfKinds

@@ -1,5 +1,6 @@
 pub mod Changes
 pub mod EditErrors
+pub mod FileEdits
 pub mod FileSource
 pub mod LentCommands
 pub mod LineReading

@@ -3,6 +3,8 @@ pub mod Kept
 pub mod Lending
 pub mod LinkSets
 pub mod Prepared
+pub mod RowLists
+pub mod RowMaps
 pub mod Stepping
 pub mod SwitchedNames
 pub mod Users

@@ -9,12 +9,12 @@ ghost use Rattle.jc_link.specs.Meters.{counted};
 ghost use Rattle.jc_link.specs.Nets.{IsIn};
 ghost use Rattle.jc_linkage.specs.inside.Kept.{AllFresh, AreKeys, IsKeptOf, fresh_names, required_by};
 
+use crate::row_list::RowList;
 use jc_base::{ByteMap, NoMemory};
 use jc_classes::Facts;
 use jc_index::PackedNames;
 use jc_link::{Meter, Part, PartMaker};
 use jc_report::required_of;
-use jc_required::RowList;
 use std::alloc::Global;
 
 /// The part of a class, and the names that it depends on.

@@ -13,13 +13,16 @@ mod linking;
 mod links;
 mod prefixes;
 mod preparing;
+mod row_index;
+mod row_list;
+mod row_map;
 mod rows;
 mod step;
 
 pub use circular::Circular;
 pub use classes::HeldClasses;
-pub use jc_required::Required;
 pub use laws::counts_are_bounded;
 pub use linkage::Linkage;
+pub use row_index::Required;
 pub use rows::Provided;
 pub use step::Step;

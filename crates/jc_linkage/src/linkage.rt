@@ -20,13 +20,13 @@ use crate::classes::HeldClasses;
 use crate::kept::Kept;
 use crate::links::Links;
 use crate::prefixes::remake_switched;
+use crate::row_index::Required;
 use crate::rows::Provided;
 use crate::step::Step;
 use jc_base::{ByteMap, NoMemory};
 use jc_classes::Facts;
 use jc_link::{Meter, Outside, Part, Table};
 use jc_report::LentClass;
-use jc_required::Required;
 use std::alloc::Global;
 use std::marker::Model;
 

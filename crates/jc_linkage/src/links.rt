@@ -6,9 +6,9 @@ ghost use Rattle.jc_linkage.specs.inside.Kept.{Relation, linked};
 ghost use Rattle.jc_linkage.specs.inside.LinkSets.{Adds, AddsSome, TakesOut, links_but, links_of};
 
 use crate::kept::Kept;
+use crate::row_index::RowIndex;
 use jc_base::NoMemory;
 use jc_index::Index;
-use jc_required::RowIndex;
 use std::alloc::Global;
 
 /// For each name the classes whose reach holds it, and for each row the classes that require it.

@@ -195,11 +195,7 @@ fn answer_kept(
 fn none_loaded(alloc: Global, facts: &Facts) -> Result<Vec<Entry<usize>>, NoMemory>
     ensures { IfOk result (λ entries. entries.items ≡ map (λ (r : Reference). Entry.NotLoaded) facts.now.references) }
 {
-    let count = facts.reference_count();
-    let mut entries = Vec::with_capacity(alloc, count)?;
-    for _ in 0..count {
-        entries.push(Entry::NotLoaded)?;
-    }
+    let entries = vec![in alloc; Entry::NotLoaded; facts.reference_count()]?;
     Ok(entries)
 }
 

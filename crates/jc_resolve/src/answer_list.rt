@@ -9,7 +9,7 @@ ghost use Rattle.jc_numbered.specs.inside.Shown.{indexed_of};
 ghost use Rattle.jc_resolve.specs.Answers.{answer_of, kind_of};
 ghost use Rattle.jc_code.specs.inside.Fronts.{BeginsWith};
 ghost use Rattle.jc_classes.specs.inside.FactsShown.{text_at};
-ghost use Rattle.jc_resolve.specs.inside.Entries.{IsSame, IsWithin, entries_shown, entry_shown};
+ghost use Rattle.jc_resolve.specs.inside.Entries.{IsSame, IsWithin, entries_shown, entry_shown, node_of, with_number};
 ghost use Rattle.jc_resolve.specs.inside.Naming.{AreNames, AreSame, IsNumberOf, references_in};
 
 use crate::answers::{Answer, AnswerKind};
@@ -153,22 +153,39 @@ impl Naming {
         ensures within { IfOk result (IsWithin (length self.new.texts)) }
         ensures same { IfOk result (λ named. IsSame (text_at self.new.texts) (indexed_name (indexed_of classes.now)) named entry) }
     {
-        match entry {
-            Entry::ToMember(flags, node) => {
-                Ok(Entry::ToMember(flags, self.number(classes, numbers, node)?))
+        match node_of(entry) {
+            Some(node) => {
+                let number = self.number(classes, numbers, node)?;
+                Ok(with_number(entry, number))
             }
-            Entry::ToPolymorphic(flags, node) => {
-                Ok(Entry::ToPolymorphic(flags, self.number(classes, numbers, node)?))
-            }
-            Entry::Outside(node) => Ok(Entry::Outside(self.number(classes, numbers, node)?)),
-            Entry::Error(error, node) => Ok(Entry::Error(
-                error,
-                self.number(classes, numbers, node)?,
-            )),
-            Entry::ToClass(flags) => Ok(Entry::ToClass(flags)),
-            Entry::NotLoaded => Ok(Entry::NotLoaded),
-            Entry::OwnError(error) => Ok(Entry::OwnError(error)),
+            None => Ok(with_number(entry, 0)),
         }
+    }
+}
+
+/// Returns the class that an answer names, if it names one.
+fn node_of(entry: Entry<usize>) -> Option<usize>
+    ensures { result ≡ node_of entry }
+{
+    match entry {
+        Entry::ToMember(_, node) | Entry::ToPolymorphic(_, node) => Some(node),
+        Entry::Outside(node) | Entry::Error(_, node) => Some(node),
+        Entry::ToClass(_) | Entry::NotLoaded | Entry::OwnError(_) => None,
+    }
+}
+
+/// Returns the answer with this number in place of the class, if it names one.
+fn with_number(entry: Entry<usize>, number: u32) -> Entry<u32>
+    ensures { result ≡ with_number entry number }
+{
+    match entry {
+        Entry::ToMember(flags, _) => Entry::ToMember(flags, number),
+        Entry::ToPolymorphic(flags, _) => Entry::ToPolymorphic(flags, number),
+        Entry::Outside(_) => Entry::Outside(number),
+        Entry::Error(error, _) => Entry::Error(error, number),
+        Entry::ToClass(flags) => Entry::ToClass(flags),
+        Entry::NotLoaded => Entry::NotLoaded,
+        Entry::OwnError(error) => Entry::OwnError(error),
     }
 }
 
@@ -250,6 +267,25 @@ struct Named {
     entries: Vec<Entry<u32>>,
 }
 
+/// Adds answers with the numbers of the names in them, and adds these names.
+fn name_each(
+    classes: &Classes,
+    numbers: &mut [usize],
+    entries: &[Entry<usize>],
+    names: &mut Naming,
+    named: &mut Vec<Entry<u32>>,
+) -> Result<(), NoMemory>
+    requires names { AreNames (indexed_name (indexed_of classes.now)) names.old }
+    requires named { named.old.items ≡ [] }
+    ensures { OnOk result (AreSame (text_at names.new.texts) (indexed_name (indexed_of classes.now)) named.new.items entries.now) }
+{
+    for entry in entries {
+        let answer = names.entry(classes, numbers, *entry)?;
+        named.push(answer)?;
+    }
+    Ok(())
+}
+
 /// Numbers the names that answers tell.
 fn name_entries(
     alloc: Global,
@@ -261,10 +297,7 @@ fn name_entries(
 {
     let mut names = Naming::new(alloc)?;
     let mut named = Vec::with_capacity(alloc, entries.len())?;
-    for entry in entries {
-        let answer = names.entry(classes, numbers, *entry)?;
-        named.push(answer)?;
-    }
+    name_each(classes, numbers, entries, &mut names, &mut named)?;
     Ok(Named {
         texts: names.texts,
         entries: named,

@@ -11,10 +11,11 @@ ghost use Rattle.jc_resolve.specs.inside.Shows.{ShowsHit, ShowsOutcome, ShowsSet
 use crate::resolve::{Begun, MemberOutcome};
 use jc_classes::{Key, LinkageError, same};
 use jc_numbered::{Hit, Settled};
+use std::alloc::AllocError;
 
 /// The answer of a reference. Its texts are the reference's own, or the name of a class by its number: a `usize` where
 /// that is one of all classes, a `u32` where it is one of the names that are kept with the answers.
-#[derive(Clone, Copy)]
+#[derive(Copy)]
 pub(crate) enum Entry<N> {
     /// The class that the reference names is there, with these access flags, or the array, which has none.
     ToClass(u16),
@@ -30,6 +31,14 @@ pub(crate) enum Entry<N> {
     Error(LinkageError, N),
     /// It fails, for what is known of what the reference names.
     OwnError(LinkageError),
+}
+
+impl<N: Copy> Clone for Entry<N> {
+    ghost is_clone = { λ x y. y ≡ x };
+
+    fn clone(&self) -> Result<Self, AllocError> {
+        Ok(*self)
+    }
 }
 
 /// The answer of a reference for which look-up did not begin.

@@ -1,6 +1,6 @@
 //! Look-up of fields.
 
-ghost use Rattle.std.specs.Prelude.{◌≡◌, ◌<◌, length, IfOk, OnOk, true};
+ghost use Rattle.std.specs.Prelude.{◌≡◌, ◌<◌, [], length, IfOk, OnOk, true};
 ghost use Rattle.std.specs.Option.{IfSome};
 ghost use Rattle.jc_classes.specs.Lent.{key_lent, member_lent};
 ghost use Rattle.jc_numbered.specs.inside.Indexed.{good_at};
@@ -30,8 +30,28 @@ pub(crate) fn find_field<'a>(
     ensures seen { OnOk result (length seen.new.flags ≡ length classes.now.standing.now) }
     ensures found { IfOk result (TellsField (indexed_of classes.now) (key_lent key.entry) start) }
 {
-    seen.clear();
     let mut stack = Vec::new(alloc);
+    find_from(classes, seen, &mut stack, start, key)
+}
+
+/// Finds the field from the class at `start` on, by way of an empty stack.
+fn find_from<'a>(
+    classes: &'a Classes,
+    seen: &mut Seen,
+    stack: &mut Vec<usize>,
+    start: usize,
+    key: Key,
+) -> Result<Option<Hit<'a>>, NoMemory>
+    requires start { start < length classes.now.standing.now }
+    requires good { good_at (indexed_of classes.now) start ≡ true }
+    requires seen { length seen.old.flags ≡ length classes.now.standing.now }
+    requires stack { stack.old.items ≡ [] }
+    ensures keyed { IfOk result (λ r. IfSome r (λ h. IsKeyed (key_lent key.entry) (member_lent h.member))) }
+    ensures within { IfOk result (λ r. IfSome r (λ h. h.node < length classes.now.standing.now)) }
+    ensures seen { OnOk result (length seen.new.flags ≡ length classes.now.standing.now) }
+    ensures found { IfOk result (TellsField (indexed_of classes.now) (key_lent key.entry) start) }
+{
+    seen.clear();
     stack.push(start)?;
     while let Some(node) = stack.pop() {
         if !seen.has(node) {
@@ -39,7 +59,7 @@ pub(crate) fn find_field<'a>(
                 return Ok(Some(Hit { node, member }));
             }
             seen.add(node)?;
-            classes.push_onward(node, &mut stack)?;
+            classes.push_onward(node, stack)?;
         }
     }
     Ok(None)

@@ -16,7 +16,7 @@ ghost use Rattle.jc_resolve.specs.inside.Resolved.{loading_of as loading_at};
 
 use crate::all_answers::linked;
 use crate::linked::Linked;
-use crate::loaded::{Loaded, load_classes};
+use crate::loaded::load_classes;
 use crate::room::Room;
 use jc_base::NoMemory;
 use jc_classes::{LinkageError, Standing};
@@ -85,17 +85,14 @@ impl<'c, 't> Hierarchy<'c, 't> {
         requires object_name { name_at (names_of names.now) object ≡ java_lang_object }
         ensures { IfOk result (λ h. h ≡ numbered names.now standing.now supertypes.now) }
     {
-        let Loaded {
-            classes,
-            loads,
-            circular,
-        } = load_classes(alloc, names, standing, supertypes, object)?;
+        let numbers = vec![in alloc; 0usize; names.len()]?;
+        let loaded = load_classes(alloc, names, standing, supertypes, object)?;
         Ok(Hierarchy {
-            classes,
-            loads,
-            circular,
+            classes: loaded.classes,
+            loads: loaded.loads,
+            circular: loaded.circular,
             room: None,
-            numbers: vec![in alloc; 0usize; names.len()]?,
+            numbers,
         })
     }
 

@@ -1,9 +1,10 @@
 //! The answers to the references of a class, and which of its instructions do not link (JVMS 6.5).
 
-ghost use Rattle.std.specs.Prelude.{◌≡◌, [], ◌++◌, length, map, IfOk, OnOk};
+ghost use Rattle.std.specs.Prelude.{◌≡◌, List, [], ◌++◌, length, map, IfOk, OnOk};
 ghost use Rattle.std.specs.Iterator.{YieldsFirstBy, item_count};
 ghost use Rattle.std.specs.Option.{option_to_list};
 ghost use Rattle.jc_classes.specs.LinkErrors.{links_in};
+ghost use Rattle.jc_classes.specs.Resolution.{Answer as Told};
 ghost use Rattle.jc_resolve.specs.Linked.{link_lent};
 ghost use Rattle.jc_resolve.specs.inside.Links as specs;
 ghost use Rattle.jc_resolve.specs.inside.Links.{class_at, link_shown, links_shown};
@@ -82,11 +83,7 @@ impl Linked {
         ensures { IfOk result (λ linked. linked ≡ record { answers = answers; links = links_in own.now facts.now answers }) }
     {
         let links = links_of(alloc, own, facts, &answers)?;
-        let references = if links.is_empty() {
-            None
-        } else {
-            Some(facts.shared_references()?)
-        };
+        let references = kept_references(facts, links.as_slice())?;
         Ok(Linked {
             answers,
             references,
@@ -186,6 +183,17 @@ fn class_named(references: &Option<References>, reference: usize) -> &[u8]
         Some(reference) => reference.class,
         None => &[],
     }
+}
+
+/// Returns the references of a class if one of its instructions does not link.
+fn kept_references(facts: &Facts, links: &[LinkEntry]) -> Result<Option<References>, NoMemory>
+    ensures { (answers : List Told) → IfOk result (λ kept. links_shown (references_in kept) answers links.now ≡ links_shown facts.now.references answers links.now) }
+{
+    if links.is_empty() {
+        return Ok(None);
+    }
+    let references = facts.shared_references()?;
+    Ok(Some(references))
 }
 
 /// The errors of the instructions of the class of this name.

@@ -1,14 +1,15 @@
 //! The answer of a reference to a member.
 
 ghost use Rattle.std.specs.Prelude.{◌≡◌, ◌<◌, ℕ, true, IfOk, OnOk};
-ghost use Rattle.jc_classes.specs.Lent.{key_lent};
+ghost use Rattle.std.specs.Option.{IfSome};
+ghost use Rattle.jc_classes.specs.Lent.{key_lent, member_lent};
 ghost use Rattle.jc_classes.specs.Names.{Name};
 ghost use Rattle.jc_classes.specs.Resolution.{ResolvesField, ResolvesInterfaceMethod, ResolvesMethod};
 ghost use Rattle.jc_classes.specs.declared.linkage_error.LinkageError.TheVariants.{NoField, NoMethod};
 ghost use Rattle.jc_numbered.specs.inside.Access.{named_at, IsTarget};
 ghost use Rattle.jc_numbered.specs.inside.Indexed.{Indexed, good_at};
-ghost use Rattle.jc_resolve.specs.inside.Entries.{IsKeyedOutcome};
-ghost use Rattle.jc_resolve.specs.inside.Looks.{reach_of, size_of, TellsMember, TellsStart};
+ghost use Rattle.jc_resolve.specs.inside.Entries.{IsKeyed, IsKeyedOutcome};
+ghost use Rattle.jc_resolve.specs.inside.Looks.{reach_of, size_of, TellsMember, TellsOutcome, TellsStart};
 ghost use Rattle.jc_resolve.specs.inside.Resolved.{element_of, named_of, target_at, IsWithinAll};
 ghost use Rattle.jc_resolve.specs.inside.Resolved.{StartsInArray, StartsInClass, StartsInObject};
 ghost use Rattle.jc_resolve.specs.inside.Rooms.{IsRoom};
@@ -20,7 +21,7 @@ use crate::room::Room;
 use jc_base::NoMemory;
 use jc_classes::{Key, LinkageError};
 use jc_file::AccessFlag;
-use jc_numbered::{Load, Settled, Target, can_see, settle};
+use jc_numbered::{Hit, Load, Settled, Target, can_see, settle};
 use std::alloc::Global;
 
 /// What a Class constant names: a class, or an array with its innermost class.
@@ -133,6 +134,38 @@ impl<'l, 'c, 't> Look<'l, 'c, 't> {
         }
     }
 
+    /// Settles what look-up from the class at `start` found.
+    fn settle_found(
+        &self,
+        alloc: Global,
+        room: &mut Room,
+        named: NamedNode,
+        start: usize,
+        found: Option<Hit<'l>>,
+        key: Key,
+    ) -> Result<MemberOutcome<'l>, NoMemory>
+        requires start { start < size_of self.now }
+        requires target { IsTarget (size_of self.now) (reach_of self.now) (target_at named) }
+        requires room { IsRoom self.now.classes.now room.old }
+        requires home { IfSome found (λ h. h.node < size_of self.now) }
+        requires keyed { IfSome found (λ h. IsKeyed (key_lent key) (member_lent h.member)) }
+        ensures room { OnOk result (IsRoom self.now.classes.now room.new) }
+        ensures keyed { IfOk result (IsKeyedOutcome (key_lent key.entry)) }
+        ensures settled { IfOk result (TellsOutcome self.now named start found.entry) }
+    {
+        let target = target_of(named);
+        let settled = settle(
+            alloc,
+            self.classes,
+            &mut room.above,
+            self.class,
+            target,
+            start,
+            found,
+        )?;
+        Ok(MemberOutcome::Settled(settled))
+    }
+
     /// The answer of a reference to a field (JVMS 5.4.3.2).
     pub(crate) fn field(
         &self,
@@ -151,17 +184,7 @@ impl<'l, 'c, 't> Look<'l, 'c, 't> {
         match self.begin(named) {
             Begun::At(start) => {
                 let found = find_field(alloc, classes, &mut room.covered, start, key)?;
-                let target = target_of(named);
-                let settled = settle(
-                    alloc,
-                    classes,
-                    &mut room.above,
-                    self.class,
-                    target,
-                    start,
-                    found,
-                )?;
-                Ok(MemberOutcome::Settled(settled))
+                self.settle_found(alloc, room, named, start, found, key)
             }
             other => Ok(MemberOutcome::Ends(other)),
         }
@@ -188,17 +211,7 @@ impl<'l, 'c, 't> Look<'l, 'c, 't> {
                     return Ok(MemberOutcome::Ends(Begun::Fails(LinkageError::Incompatible, start)));
                 }
                 let found = find_method(alloc, classes, room, start, key)?;
-                let target = target_of(named);
-                let settled = settle(
-                    alloc,
-                    classes,
-                    &mut room.above,
-                    self.class,
-                    target,
-                    start,
-                    found,
-                )?;
-                Ok(MemberOutcome::Settled(settled))
+                self.settle_found(alloc, room, named, start, found, key)
             }
             other => Ok(MemberOutcome::Ends(other)),
         }
@@ -225,17 +238,7 @@ impl<'l, 'c, 't> Look<'l, 'c, 't> {
                     return Ok(MemberOutcome::NoInterface);
                 }
                 let found = find_interface_method(alloc, classes, room, start, key)?;
-                let target = target_of(named);
-                let settled = settle(
-                    alloc,
-                    classes,
-                    &mut room.above,
-                    self.class,
-                    target,
-                    start,
-                    found,
-                )?;
-                Ok(MemberOutcome::Settled(settled))
+                self.settle_found(alloc, room, named, start, found, key)
             }
             other => Ok(MemberOutcome::Ends(other)),
         }

@@ -8,7 +8,7 @@ ghost use Rattle.jc_classes.specs.Lent.{key_lent, member_lent};
 ghost use Rattle.jc_numbered.specs.inside.Picks.{is_pick};
 ghost use Rattle.jc_numbered.specs.inside.Shown.{indexed_of};
 ghost use Rattle.jc_resolve.specs.inside.Entries.{IsKeyed};
-ghost use Rattle.jc_resolve.specs.inside.Found.{TellsInInterfaces};
+ghost use Rattle.jc_resolve.specs.inside.Found.{TellsChosen, TellsInInterfaces};
 ghost use Rattle.jc_resolve.specs.inside.Picks.{NoOther, TellsFirst, TellsSole, TellsPick};
 ghost use Rattle.jc_resolve.specs.inside.Rooms.{IsRoom};
 
@@ -77,6 +77,30 @@ fn pick(classes: &Classes, covered: &Seen, nodes: &[usize], key: Key) -> Option<
     }
 }
 
+/// Chooses among the methods that interfaces have.
+fn choose<'a>(
+    classes: &'a Classes,
+    covered: &mut Seen,
+    nodes: &[usize],
+    key: Key,
+) -> Result<Option<Hit<'a>>, NoMemory>
+    requires nodes { All (λ v. v < length classes.now.standing.now) nodes.now }
+    requires covered { length covered.old.flags ≡ length classes.now.standing.now }
+    ensures covered { OnOk result (length covered.new.flags ≡ length classes.now.standing.now) }
+    ensures keyed { IfOk result (λ r. IfSome r (λ h. IsKeyed (key_lent key.entry) (member_lent h.member))) }
+    ensures within { IfOk result (λ r. IfSome r (λ h. h.node < length classes.now.standing.now)) }
+    ensures chosen { IfOk result (TellsChosen (length classes.now.standing.now) (indexed_of classes.now) (key_lent key.entry) nodes.now) }
+{
+    classes.see_above(covered, nodes)?;
+    match pick(classes, covered, nodes, key) {
+        Some(node) => match classes.given(node, key) {
+            Some(member) => Ok(Some(Hit { node, member })),
+            None => Ok(None),
+        },
+        None => Ok(None),
+    }
+}
+
 /// The method that a class has from its superinterfaces: the only maximally specific one that is not
 /// abstract, or else that of the interface with the least name. What is above the class is seen once, what is
 /// above the interfaces that give one besides.
@@ -96,12 +120,5 @@ pub(crate) fn find_above<'a>(
 {
     room.above.see(alloc, classes, start)?;
     let nodes = candidates(alloc, classes, room.above.interfaces(), key)?;
-    classes.see_above(&mut room.covered, nodes.as_slice())?;
-    match pick(classes, &room.covered, nodes.as_slice(), key) {
-        Some(node) => match classes.given(node, key) {
-            Some(member) => Ok(Some(Hit { node, member })),
-            None => Ok(None),
-        },
-        None => Ok(None),
-    }
+    choose(classes, &mut room.covered, nodes.as_slice(), key)
 }

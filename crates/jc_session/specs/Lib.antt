@@ -1,3 +1,10 @@
+pub mod AnswerText
+pub mod Answers
+pub mod Checks
+pub mod LentChecks
+pub mod ListedText
+pub mod Runs
+pub mod SaidDependants
 pub mod Statuses
 pub mod Words
 pub mod inside
@@ -7,7 +14,7 @@ pub use Rattle.jc_base.specs.Device
 pub use Rattle.jc_base.specs.TextTests
 pub use Rattle.jc_input.specs.Changes
 pub use Rattle.jc_input.specs.EditErrors
-pub use Rattle.jc_limits.specs.FileEdits
+pub use Rattle.jc_input.specs.FileEdits
 pub use Rattle.jc_edits.specs.Edits
 pub use Rattle.jc_edits.specs.Judged
 pub use Rattle.jc_edits.specs.SaidPart
@@ -18,3 +25,11 @@ pub use Rattle.jc_report.specs.FileRowView
 pub use Rattle.jc_report.specs.FileRows
 pub use Rattle.jc_report.specs.Files
 pub use Rattle.jc_report.specs.Winners
+pub use Rattle.jc_view.specs.Outcome
+pub use Rattle.jc_view.specs.Refusal
+pub use Rattle.jc_input.specs.FileSource
+pub use Rattle.jc_input.specs.LentCommands
+pub use Rattle.jc_input.specs.LineReading
+pub use Rattle.jc_input.specs.Lines
+pub use Rattle.jc_input.specs.RunErrors
+pub use Rattle.jc_input.specs.Sources

@@ -14,15 +14,15 @@ use Rattle.jc_input.specs.declared.edit.EditError.{EditError}
 use Rattle.jc_input.specs.declared.edit.EditError.TheVariants as errors
 use Rattle.jc_text.specs.Escapes.{path_text}
 use Rattle.jc_input.specs.EditErrors.{edit_code, edit_error_name}
-use Rattle.jc_check.specs.Checks.{Answer, CheckFault, ChecksAs, FileRefused, FileUnread, WriteFailed, added}
-use Rattle.jc_check.specs.Checks as checks
-use Rattle.jc_check.specs.declared.checking.CheckForm.{CheckForm}
+use Rattle.jc_session.specs.Checks.{Answer, CheckFault, ChecksAs, FileRefused, FileUnread, WriteFailed, added}
+use Rattle.jc_session.specs.Checks as checks
+use Rattle.jc_session.specs.declared.checking.CheckForm.{CheckForm}
 use Rattle.jc_classes.specs.Names.{name_cmp}
 use Rattle.jc_list.specs.Listing.{WritesBeginning}
-use Rattle.jc_lines.specs.ListedText.{file_text, is_faulty_file}
-use Rattle.jc_limits.specs.FileEdits.{size_fault}
+use Rattle.jc_session.specs.ListedText.{file_text, is_faulty_file}
+use Rattle.jc_input.specs.FileEdits.{size_fault}
 use Rattle.jc_edits.specs.SessionState.{Contents}
-use Rattle.jc_lines.specs.Runs.{RunsByAnswers, left_by}
+use Rattle.jc_session.specs.Runs.{RunsByAnswers, left_by}
 use Rattle.jc_report.specs.Reports.{IsReport, Report, is_wrong}
 use Rattle.jc_session.specs.Words.{AsksCheck, AsksListing, AsksRun, IsUsageError, Word}
 

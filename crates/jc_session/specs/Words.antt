@@ -7,8 +7,8 @@ use Rattle.clap.specs.Simple.{App, new_app, new_rule, on_top, subcommand_of, wit
 use Rattle.clap.specs.Walk.{Row, Rule, all_of, first_of, one_of}
 use Rattle.clap.specs.declared.builder.action.ArgAction.TheVariants.{Append, SetTrue}
 use Rattle.clap.specs.declared.error.kind.ErrorKind.{ErrorKind}
-use Rattle.jc_check.specs.declared.checking.CheckForm.{CheckForm}
-use Rattle.jc_check.specs.declared.checking.CheckForm.TheVariants as forms
+use Rattle.jc_session.specs.declared.checking.CheckForm.{CheckForm}
+use Rattle.jc_session.specs.declared.checking.CheckForm.TheVariants as forms
 use Rattle.jc_classes.specs.Names.{Name}
 use Rattle.jc_classes.specs.Numbers.{IsOnce}
 use Rattle.jc_link.specs.Prefixes.{prefixes_fault, standard_prefixes}

@@ -4,13 +4,13 @@ ghost use Rattle.std.specs.Prelude.{◌≡◌, ◌++◌, codes};
 ghost use Rattle.jc_text.specs.Escapes.{path_text};
 ghost use Rattle.jc_text.specs.Sends.{Sends};
 ghost use Rattle.jc_session.specs.Statuses.{NoMemory, Refused, WritesUnlessFailed, fault_of, fault_of_check, fault_status, fault_text};
-ghost use Rattle.jc_check.specs.LentChecks.{check_fault_lent};
+ghost use Rattle.jc_session.specs.LentChecks.{check_fault_lent};
 ghost use Rattle.jc_session.specs.inside.LentFaults.{fault_lent, fault_of_listing};
 
+use crate::checking::CheckError;
 use jc_base::{NoMemory as NoMemoryLeft, Output};
-use jc_check::CheckError;
 use jc_edits::EditError;
-use jc_lines::RunError;
+use jc_input::RunError;
 use jc_list::ListError;
 use jc_text::TextWriter;
 use std::alloc::AllocError;

@@ -5,7 +5,7 @@ ghost use Rattle.std.specs.String.{string_bytes};
 ghost use Rattle.std.specs.declared.option.Option.TheVariants.{None};
 ghost use Rattle.jc_session.specs.inside.Paths.{below};
 
-use jc_lines::{FileSource, Source, SourceError};
+use jc_input::{FileSource, Source, SourceError};
 use std::alloc::{AllocError, Global};
 use std::rt::Files;
 

@@ -12,10 +12,10 @@ ghost use Rattle.jc_session.specs.inside.LentFaults.{fault_lent};
 ghost use Rattle.jc_session.specs.inside.Requests.{AsksAmong, AsksBy, AsksFor, FailsFor, HasFlag, HasLeaf, HasPath, IsComplete, IsLeaf};
 ghost use Rattle.jc_session.specs.inside.Requests.{IsRefusedBy, command_of};
 
+use crate::checking::CheckForm;
 use crate::fault::Fault;
 use clap::error::ErrorKind;
 use clap::{Arg, ArgAction, ArgMatches, Command};
-use jc_check::CheckForm;
 use jc_link::{Outside, OutsideError};
 use std::alloc::{AllocError, Global};
 
@@ -207,19 +207,21 @@ fn list_command<'a>(alloc: Global) -> Result<Command<'a>, AllocError>
 fn check_command<'a>(alloc: Global) -> Result<Command<'a>, AllocError>
     ensures { IfOk result (IsLeaf line.check_command) }
 {
-    let errors = Arg::new(alloc, "errors")
-        .long("errors")
-        .action(ArgAction::SetTrue);
-    let used = Arg::new(alloc, "used")
-        .long("used")
-        .action(ArgAction::SetTrue);
     let folder = Arg::new(alloc, "DIR").required(true);
     Command::new(alloc, "check")
-        .arg(errors)?
-        .arg(used)?
+        .arg(flag(alloc, "errors"))?
+        .arg(flag(alloc, "used"))?
         .arg(prefix_option(alloc, "only"))?
         .arg(prefix_option(alloc, "outside"))?
         .arg(folder)
+}
+
+/// Returns an option that has no value.
+fn flag<'a>(alloc: Global, name: &'a str) -> Arg<'a>
+    ensures rule { rule_of result ≡ line.flag name.entry.now }
+    ensures own { result.global ≡ false }
+{
+    Arg::new(alloc, name).long(name).action(ArgAction::SetTrue)
 }
 
 /// An option that may be given several times.

@@ -15,7 +15,7 @@ use Rattle.jc_link.specs.Meters.{Counts}
 use Rattle.jc_link.specs.Prefixes.{is_covered}
 use Rattle.jc_link.specs.Tables.{or_built_in, stands_by}
 use Rattle.jc_input.specs.Changes.{Change, Adds, Replaces, Removes, path_of, bytes_of}
-use Rattle.jc_limits.specs.FileEdits as edits
+use Rattle.jc_input.specs.FileEdits as edits
 use Rattle.jc_edits.specs.Touched.{gives, is_path, is_taken}
 use Rattle.jc_edits.specs.inside.Changing.{AreChanges, won}
 use Rattle.jc_edits.specs.inside.Growth.{put_at}

@@ -13,7 +13,7 @@ use Rattle.jc_input.specs.Changes.{Change, OfFiles, OfPrefixes, bytes_of, path_o
 use Rattle.jc_report.specs.Files.{Files}
 use Rattle.jc_report.specs.FileRows.{winner}
 use Rattle.jc_report.specs.Reports.{facts_at, world_of}
-use Rattle.jc_limits.specs.FileEdits as edits
+use Rattle.jc_input.specs.FileEdits as edits
 use Rattle.jc_edits.specs.Edits.{after_edit, after_prefix}
 use Rattle.jc_edits.specs.Touched.{AffectedEitherWay, EditsDiffer, is_path, is_taken, is_touched, world_at}
 use Rattle.jc_edits.specs.inside.Changing.{won}

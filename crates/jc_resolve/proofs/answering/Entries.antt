@@ -4,7 +4,7 @@ use Rattle.std.proofs.lemmas.List.{length-append}
 use Rattle.std.proofs.Math.ListN.{get_or-append}
 use Rattle.std.specs.List.{slice_get}
 use Rattle.std.specs.Option.{option_map}
-use Rattle.std.proofs.Common.{Some}
+use Rattle.std.proofs.Common.{Some, None}
 use Rattle.jc_classes.specs.Facts.{Reference}
 use Rattle.jc_classes.specs.Names.{Name, polymorphic_descriptor}
 use Rattle.jc_classes.specs.Parts.{AreAnswers}
@@ -20,7 +20,7 @@ use Rattle.jc_resolve.specs.declared.entry.Entry.TheVariants as entry
 use Rattle.jc_resolve.specs.inside.Answered.{IsAnsweredAt, IsAnsweredBy}
 use Rattle.jc_code.specs.inside.Fronts.{BeginsWith}
 use Rattle.jc_classes.specs.inside.FactsShown.{text_at}
-use Rattle.jc_resolve.specs.inside.Entries.{IsWithin, entries_shown, entry_shown}
+use Rattle.jc_resolve.specs.inside.Entries.{IsSame, IsWithin, entries_shown, entry_shown, node_of, with_number}
 use Rattle.jc_resolve.specs.inside.Naming.{AreSame}
 use Rattle.jc_resolve.specs.inside.Resolved.{loading_of, TellsLoads}
 
@@ -156,3 +156,44 @@ kind_shown f (r ∷ rs) (x ∷ es) (suc i) e k size at kind = kind_shown f rs es
 pub none_shown : (f : ℕ → Name) (rs : List Reference) → entries_shown f rs (map (λ (r : Reference). entry.NotLoaded) rs) ≡ map (λ (r : Reference). answer.NotLoaded) rs
 none_shown f [] = refl
 none_shown f (r ∷ rs) = ap (λ z. answer.NotLoaded ∷ z) (none_shown f rs)
+
+-- ---- the same, with a number in place of a class
+
+none_some : {X : Type 0} {x : X} → None ≡ Some x → ⊥
+none_some e = cc
+
+pub same_with : (f g : ℕ → Name) (e : Entry ℕ) (n v : ℕ) → Some v ≡ node_of e → f n ≡ g v → IsSame f g (with_number e n) e
+same_with f g (entry.ToClass flags) n v k h r = refl
+same_with f g (entry.ToMember flags w) n v k h r = ap (λ t. answer.ToMember t (record { name = r.key.name; descriptor = r.key.descriptor; flags = flags })) (h ∙ ap g (some_is k))
+same_with f g (entry.ToPolymorphic flags w) n v k h r = ap (λ t. answer.ToMember t (record { name = r.key.name; descriptor = polymorphic_descriptor; flags = flags })) (h ∙ ap g (some_is k))
+same_with f g (entry.Outside w) n v k h r = ap answer.Outside (h ∙ ap g (some_is k))
+same_with f g entry.NotLoaded n v k h r = refl
+same_with f g (entry.Error fault w) n v k h r = ap (answer.Error fault) (h ∙ ap g (some_is k))
+same_with f g (entry.OwnError fault) n v k h r = refl
+
+pub same_without : (f g : ℕ → Name) (e : Entry ℕ) (n : ℕ) → None ≡ node_of e → IsSame f g (with_number e n) e
+same_without f g (entry.ToClass flags) n k r = refl
+same_without f g (entry.ToMember flags w) n k r = absurd (none_some k)
+same_without f g (entry.ToPolymorphic flags w) n k r = absurd (none_some k)
+same_without f g (entry.Outside w) n k r = absurd (none_some k)
+same_without f g entry.NotLoaded n k r = refl
+same_without f g (entry.Error fault w) n k r = absurd (none_some k)
+same_without f g (entry.OwnError fault) n k r = refl
+
+pub within_with : (count : ℕ) (e : Entry ℕ) (n : ℕ) → n < count → IsWithin count (with_number e n)
+within_with count (entry.ToClass flags) n l = tt
+within_with count (entry.ToMember flags w) n l = l
+within_with count (entry.ToPolymorphic flags w) n l = l
+within_with count (entry.Outside w) n l = l
+within_with count entry.NotLoaded n l = tt
+within_with count (entry.Error fault w) n l = l
+within_with count (entry.OwnError fault) n l = tt
+
+pub within_without : (count : ℕ) (e : Entry ℕ) (n : ℕ) → None ≡ node_of e → IsWithin count (with_number e n)
+within_without count (entry.ToClass flags) n k = tt
+within_without count (entry.ToMember flags w) n k = absurd (none_some k)
+within_without count (entry.ToPolymorphic flags w) n k = absurd (none_some k)
+within_without count (entry.Outside w) n k = absurd (none_some k)
+within_without count entry.NotLoaded n k = tt
+within_without count (entry.Error fault w) n k = absurd (none_some k)
+within_without count (entry.OwnError fault) n k = tt

@@ -1,9 +1,14 @@
 -- Answers to references.
-use Rattle.std.proofs.Common.{◌≡◌, ℕ, ◌<◌, List, Option, Some, None, sym, ap, subst, ◌∙◌}
+use Rattle.std.proofs.Common.{◌≡◌, ℕ, Bool, ◌<◌, List, Option, Some, None, sym, ap, subst, ◌∙◌}
 use Rattle.jc_classes.specs.Names.{Name}
 use Rattle.jc_classes.specs.Loading.{can_see}
 use Rattle.jc_classes.specs.Worlds.{World, flags_of, text_of}
 use Rattle.jc_classes.specs.Facts.Named.{Array}
+use Rattle.jc_classes.specs.Facts.{Reference}
+use Rattle.jc_classes.specs.Loading.{Loading as loading}
+use Rattle.jc_classes.specs.Resolution.{Answer as answer}
+use Rattle.jc_classes.specs.declared.linkage_error.LinkageError.{LinkageError}
+use Rattle.jc_numbered.specs.declared.loads.Load.TheVariants as state
 use Rattle.jc_classes.specs.Resolution.{Answer, ResolvesClass, class_answer}
 use Rattle.jc_classes.specs.Resolution.{ResolvesClass as rclass}
 use Rattle.jc_classes.specs.Resolution.Answer.{ToClass}
@@ -36,3 +41,14 @@ module _ (m : World) (count : ℕ) (x : Indexed) (graph : IsGraph count x) (inde
 pub primitive_made : (m : World) (x : Indexed) (d : ℕ) (text : Name) (r : NamedNode) (o : Option ℕ) (a : Answer) → r ≡ by.Array o → o ≡ None → a ≡ ToClass text 0 → ResolvesClass m (indexed_name x d) (named_of x r text) a
 primitive_made m x d text r o a is none e =
     subst (λ z. ResolvesClass m (indexed_name x d) (named_of x z text) a) (sym (is ∙ ap by.Array none)) (subst (ResolvesClass m (indexed_name x d) (Array text None)) (sym e) rclass.primitives)
+
+-- ---- the answer of a reference to the class of a node, by how it loads
+
+pub outside_told : (x : Indexed) (v flags : ℕ) (load : Load) (seen : Bool) → state.Outside ≡ load → (r : Reference) → answer.Outside (indexed_name x v) ≡ class_answer (text_of r.named) (indexed_name x v) (loading_of x load) seen flags
+outside_told x v flags load seen e r = ap (λ l. class_answer (text_of r.named) (indexed_name x v) (loading_of x l) seen flags) e
+
+pub fails_told : (x : Indexed) (v flags : ℕ) (load : Load) (seen : Bool) (fault : LinkageError) (about : ℕ) → state.Fails fault about ≡ load → (r : Reference) → answer.Error fault (indexed_name x about) ≡ class_answer (text_of r.named) (indexed_name x v) (loading_of x load) seen flags
+fails_told x v flags load seen fault about e r = ap (λ l. class_answer (text_of r.named) (indexed_name x v) (loading_of x l) seen flags) e
+
+pub seen_told : (x : Indexed) (v flags : ℕ) (load : Load) (seen b : Bool) → state.Loaded ≡ load → b ≡ seen → (r : Reference) → class_answer (text_of r.named) (indexed_name x v) loading.Loaded b flags ≡ class_answer (text_of r.named) (indexed_name x v) (loading_of x load) seen flags
+seen_told x v flags load seen b e f r = ap (λ z. class_answer (text_of r.named) (indexed_name x v) loading.Loaded z flags) f ∙ ap (λ l. class_answer (text_of r.named) (indexed_name x v) (loading_of x l) seen flags) e

@@ -1,5 +1,5 @@
 -- The choice among superinterface methods.
-use Rattle.std.proofs.Common.{◌≡◌, ℕ, ◌<◌, zero, Bool, true, false, not, ◌&&◌, List, [], ◌∷◌, length, is_some, Option, Some, None, refl, sym, ap, subst, ◌∙◌, ◌⊎◌, inl, inr, ⊎_elim, arith}
+use Rattle.std.proofs.Common.{All, ◌≡◌, ℕ, ◌<◌, zero, Bool, true, false, not, ◌&&◌, List, [], ◌∷◌, is_some, Option, Some, None, refl, sym, ap, subst, ◌∙◌, ◌⊎◌, inl, inr, ⊎_elim, arith}
 use Rattle.std.proofs.lemmas.Bool.{false≢true}
 use Rattle.std.specs.List.{Contains, filter}
 use Rattle.jc_classes.specs.Names.{name_less}
@@ -8,7 +8,7 @@ use Rattle.jc_classes.specs.Worlds.{World, Found, Above}
 use Rattle.jc_classes.specs.Facts.{Member, Key}
 use Rattle.jc_classes.specs.MethodLookup.{given_by, IsCandidate, IsMaximal, IsOnly, IsLeast, FindsAbove, FindsAbove as up}
 use Rattle.std.proofs.lemmas.List.Elements.{All-contains}
-use Rattle.jc_graph.specs.Seen.{flag_at, IsSeen}
+use Rattle.jc_graph.specs.Seen.{flag_at}
 use Rattle.jc_numbered.specs.inside.Indexed.{Indexed, indexed_name, IsGraph, IsIndexed}
 use Rattle.jc_graph.specs.Graph.{Above as AboveNode}
 use Rattle.jc_graph.specs.Seen.{TellsAbove}
@@ -138,7 +138,5 @@ module _ (m : World) (count : ℕ) (x : Indexed) (graph : IsGraph count x) (inde
 pub picked_offers : (x : Indexed) (k : Key) (list : List ℕ) (covered : List Bool) (v : ℕ) → TellsPick x k covered (filter (offers x k) list) (Some v) → is_some (gives x k v) ≡ true
 picked_offers x k list covered v t = (filter_out (offers x k) list v (⊎_elim (λ s. s.listed) (λ s. s.1.listed) t)).1
 
-pub picked_in : (count : ℕ) (x : Indexed) (k : Key) (flags : List Bool) (list : List ℕ) (covered : List Bool) (v : ℕ) → length flags ≡ count → IsSeen flags list → TellsPick x k covered (filter (offers x k) list) (Some v) → v < count
-picked_in count x k flags list covered v e s t =
-    let l = All-contains (λ w. w < length flags) list v s.all.nodes (filter_out (offers x k) list v (⊎_elim (λ s. s.listed) (λ s. s.1.listed) t)).0 in
-    omega arith
+pub picked_all : (x : Indexed) (k : Key) (P : ℕ → Type 0) (nodes : List ℕ) (covered : List Bool) (v : ℕ) → All P nodes → TellsPick x k covered nodes (Some v) → P v
+picked_all x k P nodes covered v a t = All-contains P nodes v a (⊎_elim (λ s. s.listed) (λ s. s.1.listed) t)

@@ -1,5 +1,5 @@
 -- Answers by numbers.
-use Rattle.std.specs.Prelude.{◌≡◌, ◌⊎◌, ℕ, ◌<◌, List, [], ◌∷◌}
+use Rattle.std.specs.Prelude.{◌≡◌, ◌⊎◌, ℕ, ◌<◌, List, [], ◌∷◌, Option, Some, None}
 use Rattle.jc_classes.specs.Facts.{Key, Member, Reference}
 use Rattle.jc_classes.specs.Lent.{member_lent}
 use Rattle.jc_classes.specs.Names.{Name, polymorphic_descriptor}
@@ -62,3 +62,23 @@ IsWithin count (entry.Outside n) = n < count
 IsWithin count entry.NotLoaded = Unit {0}
 IsWithin count (entry.Error e n) = n < count
 IsWithin count (entry.OwnError e) = Unit {0}
+
+-- the class whose name an answer tells
+abbrev pub node_of : Entry ℕ → Option ℕ
+node_of (entry.ToClass flags) = None
+node_of (entry.ToMember flags v) = Some v
+node_of (entry.ToPolymorphic flags v) = Some v
+node_of (entry.Outside v) = Some v
+node_of entry.NotLoaded = None
+node_of (entry.Error e v) = Some v
+node_of (entry.OwnError e) = None
+
+-- with a number in its place
+abbrev pub with_number : Entry ℕ → ℕ → Entry ℕ
+with_number (entry.ToClass flags) n = entry.ToClass flags
+with_number (entry.ToMember flags v) n = entry.ToMember flags n
+with_number (entry.ToPolymorphic flags v) n = entry.ToPolymorphic flags n
+with_number (entry.Outside v) n = entry.Outside n
+with_number entry.NotLoaded n = entry.NotLoaded
+with_number (entry.Error e v) n = entry.Error e n
+with_number (entry.OwnError e) n = entry.OwnError e

@@ -1,11 +1,15 @@
 -- What look-up finds from a node, in every world that has what stands at the names of the nodes.
-use Rattle.std.specs.Prelude.{ℕ, Option, option_map}
+use Rattle.std.specs.Prelude.{◌≡◌, ℕ, ◌<◌, List, [], ◌∷◌, Option, option_map}
+use Rattle.std.specs.List.{filter}
 use Rattle.jc_classes.specs.Facts.{Key}
 use Rattle.jc_classes.specs.FieldLookup.{FindsField}
 use Rattle.jc_classes.specs.MethodLookup.{FindsAbove, FindsInClasses, FindsInterfaceMethod, FindsMethod}
 use Rattle.jc_classes.specs.Worlds.{World}
+use Rattle.jc_graph.specs.declared.seen.Seen.{Seen}
 use Rattle.jc_numbered.specs.declared.classes.Hit.{Hit}
+use Rattle.jc_numbered.specs.inside.Above.{SeesAbove}
 use Rattle.jc_numbered.specs.inside.Indexed.{Indexed, indexed_name, IsIndexed}
+use Rattle.jc_numbered.specs.inside.Picks.{offers}
 use Rattle.jc_numbered.specs.inside.Shown.{found_at}
 
 abbrev pub TellsField : Indexed → Key → ℕ → Option Hit → Type 0
@@ -18,6 +22,11 @@ TellsInClasses x k start hit = (m : World) → IsIndexed m x → FindsInClasses 
 -- among its superinterfaces
 abbrev pub TellsInInterfaces : Indexed → Key → ℕ → Option Hit → Type 0
 TellsInInterfaces x k start hit = (m : World) → IsIndexed m x → FindsAbove m k (indexed_name x start) (option_map (found_at x) hit)
+
+-- so for each class above which these nodes are what offers one
+abbrev pub TellsChosen : ℕ → Indexed → Key → List ℕ → Option Hit → Type 0
+TellsChosen count x k nodes hit = (start : ℕ) (seen : Seen) → start < count → SeesAbove count x (start ∷ []) seen
+    → nodes ≡ filter (offers x k) seen.list → TellsInInterfaces x k start hit
 
 abbrev pub TellsMethod : Indexed → Key → ℕ → Option Hit → Type 0
 TellsMethod x k start hit = (m : World) → IsIndexed m x → FindsMethod m k (indexed_name x start) (option_map (found_at x) hit)

@@ -1,15 +1,16 @@
 -- What a class that asks is told, in every world that has what stands at the names of its reach and in which each class
 -- loads as is known.
-use Rattle.std.specs.Prelude.{◌≡◌, ℕ, length}
+use Rattle.std.specs.Prelude.{◌≡◌, ℕ, Option, length, option_map}
 use Rattle.jc_classes.specs.Facts.{Key, Named, Reference}
 use Rattle.jc_classes.specs.Names.{Name}
 use Rattle.jc_classes.specs.Parts.{ResolvesOf}
-use Rattle.jc_classes.specs.Resolution.{Answer, ResolvesClass, Starts, class_answer}
+use Rattle.jc_classes.specs.Resolution.{Answer, ResolvesClass, Settles, Starts, class_answer}
 use Rattle.jc_classes.specs.Worlds.{World, text_of}
 use Rattle.jc_classes.specs.declared.linkage_error.LinkageError.{LinkageError}
+use Rattle.jc_numbered.specs.declared.classes.Hit.{Hit}
 use Rattle.jc_numbered.specs.inside.Indexed.{Indexed, indexed_name, IsIndexed}
 use Rattle.jc_numbered.specs.inside.Loading.{load_at, sees}
-use Rattle.jc_numbered.specs.inside.Shown.{indexed_of}
+use Rattle.jc_numbered.specs.inside.Shown.{found_at, indexed_of}
 use Rattle.jc_resolve.specs.declared.entry.Entry.{Entry}
 use Rattle.jc_resolve.specs.declared.look.Look.{Look}
 use Rattle.jc_resolve.specs.declared.resolve.Begun.{Begun}
@@ -40,6 +41,12 @@ TellsMember Resolves missing l named k o = (m : World) (text : Name)
     → TellsLoads m (reach_of l) (size_of l) l.loads.now → IsIndexed m (reach_of l)
     → Resolves m (asker_of l) (named_of (reach_of l) named text) k
     (outcome_of (reach_of l) (named_of (reach_of l) named text) missing o)
+
+-- what becomes of what look-up of a member found from a node
+abbrev pub TellsOutcome : Look → NamedNode → ℕ → Option Hit → MemberOutcome → Type 0
+TellsOutcome l named start found o = (m : World) (text : Name) (missing : LinkageError) → IsIndexed m (reach_of l)
+    → Settles m (asker_of l) (named_of (reach_of l) named text) (indexed_name (reach_of l) start) missing
+    (option_map (found_at (reach_of l)) found) (outcome_of (reach_of l) (named_of (reach_of l) named text) missing o)
 
 -- the answer of a reference to the class of a node with these flags, or to an array of it
 abbrev pub TellsNode : Look → ℕ → ℕ → Entry ℕ → Type 0

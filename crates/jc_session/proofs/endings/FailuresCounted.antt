@@ -8,10 +8,10 @@ use Rattle.jc_input.specs.declared.edit.EditError.{EditError}
 use Rattle.jc_input.specs.declared.edit.EditError.TheVariants as errors
 use Rattle.jc_input.specs.declared.source.SourceError.{SourceError}
 use Rattle.jc_input.specs.declared.source.SourceError.TheVariants as sources
-use Rattle.jc_limits.specs.FileEdits.{size_fault}
+use Rattle.jc_input.specs.FileEdits.{size_fault}
 use Rattle.std.specs.Io.KnownBytes.{Keeps}
-use Rattle.jc_check.specs.Checks.{CheckFault, FileRefused, FileUnread, WriteFailed}
-use Rattle.jc_check.specs.Checks as checks
+use Rattle.jc_session.specs.Checks.{CheckFault, FileRefused, FileUnread, WriteFailed}
+use Rattle.jc_session.specs.Checks as checks
 use Rattle.jc_session.specs.Statuses.{Checks, CountsInput, CountsOutput, Fault, ListsAs, ListsFile, NoMemory, Outcome, Refused, Usage, fault_of, outcome_of_check}
 use Rattle.jc_session.specs.Words.{Word}
 

@@ -4,7 +4,7 @@ use Rattle.jc_input.specs.declared.run_error.Ended.{Ended}
 use Rattle.jc_input.specs.declared.run_error.RunError.{RunError}
 use Rattle.jc_input.specs.Sources.{SourceAnswers}
 use Rattle.jc_edits.specs.SessionState.{Contents}
-use Rattle.jc_lines.specs.Runs.{RunsByAnswers, RunsFrom, left_by}
+use Rattle.jc_session.specs.Runs.{RunsByAnswers, RunsFrom, left_by}
 use Rattle.jc_session.specs.Statuses.{IsOutcome, Outcome}
 
 -- a run from these files and prefixes had this outcome, by the answers that its source has to come, and by those that it gave.

@@ -22,7 +22,7 @@ returns c =
     let h = c.in_ok-entries.ensures.holds _ (begins_whole _) in
     let t = c.in_ok-texts_shared.ensures.ok ∙ c.into_list.ensures in
     let r = c.in_ok-references.ensures.ok in
-    let f = c.in_ok-faults.ensures in
+    let code = c.in_ok-uses.ensures in
     facts_eta _ (sound_facts c.args.path.now class)
     c.in_ok-path.ensures.items
     (ap (λ ts. text_at ts e.name) t ∙ h.name)
@@ -32,13 +32,13 @@ returns c =
     (ap (λ ts. map (member_shown ts) e.fields.items) t ∙ h.fields)
     (ap (λ ts. map (member_shown ts) e.methods.items) t ∙ h.methods)
     (ap (λ rs. map (reference_shown c.in_ok-texts_shared.texts_shared.value) rs.items) r ∙ ap (λ ts. map (reference_shown ts) e.references.items) t ∙ h.references)
-    c.in_ok-codes.ensures.uses
-    (c.in_ok-users.ensures ∙ ap (map (entry_user class)) c.deref.ensures.value ∙ users_shown class _ e.references.items h.references)
-    (ap (λ v. v.items) f.format ∙ c.new-4.ensures.items)
-    (ap (λ v. v.items) f.code ∙ c.in_ok-codes.ensures.faults)
+    code.uses
+    (code.users ∙ ap (map (entry_user class)) c.deref.ensures.value ∙ users_shown class _ e.references.items h.references)
+    code.format
+    code.faults
 
-pub users-requires-clause-within : goal.users-requires-clause-within
-users-requires-clause-within c =
+pub code_facts-requires : goal.code_facts-requires
+code_facts-requires c =
     let class = c.args.class.now in
     let e = c.in_ok-entries.entries in
     let h = c.in_ok-entries.ensures.holds _ (begins_whole _) in
@@ -57,5 +57,5 @@ invariant_of-result c =
       references = subst AreByIndex
           (sym (ap (λ rs. map (reference_shown c.in_ok-texts_shared.texts_shared.value) rs.items) c.in_ok-references.ensures.ok ∙ ap (λ ts. map (reference_shown ts) e.references.items) (sym t) ∙ h.references))
           (references_rise class);
-      uses = subst AreByPlace (sym c.in_ok-codes.ensures.uses) (uses_sorted class);
+      uses = subst AreByPlace (sym c.in_ok-uses.ensures.uses) (uses_sorted class);
     }

@@ -2,6 +2,7 @@ use Rattle.std.proofs.Common.{◌≡◌, ◌++◌, ◌∷◌, [], ◌∙◌, ap,
 use Rattle.std.specs.Option.{option_to_list}
 use Rattle.jc_code.specs.Insns.{IsCode}
 use Rattle.jc_code.specs.inside.Found.{faults_of_others, has_targets, insn_faults, jumps_of}
+use Rattle.jc_code.specs.inside.Fronts.{BeginsWith}
 use Rattle.jc_code.specs.inside.Marks.{marked}
 use Rattle.jc_code.proofs.appended.Fronts.{begins_longer, begins_whole, one_kept}
 use Rattle.jc_code.proofs.marks.Marked.{has_marked, marked_none, marks_long, none_marked, place_within}
@@ -112,3 +113,35 @@ returns-clause-names c =
     ∙ ap (λ items. c.loop-place.names.items ++ named_by_insns items) (sym c.in_default.ensures.steps.1.0)
     ∙ c.loop-place.invariant.names
     ∙ ap (λ (read : InsnsLeft). c.args.names.now.items ++ named_by_insns read.left) c.new-insns.ensures.read
+
+pub returns-clause-uses_kept : goal.returns-clause-uses_kept
+returns-clause-uses_kept c = c.loop-place.invariant.uses_kept
+
+pub returns-clause-names_kept : goal.returns-clause-names_kept
+returns-clause-names_kept c = c.loop-place.invariant.names_kept
+
+-- ---- where memory is refused
+
+pub returns-in_err-marks-clause-uses_kept : goal.returns-in_err-marks-clause-uses_kept
+returns-in_err-marks-clause-uses_kept c = begins_whole c.args.uses.now.items
+
+pub returns-in_err-marks-clause-names_kept : goal.returns-in_err-marks-clause-names_kept
+returns-in_err-marks-clause-names_kept c = begins_whole c.args.names.now.items
+
+pub returns-in_err-push_use-clause-uses_kept : goal.returns-in_err-push_use-clause-uses_kept
+returns-in_err-push_use-clause-uses_kept c = subst (λ uses. BeginsWith uses c.args.uses.now.items) (sym c.in_err-push_use.ensures.err) c.loop-place.invariant.uses_kept
+
+pub returns-in_err-push_use-clause-names_kept : goal.returns-in_err-push_use-clause-names_kept
+returns-in_err-push_use-clause-names_kept c = c.loop-place.invariant.names_kept
+
+pub returns-in_err-push_named-clause-uses_kept : goal.returns-in_err-push_named-clause-uses_kept
+returns-in_err-push_named-clause-uses_kept c = begins_longer c.args.uses.now.items c.loop-place.uses.items _ _ c.loop-place.invariant.uses_kept c.in_ok-push_use.ensures.ok
+
+pub returns-in_err-push_named-clause-names_kept : goal.returns-in_err-push_named-clause-names_kept
+returns-in_err-push_named-clause-names_kept c = subst (λ names. BeginsWith names c.args.names.now.items) (sym c.in_err-push_named.ensures.err) c.loop-place.invariant.names_kept
+
+pub returns-in_err-look-clause-uses_kept : goal.returns-in_err-look-clause-uses_kept
+returns-in_err-look-clause-uses_kept c = begins_longer c.args.uses.now.items c.loop-place.uses.items _ _ c.loop-place.invariant.uses_kept c.in_ok-push_use.ensures.ok
+
+pub returns-in_err-look-clause-names_kept : goal.returns-in_err-look-clause-names_kept
+returns-in_err-look-clause-names_kept c = begins_longer c.args.names.now.items c.loop-place.names.items _ _ c.loop-place.invariant.names_kept c.in_ok-push_named.ensures.ok

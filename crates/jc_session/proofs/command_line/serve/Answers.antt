@@ -3,11 +3,11 @@ use Rattle.std.proofs.KnownBytes.{Keeps-refl}
 use Rattle.std.proofs.lemmas.Result.{err_from_is_err_and}
 use Rattle.jc_input.specs.declared.run_error.RunError.TheVariants as errors
 use Rattle.jc_edits.specs.SessionState.{Contents, contents_of}
-use Rattle.jc_lines.specs.Runs.{Left, RunsAs}
+use Rattle.jc_session.specs.Runs.{Left, RunsAs}
 use Rattle.jc_input.specs.Sources.{SourceAnswers}
 use Rattle.jc_session.specs.Statuses.{begun}
 use Rattle.jc_session.specs.inside.LentFaults.{outcome_lent}
-use Rattle.jc_lines.proofs.runs.ByAnswers.{not_begun}
+use Rattle.jc_session.proofs.runs.ByAnswers.{not_begun}
 use Rattle.jc_session.proofs.command_line.serve.Goals as goal
 
 pub returns-in_err-session-clause-runs : goal.returns-in_err-session-clause-runs

@@ -1,2 +1,0 @@
-pub mod listings
-pub mod runs

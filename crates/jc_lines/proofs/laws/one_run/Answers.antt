@@ -1,5 +1,0 @@
-use Rattle.jc_lines.proofs.runs.OneRun.{one_run}
-use Rattle.jc_lines.proofs.laws.one_run.Goals as goal
-
-pub returns : goal.returns
-returns c = λ h s lines q r a b. one_run a b

@@ -1,2 +1,0 @@
-pub mod EditText
-pub mod Replies

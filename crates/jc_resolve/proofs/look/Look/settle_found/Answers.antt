@@ -1,0 +1,33 @@
+use Rattle.std.proofs.Common.{length, sym, subst, option_map}
+use Rattle.jc_classes.specs.Lent.{key_lent}
+use Rattle.jc_classes.specs.Resolution.{Settles}
+use Rattle.jc_numbered.specs.declared.access.Target.{Target}
+use Rattle.jc_numbered.specs.inside.Access.{IsTarget}
+use Rattle.jc_numbered.specs.inside.Indexed.{indexed_name}
+use Rattle.jc_numbered.specs.inside.Settled.{answer_of}
+use Rattle.jc_numbered.specs.inside.Shown.{indexed_of, found_at}
+use Rattle.jc_resolve.specs.inside.Resolved.{element_of}
+use Rattle.jc_resolve.proofs.answering.Keys.{settled_keyed}
+use Rattle.jc_resolve.proofs.lookups.Looks.{asker_good}
+use Rattle.jc_resolve.proofs.look.Look.settle_found.Goals as goal
+
+pub settle-requires-clause-target : goal.settle-requires-clause-target
+settle-requires-clause-target c = subst (λ (t : Target). IsTarget (length c.args.self.now.classes.now.standing.now) (indexed_of c.args.self.now.classes.now) t) (sym c.target_of-target.ensures.target) c.requires.target
+
+pub settle-requires-clause-good : goal.settle-requires-clause-good
+settle-requires-clause-good c = asker_good c.args.self.now
+
+pub settle-requires-clause-above : goal.settle-requires-clause-above
+settle-requires-clause-above c = c.requires.room.above
+
+pub returns-clause-room : goal.returns-clause-room
+returns-clause-room c = record { above = c.in_ok-settled.ensures.above; covered = c.requires.room.covered }
+
+pub returns-clause-keyed : goal.returns-clause-keyed
+returns-clause-keyed c = settled_keyed (key_lent c.args.key) c.args.found c.in_ok-settled.settled c.in_ok-settled.ensures.hit c.requires.keyed
+
+pub returns-clause-settled : goal.returns-clause-settled
+returns-clause-settled c =
+    let x = indexed_of c.args.self.now.classes.now in
+    λ m text missing h. subst (λ n. Settles m (indexed_name x c.args.self.now.class) n (indexed_name x c.args.start) missing (option_map (found_at x) c.args.found) (answer_of x n missing c.in_ok-settled.settled)) (c.target_of-target.ensures.named x text)
+    (c.in_ok-settled.ensures.found m text (element_of x c.args.named) missing h)

@@ -1,0 +1,96 @@
+-- What a list of lines owes.
+use Rattle.std.specs.Prelude.{◌≡◌, ℕ, List, [], ◌∷◌, ◌++◌, drop, Option, Some, None, Result, Ok, Err, codes}
+use Rattle.jc_input.specs.declared.edit.EditError.{EditError}
+use Rattle.jc_input.specs.declared.source.SourceError.{SourceError}
+use Rattle.jc_input.specs.declared.source.SourceError.TheVariants as sources
+use Rattle.jc_input.specs.Changes.{Change, Adds, Replaces, Removes, AddsPrefix, DropsPrefix, EditChange, OfFiles, OfPrefixes}
+use Rattle.jc_edits.specs.Edits.{judge_edit, after_edit}
+use Rattle.jc_edits.specs.SessionState.{Contents}
+use Rattle.jc_report.specs.ReportText.{report_text}
+use Rattle.jc_report.specs.Reports as reports
+use Rattle.jc_report.specs.Reports.{IsReport}
+use Rattle.jc_edits.specs.SaidPart.{SaysPart}
+use Rattle.jc_session.specs.AnswerText.{refused_text, unread_text}
+use Rattle.jc_session.specs.ListedText.{listed_text}
+use Rattle.jc_session.specs.SaidDependants.{SaysDependants}
+use Rattle.jc_input.specs.Lines.{Command, Add, Replace, Remove, AddPrefix, DropPrefix, Report, Part, Listing, Dependants, End, Bad, command_of}
+use Rattle.jc_input.specs.Sources.{SourceAnswers, next_answer}
+
+-- what one line is answered, and what is then
+pub data Reply : Type 0 where
+  -- this text, with these files and prefixes, and these answers of the source to come
+  Says : (text : List ℕ) (held : Contents) (source : SourceAnswers) → Reply
+  -- this text, which may want memory, with nothing changed
+  Lists : (text : List ℕ) → Reply
+  -- nothing, and no line after it is read
+  Ends : Reply
+  -- the source had no memory, with these answers to come
+  Lacks : (source : SourceAnswers) → Reply
+
+abbrev pub judged_reply : Contents → SourceAnswers → EditChange → Option EditError → Reply
+judged_reply h s change None = Says (codes "ok\n") (after_edit h change) s
+judged_reply h s change (Some e) = Says (refused_text e) h s
+
+-- an edit that judge lets pass happens
+abbrev pub edit_reply : Contents → SourceAnswers → EditChange → Reply
+edit_reply h s change = judged_reply h s change (judge_edit h change)
+
+-- by what the source said
+abbrev pub told_reply : Contents → SourceAnswers → List ℕ → (List ℕ → Change) → Result (List ℕ) SourceError → Reply
+told_reply h s path change (Ok bytes) = edit_reply h s (OfFiles (change bytes))
+told_reply h s path change (Err sources.Unread) = Says (unread_text path) h s
+told_reply h s path change (Err sources.NoMemory) = Lacks s
+
+-- the source is asked for the bytes first
+abbrev pub sourced_reply : Contents → SourceAnswers → List ℕ → (List ℕ → Change) → Reply
+sourced_reply h s path change = told_reply h (drop 1 s) path change (next_answer s path)
+
+-- the report of the files by the prefixes
+abbrev pub SaysReport : Contents → List ℕ → Type 0
+SaysReport h text = (r : reports.Report) × IsReport h.files h.prefixes r × (text ≡ report_text r)
+
+-- a reply that a line is owed
+abbrev pub Replies : Contents → SourceAnswers → Command → Reply → Type 0
+Replies h s (Add path) r = r ≡ sourced_reply h s path (Adds path)
+Replies h s (Replace path) r = r ≡ sourced_reply h s path (Replaces path)
+Replies h s (Remove path) r = r ≡ edit_reply h s (OfFiles (Removes path))
+Replies h s (AddPrefix prefix) r = r ≡ edit_reply h s (OfPrefixes (AddsPrefix prefix))
+Replies h s (DropPrefix prefix) r = r ≡ edit_reply h s (OfPrefixes (DropsPrefix prefix))
+Replies h s Report r = (text : List ℕ) × SaysReport h text × (r ≡ Says text h s)
+Replies h s (Part name) r = (text : List ℕ) × SaysPart h.files h.prefixes name text × (r ≡ Says text h s)
+Replies h s (Listing name) r = r ≡ Lists (listed_text h.files name)
+Replies h s (Dependants name) r = (text : List ℕ) × SaysDependants h name text × (r ≡ Says text h s)
+Replies h s End r = r ≡ Ends
+Replies h s Bad r = r ≡ Says (codes "bad line\n") h s
+
+pub data Ending : Type 0 where
+  AtEnd : Ending
+  AtEof : Ending
+  WithoutMemory : Ending
+
+-- a run over lines: all that it says, the files and prefixes, and the source's answers that are left, and how it ends
+pub record Run : Type 0 where
+  pub text : List ℕ
+  pub held : Contents
+  pub source : SourceAnswers
+  pub ending : Ending
+
+abbrev pub after_text : List ℕ → Run → Run
+after_text text run = record { text = text ++ run.text; held = run.held; source = run.source; ending = run.ending }
+
+-- what comes of a list of lines
+pub data RunsTo : Contents → SourceAnswers → List (List ℕ) → Run → Type 0 where
+  at_eof : (h : Contents) (s : SourceAnswers) → RunsTo h s [] (record { text = []; held = h; source = s; ending = AtEof })
+  says : (h g : Contents) (s t : SourceAnswers) (line : List ℕ) (lines : List (List ℕ)) (text : List ℕ) (run : Run)
+      → Replies h s (command_of line) (Says text g t) → RunsTo g t lines run → RunsTo h s (line ∷ lines) (after_text text run)
+  lists : (h : Contents) (s : SourceAnswers) (line : List ℕ) (lines : List (List ℕ)) (text : List ℕ) (run : Run)
+      → Replies h s (command_of line) (Lists text) → RunsTo h s lines run → RunsTo h s (line ∷ lines) (after_text text run)
+  ends : (h : Contents) (s : SourceAnswers) (line : List ℕ) (lines : List (List ℕ))
+      → Replies h s (command_of line) Ends → RunsTo h s (line ∷ lines) (record { text = []; held = h; source = s; ending = AtEnd })
+  lacks : (h : Contents) (s t : SourceAnswers) (line : List ℕ) (lines : List (List ℕ))
+      → Replies h s (command_of line) (Lacks t)
+      → RunsTo h s (line ∷ lines) (record { text = []; held = h; source = t; ending = WithoutMemory })
+
+-- lines come to one thing
+abbrev pub OneRun : Type 0
+OneRun = (h : Contents) (s : SourceAnswers) (lines : List (List ℕ)) (q r : Run) → RunsTo h s lines q → RunsTo h s lines r → q ≡ r

@@ -1,0 +1,28 @@
+-- What a check comes to, from what the code holds.
+use Rattle.std.specs.Prelude.{ℕ, Bool, List, Option, Result, Ok, Err}
+use Rattle.std.specs.FinMap as map
+use Rattle.std.specs.declared.vec.Vec.{Vec}
+use Rattle.std.specs.Global.{Global}
+use Rattle.jc_classes.specs.Names.{Name, names_of}
+use Rattle.jc_input.specs.Sources.{SourceAnswers}
+use Rattle.jc_session.specs.declared.checking.CheckError.{CheckError}
+use Rattle.jc_session.specs.declared.checking.CheckError.TheVariants as lent
+use Rattle.jc_session.specs.declared.checking.CheckForm.{CheckForm}
+use Rattle.jc_session.specs.Checks.{Answer, CheckFault, ChecksAs, FileRefused, FileUnread, GivesAnswers, NoMemory, WriteFailed, added}
+
+abbrev pub check_fault_lent : CheckError → CheckFault
+check_fault_lent (lent.Unread path) = FileUnread path.now
+check_fault_lent (lent.Refused error path) = FileRefused error path.now
+check_fault_lent lent.Write = WriteFailed
+check_fault_lent lent.NoMemory = NoMemory
+
+abbrev pub check_lent : Result Bool CheckError → Result Bool CheckFault
+check_lent (Ok wrong) = Ok wrong
+check_lent (Err error) = Err (check_fault_lent error)
+
+-- the source was asked for the files at the paths in their order, and by what it answered the output has what is asked of them
+abbrev pub ChecksPaths : {S W : Type 0} → (prefixes : List Name) → CheckForm → (paths : List (Vec ℕ Global)) → Result Bool CheckError
+    → (S → Option SourceAnswers) → (old new : S) → (W → Option (List ℕ)) → (before now : W) → Type 0
+ChecksPaths prefixes form paths result answers old new written before now =
+    (given : List Answer) × GivesAnswers (answers old) (names_of paths) given (answers new)
+    × ChecksAs prefixes form (added map.empty (names_of paths) given) (check_lent result) (written before) (written now)
