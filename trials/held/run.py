@@ -6,8 +6,9 @@ prefixes that the session has.
 
 The judge (trials/check, trials/link) shares no code with the library. It computes the whole report from the files and
 prefixes that remain. An edit must make the parts of exactly the affected classes: those after the edit whose reach contains
-a name that it touches. It must look up each name in their reaches exactly once. An edit of prefixes touches the names
-without a class that become outside or stop being outside.
+a name that it touches. It must look up each name in their reaches exactly once. An edit of files touches the names whose
+winner, or what linking keeps of it, differs before and after the edit. An edit of prefixes touches the names without a class
+that become outside or stop being outside.
 
 Usage: run.py [SEED [COUNT]]. Without SEED the seed is 1, and without COUNT there are 2,000 lists. It builds jc_asked.
 """
@@ -36,6 +37,21 @@ def framed(piece):
     return struct.pack(">I", len(piece)) + piece
 
 
+def facts(record):
+    """Returns what linking keeps of a class file."""
+    users = [(record.first.get(index), index in record.used) for index, *_ in record.references]
+    return (record.flags, record.faults, record.parent, list(dict.fromkeys(record.interfaces)), record.fields, record.methods,
+            record.references, record.uses, users, record.code_faults)
+
+
+def with_attribute(data):
+    """Returns a class file with an attribute that linking does not read, if the class has none, or else the same bytes."""
+    if not data.endswith(b"\0\0"):
+        return data
+    file = links.rules.ClassFile(data)
+    return data[:-2] + struct.pack(">HHI", 1, file.pair(file.this)[0], 3) + b"abc"
+
+
 class Held:
     """The expected answers for the files that remain, recomputed at each edit."""
 
@@ -48,6 +64,7 @@ class Held:
         self.winners = {}
         for path, name in self.report.names.items():
             self.winners.setdefault(name, path)
+        self.given = {name: (self.winners[name], facts(record)) for name, record in self.report.world.given.items()}
         self.reaches = {name: self.reach(name) for name in self.report.world.given}
 
     def reach(self, name):
@@ -103,12 +120,13 @@ class Held:
         refusal = self.refusal(word, path, data)
         if refusal:
             return f"refused {refusal}"
-        old_winners, old_reaches = self.winners, self.reaches
+        old_given, old_reaches = self.given, self.reaches
         self.files = {other: bytes for other, bytes in self.files.items() if other != path}
         if word != b"d":
             self.files[path] = data
         self.made()
-        touched = {name for winners in (old_winners, self.winners) for name, winner in winners.items() if winner == path}
+        touched = {name for name in old_given.keys() | self.given.keys() if old_given.get(name) != self.given.get(name)}
+        assert all(path in (old_given.get(name, [None])[0], self.winners.get(name)) for name in touched), touched
         affected = [name for name in self.reaches if self.reaches[name] & touched]
         again = [name for name in self.reaches if old_reaches.get(name, {name} & touched) & touched]
         assert sorted(affected) == sorted(again), (affected, again)
@@ -124,6 +142,7 @@ def random_steps(rng):
     files = {path: data for path, data in files.items() if data is not None and path.endswith(b".class")}
     paths, datas = sorted(files) or [b"A.class"], [*files.values(), worlds.PLAIN]
     steps = [(b"a", path, files[path]) for path in rng.sample(sorted(files), len(files))]
+    datas += [with_attribute(data) for data in datas if judge.reader.answer(data).startswith("ok ")]
     for _ in range(rng.randrange(4, 12)):
         path = rng.choice(paths) if rng.random() < 0.9 else rng.choice([b"", b"x" * 4097, b"new.class", b"0"])
         word = rng.choice([b"a", b"r", b"r", b"d", b"d"])

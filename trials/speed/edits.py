@@ -130,9 +130,9 @@ class Session:
 def edits_of(kept, fresh, paths, beside):
     """Yields each edit: its description, and its lines in order."""
     for what, name in kept:
-        yield f"replace {what}", [b"replace " + paths[name]]
+        yield f"remove {what}, and add it", [b"remove " + paths[name], b"add " + paths[name]]
     what, name = kept[-1]
-    yield f"remove {what}, and add it", [b"remove " + paths[name], b"add " + paths[name]]
+    yield f"replace {what} by the same bytes", [b"replace " + paths[name]]
     for what, name in fresh:
         path = bytes(beside / os.fsdecode(name + b".class"))
         yield f"add {what}, and remove it", [b"add " + path, b"remove " + path]

@@ -1,3 +1,4 @@
+pub mod compared
 pub mod members
 pub mod worlds
 pub mod numbering

@@ -9,5 +9,6 @@ pub mod Numbering
 pub mod Ordered
 pub mod OrderedMembers
 pub mod Ranks
+pub mod SameFacts
 pub mod TextList
 pub mod Using

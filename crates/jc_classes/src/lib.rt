@@ -22,6 +22,7 @@ mod reference;
 mod reference_kind;
 mod references;
 mod resolved_descriptors;
+mod same_facts;
 mod standing;
 mod text_list;
 mod used;

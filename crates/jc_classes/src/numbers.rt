@@ -171,14 +171,10 @@ impl Numbers {
         Ok(())
     }
 
-    /// The names in the order of their numbers, and the same names rising. Memory is taken for the second list, and
-    /// to put it in order.
-    pub fn into_lists(self, alloc: Global) -> Result<(Vec<Vec<u8>>, Vec<Vec<u8>>), NoMemory>
-        ensures numbered { IfOk result (λ lists. names_of lists.0.items ≡ self) }
-        ensures rising { IfOk result (λ lists. IsRisingOf (names_of lists.1.items) self) }
+    /// Returns copies of the names, in the order of their bytes.
+    pub fn rising(&self, alloc: Global) -> Result<Vec<Vec<u8>>, NoMemory>
+        ensures { IfOk result (λ rising. IsRisingOf (names_of rising.items) self.now) }
     {
-        let Numbers { names, .. } = self;
-        let rising = rising(alloc, &names)?;
-        Ok((names, rising))
+        rising(alloc, &self.names)
     }
 }

@@ -5,7 +5,7 @@ ghost use Rattle.jc_code.specs.CodeFaultOrder.{rule_number};
 
 /// A static constraint of a method's code. A rule over an entry or a text that is missing, or of the
 /// wrong kind, is not broken unless it asks for that itself.
-#[derive(Clone, Copy)]
+#[derive(Clone, Copy, PartialEq, Eq)]
 pub enum CodeRule {
     /// Instructions stand from the first byte of the code to its last (JVMS 4.9.1).
     S1,
@@ -125,7 +125,7 @@ impl CodeRule {
 
 /// Where a rule is broken: the offset of the instruction in the code, or of S23 and S24 the number of
 /// the handler from 0.
-#[derive(Clone, Copy)]
+#[derive(Clone, Copy, PartialEq, Eq)]
 pub struct CodeFault {
     pub rule: CodeRule,
     pub place: u32,

@@ -83,7 +83,7 @@ pub enum Insn<'a> {
 }
 
 /// The instructions whose reference, once resolved, may still not link (JVMS 6.5).
-#[derive(Clone, Copy)]
+#[derive(Clone, Copy, PartialEq, Eq)]
 pub enum LinkKind {
     GetStatic,
     PutStatic,

@@ -8,7 +8,7 @@ use crate::insn::{Insn, LinkKind};
 use jc_base::NoMemory;
 
 /// An instruction whose reference, once resolved, may still not link.
-#[derive(Clone, Copy)]
+#[derive(Clone, Copy, PartialEq, Eq)]
 pub struct MethodUse {
     /// The number of its method.
     pub method: u16,

@@ -1,5 +1,5 @@
 -- What an edit touches, and what it costs.
-use Rattle.std.specs.Prelude.{◌↔◌, ℕ, Bool, false, ◌&&◌, ◌||◌, not, List, Option, Some, None, is_some}
+use Rattle.std.specs.Prelude.{◌≡◌, ◌↔◌, ℕ, Bool, Decides, true, false, ◌&&◌, ◌||◌, not, List, Option, Some, None, is_some}
 use Rattle.jc_base.specs.Bytes.{same_bytes}
 use Rattle.jc_classes.specs.Laws.{Differ, Hits}
 use Rattle.jc_classes.specs.Names.{Name}
@@ -11,7 +11,8 @@ use Rattle.jc_report.specs.Files.{Files}
 use Rattle.jc_report.specs.FileRows.{winner}
 use Rattle.jc_report.specs.Reports.{facts_at, world_of}
 use Rattle.jc_classes.specs.Loading.{same_bool}
-use Rattle.jc_input.specs.Changes.{EditChange, OfFiles, OfPrefixes, path_of}
+use Rattle.jc_input.specs.Changes.{Change, EditChange, OfFiles, path_of}
+use Rattle.jc_input.specs.FileEdits.{after}
 use Rattle.jc_link.specs.Prefixes.{is_covered}
 use Rattle.jc_link.specs.Tables.{or_built_in}
 use Rattle.jc_edits.specs.Edits.{after_edit}
@@ -34,33 +35,43 @@ abbrev pub switches : Files → (old new : List Name) → Name → Bool
 switches f old new name =
     not (is_some (or_built_in (facts_at f name) name)) && not (same_bool (is_covered old name) (is_covered new name))
 
--- what an edit from one state to another touches
-abbrev pub is_touched : (old new : Contents) → EditChange → Name → Bool
-is_touched old new (OfFiles change) = is_taken old.files new.files (path_of change)
-is_touched old new (OfPrefixes change) = switches new.files old.prefixes new.prefixes
+-- the class that files give of the name is the same before and after, and it does not become outside or inside
+abbrev pub IsSameAt : (old new : Contents) → Name → Type 0
+IsSameAt old new name = (facts_at old.files name ≡ facts_at new.files name) × (switches new.files old.prefixes new.prefixes name ≡ false)
+
+-- a test tells at which names it is not so: these the edit from the one state to the other touches
+abbrev pub TellsTouched : (old new : Contents) → (touched : Name → Bool) → Type 0
+TellsTouched old new touched = (name : Name) → Decides (not (touched name)) (IsSameAt old new name)
 
 abbrev pub world_at : Contents → World
 world_at h = world_of h.files h.prefixes
 
 -- a part was made of each class that files give after the edit and whose reach holds a touched name, and each name that these classes
 -- reach was asked for once
-abbrev pub IsCountedChange : (old new : Contents) → EditChange → (before behind : Counts) → Type 0
-IsCountedChange old new change before behind = IsCounted (gives new.files) (world_at new) (is_touched old new change) before behind
+pub record IsCountedChange (old new : Contents) (before behind : Counts) : Type 0 where
+  pub touched : Name → Bool
+  pub tells : TellsTouched old new touched
+  pub counted : IsCounted (gives new.files) (world_at new) touched before behind
 
 -- the same by the counts of a session
-abbrev pub IsCountedStep : (old new : SessionState) → EditChange → Type 0
-IsCountedStep old new change = IsCountedChange (contents_of old) (contents_of new) change (counts_in old) (counts_in new)
+abbrev pub IsCountedStep : (old new : SessionState) → Type 0
+IsCountedStep old new = IsCountedChange (contents_of old) (contents_of new) (counts_in old) (counts_in new)
 
 -- ---- laws
 
 -- an edit changes nothing at a name that it does not touch
 abbrev pub EditsDiffer : Type 0
-EditsDiffer = (h : Contents) (e : EditChange) → Differ (is_touched h (after_edit h e) e) (world_at h) (world_at (after_edit h e))
+EditsDiffer = (h : Contents) (e : EditChange) (touched : Name → Bool) → TellsTouched h (after_edit h e) touched → Differ touched (world_at h) (world_at (after_edit h e))
 
 -- the reach of a class holds a touched name before the edit if and only if it holds one after it
 abbrev pub AffectedEitherWay : Type 0
-AffectedEitherWay = (h : Contents) (e : EditChange) (d : Name)
-    → Hits (is_touched h (after_edit h e) e) (world_at h) d ↔ Hits (is_touched h (after_edit h e) e) (world_at (after_edit h e)) d
+AffectedEitherWay = (h : Contents) (e : EditChange) (touched : Name → Bool) → TellsTouched h (after_edit h e) touched
+    → (d : Name) → Hits touched (world_at h) d ↔ Hits touched (world_at (after_edit h e)) d
+
+-- if an edit of files touches a name, the name's class is taken from the file at the edit's path before or after it
+abbrev pub TouchedAreTaken : Type 0
+TouchedAreTaken = (h : Contents) (change : Change) (touched : Name → Bool) → TellsTouched h (after_edit h (OfFiles change)) touched
+    → (name : Name) → touched name ≡ true → is_taken h.files (after h.files change) (path_of change) name ≡ true
 
 -- the reach of a class does not depend on the outside prefixes
 abbrev pub ReachStays : Type 0

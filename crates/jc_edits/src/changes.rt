@@ -1,64 +1,121 @@
 //! What an edit of files changes of the classes that they give.
 
-ghost use Rattle.std.specs.Prelude.{◌≡◌, IfOk, Some, option_map};
+ghost use Rattle.std.specs.Prelude.{◌≡◌, IfOk, Ok, Some, option_map};
 ghost use Rattle.std.specs.FinMap as map;
 ghost use Rattle.std.specs.Option.{option_copied};
 ghost use Rattle.jc_linkage.specs.Steps.{step_class, step_name};
 ghost use Rattle.jc_report.specs.Files.{Files};
 ghost use Rattle.jc_report.specs.Reports.{facts_at, facts_there};
 ghost use Rattle.jc_edits.specs.inside.Changing as changing;
-ghost use Rattle.jc_edits.specs.inside.Changing.{AreChanges, IsWon, Uncovers, before};
+ghost use Rattle.jc_view.specs.Outcome.{class_named};
+ghost use Rattle.jc_edits.specs.inside.Changing.{AreChanges, IsWon, Uncovers, before, won_as};
 ghost use Rattle.jc_edits.specs.inside.Claims.{AreClaims};
+ghost use Rattle.jc_edits.specs.inside.HeldFile.{bytes_held, class_held};
 
 use crate::claimed_files::ClaimedFiles;
 use crate::claims::Claims;
+use crate::file::File;
 use jc_base::NoMemory;
 use jc_classes::{Facts, less};
 use jc_linkage::Step;
-use jc_view::{ParseError, outcomes_are_exact, parse};
+use jc_view::{ClassView, ParseError, outcomes_are_exact, parse};
 use std::alloc::Global;
 
 /// What an edit changes of the classes that files give.
 #[derive(Drop)]
 pub(crate) struct Changes {
+    /// The file that is to stand at the path, if one is.
+    pub(crate) file: Option<File>,
     /// What stands at the name of the class that the file at the path gave, once no file is there.
     pub(crate) first: Option<Step>,
     /// The class that the bytes give that are to stand there.
     pub(crate) put: Option<Facts>,
 }
 
-/// What changes where a file with these bytes, or none, stands at the path from now on.
+/// What is read of the bytes of a file.
+#[derive(Drop)]
+struct Outcome {
+    /// The name of the class that they name, or why they name none.
+    class: Result<Vec<u8>, ParseError>,
+    /// The facts of the class, if the file gives it.
+    put: Option<Facts>,
+}
+
+/// Returns the file that these bytes are, if there are any, and what changes where it, or none, stands at the path
+/// from now on. The bytes are parsed once.
 pub(crate) fn changes_of(
     alloc: Global,
     held: &ClaimedFiles,
     path: &[u8],
-    bytes: Option<&[u8]>,
+    bytes: Option<Vec<u8>>,
 ) -> Result<Changes, NoMemory>
     requires { AreClaims held.now.claims held.now.files }
-    ensures { IfOk result (λ changes. AreChanges held.now.files path.now (option_copied bytes.entry) changes.first changes.put) }
+    ensures file { IfOk result (λ changes. changes.file ≡ bytes_held bytes) }
+    ensures changes { IfOk result (λ changes. AreChanges held.now.files path.now (bytes_held bytes) changes.first changes.put) }
 {
-    let put = won(alloc, &held.claims, path, bytes)?;
     let first = lost_step(alloc, held, path)?;
-    Ok(Changes { first, put })
+    let Some(bytes) = bytes else {
+        return Ok(Changes {
+            file: None,
+            first,
+            put: None,
+        });
+    };
+    let Outcome { class, put } = read(alloc, &held.claims, path, &bytes)?;
+    Ok(Changes {
+        file: Some(File::of(bytes, class)),
+        first,
+        put,
+    })
 }
 
-/// The facts of the bytes that are to stand at the path, if they give a class there.
+/// Parses bytes that are to stand at the path.
+fn read(alloc: Global, claims: &Claims, path: &[u8], bytes: &[u8]) -> Result<Outcome, NoMemory>
+    ensures class { IfOk result (λ read. class_held read.class ≡ class_named bytes.now) }
+    ensures put { (f : Files) → AreClaims claims.now f → IfOk result (λ read. IsWon f path.now (Some bytes.now) read.put) }
+{
+    outcomes_are_exact();
+    match parse(alloc, bytes) {
+        Ok(view) => read_class(alloc, claims, path, view.name(), &view),
+        Err(ParseError::NoMemory) => Err(NoMemory),
+        Err(refusal) => Ok(Outcome {
+            class: Err(refusal),
+            put: None,
+        }),
+    }
+}
+
+/// Reads the class of this name, which a file at the path names.
+fn read_class(
+    alloc: Global,
+    claims: &Claims,
+    path: &[u8],
+    name: &[u8],
+    view: &ClassView,
+) -> Result<Outcome, NoMemory>
+    ensures class { IfOk result (λ read. class_held read.class ≡ Ok name.now) }
+    ensures put { (f : Files) → AreClaims claims.now f → IfOk result (λ read. read.put ≡ won_as (map.remove f path.now) path.now name.now view.now) }
+{
+    let class = Vec::from_slice(alloc, name)?;
+    let put = won(alloc, claims, path, name, view)?;
+    Ok(Outcome {
+        class: Ok(class),
+        put,
+    })
+}
+
+/// Returns the facts of the class of this name, which a file at the path names, if the file gives it.
 fn won(
     alloc: Global,
     claims: &Claims,
     path: &[u8],
-    bytes: Option<&[u8]>,
+    name: &[u8],
+    view: &ClassView,
 ) -> Result<Option<Facts>, NoMemory>
-    ensures { (f : Files) → AreClaims claims.now f → IfOk result (λ facts. IsWon f path.now (option_copied bytes.entry) facts) }
+    ensures { (f : Files) → AreClaims claims.now f → IfOk result (λ facts. facts ≡ won_as (map.remove f path.now) path.now name.now view.now) }
 {
-    let Some(bytes) = bytes else {
-        return Ok(None);
-    };
-    let Some(facts) = read_facts(alloc, path, bytes)? else {
-        return Ok(None);
-    };
-    if is_before(path, claims.other(facts.name(), path)) {
-        Ok(Some(facts))
+    if is_before(path, claims.other(name, path)) {
+        Ok(Some(Facts::of(alloc, view, path)?))
     } else {
         Ok(None)
     }

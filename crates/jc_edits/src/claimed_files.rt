@@ -3,15 +3,12 @@
 
 ghost use Rattle.std.specs.Prelude.{◌≡◌, [], IfOk, None, OnErr, OnOk, Some, false, true};
 ghost use Rattle.std.specs.FinMap as map;
-ghost use Rattle.jc_input.specs.Changes.{change_lent};
-ghost use Rattle.jc_input.specs.FileEdits.{after, judge};
 ghost use Rattle.jc_edits.specs.inside.Claims.{AreClaims};
-ghost use Rattle.jc_edits.specs.inside.Growth.{AreClaimsBesides, HasPlace, IsGrown, committed, undone};
+ghost use Rattle.jc_edits.specs.inside.Growth.{AreClaimsBesides, HasPlace, IsGrown, committed, put_at, undone};
 
 use crate::claims::{Claims, claim, withdraw, withdraw_stale};
 use crate::file::File;
 use jc_base::{ByteMap, NoMemory};
-use jc_input::LentEdit;
 use std::alloc::Global;
 
 /// Files by their paths, and which of them name a class.
@@ -45,29 +42,32 @@ impl ClaimedFiles {
     }
 }
 
-/// Grows what an edit needs that is not refused.
+/// Grows what an edit needs by which this file, or none, is to stand at the path.
 pub(crate) fn grow<'a>(
     held: &mut ClaimedFiles,
     alloc: Global,
-    edit: LentEdit<'a>,
+    path: &'a [u8],
+    file: Option<File>,
 ) -> Result<Grown<'a>, NoMemory>
-    requires claims { AreClaims held.old.claims held.old.files }
-    requires judged { judge held.old.files (change_lent edit) ≡ None }
+    requires { AreClaims held.old.claims held.old.files }
     ensures grown { IfOk result (λ grown. IsGrown held.new.claims held.new.files grown) }
     ensures place { IfOk result (λ grown. HasPlace held.new.files grown.path.now grown.file) }
-    ensures commits { IfOk result (λ grown. committed held.new.files grown ≡ after held.old.files (change_lent edit.entry)) }
+    ensures commits { IfOk result (λ grown. committed held.new.files grown ≡ put_at held.old.files path.now file) }
     ensures undoes { IfOk result (λ grown. undone held.new.files grown ≡ held.old.files) }
     ensures err_files { OnErr result (held.new.files ≡ held.old.files) }
     ensures err_claims { OnErr result (AreClaims held.new.claims held.new.files) }
 {
-    match edit {
-        LentEdit::Add(path, bytes) => grow_new(held, alloc, path, bytes),
-        LentEdit::Replace(path, bytes) => grow_file(held, alloc, path, bytes),
-        LentEdit::Remove(path) => Ok(Grown {
+    let Some(file) = file else {
+        return Ok(Grown {
             path,
             file: None,
             is_new: false,
-        }),
+        });
+    };
+    if held.files.contains_key(path) {
+        grow_file(held, path, file)
+    } else {
+        grow_new(held, alloc, path, file)
     }
 }
 
@@ -97,22 +97,16 @@ pub(crate) fn commit(held: &mut ClaimedFiles, grown: Grown<'_>)
     }
 }
 
-/// Reads the bytes and claims the class that they name.
-fn grow_file<'a>(
-    held: &mut ClaimedFiles,
-    alloc: Global,
-    path: &'a [u8],
-    bytes: Vec<u8>,
-) -> Result<Grown<'a>, NoMemory>
+/// Claims the class that a file names.
+fn grow_file<'a>(held: &mut ClaimedFiles, path: &'a [u8], file: File) -> Result<Grown<'a>, NoMemory>
     requires { AreClaims held.old.claims held.old.files }
     ensures files { held.new.files ≡ held.old.files }
-    ensures grown { IfOk result (λ grown. AreClaimsBesides held.new.claims held.new.files path.now (Some bytes.items)) }
+    ensures grown { IfOk result (λ grown. AreClaimsBesides held.new.claims held.new.files path.now (Some file)) }
     ensures path { IfOk result (λ grown. grown.path.now ≡ path.now) }
-    ensures file { IfOk result (λ grown. grown.file ≡ Some bytes.items) }
+    ensures file { IfOk result (λ grown. grown.file ≡ Some file) }
     ensures old { IfOk result (λ grown. grown.is_new ≡ false) }
     ensures err { OnErr result (AreClaims held.new.claims held.new.files) }
 {
-    let file = File::read(alloc, bytes)?;
     claim(&mut held.claims, &file, path)?;
     Ok(Grown {
         path,
@@ -126,18 +120,18 @@ fn grow_new<'a>(
     held: &mut ClaimedFiles,
     alloc: Global,
     path: &'a [u8],
-    bytes: Vec<u8>,
+    file: File,
 ) -> Result<Grown<'a>, NoMemory>
     requires claims { AreClaims held.old.claims held.old.files }
     requires absent { map.get held.old.files path.now ≡ None }
     ensures grown { IfOk result (λ grown. IsGrown held.new.claims held.new.files grown) }
     ensures place { IfOk result (λ grown. HasPlace held.new.files grown.path.now grown.file) }
-    ensures commits { IfOk result (λ grown. committed held.new.files grown ≡ map.insert held.old.files path.now bytes.items) }
+    ensures commits { IfOk result (λ grown. committed held.new.files grown ≡ map.insert held.old.files path.now file) }
     ensures undoes { IfOk result (λ grown. undone held.new.files grown ≡ held.old.files) }
     ensures err_files { OnErr result (held.new.files ≡ held.old.files) }
     ensures err_claims { OnErr result (AreClaims held.new.claims held.new.files) }
 {
-    let mut grown = grow_file(held, alloc, path, bytes)?;
+    let mut grown = grow_file(held, path, file)?;
     match keep_place(&mut held.files, alloc, path) {
         Ok(()) => {
             grown.is_new = true;

@@ -1,12 +1,11 @@
 //! A file as a session holds it.
 
-ghost use Rattle.std.specs.Prelude.{◌≡◌, [], IfOk};
+ghost use Rattle.std.specs.Prelude.{◌≡◌, []};
 ghost use Rattle.jc_view.specs.Outcome.{class_named};
 ghost use Rattle.jc_edits.specs.inside.HeldFile.{class_held, class_lent};
 ghost use Rattle.jc_report.specs.FileRows.{names};
 
-use jc_base::NoMemory;
-use jc_view::{ParseError, outcomes_are_exact, parse};
+use jc_view::ParseError;
 use std::alloc::Global;
 use std::marker::Model;
 
@@ -41,12 +40,12 @@ impl File {
         }
     }
 
-    /// The file of these bytes.
-    pub(crate) fn read(alloc: Global, bytes: Vec<u8>) -> Result<File, NoMemory>
-        ensures { IfOk result (λ file. file ≡ bytes.items) }
+    /// Returns the file of these bytes, which were parsed: they name this class, or this is why they name none.
+    pub(crate) fn of(bytes: Vec<u8>, class: Result<Vec<u8>, ParseError>) -> File
+        requires { class_held class ≡ class_named bytes.items }
+        ensures { result ≡ bytes.items }
     {
-        let class = class_of(alloc, &bytes)?;
-        Ok(File { bytes, class })
+        File { bytes, class }
     }
 
     pub(crate) fn bytes(&self) -> &[u8]
@@ -73,17 +72,5 @@ impl File {
             Ok(named) => named == name,
             Err(_) => false,
         }
-    }
-}
-
-/// The name of the class that bytes name, or why they name none.
-fn class_of(alloc: Global, bytes: &[u8]) -> Result<Result<Vec<u8>, ParseError>, NoMemory>
-    ensures { IfOk result (λ class. class_held class ≡ class_named bytes.now) }
-{
-    outcomes_are_exact();
-    match parse(alloc, bytes) {
-        Ok(view) => Ok(Ok(Vec::from_slice(alloc, view.name())?)),
-        Err(ParseError::NoMemory) => Err(NoMemory),
-        Err(refusal) => Ok(Err(refusal)),
     }
 }

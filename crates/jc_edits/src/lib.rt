@@ -15,7 +15,7 @@ mod session;
 
 pub use jc_input::{Done, Edit, EditError, LentEdit, PrefixEdit};
 pub use jc_report::{FileRow, FileState, LentClass, references_are_by_index, winners_are_least};
-pub use laws::{affected_either_way, edits_differ, reach_stays};
+pub use laws::{affected_either_way, edits_differ, reach_stays, touched_are_taken};
 pub use report::Report;
 pub use report_text::{WriteError, write_part_of, write_report};
 pub use rows::Rows;

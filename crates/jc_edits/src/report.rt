@@ -1,17 +1,18 @@
 //! The report that a session holds.
 
-ghost use Rattle.std.specs.Prelude.{◌≡◌, ◌≤◌, IfOk, IfSome, None, OnErr, OnOk, is_some, option_and_then};
+ghost use Rattle.std.specs.Prelude.{◌≡◌, ◌≤◌, IfOk, IfSome, IsTrue, None, OnErr, OnOk, is_some, option_and_then};
 ghost use Rattle.std.specs.Option.{option_map};
 ghost use Rattle.std.specs.FinMap as map;
 ghost use Rattle.jc_classes.specs.Parts.{IsPart};
 ghost use Rattle.jc_report.specs.FileRows.{rows, winner};
 ghost use Rattle.jc_report.specs.Reports as reports;
 ghost use Rattle.jc_report.specs.Reports.{facts_at, is_wrong, world_of};
-ghost use Rattle.jc_input.specs.Changes.{OfFiles, OfPrefixes, change_lent, prefix_change};
+ghost use Rattle.jc_input.specs.Changes.{bytes_of, change_lent, path_of, prefix_change};
 ghost use Rattle.jc_input.specs.FileEdits.{after, judge};
 ghost use Rattle.jc_edits.specs.Edits.{after_prefix};
 ghost use Rattle.jc_edits.specs.Reported.{CountsHoldersAt, IsReportOf};
 ghost use Rattle.jc_edits.specs.Touched.{gives};
+ghost use Rattle.jc_edits.specs.inside.HeldFile.{bytes_held};
 ghost use Rattle.jc_edits.specs.inside.Metered.{MetersChange};
 
 use crate::changes::{Changes, changes_of};
@@ -59,7 +60,8 @@ impl Report {
         Ok((Report { held, linkage }, meter))
     }
 
-    /// Makes an edit that is not refused, or changes nothing for want of memory.
+    /// Makes an edit that is not refused, or changes nothing for want of memory. If the bytes stand at the path already,
+    /// nothing is parsed, asked for or made.
     pub(crate) fn make(
         &mut self,
         alloc: Global,
@@ -70,12 +72,16 @@ impl Report {
         ensures ok { OnOk result (self.new.files ≡ after self.old.files (change_lent edit.entry)) }
         ensures err { OnErr result (self.new.files ≡ self.old.files) }
         ensures prefixes { self.new.prefixes ≡ self.old.prefixes }
-        ensures counted { OnOk result (MetersChange self.old self.new (OfFiles (change_lent edit.entry)) meter.old meter.new) }
+        ensures counted { OnOk result (MetersChange self.old self.new meter.old meter.new) }
         ensures asks_rise { meter.old.asks ≤ meter.new.asks }
         ensures made_rise { meter.old.made ≤ meter.new.made }
     {
-        let Changes { first, put } = changes_of(alloc, &self.held, edit.path(), edit.bytes())?;
-        let grown = grow(&mut self.held, alloc, edit)?;
+        if self.is_unchanged(&edit) {
+            return Ok(());
+        }
+        let (path, bytes) = parts_of(edit);
+        let Changes { file, first, put } = changes_of(alloc, &self.held, path, bytes)?;
+        let grown = grow(&mut self.held, alloc, path, file)?;
         match self.linkage.change(first, put, meter) {
             Ok(()) => {
                 commit(&mut self.held, grown);
@@ -85,6 +91,16 @@ impl Report {
                 undo(&mut self.held, grown);
                 Err(NoMemory)
             }
+        }
+    }
+
+    /// Returns whether an edit leaves the files as they are: the bytes stand at the path already. Does not allocate.
+    fn is_unchanged(&self, edit: &LentEdit<'_>) -> bool
+        ensures { IsTrue result → after self.now.files (change_lent edit.now) ≡ self.now.files }
+    {
+        match (edit.bytes(), self.file(edit.path())) {
+            (Some(bytes), Some(there)) => bytes == there,
+            _ => false,
         }
     }
 
@@ -98,7 +114,7 @@ impl Report {
         ensures ok { OnOk result (self.new.prefixes ≡ after_prefix self.old.prefixes (prefix_change edit.entry)) }
         ensures err { OnErr result (self.new.prefixes ≡ self.old.prefixes) }
         ensures files { self.new.files ≡ self.old.files }
-        ensures counted { OnOk result (MetersChange self.old self.new (OfPrefixes (prefix_change edit.entry)) meter.old meter.new) }
+        ensures counted { OnOk result (MetersChange self.old self.new meter.old meter.new) }
         ensures asks_rise { meter.old.asks ≤ meter.new.asks }
         ensures made_rise { meter.old.made ≤ meter.new.made }
     {
@@ -184,5 +200,16 @@ impl Report {
     {
         let file = self.held.files.get(path)?;
         Some(file.bytes())
+    }
+}
+
+/// Returns the path of an edit, and the bytes that are to stand there.
+fn parts_of<'a>(edit: LentEdit<'a>) -> (&'a [u8], Option<Vec<u8>>)
+    ensures path { result.0.now ≡ path_of (change_lent edit.entry) }
+    ensures bytes { bytes_held result.1 ≡ bytes_of (change_lent edit.entry) }
+{
+    match edit {
+        LentEdit::Add(path, bytes) | LentEdit::Replace(path, bytes) => (path, Some(bytes)),
+        LentEdit::Remove(path) => (path, None),
     }
 }

@@ -8,7 +8,7 @@ ghost use Rattle.jc_classes.specs.Names.{names_of};
 ghost use Rattle.jc_classes.specs.Parts.{IsPart};
 ghost use Rattle.jc_report.specs.FileRows.{winner};
 ghost use Rattle.jc_report.specs.Reports.{world_of};
-ghost use Rattle.jc_input.specs.Changes.{OfFiles, OfPrefixes, change_lent, change_of, prefix_change};
+ghost use Rattle.jc_input.specs.Changes.{change_lent, change_of, prefix_change};
 ghost use Rattle.jc_input.specs.FileEdits.{after, judge};
 ghost use Rattle.jc_edits.specs.Edits.{after_edit, after_prefix, judge_edit, judge_prefix};
 ghost use Rattle.jc_edits.specs.Judged.{IsAnswered};
@@ -58,14 +58,14 @@ impl Session {
     }
 
     /// Makes an edit, or refuses it and changes neither a file nor a prefix. Recomputes only the parts of the classes
-    /// whose reach holds a name that the edit touches.
+    /// whose reach holds a name that the edit touches: one whose class changes, or that becomes outside or inside.
     pub fn edit(&mut self, edit: Edit) -> Result<Done, EditError>
         ensures judged { IsAnswered result (judge_edit (contents_of self.old) (change_of edit)) }
         ensures ok { OnOk result (contents_of self.new ≡ after_edit (contents_of self.old) (change_of edit)) }
         ensures err { OnErr result (contents_of self.new ≡ contents_of self.old) }
         ensures made { IfOk result (λ done. done.made ≡ self.new.made - self.old.made) }
         ensures asks { IfOk result (λ done. done.asks ≡ self.new.asks - self.old.asks) }
-        ensures counted { OnOk result (IsCountedStep self.old self.new (change_of edit)) }
+        ensures counted { OnOk result (IsCountedStep self.old self.new) }
         ensures asks_rise { self.old.asks ≤ self.new.asks }
         ensures made_rise { self.old.made ≤ self.new.made }
     {
@@ -86,7 +86,7 @@ impl Session {
         ensures files { self.new.files ≡ self.old.files }
         ensures made { IfOk result (λ done. done.made ≡ self.new.made - self.old.made) }
         ensures asks { IfOk result (λ done. done.asks ≡ self.new.asks - self.old.asks) }
-        ensures counted { OnOk result (IsCountedStep self.old self.new (OfPrefixes (prefix_change edit.entry))) }
+        ensures counted { OnOk result (IsCountedStep self.old self.new) }
         ensures asks_rise { self.old.asks ≤ self.new.asks }
         ensures made_rise { self.old.made ≤ self.new.made }
     {
@@ -117,7 +117,7 @@ impl Session {
         ensures prefixes { self.new.prefixes ≡ self.old.prefixes }
         ensures made { IfOk result (λ done. done.made ≡ self.new.made - self.old.made) }
         ensures asks { IfOk result (λ done. done.asks ≡ self.new.asks - self.old.asks) }
-        ensures counted { OnOk result (IsCountedStep self.old self.new (OfFiles (change_lent edit.entry))) }
+        ensures counted { OnOk result (IsCountedStep self.old self.new) }
         ensures asks_rise { self.old.asks ≤ self.new.asks }
         ensures made_rise { self.old.made ≤ self.new.made }
     {

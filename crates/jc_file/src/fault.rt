@@ -5,7 +5,7 @@ ghost use Rattle.jc_file.specs.FaultOrder.{rule_number};
 
 /// A rule of the class file format. A rule over an entry or a text that is missing, or of the wrong
 /// kind, is not broken unless it asks for that itself.
-#[derive(Clone, Copy)]
+#[derive(Clone, Copy, PartialEq, Eq)]
 pub enum FormatRule {
     /// An index inside a constant, except in a `MethodHandle`, names an entry of the kind that belongs
     /// there (JVMS 4.4).
@@ -151,7 +151,7 @@ impl FormatRule {
 /// Where a rule is broken. What the place counts depends on the rule: an index into the constants (F1
 /// to F11), nothing and is 0 (F12, F13, F27), interfaces (F14), fields (F15 to F18, F25) or methods
 /// (F19 to F24, F26) from 0, or bytes of the file before the attribute (F28 to F30).
-#[derive(Clone, Copy)]
+#[derive(Clone, Copy, PartialEq, Eq)]
 pub struct Fault {
     pub rule: FormatRule,
     pub place: usize,

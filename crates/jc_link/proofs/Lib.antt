@@ -1,6 +1,6 @@
 pub mod closures
+pub mod graphs
 pub mod meters
-pub mod nets
 pub mod parted
 pub mod prefixes
 pub mod reaches

@@ -1,28 +1,23 @@
 -- The reach of a class, as it is gathered from a table.
 use Rattle.jc_classes.specs.Worlds.{Stands as stands}
-use Rattle.std.specs.Prelude.{◌≡◌, List, Option, Some, None, map}
+use Rattle.std.specs.Prelude.{◌≡◌, List, [], ◌∷◌, Option, Some, None}
 use Rattle.jc_classes.specs.Facts.{Facts}
-use Rattle.jc_classes.specs.NameLists.{IsRisingOf, Lists}
+use Rattle.jc_classes.specs.NameLists.{Lists}
 use Rattle.jc_classes.specs.Names.{Name}
-use Rattle.jc_classes.specs.Numbers.{name_at}
 use Rattle.jc_classes.specs.Parts.{Reach}
 use Rattle.jc_classes.specs.Worlds.{Stands, World}
+use Rattle.jc_link.specs.Graphs.{ClassGraph, IsIn}
 
--- the names of a reach, and what stands at each
+-- the names of a reach, rising, and the graph around its class
 pub record Closure : Type 0 where
-  -- rising
   pub names : List Name
-  -- the same names in the order in which they were found, the class itself first
-  pub found : List Name
-  -- what stands at each, in that order
-  pub stands : List Stands
+  pub graph : ClassGraph
 
 -- it is gathered for this class in this world
 pub record IsClosure (m : World) (d : Name) (c : Closure) : Type 0 where
   pub names : Lists c.names (Reach m d)
-  pub found : IsRisingOf c.names c.found
-  pub first : name_at c.found 0 ≡ d
-  pub stands : c.stands ≡ map m c.found
+  pub class : c.graph.classes ≡ d ∷ []
+  pub stands : IsIn m c.graph
 
 -- the facts of the class that stands
 abbrev pub facts_standing : Stands → Option Facts

@@ -1,6 +1,6 @@
 pub mod Closures
+pub mod Graphs
 pub mod Meters
-pub mod Nets
 pub mod Prefixes
 pub mod TableLaws
 pub mod Tables

@@ -2,7 +2,6 @@ pub mod ClosureShown
 pub mod TheClass
 pub mod Gathering
 pub mod HeldPrefixes
-pub mod NetAsked
-pub mod NetShown
+pub mod GraphAsked
+pub mod GraphShown
 pub mod PartShown
-pub mod Reached

@@ -1,35 +1,31 @@
 //! The reach of a class with what stands at each of its names.
 
-ghost use Rattle.std.specs.Prelude.{◌≡◌, ◌↔◌, IsTrue};
+ghost use Rattle.std.specs.Prelude.{◌≡◌, ◌≤◌, ◌↔◌, IfOk, IsTrue, length};
 ghost use Rattle.std.specs.Option.{option_copied};
-ghost use Rattle.jc_classes.specs.Lent.{stands_of};
 ghost use Rattle.jc_classes.specs.NameLists.{has, Lists};
 ghost use Rattle.jc_classes.specs.Names.{Name, names_of};
 ghost use Rattle.jc_classes.specs.Parts.{Reach};
 ghost use Rattle.jc_classes.specs.Worlds.{World};
 ghost use Rattle.jc_link.specs.Closures.{IsClosure, facts_standing};
-ghost use Rattle.jc_link.specs.inside.Gathering.{stand_at};
+ghost use Rattle.jc_link.specs.Meters.{counted};
+ghost use Rattle.jc_link.specs.Tables.{world};
 
-use jc_classes::{Facts, Standing};
+use crate::graph::ClassGraph;
+use crate::meter::Meter;
+use crate::outside::Outside;
+use crate::table::Table;
+use jc_base::NoMemory;
+use jc_classes::Facts;
 use jc_index::NameList;
+use std::alloc::Global;
 use std::marker::Model;
 
-/// The reach of a class, as it was gathered from a table: its names, what stands at each, and the numbers
-/// of its supertypes.
+/// The reach of a class, as it was gathered from a table: the graph around this one class, and its names in order.
 #[derive(Drop)]
 pub struct Closure<'t> {
-    /// The names, rising.
+    pub(crate) graph: ClassGraph<'t>,
+    /// The names of the graph, rising.
     pub(crate) names: NameList,
-    /// The names by their numbers: the class itself, then in the order in which they were found.
-    pub(crate) found: Vec<Vec<u8>>,
-    /// What stands at each number.
-    pub(crate) standing: Vec<Standing<'t>>,
-    /// The numbers of the supertypes of each number.
-    pub(crate) supertypes: Vec<Vec<usize>>,
-    /// The number of the class that each reference of the class names.
-    pub(crate) references: Vec<Option<usize>>,
-    /// The number of `java/lang/Object`.
-    pub(crate) object: usize,
 }
 
 impl<'t> Model for Closure<'t> {
@@ -42,6 +38,28 @@ impl<'t> Model for Closure<'t> {
     ghost view = { closure_shown };
 
     ghost invariant = { IsWhole };
+}
+
+/// Gathers the reach of a name: the name itself, `java/lang/Object`, the classes that its references name,
+/// and all that stands above these. The table is asked for each name once, also for one without a record.
+pub fn gather<'t>(
+    alloc: Global,
+    table: &'t Table,
+    outside: &Outside,
+    name: &[u8],
+    meter: &mut Meter,
+) -> Result<Closure<'t>, NoMemory>
+    ensures closure { IfOk result (λ c. IsClosure (world table.now outside.now) name.now c) }
+    ensures asks { IfOk result (λ c. meter.new.asks ≡ counted meter.old.asks (length c.names)) }
+    ensures asks_rise { meter.old.asks ≤ meter.new.asks }
+    ensures made { meter.new.made ≡ meter.old.made }
+{
+    let graph = ClassGraph::around(alloc, table, outside, &[], Some(name), meter)?;
+    let names = graph.names.rising(alloc)?;
+    Ok(Closure {
+        graph,
+        names: NameList::of(names),
+    })
 }
 
 impl<'t> Closure<'t> {
@@ -65,24 +83,6 @@ impl<'t> Closure<'t> {
     pub fn record(&self) -> Option<&'t Facts>
         ensures { (m : World) (d : Name) → IsClosure m d self.now → option_copied result ≡ facts_standing (m d) }
     {
-        match self.own() {
-            Standing::Class(facts) => Some(facts),
-            _ => None,
-        }
-    }
-
-    /// The names of the reach, moved out. No memory.
-    pub fn into_names(self) -> NameList
-        ensures { result ≡ self.entry.names }
-    {
-        self.names
-    }
-
-    /// What stands at the class itself.
-    pub(crate) fn own(&self) -> Standing<'t>
-        ensures first { stands_of result ≡ stand_at self.now.stands 0 }
-        ensures world { (m : World) (d : Name) → IsClosure m d self.now → stands_of result ≡ m d }
-    {
-        self.standing[0]
+        self.graph.record(0)
     }
 }

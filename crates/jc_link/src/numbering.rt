@@ -38,13 +38,13 @@ fn number_supertypes_of(
     ensures { IfOk result (λ supertypes. AddsNumbers numbers.old [] numbers.new supertypes.items (supertypes_of (stands.Class facts.now))) }
 {
     let mut supertypes = Vec::new(alloc);
-    number_superclass(alloc, numbers, &mut supertypes, facts.superclass())?;
+    number_some(alloc, numbers, &mut supertypes, facts.superclass())?;
     number_interfaces(alloc, numbers, &mut supertypes, facts)?;
     Ok(supertypes)
 }
 
-/// Adds the number of the superclass, if there is one.
-fn number_superclass(
+/// Adds the number of a name, if there is one.
+pub(crate) fn number_some(
     alloc: Global,
     numbers: &mut Numbers,
     direct: &mut Vec<usize>,
@@ -97,7 +97,7 @@ pub(crate) fn number_references(
     alloc: Global,
     numbers: &mut Numbers,
     standing: Standing<'_>,
-) -> Result<Vec<Option<usize>>, NoMemory>
+) -> Result<Vec<Option<u32>>, NoMemory>
     requires { IsOnce numbers.old }
     ensures { IfOk result (λ nodes. Nodes numbers.old [] numbers.new nodes.items (references_of (stands_of standing.entry))) }
 {
@@ -111,7 +111,7 @@ fn number_references_of(
     alloc: Global,
     numbers: &mut Numbers,
     facts: &Facts,
-) -> Result<Vec<Option<usize>>, NoMemory>
+) -> Result<Vec<Option<u32>>, NoMemory>
     requires { IsOnce numbers.old }
     ensures { IfOk result (λ nodes. Nodes numbers.old [] numbers.new nodes.items facts.now.references) }
 {
@@ -128,67 +128,25 @@ fn number_references_of(
     Ok(nodes)
 }
 
-/// The number of the class that a reference names, or of an array the innermost one, if there is one.
+/// The number of the class that a reference names, or of an array the innermost one, if there is one. More than
+/// 4,294,967,295 names are refused as if there were no memory.
 fn number_reference(
     alloc: Global,
     numbers: &mut Numbers,
     facts: &Facts,
     number: usize,
-) -> Result<Option<usize>, NoMemory>
+) -> Result<Option<u32>, NoMemory>
     requires { IsOnce numbers.old }
     ensures { IfOk result (NumbersAt numbers.old numbers.new facts.now.references number) }
 {
     let Some(reference) = facts.reference(number) else {
         return Ok(None);
     };
-    match reference.class_name() {
-        Some(name) => {
-            let node = numbers.number(alloc, name)?;
-            Ok(Some(node))
-        }
-        None => Ok(None),
-    }
-}
-
-/// The same numbers in half the room. More than 4,294,967,295 names are refused as if there were no memory.
-pub(crate) fn narrow(alloc: Global, nodes: &[Option<usize>]) -> Result<Vec<Option<u32>>, NoMemory>
-    ensures { IfOk result (λ narrow. narrow.items ≡ nodes.now) }
-{
-    let mut narrow = Vec::with_capacity(alloc, nodes.len())?;
-    for node in nodes {
-        narrow.push(narrow_one(*node)?)?;
-    }
-    Ok(narrow)
-}
-
-fn narrow_one(node: Option<usize>) -> Result<Option<u32>, NoMemory>
-    ensures { IfOk result (λ narrow. narrow ≡ node) }
-{
-    let Some(node) = node else {
+    let Some(name) = reference.class_name() else {
         return Ok(None);
     };
-    match u32::try_from(node) {
+    match u32::try_from(numbers.number(alloc, name)?) {
         Ok(node) => Ok(Some(node)),
         Err(_) => Err(NoMemory),
-    }
-}
-
-/// The same numbers as others number them.
-pub(crate) fn widen(alloc: Global, nodes: &[Option<u32>]) -> Result<Vec<Option<usize>>, NoMemory>
-    ensures { IfOk result (λ wide. wide.items ≡ nodes.now) }
-{
-    let mut wide = Vec::with_capacity(alloc, nodes.len())?;
-    for node in nodes {
-        wide.push(widen_one(*node))?;
-    }
-    Ok(wide)
-}
-
-fn widen_one(node: Option<u32>) -> Option<usize>
-    ensures { result ≡ node }
-{
-    match node {
-        Some(node) => Some(node as usize),
-        None => None,
     }
 }

@@ -19,6 +19,7 @@ ghost use Rattle.std.specs.Option.{option_map_or};
 
 use crate::closure::Closure;
 use crate::meter::Meter;
+use crate::part_maker::PartMaker;
 use jc_base::NoMemory;
 use jc_classes::{Faults, Standing};
 use jc_code::CodeFault;
@@ -107,22 +108,8 @@ pub fn make_part(alloc: Global, closure: &Closure, meter: &mut Meter) -> Result<
     ensures made_rise { meter.old.made ≤ meter.new.made }
     ensures asks { meter.new.asks ≡ meter.old.asks }
 {
-    let mut hierarchy = Hierarchy::new(
-        alloc,
-        closure.found.as_slice(),
-        closure.standing.as_slice(),
-        closure.supertypes.as_slice(),
-        closure.object,
-    )?;
-    let part = part_of(
-        alloc,
-        &mut hierarchy,
-        0,
-        closure.own(),
-        closure.references.as_slice(),
-    )?;
-    meter.count_part();
-    Ok(part)
+    let mut maker = PartMaker::new(alloc, &closure.graph)?;
+    maker.part(alloc, 0, meter)
 }
 
 /// The part of a class of a hierarchy, at whose name this stands and whose references name the classes of these
@@ -132,7 +119,7 @@ pub(crate) fn part_of(
     hierarchy: &mut Hierarchy,
     class: usize,
     own: Standing<'_>,
-    references: &[Option<usize>],
+    references: &[Option<u32>],
 ) -> Result<Part, NoMemory>
     requires class { class < length hierarchy.old.names }
     requires nodes { NumberReferences hierarchy.old.names references.now (references_of (standing_at hierarchy.old class)) }

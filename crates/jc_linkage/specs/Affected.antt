@@ -6,7 +6,7 @@ use Rattle.jc_classes.specs.Names.{Name}
 use Rattle.jc_classes.specs.Parts.{Reach}
 use Rattle.jc_classes.specs.Worlds.{World}
 use Rattle.jc_link.specs.Meters.{Counts, counted}
-use Rattle.jc_link.specs.Nets.{IsReached}
+use Rattle.jc_link.specs.Graphs.{IsReached}
 use Rattle.jc_link.specs.declared.meter.Meter.{Meter}
 
 abbrev pub NoRepeat : List Name → Type 0

@@ -1,5 +1,5 @@
 -- The classes that are held, and the world that they make with the prefixes of outside names.
-use Rattle.std.specs.Prelude.{◌≡◌, Bool, List, Some, is_some, map}
+use Rattle.std.specs.Prelude.{◌≡◌, Bool, Decides, false, not, List, Some, is_some, map}
 use Rattle.std.specs.List.{All, Contains}
 use Rattle.std.specs.List.Sorted.{IsStrictlySortedBy}
 use Rattle.jc_classes.specs.Facts.{Facts}
@@ -11,6 +11,7 @@ use Rattle.jc_link.specs.declared.meter.Meter.{Meter}
 use Rattle.jc_report.specs.Reports.{Class, GivesRow, name_of}
 use Rattle.jc_report.specs.Rows.{AreRows, Row}
 use Rattle.jc_linkage.specs.Affected.{IsCounted, counts_of}
+use Rattle.jc_linkage.specs.Switches.{switches}
 
 pub record Linkage : Type 0 where
   pub classes : Places
@@ -22,10 +23,6 @@ given a n = is_some (class_at a.classes n)
 
 abbrev pub world_held : Linkage → World
 world_held a = world a.classes a.prefixes
-
--- the meter counted the parts and the asks of an edit that touched these names
-abbrev pub IsCountedIn : Linkage → (touched : Name → Bool) → (old new : Meter) → Type 0
-IsCountedIn a touched old new = IsCounted (given a) (world_held a) touched (counts_of old) (counts_of new)
 
 -- the class is what is held of its name, with the part that it has over all classes
 pub record IsHeldClass (a : Linkage) (c : Class) : Type 0 where
@@ -41,3 +38,19 @@ pub record AreHeldClasses (a : Linkage) (classes : List Class) : Type 0 where
 -- the rows that the classes give by these rules, sorted
 abbrev pub AreRowsHeld : (Facts → Part → List Row) → Linkage → List Row → Type 0
 AreRowsHeld rows_by a rows = (classes : List Class) → AreHeldClasses a classes → AreRows rows (GivesRow rows_by classes)
+
+-- ---- what an edit costs
+
+-- the class that files give of the name is the same before and after, and it does not become outside or inside
+abbrev pub IsSameAt : (old new : Linkage) → Name → Type 0
+IsSameAt old new n = (class_at old.classes n ≡ class_at new.classes n) × (switches new.classes old.prefixes new.prefixes n ≡ false)
+
+-- a test tells at which names it is not so
+abbrev pub TellsTouched : (old new : Linkage) → (touched : Name → Bool) → Type 0
+TellsTouched old new touched = (n : Name) → Decides (not (touched n)) (IsSameAt old new n)
+
+-- the meter counted the parts and the asks of an edit from the one to the other
+pub record IsCountedChange (old new : Linkage) (before behind : Meter) : Type 0 where
+  pub touched : Name → Bool
+  pub tells : TellsTouched old new touched
+  pub counted : IsCounted (given new) (world_held new) touched (counts_of before) (counts_of behind)

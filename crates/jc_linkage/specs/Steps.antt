@@ -1,5 +1,5 @@
 -- What an edit changes: what stands at a name, or at two.
-use Rattle.std.specs.Prelude.{Bool, false, ◌&&◌, ◌||◌, not, cond, Option, Some, None, is_some}
+use Rattle.std.specs.Prelude.{Bool, false, ◌&&◌, cond, Option, Some, None, is_some}
 use Rattle.jc_classes.specs.Facts.{Facts}
 use Rattle.jc_classes.specs.Names.{Name, same_name}
 use Rattle.jc_linkage.specs.declared.step.Step.{Step}
@@ -26,22 +26,15 @@ abbrev pub is_class : Option Facts → Name → Bool
 is_class None n = false
 is_class (Some f) n = same_name n f.name
 
--- a step counts where a class stands at its name, and the class beside it is another
-abbrev pub counts : Classes → Option Facts → Step → Bool
-counts m put s = is_some (m (step_name s)) && not (is_class put (step_name s))
-
-abbrev pub is_first : Classes → Option Step → Option Facts → Name → Bool
-is_first m None put n = false
-is_first m (Some s) put n = counts m put s && is_step s n
-
--- what the two touch
-abbrev pub is_touched : Classes → Option Step → Option Facts → Name → Bool
-is_touched m first put n = is_first m first put n || is_class put n
+-- whether a step is at the name
+abbrev pub at_step : Option Step → Name → Bool
+at_step None n = false
+at_step (Some s) n = is_step s n
 
 abbrev pub class_by : Option Step → Option Facts
 class_by None = None
 class_by (Some s) = step_class s
 
--- the classes behind both
+-- the classes behind both. A step changes nothing where no class stands, and at the name of the class beside it
 abbrev pub changed : Classes → Option Step → Option Facts → Classes
-changed m first put n = cond (is_class put n) put (cond (is_first m first put n) (class_by first) (m n))
+changed m first put n = cond (is_class put n) put (cond (at_step first n && is_some (m n)) (class_by first) (m n))

@@ -1,15 +1,16 @@
 //! An edit of what stands at one name or two.
 
-ghost use Rattle.std.specs.Prelude.{◌≡◌, ◌≤◌, ◌&&◌, not, false, true, IfOk, IsSome, None, OnErr, OnOk, cond, is_some};
+ghost use Rattle.std.specs.Prelude.{◌≡◌, ◌≤◌, ◌&&◌, not, false, true, Decides, IfOk, IsSome, None, OnErr, OnOk, Some, cond, is_some};
 ghost use Rattle.std.specs.FinMap as map;
 ghost use Rattle.std.specs.Option.{option_copied};
 ghost use Rattle.jc_classes.specs.Names.{Name};
 ghost use Rattle.jc_link.specs.Tables.{class_at};
 ghost use Rattle.jc_linkage.specs.Affected.{NoRepeat};
 ghost use Rattle.jc_linkage.specs.Steps as steps;
+ghost use Rattle.jc_linkage.specs.Steps.{at_step, step_class};
 ghost use Rattle.jc_linkage.specs.inside.Holding as holding;
-ghost use Rattle.jc_linkage.specs.inside.Holding.{AreBack, AreNamed, AreThere, CountsStep, Holds, IsCountedOver, IsHeld, PutsClass};
-ghost use Rattle.jc_linkage.specs.inside.Holding.{at_either, at_step, given_in, stepped_by};
+ghost use Rattle.jc_linkage.specs.inside.Holding.{AreBack, AreNamed, AreThere, CountsStep, Holds, IsCountedOver, IsCounting, IsHeld, IsIdle, IsPutting, PutsClass};
+ghost use Rattle.jc_linkage.specs.inside.Holding.{at_either, given_in, stepped_by};
 ghost use Rattle.jc_linkage.specs.inside.Kept.{AreLinked, fresh_at, fresh_names};
 ghost use Rattle.jc_linkage.specs.inside.LinkSets.{AreLinks, TakesOut, held_and_fresh, links_gone};
 ghost use Rattle.jc_linkage.specs.inside.Users.{AreKeptBut, is_name, kept_but};
@@ -26,19 +27,58 @@ use jc_classes::{Facts, same};
 use jc_link::{Meter, Outside, Table};
 use std::alloc::Global;
 
-/// A step that counts: a class stands at its name, and the class beside it is another.
-pub(crate) fn counting(
-    kept: &ByteMap<Kept>,
-    first: Option<Step>,
-    put: &Option<Facts>,
-) -> Option<Step>
-    ensures { result ≡ holding.counting kept.now first put.now }
+/// Returns the step, unless it changes nothing: no class stands at its name, the class beside it does, or the class that
+/// it leaves there.
+pub(crate) fn counting(table: &Table, first: Option<Step>, put: &Option<Facts>) -> Option<Step>
+    ensures { IsCounting (class_at table.now) put.now first result }
 {
     let step = first?;
-    if kept.contains_key(step.name()) && !is_class(put, step.name()) {
-        Some(step)
-    } else {
+    if is_idle(table, &step, put) {
         None
+    } else {
+        Some(step)
+    }
+}
+
+/// Returns the step that puts a class, if there is one, unless this class stands at its name.
+pub(crate) fn putting(table: &Table, put: Option<Facts>) -> Option<Step>
+    ensures { IsPutting (class_at table.now) put result }
+{
+    let facts = put?;
+    if stands(table, &facts) {
+        None
+    } else {
+        Some(Step::Put(facts))
+    }
+}
+
+/// Returns whether a step changes nothing.
+fn is_idle(table: &Table, step: &Step, put: &Option<Facts>) -> bool
+    ensures { Decides result (IsIdle (class_at table.now) put.now step.now) }
+{
+    match table.class(step.name()) {
+        Some(there) => is_class(put, step.name()) || leaves(step, there),
+        None => true,
+    }
+}
+
+/// Returns whether a step leaves this class at its name.
+fn leaves(step: &Step, there: &Facts) -> bool
+    ensures { Decides result (step_class step.now ≡ Some there.now) }
+{
+    match step {
+        Step::Put(facts) => facts.is_same(there),
+        Step::Remove(_) => false,
+    }
+}
+
+/// Returns whether a class stands at its name.
+fn stands(table: &Table, facts: &Facts) -> bool
+    ensures { Decides result (class_at table.now facts.now.name ≡ Some facts.now) }
+{
+    match table.class(facts.name()) {
+        Some(there) => there.is_same(facts),
+        None => false,
     }
 }
 

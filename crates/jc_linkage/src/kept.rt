@@ -1,13 +1,13 @@
 //! What is kept of a class.
 
-ghost use Rattle.std.specs.Prelude.{◌≡◌, ◌≤◌, IfOk, OnOk, length};
-ghost use Rattle.std.specs.List.{Contains};
+ghost use Rattle.std.specs.Prelude.{◌≡◌, ◌<◌, ◌≤◌, ℕ, IfOk, OnOk, length};
 ghost use Rattle.std.specs.Option.{option_copied};
-ghost use Rattle.jc_classes.specs.Names.{Name, names_of};
+ghost use Rattle.jc_classes.specs.Names.{names_of};
+ghost use Rattle.jc_classes.specs.Numbers.{name_at};
 ghost use Rattle.jc_classes.specs.Worlds.{World};
 ghost use Rattle.jc_link.specs.Meters.{counted};
-ghost use Rattle.jc_link.specs.Nets.{IsIn};
-ghost use Rattle.jc_linkage.specs.inside.Kept.{AllFresh, AreKeys, IsKeptOf, fresh_names, required_by};
+ghost use Rattle.jc_link.specs.Graphs.{IsIn};
+ghost use Rattle.jc_linkage.specs.inside.Kept.{AllFresh, AreKeys, IsClassAt, IsKeptOf, fresh_names, required_by};
 
 use crate::row_list::RowList;
 use jc_base::{ByteMap, NoMemory};
@@ -34,7 +34,8 @@ pub(crate) struct Fresh {
     pub(crate) kept: Kept,
 }
 
-/// Makes the parts of classes, in order. Of what is kept of them it takes over what stays.
+/// Makes the parts of the first classes of a graph, which have these names. Of what is kept of them it takes over what
+/// stays.
 pub(crate) fn make_fresh(
     alloc: Global,
     maker: &mut PartMaker,
@@ -42,10 +43,10 @@ pub(crate) fn make_fresh(
     names: &[Vec<u8>],
     meter: &mut Meter,
 ) -> Result<Vec<Fresh>, NoMemory>
-    requires { (d : Name) → Contains (names_of names.now) d → Contains maker.old.classes d }
+    requires { (place : ℕ) → place < length names.now → IsClassAt maker.old place (name_at (names_of names.now) place) }
     ensures names { IfOk result (λ fresh. fresh_names fresh.items ≡ names_of names.now) }
     ensures kept { (m : World) → IsIn m maker.old → IfOk result (λ fresh. AllFresh m fresh.items) }
-    ensures net { maker.new ≡ maker.old }
+    ensures graph { maker.new ≡ maker.old }
     ensures made { OnOk result (meter.new.made ≡ counted meter.old.made (length names.now)) }
     ensures made_rise { meter.old.made ≤ meter.new.made }
     ensures asks { meter.new.asks ≡ meter.old.asks }
@@ -53,31 +54,34 @@ pub(crate) fn make_fresh(
     let mut fresh = Vec::new(alloc);
     for name in names {
         let before = kept.get(name);
-        fresh.push(make_one(alloc, maker, name, before, meter)?)?;
+        let one = make_one(alloc, maker, fresh.len(), name, before, meter)?;
+        fresh.push(one)?;
     }
     Ok(fresh)
 }
 
-/// Makes the part of a class. Of what is kept of it before it takes over what stays.
+/// Makes the part of the class of a name, which is at a place of the graph. Of what is kept of the class before it takes
+/// over what stays.
 pub(crate) fn make_one(
     alloc: Global,
     maker: &mut PartMaker,
+    place: usize,
     name: &[u8],
     before: Option<&Kept>,
     meter: &mut Meter,
 ) -> Result<Fresh, NoMemory>
-    requires { Contains maker.old.classes name.now }
+    requires { IsClassAt maker.old place name.now }
     ensures name { IfOk result (λ fresh. fresh.name.items ≡ name.now) }
     ensures kept { (m : World) → IsIn m maker.old → IfOk result (λ fresh. IsKeptOf m name.now fresh.kept) }
-    ensures net { maker.new ≡ maker.old }
+    ensures graph { maker.new ≡ maker.old }
     ensures made { OnOk result (meter.new.made ≡ counted meter.old.made 1) }
     ensures made_rise { meter.old.made ≤ meter.new.made }
     ensures asks { meter.new.asks ≡ meter.old.asks }
 {
     let name_kept = Vec::from_slice(alloc, name)?;
-    let part = maker.part(alloc, name, meter)?;
-    let required = required_by(alloc, maker.record(name), &part, before)?;
-    let names = maker.reach(alloc, name)?;
+    let part = maker.part(alloc, place, meter)?;
+    let required = required_by(alloc, maker.record(place), &part, before)?;
+    let names = maker.reach(alloc, place)?;
     let reach = PackedNames::of(alloc, &names)?;
     let kept = Kept {
         part,

@@ -7,14 +7,12 @@ ghost use Rattle.jc_classes.specs.Names.{Name, names_of};
 ghost use Rattle.jc_classes.specs.Parts.{IsPart, Reach};
 ghost use Rattle.jc_link.specs.Tables.{class_at};
 ghost use Rattle.jc_linkage.specs.Holders.{CountsHoldersAt};
-ghost use Rattle.jc_linkage.specs.Linkages.{AreHeldClasses, AreRowsHeld, IsCountedIn, given, world_held};
-ghost use Rattle.jc_linkage.specs.Switches.{switches};
+ghost use Rattle.jc_linkage.specs.Linkages.{AreHeldClasses, AreRowsHeld, IsCountedChange, given, world_held};
 ghost use Rattle.jc_report.specs.ClassRows.{provided_rows, required_rows};
 ghost use Rattle.jc_report.specs.Reports.{Class, circular_names};
-ghost use Rattle.jc_linkage.specs.Steps.{changed, is_touched};
-ghost use Rattle.jc_linkage.specs.inside.Holding as holding;
+ghost use Rattle.jc_linkage.specs.Steps.{changed};
 
-use crate::changing::{change_classes, counting};
+use crate::changing::{change_classes, counting, putting};
 use crate::circular::Circular;
 use crate::classes::HeldClasses;
 use crate::kept::Kept;
@@ -77,7 +75,7 @@ impl Linkage {
 
     /// Changes what stands at the name of a step, and puts a class. The step counts only where a class
     /// stands at its name and the class that is put is another. Recomputes only the parts of the classes
-    /// whose reach holds one of the two names. If an allocation fails, all classes stay as they were.
+    /// whose reach holds a name at which the class changes. If an allocation fails, all classes stay as they were.
     pub fn change(
         &mut self,
         first: Option<Step>,
@@ -87,12 +85,12 @@ impl Linkage {
         ensures ok { OnOk result ((n : Name) → class_at self.new.classes n ≡ changed (class_at self.old.classes) first put n) }
         ensures err { OnErr result ((n : Name) → class_at self.new.classes n ≡ class_at self.old.classes n) }
         ensures prefixes { self.new.prefixes ≡ self.old.prefixes }
-        ensures counted { OnOk result (IsCountedIn self.new (is_touched (class_at self.old.classes) first put) meter.old meter.new) }
+        ensures counted { OnOk result (IsCountedChange self.old self.new meter.old meter.new) }
         ensures asks_rise { meter.old.asks ≤ meter.new.asks }
         ensures made_rise { meter.old.made ≤ meter.new.made }
     {
-        let first = counting(&self.kept, first, &put);
-        let second = putting(put);
+        let first = counting(&self.table, first, &put);
+        let second = putting(&self.table, put);
         change_classes(
             self.alloc,
             &self.outside,
@@ -111,7 +109,7 @@ impl Linkage {
         ensures ok { OnOk result (self.new.prefixes ≡ outside) }
         ensures err { OnErr result (self.new.prefixes ≡ self.old.prefixes) }
         ensures classes { self.new.classes ≡ self.old.classes }
-        ensures counted { OnOk result (IsCountedIn self.new (switches self.old.classes self.old.prefixes self.new.prefixes) meter.old meter.new) }
+        ensures counted { OnOk result (IsCountedChange self.old self.new meter.old meter.new) }
         ensures asks_rise { meter.old.asks ≤ meter.new.asks }
         ensures made_rise { meter.old.made ≤ meter.new.made }
     {
@@ -207,15 +205,5 @@ impl Linkage {
             Some(holders) => holders.names().len(),
             None => 0,
         }
-    }
-}
-
-/// The step that puts a class, if there is one.
-fn putting(put: Option<Facts>) -> Option<Step>
-    ensures { result ≡ holding.putting put }
-{
-    match put {
-        Some(facts) => Some(Step::Put(facts)),
-        None => None,
     }
 }

@@ -1,21 +1,21 @@
 //! The parts that an edit needs are made and linked before anything is taken away.
 
-ghost use Rattle.std.specs.Prelude.{◌≡◌, ◌≤◌, ◌++◌, [], IfErr, IfOk, None, OnErr, OnOk, Some};
+ghost use Rattle.std.specs.Prelude.{◌≡◌, ◌≤◌, ◌++◌, IfErr, IfOk, IfSome, None, OnErr, OnOk, Some, length};
 ghost use Rattle.std.specs.FinMap as map;
-ghost use Rattle.std.specs.List.{Contains};
-ghost use Rattle.std.specs.Option.{option_copied};
+ghost use Rattle.std.specs.Option.{option_copied, option_to_list};
 ghost use Rattle.jc_classes.specs.Names.{Name, names_of};
 ghost use Rattle.jc_classes.specs.Worlds.{World};
-ghost use Rattle.jc_link.specs.Nets.{IsIn};
-ghost use Rattle.jc_linkage.specs.inside.Kept.{AreLinked};
+ghost use Rattle.jc_link.specs.Graphs.{IsIn};
+ghost use Rattle.jc_link.specs.Meters.{counted};
+ghost use Rattle.jc_linkage.specs.inside.Kept.{AllFresh, AreLinked, IsClassAt, fresh_at, fresh_names};
 ghost use Rattle.jc_linkage.specs.inside.LinkSets.{AreLinks, held_and_fresh, links_of, together};
-ghost use Rattle.jc_linkage.specs.inside.Prepared.{IsPrepared, Prepares, one_of};
+ghost use Rattle.jc_linkage.specs.inside.Prepared.{IsPrepared, Prepares};
 
 use crate::kept::{Fresh, Kept, make_fresh, make_one};
 use crate::linking::{link_fresh, undo_fresh, undo_links};
 use crate::links::Links;
 use jc_base::{ByteMap, NoMemory};
-use jc_link::{Meter, Net, Outside, PartMaker, Table};
+use jc_link::{ClassGraph, Meter, Outside, PartMaker, Table};
 use std::alloc::{AllocFailed, Global};
 
 /// Makes the parts of the affected classes, and of one that comes, and links them; the newcomer is kept
@@ -42,13 +42,13 @@ pub(crate) fn prepare(
     if names.is_empty() && comes.is_none() {
         return Ok(Vec::new(alloc));
     }
-    let net = Net::around(alloc, table, outside, names, comes, meter)?;
-    let mut maker = PartMaker::new(alloc, &net)?;
+    let graph = ClassGraph::around(alloc, table, outside, names, comes, meter)?;
+    let mut maker = PartMaker::new(alloc, &graph)?;
     let fresh = prepare_all(alloc, &mut maker, kept, links, names, comes, meter)?;
     Ok(fresh)
 }
 
-/// The same over the net of these classes.
+/// The same over the graph of these classes.
 fn prepare_all(
     alloc: Global,
     maker: &mut PartMaker,
@@ -58,7 +58,7 @@ fn prepare_all(
     comes: Option<&[u8]>,
     meter: &mut Meter,
 ) -> Result<Vec<Fresh>, NoMemory>
-    requires classes { (d : Name) → Contains (names_of names.now ++ one_of (option_copied comes)) d → Contains maker.old.classes d }
+    requires classes { maker.old.classes ≡ names_of names.now ++ option_to_list (option_copied comes) }
     requires linked { AreLinked kept.old links.old }
     requires absent { (n : Name) → option_copied comes ≡ Some n → map.get kept.old n ≡ None }
     ensures kept_err { OnErr result (kept.new ≡ kept.old) }
@@ -70,60 +70,51 @@ fn prepare_all(
     ensures made_rise { meter.old.made ≤ meter.new.made }
 {
     let fresh = make_fresh(alloc, maker, kept, names, meter)?;
-    link_all(alloc, maker, kept, links, &fresh, comes, meter)?;
+    let newcomer = make_newcomer(alloc, maker, names.len(), comes, meter)?;
+    link_all(kept, links, &fresh, newcomer)?;
     Ok(fresh)
 }
 
-/// Links parts, and that of a class that comes, which is made and kept. At want of memory the links and what is
-/// kept are as before.
-fn link_all(
+/// Makes the part of the class that comes, which is at a place of the graph.
+fn make_newcomer(
     alloc: Global,
     maker: &mut PartMaker,
-    kept: &mut ByteMap<Kept>,
-    links: &mut Links,
-    fresh: &[Fresh],
+    place: usize,
     comes: Option<&[u8]>,
     meter: &mut Meter,
-) -> Result<(), NoMemory>
-    requires class { (n : Name) → option_copied comes ≡ Some n → Contains maker.old.classes n }
-    requires linked { AreLinked kept.old links.old }
-    requires absent { (n : Name) → option_copied comes ≡ Some n → map.get kept.old n ≡ None }
-    ensures kept_err { OnErr result (kept.new ≡ kept.old) }
-    ensures linked_err { OnErr result (AreLinked kept.old links.new) }
-    ensures ready { (m : World) → IsIn m maker.old
-        → OnOk result (IsPrepared m [] (option_copied comes.entry) kept.old kept.new [] meter.old meter.new) }
-    ensures linked { OnOk result (AreLinks (held_and_fresh kept.new fresh.now) links.new) }
-    ensures asks { meter.new.asks ≡ meter.old.asks }
+) -> Result<Option<Fresh>, NoMemory>
+    requires { (n : Name) → option_copied comes ≡ Some n → IsClassAt maker.old place n }
+    ensures names { IfOk result (λ newcomer. fresh_names (option_to_list newcomer) ≡ option_to_list (option_copied comes.entry)) }
+    ensures kept { (m : World) → IsIn m maker.old → IfOk result (λ newcomer. AllFresh m (option_to_list newcomer)) }
+    ensures made { OnOk result (meter.new.made ≡ counted meter.old.made (length (option_to_list (option_copied comes.entry)))) }
     ensures made_rise { meter.old.made ≤ meter.new.made }
+    ensures asks { meter.new.asks ≡ meter.old.asks }
 {
-    match comes {
-        Some(name) => link_newcomer(alloc, maker, kept, links, fresh, name, meter),
-        None => link_others(kept, links, fresh),
-    }
+    let Some(name) = comes else {
+        return Ok(None);
+    };
+    let newcomer = make_one(alloc, maker, place, name, None, meter)?;
+    Ok(Some(newcomer))
 }
 
-/// The same where a class comes.
-fn link_newcomer(
-    alloc: Global,
-    maker: &mut PartMaker,
+/// Links parts, and that of a class that comes, which is kept. If an allocation fails, the links and what is kept are as
+/// before.
+fn link_all(
     kept: &mut ByteMap<Kept>,
     links: &mut Links,
     fresh: &[Fresh],
-    name: &[u8],
-    meter: &mut Meter,
+    newcomer: Option<Fresh>,
 ) -> Result<(), NoMemory>
-    requires class { Contains maker.old.classes name.now }
     requires linked { AreLinked kept.old links.old }
-    requires absent { map.get kept.old name.now ≡ None }
+    requires absent { IfSome newcomer (λ x. map.get kept.old x.name.items ≡ None) }
     ensures kept_err { OnErr result (kept.new ≡ kept.old) }
     ensures linked_err { OnErr result (AreLinked kept.old links.new) }
-    ensures ready { (m : World) → IsIn m maker.old
-        → OnOk result (IsPrepared m [] (Some name.now) kept.old kept.new [] meter.old meter.new) }
+    ensures kept_ok { OnOk result ((d : Name) → map.get kept.new d ≡ fresh_at (option_to_list newcomer) d (map.get kept.old d)) }
     ensures linked { OnOk result (AreLinks (held_and_fresh kept.new fresh.now) links.new) }
-    ensures asks { meter.new.asks ≡ meter.old.asks }
-    ensures made_rise { meter.old.made ≤ meter.new.made }
 {
-    let newcomer = make_one(alloc, maker, name, None, meter)?;
+    let Some(newcomer) = newcomer else {
+        return link_others(kept, links, fresh);
+    };
     match link_and_keep(kept, links, fresh, newcomer) {
         Ok(()) => Ok(()),
         Err(newcomer) => {

@@ -1,4 +1,4 @@
-//! The classes of a reach or of a net, by numbers.
+//! The classes of a class graph, by numbers.
 
 ghost use Rattle.std.specs.Prelude.{◌≡◌, ◌<◌, ◌++◌, length, map, OnOk, option_map, reverse, slice_index_or};
 ghost use Rattle.std.specs.List.{All};

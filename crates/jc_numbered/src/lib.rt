@@ -1,4 +1,4 @@
-//! What look-up is made of, among the classes of a reach or of a net by their numbers: how a class loads by its
+//! What look-up is made of, among the classes of a class graph by their numbers: how a class loads by its
 //! supertypes, where look-up goes on, access, and the choice among superinterfaces (JVMS 5.3.5, 5.4.3.2 to 5.4.3.4, 5.4.4).
 #![tactic(auto)]
 

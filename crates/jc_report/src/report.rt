@@ -5,7 +5,7 @@ ghost use Rattle.std.specs.Iterator.{IsFinite};
 ghost use Rattle.std.specs.List.{list_any};
 ghost use Rattle.jc_classes.specs.Names.{Name};
 ghost use Rattle.jc_link.specs.Meters.{counted};
-ghost use Rattle.jc_link.specs.Nets.{IsIn};
+ghost use Rattle.jc_link.specs.Graphs.{IsIn, names_of_classes};
 ghost use Rattle.jc_link.specs.Tables.{classes_of, world};
 ghost use Rattle.jc_resolve.specs.Answers.{loading_of};
 ghost use Rattle.jc_report.specs.ClassLent.{class_lent};
@@ -21,7 +21,7 @@ ghost use Rattle.jc_report.specs.Rows.{AreRows};
 ghost use Rattle.jc_report.specs.RowView.{row_lent};
 ghost use Rattle.jc_report.specs.Trees.{IsTree};
 ghost use Rattle.jc_report.specs.inside.Given.{ForGiven};
-ghost use Rattle.jc_report.specs.inside.Made.{AreMadeOf, HasClasses};
+ghost use Rattle.jc_report.specs.inside.Made.{AreMadeOf};
 ghost use Rattle.jc_report.specs.inside.ProvidedInOrder.{provided_in};
 ghost use Rattle.jc_report.specs.inside.ReportShown.{AreByName, AreClasses};
 
@@ -37,7 +37,7 @@ use crate::tree_circular::TreeCircular;
 use crate::tree_provided::TreeProvided;
 use jc_base::NoMemory;
 use jc_classes::Facts;
-use jc_link::{Meter, Net, Outside, Part, PartMaker, Table};
+use jc_link::{ClassGraph, Meter, Outside, Part, PartMaker, Table};
 use jc_resolve::{Answers, Links, Loading};
 use std::alloc::Global;
 use std::marker::Model;
@@ -255,8 +255,8 @@ fn fill_classes<'t>(
     ensures made_rise { meter.old.made ≤ meter.new.made }
     ensures asks_rise { meter.old.asks ≤ meter.new.asks }
 {
-    let net = Net::of(alloc, &tree.table, outside, meter)?;
-    let mut maker = PartMaker::new(alloc, &net)?;
+    let graph = ClassGraph::of(alloc, &tree.table, outside, meter)?;
+    let mut maker = PartMaker::new(alloc, &graph)?;
     push_classes(classes, alloc, &tree.table, &mut maker, meter)
 }
 
@@ -269,7 +269,7 @@ fn push_classes<'t>(
     meter: &mut Meter,
 ) -> Result<(), NoMemory>
     requires none { classes.old.items ≡ [] }
-    requires names { HasClasses (classes_of table.now) maker.old }
+    requires names { maker.old.classes ≡ names_of_classes (classes_of table.now) }
     ensures classes { (prefixes : List Name) → IsIn (world table.now prefixes) maker.old
         → OnOk result (AreMadeOf table.now prefixes classes.new.items) }
     ensures made { OnOk result (meter.new.made ≡ counted meter.old.made (length classes.new.items)) }
@@ -277,7 +277,7 @@ fn push_classes<'t>(
     ensures asks { meter.new.asks ≡ meter.old.asks }
 {
     for facts in table.classes() {
-        let part = maker.part(alloc, facts.name(), meter)?;
+        let part = maker.part(alloc, classes.len(), meter)?;
         classes.push(Class { facts, part })?;
     }
     Ok(())

@@ -23,7 +23,7 @@ use std::alloc::Global;
 /// ask for the same stand side by side, by their places.
 #[derive(Clone, Copy, PartialEq, Eq, PartialOrd, Ord)]
 struct Asked {
-    node: Option<usize>,
+    node: Option<u32>,
     place: usize,
     number: usize,
 }
@@ -33,11 +33,11 @@ struct Asked {
 const FEW: usize = 65_536;
 
 /// How many classes a walk over what is above each of these may see, for all of them together.
-fn most_walked(classes: &Classes, nodes: &[Option<usize>]) -> usize {
+fn most_walked(classes: &Classes, nodes: &[Option<u32>]) -> usize {
     let mut walked = 0usize;
     for node in nodes {
         if let Some(node) = node {
-            walked = walked.saturating_add(classes.most_above(*node));
+            walked = walked.saturating_add(classes.most_above(*node as usize));
         }
     }
     walked
@@ -49,7 +49,7 @@ fn by_class(
     alloc: Global,
     classes: &Classes,
     facts: &Facts,
-    nodes: &[Option<usize>],
+    nodes: &[Option<u32>],
 ) -> Result<Vec<Asked>, NoMemory>
     requires { length nodes.now ≡ length facts.now.references }
     ensures { IfOk result (λ order. AreNumbered (length facts.now.references) order.items) }
@@ -71,13 +71,23 @@ fn by_class(
     Ok(order)
 }
 
+/// The same number, to index with.
+fn wide(node: Option<u32>) -> Option<usize>
+    ensures { result ≡ node }
+{
+    match node {
+        Some(node) => Some(node as usize),
+        None => None,
+    }
+}
+
 /// Answers the reference of a number.
 fn answer_one(
     alloc: Global,
     look: &Look,
     room: &mut Room,
     facts: &Facts,
-    nodes: &[Option<usize>],
+    nodes: &[Option<u32>],
     entries: &mut Vec<Entry<usize>>,
     number: usize,
 ) -> Result<(), NoMemory>
@@ -91,7 +101,7 @@ fn answer_one(
     let Some(reference) = facts.reference(number) else {
         return Ok(());
     };
-    let node = nodes[number];
+    let node = wide(nodes[number]);
     let entry = look.resolve(alloc, room, reference, node)?;
     entries[number] = entry;
     Ok(())
@@ -104,7 +114,7 @@ fn answer_next(
     look: &Look,
     room: &mut Room,
     facts: &Facts,
-    nodes: &[Option<usize>],
+    nodes: &[Option<u32>],
     entries: &mut Vec<Entry<usize>>,
     before: Option<usize>,
     number: usize,
@@ -134,7 +144,7 @@ fn answer_each(
     look: &Look,
     room: &mut Room,
     facts: &Facts,
-    nodes: &[Option<usize>],
+    nodes: &[Option<u32>],
     entries: &mut Vec<Entry<usize>>,
 ) -> Result<(), NoMemory>
     requires nodes { AreNodesOf (size_of look.now) (reach_of look.now) facts.now.references nodes.now }
@@ -160,7 +170,7 @@ fn answer_all(
     look: &Look,
     room: &mut Room,
     facts: &Facts,
-    nodes: &[Option<usize>],
+    nodes: &[Option<u32>],
 ) -> Result<Vec<Entry<usize>>, NoMemory>
     requires nodes { AreNodesOf (size_of look.now) (reach_of look.now) facts.now.references nodes.now }
     requires room { IsRoom look.now.classes.now room.old }
@@ -178,7 +188,7 @@ fn answer_kept(
     look: &Look,
     kept: &mut Option<Room>,
     facts: &Facts,
-    nodes: &[Option<usize>],
+    nodes: &[Option<u32>],
 ) -> Result<Vec<Entry<usize>>, NoMemory>
     requires nodes { AreNodesOf (size_of look.now) (reach_of look.now) facts.now.references nodes.now }
     requires kept { IfSome kept.old (IsRoom look.now.classes.now) }
@@ -207,7 +217,7 @@ fn entries_of(
     kept: &mut Option<Room>,
     class: usize,
     facts: &Facts,
-    nodes: &[Option<usize>],
+    nodes: &[Option<u32>],
 ) -> Result<Vec<Entry<usize>>, NoMemory>
     requires loads { length loads.now ≡ length classes.now.standing.now }
     requires good { TellsGood (indexed_of classes.now) loads.now }
@@ -238,7 +248,7 @@ pub(crate) fn linked(
     kept: &mut Option<Room>,
     numbers: &mut [usize],
     class: usize,
-    nodes: &[Option<usize>],
+    nodes: &[Option<u32>],
 ) -> Result<Linked, NoMemory>
     requires loads { length loads.now ≡ length classes.now.standing.now }
     requires good { TellsGood (indexed_of classes.now) loads.now }

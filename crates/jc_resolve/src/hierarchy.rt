@@ -33,7 +33,7 @@ pub enum Loading {
     Fails(LinkageError, Vec<u8>),
 }
 
-/// The classes of a reach or of a net by numbers, with how each of them loads.
+/// The classes of a class graph by numbers, with how each of them loads.
 #[derive(Drop)]
 pub struct Hierarchy<'c, 't> {
     classes: Classes<'c, 't>,
@@ -119,7 +119,7 @@ impl<'c, 't> Hierarchy<'c, 't> {
         &mut self,
         alloc: Global,
         class: usize,
-        nodes: &[Option<usize>],
+        nodes: &[Option<u32>],
     ) -> Result<Linked, NoMemory>
         requires class { class < length self.old.names }
         requires nodes { NumberReferences self.old.names nodes.now (references_at self.old class) }

@@ -1,4 +1,4 @@
-//! Loading, look-up and resolution (JVMS 5.3.5, 5.4.3, 6.5) over the classes of a reach or of a net, by their numbers:
+//! Loading, look-up and resolution (JVMS 5.3.5, 5.4.3, 6.5) over the classes of a class graph, by their numbers:
 //! how each class loads, the answer to each reference of a class, and which of its instructions do not link.
 #![tactic(auto)]
 

@@ -10,7 +10,7 @@ use jc_numbered::{Classes, Load};
 /// A class that asks, among classes of which it is known how each loads.
 #[derive(Clone, Copy)]
 pub(crate) struct Look<'l, 'c, 't> {
-    /// The classes of its reach, or of a net that has it.
+    /// The classes of its reach, or of a larger graph.
     pub(crate) classes: &'l Classes<'c, 't>,
     /// How each of them loads.
     pub(crate) loads: &'l [Load],

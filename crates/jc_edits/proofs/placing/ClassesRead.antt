@@ -1,16 +1,19 @@
 -- The classes that an edit changes, from what is read of the files.
-use Rattle.std.proofs.Common.{◌≡◌, ℕ, cond, List, Option, Some, None, Ok, sym, ap, ◌∙◌}
+use Rattle.std.proofs.Common.{◌≡◌, ℕ, cond, List, Option, Some, None, Result, Ok, sym, ap, ◌∙◌}
 use Rattle.std.specs.Prelude.{option_and_then, if◌then◌else◌}
 use Rattle.std.specs.FinMap as fin
 use Rattle.jc_base.proofs.maps.FiniteMaps.{get-remove, get-remove_same}
-use Rattle.jc_view.specs.Outcome.{class_named}
+use Rattle.jc_view.specs.ClassFile.{ClassFile}
+use Rattle.jc_view.specs.declared.parse_error.ParseError.{ParseError}
+use Rattle.jc_view.specs.Outcome.{class_named, class_read}
 use Rattle.jc_classes.specs.Facts.{Facts}
-use Rattle.jc_classes.specs.FactsOf.{facts_of}
+use Rattle.jc_classes.specs.FactsOf.{class_name, facts_of}
 use Rattle.jc_report.specs.Files.{Files}
 use Rattle.jc_report.specs.FileRows.{winner}
 use Rattle.jc_report.specs.Reports.{facts_at, facts_by, facts_there}
 use Rattle.jc_report.proofs.winners.OneMoreFile.{winner_apart}
 use Rattle.jc_report.proofs.trees.FactsOfNames.{winner_facts}
+use Rattle.jc_report.proofs.trees.NamedClasses.{class_of_name}
 use Rattle.jc_edits.specs.Touched.{is_path}
 use Rattle.jc_edits.specs.inside.Changing.{lost, lost_by}
 use Rattle.jc_edits.specs.inside.Claims.{AreClaims, PathsByName, first_claim}
@@ -53,3 +56,13 @@ module _ (f : Files) (path name next : List ℕ) (wins : winner (fin.remove f pa
       let given = winner_facts (fin.remove f path) name next wins in
       let e : None ≡ Some given.bytes = none ∙ sym apart ∙ given.there in
       cc
+
+-- ---- the class that bytes name
+
+one_class : (c d : ClassFile) (read : Result ClassFile ParseError) → read ≡ Ok c → read ≡ Ok d → c ≡ d
+one_class c d read p q = cc
+
+pub read_name : (bytes name : List ℕ) (c : ClassFile) → class_named bytes ≡ Ok name → class_read bytes ≡ Ok c → class_name c ≡ name
+read_name bytes name c named read =
+    let agrees = class_of_name bytes name named in
+    ap class_name (one_class c agrees.class (class_read bytes) read agrees.is_read) ∙ agrees.is_name

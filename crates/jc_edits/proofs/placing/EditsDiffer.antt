@@ -1,5 +1,6 @@
 -- An edit changes nothing at a name that it does not touch.
-use Rattle.std.proofs.Common.{◌≡◌, ℕ, Bool, true, false, ◌||◌, ◌&&◌, not, cond, List, Option, Some, None, is_some, refl, sym, ap, subst, ◌∙◌}
+use Rattle.std.proofs.Common.{◌≡◌, ℕ, Bool, true, false, ◌||◌, ◌&&◌, not, cond, List, Option, Some, None, is_some, refl, sym, ap, subst, ◌∙◌, ⊎_elim}
+use Rattle.std.proofs.lemmas.Bool.{cases_Bool, false≢true}
 use Rattle.std.specs.FinMap as fin
 use Rattle.jc_base.proofs.maps.FiniteMaps.{get-remove_same}
 use Rattle.jc_classes.specs.Facts.{Facts}
@@ -9,13 +10,14 @@ use Rattle.jc_classes.specs.Names.{Name}
 use Rattle.jc_classes.proofs.worlds.Parts.{hits_either}
 use Rattle.jc_link.specs.Prefixes.{is_covered}
 use Rattle.jc_link.specs.Tables.{or_built_in, stands_by}
-use Rattle.jc_input.specs.Changes.{Change, OfFiles, OfPrefixes, bytes_of, path_of}
+use Rattle.jc_input.specs.Changes.{bytes_of, path_of}
 use Rattle.jc_report.specs.Files.{Files}
 use Rattle.jc_report.specs.FileRows.{winner}
-use Rattle.jc_report.specs.Reports.{facts_at, world_of}
+use Rattle.jc_report.specs.Reports.{facts_at}
 use Rattle.jc_input.specs.FileEdits as edits
-use Rattle.jc_edits.specs.Edits.{after_edit, after_prefix}
-use Rattle.jc_edits.specs.Touched.{AffectedEitherWay, EditsDiffer, is_path, is_taken, is_touched, world_at}
+use Rattle.jc_edits.specs.Edits.{after_edit}
+use Rattle.jc_edits.specs.Touched.{AffectedEitherWay, EditsDiffer, TellsTouched, TouchedAreTaken, is_path, is_taken, switches, world_at}
+use Rattle.jc_edits.specs.SessionState.{Contents}
 use Rattle.jc_edits.specs.inside.Changing.{won}
 use Rattle.jc_edits.specs.inside.Growth.{put_at}
 use Rattle.jc_edits.proofs.placing.ClassesPlaced.{Placed, others_with, placed_at}
@@ -38,16 +40,7 @@ same_class f path o n untouched =
     let behind = subst (λ h. Placed others path o h n) (put_with f path o) (placed_at others path o n absent) in
     of_others others path (fin.get f path) f n before apart.0 ∙ sym (of_others others path o (put_at f path o) n behind apart.1)
 
--- ---- edits of files
-
-files_differ : (f : Files) (e : Change) (prefixes : List Name) → Differ (is_taken f (edits.after f e) (path_of e)) (world_of f prefixes) (world_of (edits.after f e) prefixes)
-files_differ f e prefixes n untouched =
-    let path = path_of e in
-    let stands = subst (λ g. is_taken f g path n ≡ false) (put_after f e) untouched in
-    let same = same_class f path (bytes_of e) n stands ∙ ap (λ g. facts_at g n) (sym (put_after f e)) in
-    ap (λ o. stands_by (or_built_in o n) (is_covered prefixes n)) same
-
--- ---- edits of prefixes
+-- ---- what an edit touches
 
 same_stand : (o : Option Facts) (a b : Bool) → (not (is_some o) && not (same_bool a b)) ≡ false → stands_by o a ≡ stands_by o b
 same_stand (Some facts) a b e = refl
@@ -56,16 +49,40 @@ same_stand None true false e = absurd cc
 same_stand None false true e = absurd cc
 same_stand None false false e = refl
 
--- ---- both
+-- at a name that it does not touch the worlds are the same
+differ : (old new : Contents) (touched : Name → Bool) → TellsTouched old new touched → Differ touched (world_at old) (world_at new)
+differ old new touched tells n untouched =
+    let same = (tells n).0 (ap not untouched) in
+    ap (λ o. stands_by (or_built_in o n) (is_covered old.prefixes n)) same.0 ∙ same_stand (or_built_in (facts_at new.files n) n) (is_covered old.prefixes n) (is_covered new.prefixes n) same.1
 
 pub edits_differ : EditsDiffer
-edits_differ h (OfFiles e) = files_differ h.files e h.prefixes
-edits_differ h (OfPrefixes e) = λ n untouched. same_stand (or_built_in (facts_at h.files n) n) (is_covered h.prefixes n) (is_covered (after_prefix h.prefixes e) n) untouched
+edits_differ h e touched tells = differ h (after_edit h e) touched tells
 
 pub affected_either_way : AffectedEitherWay
-affected_either_way h e d =
-    let t = is_touched h (after_edit h e) e in
+affected_either_way h e touched tells d =
     let m = world_at h in
     let k = world_at (after_edit h e) in
-    let differ = edits_differ h e in
-    (hits_either t m k d differ, hits_either t k m d (λ n u. sym (differ n u)))
+    let apart = edits_differ h e touched tells in
+    (hits_either touched m k d apart, hits_either touched k m d (λ n u. sym (apart n u)))
+
+-- ---- edits of files
+
+-- prefixes that stay switch nothing
+pub none_switches : (f : Files) (prefixes : List Name) (n : Name) → switches f prefixes prefixes n ≡ false
+none_switches f prefixes n = by (not (is_some (or_built_in (facts_at f n) n))) (is_covered prefixes n)
+  where
+    by : (a b : Bool) → (a && not (same_bool b b)) ≡ false
+    by true true = refl
+    by true false = refl
+    by false b = refl
+
+pub touched_are_taken : TouchedAreTaken
+touched_are_taken h e touched tells n t =
+    ⊎_elim
+    (λ taken. taken)
+    (λ apart.
+    let stands = subst (λ g. is_taken h.files g (path_of e) n ≡ false) (put_after h.files e) apart in
+    let same : facts_at h.files n ≡ facts_at (edits.after h.files e) n =
+    same_class h.files (path_of e) (bytes_of e) n stands ∙ ap (λ g. facts_at g n) (sym (put_after h.files e)) in
+    absurd (false≢true (sym (ap not t) ∙ (tells n).1 (same, none_switches (edits.after h.files e) h.prefixes n))))
+    (cases_Bool (is_taken h.files (edits.after h.files e) (path_of e) n))

@@ -19,8 +19,12 @@ abbrev pub before : List ℕ → Option (List ℕ) → Bool
 before path None = true
 before path (Some other) = name_less path other
 
+-- the class of a file at a path that names it so, if it wins there
+abbrev pub won_as : Files → (path name : List ℕ) → ClassFile → Option Facts
+won_as others path name c = if before path (winner others name) then Some (facts_of path c) else None
+
 abbrev pub won_by : Files → List ℕ → Result ClassFile ParseError → Option Facts
-won_by others path (Ok c) = if before path (winner others (class_name c)) then Some (facts_of path c) else None
+won_by others path (Ok c) = won_as others path (class_name c) c
 won_by others path (Err refusal) = None
 
 -- the class that bytes at a path give beside other files

@@ -1,5 +1,5 @@
 -- The class that a held file names, or its refusal, without vectors and references.
-use Rattle.std.specs.Prelude.{ℕ, List, Result, Ok, Err}
+use Rattle.std.specs.Prelude.{ℕ, List, Option, Some, None, Result, Ok, Err}
 use Rattle.std.specs.Borrow.{Bor}
 use Rattle.std.specs.declared.vec.Vec.{Vec}
 use Rattle.jc_view.specs.declared.parse_error.ParseError.{ParseError}
@@ -11,3 +11,8 @@ class_held (Err refusal) = Err refusal
 abbrev pub class_lent : Result (Bor (List ℕ)) ParseError → Result (List ℕ) ParseError
 class_lent (Ok name) = Ok name.now
 class_lent (Err refusal) = Err refusal
+
+-- the bytes that are to stand at a path
+abbrev pub bytes_held : {A : Type 0} → Option (Vec ℕ A) → Option (List ℕ)
+bytes_held None = None
+bytes_held (Some bytes) = Some bytes.items

@@ -8,13 +8,12 @@ use Rattle.std.specs.Option.{option_to_list}
 use Rattle.jc_classes.specs.Facts.{IsNamedBefore, Reference}
 use Rattle.jc_classes.specs.Facts.Named.{Class}
 use Rattle.jc_classes.specs.declared.reference_kind.ReferenceKind.TheVariants as kind
-use Rattle.jc_classes.specs.Names.{Name, object}
+use Rattle.jc_classes.specs.Names.{Name}
 use Rattle.jc_classes.specs.Worlds.{Stands, World, supertypes_of, references_of}
 use Rattle.jc_classes.specs.Worlds.Stands.{Nothing}
-use Rattle.jc_classes.specs.Parts.{Reach, class_of, class_in, names_in}
-use Rattle.jc_classes.specs.Parts.Reach.{itself, always, reference, upward}
+use Rattle.jc_classes.specs.Parts.{class_of, class_in, names_in}
 use Rattle.jc_classes.specs.Numbers.{name_at, IsOnce, Grows, AddsNumbers}
-use Rattle.jc_link.specs.inside.Gathering.{stand_at, supertypes_at, IsAsked, Nodes, Gathering}
+use Rattle.jc_link.specs.inside.Gathering.{stand_at, supertypes_at, IsAsked, Nodes}
 use Rattle.jc_classes.proofs.numbering.NumberLemmas.{grows_same, grows_more, numbers_same}
 
 -- ---- references
@@ -178,65 +177,8 @@ asked_none m ns once = record {
   above = λ k l. absurd (omega arith);
 }
 
--- so of a reach
-pub gathering_add : (m : World) (d : Name) (ns ns2 : List Name) (st : List Stands) (rs : List (List ℕ)) (nodes : List (Option ℕ)) (o : Stands) (direct : List ℕ)
-    → Gathering m d ns st rs nodes → length st < length ns → o ≡ m (name_at ns (length st)) → AddsNumbers ns [] ns2 direct (supertypes_of o) → Gathering m d ns2 (st ++ o ∷ []) (rs ++ direct ∷ []) nodes
-gathering_add m d ns ns2 st rs nodes o direct g l is more =
-    let grows = more.grows in
-    let longer = grows.longer in
-    let at = length st in
-    let first = g.first.0 in
-    record {
-      asked = asked_add m ns ns2 st rs o direct g.asked l is more;
-      first = (omega arith, grows.same 0 g.first.0 ∙ g.first.1);
-      object = (g.object.0, omega (arith, g.object.1), get_or_default ns2 g.object.0 object [] (omega (arith, g.object.1)) ∙ grows.same g.object.0 g.object.1 ∙ get_or_default ns g.object.0 [] object g.object.1 ∙ g.object.2);
-      reached = λ i k. ⊎_elim
-          (λ (p : i < length ns). subst (Reach m d) (sym (grows.same i p)) (g.reached i p))
-          (λ (p : length ns ≤ i). upward (g.reached at l) (subst (λ s. Contains (supertypes_of s) (name_at ns2 i)) is (grows.only i p k)))
-          (under i (length ns));
-      references = nodes_same ns ns2 nodes grows.same g.references_in ∙ g.references;
-      references_in = λ v c. let q = g.references_in v c in omega arith;
-    }
-  where
-    under : (i n : ℕ) → (i < n) ⊎ (n ≤ i)
-    under i n = grind arith
-
 one_is : (x y : Name) → Contains (x ∷ []) y → x ≡ y
 one_is x y c = let e : c.0 ≡ 0 = omega (arith, c.1) in sym (get_or_push [] x y c.0 (sym e)) ∙ c.2
-
--- the class itself, java/lang/Object and the references are numbered
-pub gathering_first : (m : World) (d : Name) (n1 n2 n3 : List Name) (i j : ℕ) (nodes : List (Option ℕ))
-    → Grows [] n1 (d ∷ []) → i < length n1 → name_at n1 i ≡ d → Grows n1 n2 (object ∷ []) → j < length n2 → name_at n2 j ≡ object → Nodes n2 [] n3 nodes (references_of (m d)) → Gathering m d n3 [] [] nodes
-gathering_first m d n1 n2 n3 i j nodes g1 i1 e1 g2 j2 e2 more =
-    let g3 = more.grows in
-    let l1 = g1.few in let l2 = g2.longer in let l3 = g3.longer in
-    let zero1 : i ≡ 0 = omega arith in
-    record {
-      asked = asked_none m n3 g3.once;
-      first = (omega arith, g3.same 0 (omega arith) ∙ g2.same 0 (omega arith) ∙ ap (name_at n1) (sym zero1) ∙ e1);
-      object = (j, omega arith, get_or_default n3 j object [] (omega arith) ∙ g3.same j j2 ∙ e2);
-      reached = λ k l. by k l;
-      references = more.named;
-      references_in = more.within;
-    }
-  where
-    under : (a b : ℕ) → (a < b) ⊎ (b ≤ a)
-    under a b = grind arith
-
-    in1 : (k : ℕ) → k < length n1 → Reach m d (name_at n1 k)
-    in1 k l = subst (Reach m d) (one_is d (name_at n1 k) (g1.only k (omega arith) l)) itself
-
-    in2 : (k : ℕ) → k < length n2 → Reach m d (name_at n2 k)
-    in2 k l = ⊎_elim
-        (λ (p : k < length n1). subst (Reach m d) (sym (g2.same k p)) (in1 k p))
-        (λ (p : length n1 ≤ k). subst (Reach m d) (one_is object (name_at n2 k) (g2.only k p l)) always)
-        (under k (length n1))
-
-    by : (k : ℕ) → k < length n3 → Reach m d (name_at n3 k)
-    by k l = ⊎_elim
-        (λ (p : k < length n2). subst (Reach m d) (sym (more.grows.same k p)) (in2 k p))
-        (λ (p : length n2 ≤ k). reference (more.grows.only k p l))
-        (under k (length n2))
 
 -- ---- all was asked for
 
@@ -264,21 +206,7 @@ map_out f (v ∷ numbers) n c =
     (λ h. let q = map_out f numbers n h in (q.0, Contains-append_right (v ∷ []) numbers q.0 q.1, q.2))
     (Contains-append_cases (f v ∷ []) (map f numbers) n c)
 
--- each name of the reach has a number
-pub all_numbered : (m : World) (d : Name) (ns : List Name) (st : List Stands) (rs : List (List ℕ)) (nodes : List (Option ℕ)) → Gathering m d ns st rs nodes → length st ≡ length ns → {n : Name} → Reach m d n → (i : ℕ) × (i < length ns) × (name_at ns i ≡ n)
-all_numbered m d ns st rs nodes g e itself = (0, g.first.0, g.first.1)
-all_numbered m d ns st rs nodes g e always = (g.object.0, g.object.1, get_or_default ns g.object.0 [] object g.object.1 ∙ g.object.2)
-all_numbered m d ns st rs nodes g e {n} (reference h) = let q = named_in ns nodes (references_of (m d)) n g.references h in (q.0, g.references_in q.0 q.1, q.2)
-all_numbered m d ns st rs nodes g e {n} (upward {mid} r h) =
-    let p = all_numbered m d ns st rs nodes g e r in
-    let k : p.0 < length st = omega (arith, p.1) in
-    let q = map_out (name_at ns) (supertypes_at rs p.0) n (subst (λ z. Contains z n) (sym (g.asked.above p.0 k)) (subst (λ z. Contains (supertypes_of (m z)) n) (sym p.2) h)) in
-    (q.0, g.asked.within p.0 q.0 q.1, q.2)
-
 -- ---- as the code has it
 
 pub asked_as : (m : World) (ns : List Name) (st st2 : List Stands) (rs rs2 : List (List ℕ)) → st2 ≡ st → rs2 ≡ rs → IsAsked m ns st rs → IsAsked m ns st2 rs2
 asked_as m ns st st2 rs rs2 e f g = subst (λ z. IsAsked m ns z rs2) (sym e) (subst (λ z. IsAsked m ns st z) (sym f) g)
-
-pub gathering_as : (m : World) (d : Name) (ns : List Name) (st st2 : List Stands) (rs rs2 : List (List ℕ)) (nodes : List (Option ℕ)) → st2 ≡ st → rs2 ≡ rs → Gathering m d ns st rs nodes → Gathering m d ns st2 rs2 nodes
-gathering_as m d ns st st2 rs rs2 nodes e f g = subst (λ z. Gathering m d ns z rs2 nodes) (sym e) (subst (λ z. Gathering m d ns st z nodes) (sym f) g)

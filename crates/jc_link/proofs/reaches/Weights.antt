@@ -8,8 +8,7 @@ use Rattle.std.specs.FinMap as fin
 use Rattle.std.specs.FinMap.Entries.{find}
 use Rattle.jc_classes.specs.Facts.{Facts}
 use Rattle.jc_classes.specs.Names.{Name, name_cmp, same_name, object}
-use Rattle.jc_classes.specs.Parts.{names_in}
-use Rattle.jc_classes.specs.Worlds.{Stands, references_of, supertypes_of}
+use Rattle.jc_classes.specs.Worlds.{Stands, supertypes_of}
 use Rattle.jc_classes.specs.BuiltIn.{object_facts}
 use Rattle.jc_link.specs.Prefixes.{is_covered}
 use Rattle.jc_link.specs.Tables.{Places, placed, or_built_in, stands_by, world}
@@ -25,9 +24,9 @@ abbrev pub asked : List Name → ℕ → Name → Bool
 asked names zero n = false
 asked names (suc k) n = same_name n (name_at names k) || asked names k n
 
--- how many names what stands somewhere tells: its supertypes, and the classes that its references name
+-- how many supertypes what stands somewhere has
 abbrev pub told_by : Stands → ℕ
-told_by s = length (supertypes_of s) + length (names_in (references_of s))
+told_by s = length (supertypes_of s)
 
 -- how many the class at a place tells
 abbrev pub told_count : Option Facts → ℕ

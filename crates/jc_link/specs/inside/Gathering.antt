@@ -1,4 +1,4 @@
--- A reach while it is gathered, by numbers.
+-- Names and what stands at them, by numbers, while they are gathered.
 use Rattle.std.specs.Prelude.{◌≡◌, ◌++◌, ◌∷◌, ◌<◌, ℕ, List, [], map, length, slice_get, slice_index_or}
 use Rattle.std.specs.Prelude.{Option, option_map, Some}
 use Rattle.std.specs.List.{Contains}
@@ -56,17 +56,7 @@ pub record IsAsked (m : World) (names : List Name) (stands : List Stands) (super
   pub within : (a b : ℕ) → Contains (supertypes_at supertypes a) b → b < length names
   pub above : (i : ℕ) → i < length stands → map (name_at names) (supertypes_at supertypes i) ≡ supertypes_of (m (name_at names i))
 
--- so of names of the reach of a class
-pub record Gathering (m : World) (d : Name) (names : List Name) (stands : List Stands) (supertypes : List (List ℕ))
-    (nodes : List (Option ℕ)) : Type 0 where
-  pub asked : IsAsked m names stands supertypes
-  pub first : (0 < length names) × (name_at names 0 ≡ d)
-  pub object : Contains names object
-  pub reached : (i : ℕ) → i < length names → Reach m d (name_at names i)
-  pub references : NumberReferences names nodes (references_of (m d))
-  pub references_in : (v : ℕ) → Contains nodes (Some v) → v < length names
-
 -- names with what stands at each and the numbers of its supertypes, and `java/lang/Object` among them
-pub record IsNet (names : List Name) (stands : List Stands) (supertypes : List (List ℕ)) (at_object : ℕ) : Type 0 where
+pub record IsClosedGraph (names : List Name) (stands : List Stands) (supertypes : List (List ℕ)) (at_object : ℕ) : Type 0 where
   pub closed : IsClosed (record { names = names; standing = stands; supertypes = supertypes })
   pub object : (at_object < length names) × (name_at names at_object ≡ object)

@@ -3,6 +3,7 @@ use Rattle.std.proofs.Common.{◌≡◌, Bool, true, false, not, ◌&&◌, ◌||
 use Rattle.std.proofs.lemmas.Bool.{cases_Bool, false≢true}
 use Rattle.std.proofs.lemmas.List.Folds.{list_any-append}
 use Rattle.std.specs.FinMap as map
+use Rattle.std.specs.Option.{option_to_list}
 use Rattle.jc_classes.specs.Facts.{Facts}
 use Rattle.jc_classes.specs.Laws.{Differ}
 use Rattle.jc_classes.specs.NameLists.{has}
@@ -13,14 +14,14 @@ use Rattle.jc_link.specs.Tables.{Places, class_at, world}
 use Rattle.jc_link.proofs.tables.Changes.{worlds_differ}
 use Rattle.jc_link.specs.declared.meter.Meter.{Meter}
 use Rattle.jc_linkage.specs.Affected.{IsAffected, IsCounted, NoRepeat, counts_of}
-use Rattle.jc_linkage.specs.Steps.{step_name}
+use Rattle.jc_linkage.specs.Steps.{at_step, step_name}
 use Rattle.jc_linkage.specs.declared.kept.Fresh.{Fresh}
 use Rattle.jc_linkage.specs.declared.links.Links.{Links}
 use Rattle.jc_linkage.specs.declared.step.Step.{Step}
-use Rattle.jc_linkage.specs.inside.Holding.{IsHeld, at_step, comer, given_in, name_of}
+use Rattle.jc_linkage.specs.inside.Holding.{IsHeld, comer, given_in, name_of}
 use Rattle.jc_linkage.specs.inside.Kept.{AllFresh, AreLinked, KeptHits, KeptMap, fresh_at, fresh_names, held_in}
 use Rattle.jc_linkage.specs.inside.Kept.Relation.{Reaches}
-use Rattle.jc_linkage.specs.inside.Prepared.{HasAskedFor, IsPrepared, one_of}
+use Rattle.jc_linkage.specs.inside.Prepared.{HasAskedFor, IsPrepared}
 use Rattle.jc_linkage.specs.inside.Users.{is_name, users_at}
 use Rattle.jc_linkage.proofs.equations.Booleans.{or_right, or_left, or_split, and_no, and_not, not_and}
 use Rattle.jc_linkage.proofs.equations.Options.{some_by, not_some}
@@ -92,7 +93,7 @@ pub record AreMade (prefixes : List Name) (old new : Places) (first second : Opt
   pub leaves : (n : Name) → gone n ≡ (at_step first n && not (given_in new n))
   pub users : (d : Name) → has (fresh_names fresh) d ≡ (either_used first second links d && not (gone d))
   pub once : NoRepeat (fresh_names fresh)
-  pub newcomer : fresh_names last ≡ one_of (comer kept second)
+  pub newcomer : fresh_names last ≡ option_to_list (comer kept second)
   pub parts : AllFresh (world new prefixes) (fresh ++ last)
   pub at : (d : Name) → map.get mid d ≡ fresh_at last d (map.get kept d)
 
@@ -122,7 +123,7 @@ made_of first second gone comes held stood stands stays leaves come users once r
   leaves = leaves;
   users = users;
   once = subst NoRepeat (sym ready.others) once;
-  newcomer = ready.newcomer ∙ ap one_of come;
+  newcomer = ready.newcomer ∙ ap option_to_list come;
   parts = ready.parts;
   at = ready.at;
 }

@@ -1,5 +1,5 @@
--- A net's names are those that its classes reach, each once.
-use Rattle.std.proofs.Common.{◌≡◌, ◌∙◌, ⊎_elim, suc, true, false, List, [], ◌∷◌, length, arith}
+-- A graph's names are those that its classes reach, each once.
+use Rattle.std.proofs.Common.{◌≡◌, ◌∙◌, ⊎_elim, suc, true, false, List, [], ◌∷◌, length, arith, subst, sym}
 use Rattle.std.proofs.lemmas.Bool.{cases_Bool}
 use Rattle.std.proofs.lemmas.List.{get_or_default}
 use Rattle.std.specs.List.{Contains}
@@ -9,7 +9,7 @@ use Rattle.jc_classes.specs.Numbers.{IsOnce}
 use Rattle.jc_classes.specs.Worlds.{World}
 use Rattle.jc_classes.proofs.numbering.Rising.{contains_of, has_of}
 use Rattle.jc_link.specs.Meters.{counted}
-use Rattle.jc_link.specs.Nets.{IsAround, Net}
+use Rattle.jc_link.specs.Graphs.{IsAround, ClassGraph}
 use Rattle.jc_link.specs.declared.meter.Meter.{Meter}
 use Rattle.jc_linkage.specs.Affected.{NoRepeat}
 use Rattle.jc_linkage.specs.inside.Prepared.{HasAskedFor}
@@ -27,15 +27,14 @@ no_repeat (x ∷ xs) once = (
   no_repeat xs (once_rest x xs once),
 )
 
-pub net_asked : (m : World) (n : Net) (classes : List Name) (d : Name) (old new : Meter) → IsAround m n
-    → ((k : Name) → Contains n.classes k → Contains classes k) → ((k : Name) → Contains classes k → Contains n.classes k)
-    → Contains n.classes d → new.asks ≡ counted old.asks (length n.names) → HasAskedFor m classes old new
-net_asked m n classes d old new around among back some asks = record {
-  reached = n.names;
+pub graph_asked : (m : World) (g : ClassGraph) (classes : List Name) (d : Name) (old new : Meter) → IsAround m g → g.classes ≡ classes
+    → Contains classes d → new.asks ≡ counted old.asks (length g.names) → HasAskedFor m classes old new
+graph_asked m g classes d old new around same some asks = subst (λ cs. HasAskedFor m cs old new) same (record {
+  reached = g.names;
   are_reached = record {
-    once = no_repeat n.names around.once;
-    sound = λ q e. let r = around.reached d q some (contains_of n.names q e) in (r.0, among r.0 r.1, r.2);
-    complete = λ q r. has_of n.names q (around.whole q (r.0, back r.0 r.1, r.2));
+    once = no_repeat g.names around.once;
+    sound = λ q e. around.reached d q (subst (λ cs. Contains cs d) (sym same) some) (contains_of g.names q e);
+    complete = λ q r. has_of g.names q (around.whole q r);
   };
   asks = asks;
-}
+})

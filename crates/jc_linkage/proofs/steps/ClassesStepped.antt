@@ -6,11 +6,11 @@ use Rattle.jc_classes.specs.Facts.{Facts}
 use Rattle.jc_classes.specs.Names.{Name, same_name}
 use Rattle.jc_classes.proofs.worlds.NameTests.{same_is, same_self}
 use Rattle.jc_link.specs.Tables.{Places, class_at, placed}
-use Rattle.jc_linkage.specs.Steps.{Classes, class_by, step_class, step_name}
+use Rattle.jc_linkage.specs.Steps.{Classes, at_step, class_by, step_class, step_name}
 use Rattle.jc_linkage.specs.declared.kept.Kept.{Kept}
 use Rattle.jc_linkage.specs.declared.step.Step.{Step}
 use Rattle.jc_linkage.specs.declared.step.Step.TheVariants.{Put, Remove}
-use Rattle.jc_linkage.specs.inside.Holding.{AreBack, AreNamed, AreThere, CountsStep, PutsClass, at_step, comer, given_in, leaver, name_of, stepped_by}
+use Rattle.jc_linkage.specs.inside.Holding.{AreBack, AreNamed, AreThere, CountsStep, PutsClass, comer, given_in, leaver, name_of, stepped_by}
 use Rattle.jc_linkage.specs.inside.Kept.{KeptMap}
 use Rattle.jc_linkage.specs.inside.Users.{is_name}
 use Rattle.jc_linkage.specs.inside.Stepping.{AreTaken}

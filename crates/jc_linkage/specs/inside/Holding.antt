@@ -1,15 +1,15 @@
 -- What is held of classes.
-use Rattle.std.specs.Prelude.{◌≡◌, Bool, true, false, ◌&&◌, ◌||◌, not, if◌then◌else◌}
+use Rattle.std.specs.Prelude.{◌≡◌, ◌⊎◌, Bool, Decides, true, false, ◌||◌, if◌then◌else◌}
 use Rattle.std.specs.Prelude.{List, Option, Some, None, IsSome, is_some, refl, OnOk, Result}
 use Rattle.std.specs.FinMap as fin
 use Rattle.std.specs.Coded.{Coded, code_by, coded×}
 use Rattle.jc_classes.specs.Facts.{Facts}
-use Rattle.jc_classes.specs.Names.{Name, same_name}
+use Rattle.jc_classes.specs.Names.{Name}
 use Rattle.jc_link.specs.Tables.{Places, class_at, world}
 use Rattle.jc_link.specs.declared.meter.Meter.{Meter}
 use Rattle.jc_linkage.specs.Affected.{IsCounted, counts_of}
 use Rattle.jc_linkage.specs.Linkages.{Linkage}
-use Rattle.jc_linkage.specs.Steps.{Classes, is_class, step_class, step_name}
+use Rattle.jc_linkage.specs.Steps.{Classes, at_step, is_class, step_class, step_name}
 use Rattle.jc_linkage.specs.declared.links.Links.{Links}
 use Rattle.jc_linkage.specs.declared.step.Step.{Step}
 use Rattle.jc_linkage.specs.declared.step.Step.TheVariants.{Put}
@@ -44,10 +44,6 @@ abbrev pub name_of : Option Step → Option Name
 name_of None = None
 name_of (Some s) = Some (step_name s)
 
-abbrev pub at_step : Option Step → Name → Bool
-at_step None n = false
-at_step (Some s) n = same_name n (step_name s)
-
 abbrev pub at_either : (first second : Option Step) → Name → Bool
 at_either first second n = at_step first n || at_step second n
 
@@ -65,15 +61,19 @@ abbrev pub comer : KeptMap → Option Step → Option Name
 comer kept None = None
 comer kept (Some s) = if is_some (fin.get kept (step_name s)) then None else Some (step_name s)
 
--- the step, where it counts
-abbrev pub counting : KeptMap → Option Step → Option Facts → Option Step
-counting kept None put = None
-counting kept (Some s) put = if is_some (fin.get kept (step_name s)) && not (is_class put (step_name s)) then Some s else None
+-- the step changes nothing: no class stands at its name, the class beside it does, or the class that it leaves there
+abbrev pub IsIdle : Classes → Option Facts → Step → Type 0
+IsIdle m put s = (m (step_name s) ≡ None) ⊎ ((is_class put (step_name s) ≡ true) ⊎ (step_class s ≡ m (step_name s)))
 
--- the step that puts a class
-abbrev pub putting : Option Facts → Option Step
-putting None = None
-putting (Some f) = Some (Put f)
+-- the step, unless it changes nothing
+abbrev pub IsCounting : Classes → Option Facts → (first result : Option Step) → Type 0
+IsCounting m put None result = result ≡ None
+IsCounting m put (Some s) result = (idle : Bool) × Decides idle (IsIdle m put s) × (result ≡ (if idle then None else Some s))
+
+-- the step that puts a class, unless it stands at its name
+abbrev pub IsPutting : Classes → Option Facts → (result : Option Step) → Type 0
+IsPutting m None result = result ≡ None
+IsPutting m (Some f) result = (stands : Bool) × Decides stands (m f.name ≡ Some f) × (result ≡ (if stands then None else Some (Put f)))
 
 -- it is at the name of a class, and the other step is at another
 abbrev pub CountsStep : Classes → Option Step → Option Step → Type 0

@@ -1,15 +1,17 @@
 -- What is kept of each class.
 use Rattle.std.specs.Prelude.{◌≡◌, Bool, true, false, ◌&&◌, ◌||◌, if◌then◌else◌}
-use Rattle.std.specs.Prelude.{List, [], ◌∷◌, map, Option, Some, None, IsSome}
+use Rattle.std.specs.Prelude.{ℕ, ◌<◌, List, [], ◌∷◌, length, map, Option, Some, None, IsSome}
 use Rattle.std.specs.FinMap as fin
 use Rattle.std.specs.List.Sorted.{IsStrictlySortedBy}
 use Rattle.jc_classes.specs.Facts.{Facts}
 use Rattle.jc_classes.specs.NameLists.{has, Lists}
 use Rattle.jc_classes.specs.Names.{Name, name_cmp, same_name}
+use Rattle.jc_classes.specs.Numbers.{name_at}
 use Rattle.jc_classes.specs.Parts.{IsPart, Part, Reach}
 use Rattle.jc_classes.specs.Worlds.{World}
 use Rattle.jc_index.specs.Indexes.{UserLists, users_of}
 use Rattle.jc_link.specs.Closures.{facts_standing}
+use Rattle.jc_link.specs.Graphs.{ClassGraph}
 use Rattle.jc_report.specs.ClassRows.{required_rows}
 use Rattle.jc_report.specs.RowKeys.{row_key}
 use Rattle.jc_report.specs.Rows.{Row}
@@ -82,6 +84,10 @@ abbrev pub AreLinked : KeptMap → Links → Type 0
 AreLinked kept links = (r : Relation) (n d : Name) → linked r links n d ≡ held_in r kept d n
 
 -- ---- what is to be kept
+
+-- the class at a place of a graph has this name
+abbrev pub IsClassAt : ClassGraph → (place : ℕ) → Name → Type 0
+IsClassAt g place name = (place < length g.classes) × (name_at g.classes place ≡ name)
 
 abbrev pub fresh_names : List Fresh → List Name
 fresh_names fresh = map (λ (x : Fresh). x.name.items) fresh

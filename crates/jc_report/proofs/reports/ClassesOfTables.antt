@@ -1,7 +1,7 @@
 -- The classes that are made of a table are those of the files that the table is kept of.
 use Rattle.std.proofs.Common.{◌≡◌, ◌∙◌, ◌<◌, ◌++◌, ⊎_elim, ℕ, zero, suc, arith, get_or, length, inl, inr, List, [], ◌∷◌, map, Option, Some, None, refl, ap, sym, subst, append_assoc}
-use Rattle.std.proofs.lemmas.List.{append-nil, map-append}
-use Rattle.std.proofs.lemmas.List.Elements.{Contains-append_right, Contains-push_cases}
+use Rattle.std.proofs.lemmas.List.{append-nil, length-map, map-append}
+use Rattle.std.proofs.lemmas.List.Elements.{Contains-push_cases}
 use Rattle.std.specs.declared.cmp.Ordering.TheVariants.{Less}
 use Rattle.std.specs.FinMap as fin
 use Rattle.std.specs.List.{AllByRecursion, Contains}
@@ -12,8 +12,10 @@ use Rattle.jc_base.proofs.Membership.{Has, from_has, has_from, has-flat_map, has
 use Rattle.jc_base.proofs.maps.FiniteMaps.{entry_from_get, get_from_entry, keys_rise}
 use Rattle.jc_classes.specs.Facts.{Facts}
 use Rattle.jc_classes.specs.Names.{Name, name_cmp}
+use Rattle.jc_classes.specs.Numbers.{name_at}
 use Rattle.jc_classes.specs.Parts.{IsPart}
 use Rattle.jc_classes.specs.Worlds.{World}
+use Rattle.jc_link.specs.Graphs.{names_of_classes}
 use Rattle.jc_link.specs.Tables.{Places, classes_in, classes_of, placed, world}
 use Rattle.jc_report.specs.Files.{Files}
 use Rattle.jc_report.specs.Reports.{Class, IsClassOf, facts_at, name_of, world_of}
@@ -48,11 +50,18 @@ one_part places prefixes made new c parts pushed part = λ d h.
 pub no_parts : (places : Places) (prefixes : List Name) → HaveParts places prefixes []
 no_parts places prefixes = λ c h. absurd (omega (arith, h.1))
 
--- one that is left is of the table
-pub left_of_table : (places : Places) (made : List Class) (left rest : List Facts) (x : Facts) → IsSplit places made left → left ≡ x ∷ rest → Contains (classes_of places) x
-left_of_table places made left rest x a is =
-    subst (λ (cs : List Facts). Contains cs x) a
-    (Contains-append_right (facts_in made) left x (subst (λ (l : List Facts). Contains l x) (sym is) (zero, omega arith, refl)))
+-- the next of a table's classes stands behind those that are made
+next_there : (made rest : List Facts) (x : Facts)
+    → (length made < length (names_of_classes (made ++ x ∷ rest))) × (name_at (names_of_classes (made ++ x ∷ rest)) (length made) ≡ x.name)
+next_there [] rest x = (omega arith, refl)
+next_there (y ∷ made) rest x = let q = next_there made rest x in (omega (arith, q.0), q.1)
+
+pub next_of_table : (places : Places) (made : List Class) (left rest : List Facts) (x : Facts) → IsSplit places made left → left ≡ x ∷ rest
+    → (length made < length (names_of_classes (classes_of places))) × (name_at (names_of_classes (classes_of places)) (length made) ≡ x.name)
+next_of_table places made left rest x a is =
+    subst (λ k. (k < length (names_of_classes (classes_of places))) × (name_at (names_of_classes (classes_of places)) k ≡ x.name)) (length-map made (λ (c : Class). c.facts))
+    (subst (λ (cs : List Facts). (length (facts_in made) < length (names_of_classes cs)) × (name_at (names_of_classes cs) (length (facts_in made)) ≡ x.name))
+    (ap (λ l. facts_in made ++ l) (sym is) ∙ a) (next_there (facts_in made) rest x))
 
 -- ---- the classes of a table
 

@@ -4,7 +4,6 @@ use Rattle.std.specs.List.{Contains}
 use Rattle.jc_classes.specs.Facts.{Facts}
 use Rattle.jc_classes.specs.Names.{Name}
 use Rattle.jc_classes.specs.Parts.{IsPart}
-use Rattle.jc_link.specs.Nets.{Net}
 use Rattle.jc_link.specs.Tables.{Places, classes_of, world}
 use Rattle.jc_report.specs.Reports.{Class, name_of}
 
@@ -19,7 +18,3 @@ HaveParts places prefixes made = (c : Class) → Contains made c → IsPart (wor
 -- all of the table are made
 abbrev pub AreMadeOf : Places → List Name → List Class → Type 0
 AreMadeOf places prefixes made = IsSplit places made [] × HaveParts places prefixes made
-
--- a net has these classes
-abbrev pub HasClasses : List Facts → Net → Type 0
-HasClasses classes n = (f : Facts) → Contains classes f → Contains n.classes f.name

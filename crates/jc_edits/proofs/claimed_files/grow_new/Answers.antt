@@ -9,7 +9,7 @@ returns-in-Ok-clause-grown c =
     let path = c.args.path.now in
     let absent : map.get f path ≡ map.get c.args.held.now.files path = ap (λ g. map.get g path) c.in_ok-grown.ensures.files in
     record {
-      besides = new_besides f c.keep_place.new.files path c.in_ok-grown.grown.path.now c.in-Ok.ensures.ok c.in_ok-grown.ensures.path c.grow_file.new.held.claims c.args.bytes.items c.in_ok-grown.grown.file c.in_ok-grown.ensures.file (absent ∙ c.requires.absent) c.in_ok-grown.ensures.grown;
+      besides = new_besides f c.keep_place.new.files path c.in_ok-grown.grown.path.now c.in-Ok.ensures.ok c.in_ok-grown.ensures.path c.grow_file.new.held.claims c.args.file c.in_ok-grown.grown.file c.in_ok-grown.ensures.file (absent ∙ c.requires.absent) c.in_ok-grown.ensures.grown;
       empty = new_empty f c.keep_place.new.files path c.in_ok-grown.grown.path.now c.in-Ok.ensures.ok c.in_ok-grown.ensures.path;
     }
 
@@ -17,13 +17,13 @@ pub returns-in-Ok-clause-place : goal.returns-in-Ok-clause-place
 returns-in-Ok-clause-place c =
     let f = c.grow_file.new.held.files in
     let path = c.args.path.now in
-    new_place f c.keep_place.new.files path c.in_ok-grown.grown.path.now c.in-Ok.ensures.ok c.in_ok-grown.ensures.path c.args.bytes.items c.in_ok-grown.grown.file c.in_ok-grown.ensures.file
+    new_place f c.keep_place.new.files path c.in_ok-grown.grown.path.now c.in-Ok.ensures.ok c.in_ok-grown.ensures.path c.args.file c.in_ok-grown.grown.file c.in_ok-grown.ensures.file
 
 pub returns-in-Ok-clause-commits : goal.returns-in-Ok-clause-commits
 returns-in-Ok-clause-commits c =
     let f = c.grow_file.new.held.files in
     let path = c.args.path.now in
-    let bytes = c.args.bytes.items in
+    let bytes = c.args.file in
     new_commits f c.keep_place.new.files path c.in_ok-grown.grown.path.now c.in-Ok.ensures.ok c.in_ok-grown.ensures.path bytes c.in_ok-grown.grown.file c.in_ok-grown.ensures.file
     ∙ ap (λ g. map.insert g path bytes) c.in_ok-grown.ensures.files
 

@@ -1,7 +1,8 @@
 use Rattle.std.proofs.Common.{◌||◌, Bool, cond, None, ap, sym, subst, ◌∙◌}
 use Rattle.jc_classes.specs.Names.{Name}
 use Rattle.jc_link.specs.Tables.{class_at, world}
-use Rattle.jc_linkage.specs.inside.Holding.{IsHeld, at_step, given_in, name_of}
+use Rattle.jc_linkage.specs.Steps.{at_step}
+use Rattle.jc_linkage.specs.inside.Holding.{IsHeld, given_in, name_of}
 use Rattle.jc_linkage.specs.inside.Users.{is_name}
 use Rattle.jc_linkage.specs.inside.Stepping.{AreTaken}
 use Rattle.jc_linkage.proofs.changes.SameClasses.{counted_touch, held_same}

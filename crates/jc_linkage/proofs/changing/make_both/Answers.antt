@@ -1,7 +1,8 @@
 use Rattle.std.proofs.Common.{false, ap, subst, sym, ◌∙◌}
 use Rattle.std.proofs.lemmas.Result.{err_from_is_err_and}
 use Rattle.jc_link.specs.Tables.{class_at}
-use Rattle.jc_linkage.specs.inside.Holding.{at_step, stepped_by}
+use Rattle.jc_linkage.specs.Steps.{at_step}
+use Rattle.jc_linkage.specs.inside.Holding.{stepped_by}
 use Rattle.jc_linkage.specs.inside.Stepping.{AreTaken, NoneVacant}
 use Rattle.jc_linkage.proofs.steps.ClassesStepped.{back_behind, named_after, there_back, undone}
 use Rattle.jc_linkage.proofs.changing.make_both.Goals as goal

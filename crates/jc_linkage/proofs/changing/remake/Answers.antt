@@ -4,7 +4,7 @@ use Rattle.std.specs.Option.{option_copied}
 use Rattle.jc_classes.specs.Names.{names_of}
 use Rattle.jc_link.specs.Tables.{class_at}
 use Rattle.jc_linkage.specs.Affected.{NoRepeat, counts_of}
-use Rattle.jc_linkage.specs.inside.Holding.{at_step}
+use Rattle.jc_linkage.specs.Steps.{at_step}
 use Rattle.jc_linkage.specs.inside.Kept.{fresh_names}
 use Rattle.jc_linkage.specs.inside.Users.{is_name}
 use Rattle.jc_linkage.proofs.changes.NamesChanged.{counted_then, held_then, made_of, not_given, users_by, users_kept}

@@ -1,5 +1,5 @@
 use Rattle.std.proofs.Common.{◌||◌, subst}
-use Rattle.jc_linkage.specs.inside.Holding.{at_step}
+use Rattle.jc_linkage.specs.Steps.{at_step}
 use Rattle.jc_linkage.specs.inside.Stepping.{AreTaken}
 use Rattle.jc_linkage.proofs.changing.unmake.Goals as goal
 

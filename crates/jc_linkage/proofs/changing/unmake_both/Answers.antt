@@ -1,6 +1,6 @@
 use Rattle.std.proofs.Common.{false}
 use Rattle.jc_linkage.proofs.steps.ClassesStepped.{there_still}
-use Rattle.jc_linkage.specs.inside.Holding.{at_step}
+use Rattle.jc_linkage.specs.Steps.{at_step}
 use Rattle.jc_linkage.proofs.changing.unmake_both.Goals as goal
 
 pub unmake-requires-2 : goal.unmake-requires-2

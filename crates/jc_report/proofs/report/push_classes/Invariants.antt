@@ -1,7 +1,7 @@
 use Rattle.std.proofs.Common.{◌≡◌, List, length}
 use Rattle.jc_classes.specs.Names.{Name}
 use Rattle.jc_link.specs.Meters.{counted}
-use Rattle.jc_link.specs.Nets.{IsIn}
+use Rattle.jc_link.specs.Graphs.{IsIn}
 use Rattle.jc_link.specs.Tables.{world}
 use Rattle.jc_report.specs.inside.Made.{HaveParts, IsSplit}
 use Rattle.jc_report.proofs.report.push_classes.Given as goal

@@ -9,7 +9,7 @@ use Rattle.jc_numbered.specs.inside.Indexed.{indexed_name, IsIndexed}
 use Rattle.jc_numbered.specs.inside.Shown.{indexed_of}
 use Rattle.jc_resolve.specs.declared.entry.Entry.{Entry}
 use Rattle.jc_resolve.specs.inside.Entries.{entry_shown}
-use Rattle.jc_resolve.specs.inside.Resolved.{loading_of, TellsLoads}
+use Rattle.jc_resolve.specs.inside.Resolved.{loading_of, IsWithinSome, TellsLoads}
 use Rattle.jc_resolve.proofs.answering.Entries.{answered_set}
 use Rattle.jc_resolve.proofs.loading.Nets.{node_of_ref, node_within}
 use Rattle.jc_resolve.proofs.lookups.Looks.{asker_loaded}
@@ -22,9 +22,12 @@ resolve-requires-clause-node c =
     let r = reference_lent c.in-Some.reference in
     let got : slice_get refs at ≡ Some r = sym c.reference.ensures ∙ ap (option_map reference_lent) c.in-Some.is in
     sym (ap (λ (z : Reference). class_of z.named) (get_or_from_slice_get refs at r r got)) ∙ node_of_ref (indexed_name (indexed_of c.args.look.now.classes.now)) c.args.nodes.now refs at r c.requires.nodes.named (slice_get_within refs at r got)
+    ∙ ap (option_map (indexed_name (indexed_of c.args.look.now.classes.now))) (sym c.wide-node.ensures)
 
 pub resolve-requires-clause-within : goal.resolve-requires-clause-within
-resolve-requires-clause-within c = node_within (length c.args.look.now.classes.now.standing.now) c.args.nodes.now c.args.number c.requires.nodes.within
+resolve-requires-clause-within c =
+    subst (IsWithinSome (length c.args.look.now.classes.now.standing.now)) (sym c.wide-node.ensures)
+    (node_within (length c.args.look.now.classes.now.standing.now) c.args.nodes.now c.args.number c.requires.nodes.within)
 
 pub returns-clause-answered : goal.returns-clause-answered
 returns-clause-answered c =

@@ -1,4 +1,0 @@
-pub mod Asked
-pub mod ClassesNumbered
-pub mod Reaching
-pub mod Walking
