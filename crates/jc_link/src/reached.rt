@@ -82,12 +82,7 @@ pub(crate) fn ask_all<'t>(
 }
 
 /// What stands at a name.
-fn stand_at<'t>(
-    table: &'t Table,
-    outside: &Outside,
-    name: &[u8],
-    meter: &mut Meter,
-) -> Standing<'t>
+fn stand_at<'t>(table: &'t Table, outside: &Outside, name: &[u8], meter: &mut Meter) -> Standing<'t>
     ensures stands { stands_of result ≡ world table.now outside.now name.now }
     ensures asks { meter.new.asks ≡ counted meter.old.asks 1 }
     ensures made { meter.new.made ≡ meter.old.made }

@@ -12,7 +12,7 @@ use Rattle.jc_input.specs.Changes.{Change, Adds, Replaces, Removes, path_of, byt
 use Rattle.jc_input.specs.FileEdits as edits
 use Rattle.jc_edits.specs.inside.Changing.{AreChanges, won}
 use Rattle.jc_edits.specs.inside.Growth.{put_at}
-use Rattle.jc_edits.proofs.placing.ClassesPlaced.{Placed, exact, lost_name, others_with, placed_at, same_here, with_at}
+use Rattle.jc_edits.proofs.placing.ClassesPlaced.{Placed, exact, lost_name, others_with, placed_at, with_at}
 
 abbrev name_by : Option Facts → Option Name
 name_by o = option_map (λ (x : Facts). x.name) o

@@ -1,5 +1,5 @@
 -- What is gathered once all names were asked for.
-use Rattle.std.proofs.Common.{◌≡◌, ℕ, suc, ◌<◌, ◌≤◌, List, [], ◌∷◌, map, length, Option, refl, sym, ap, subst, ◌∙◌, arith, ◌⊎◌, ⊎_elim}
+use Rattle.std.proofs.Common.{◌≡◌, ℕ, suc, ◌<◌, ◌≤◌, List, [], ◌∷◌, map, length, refl, sym, ap, ◌∙◌, arith, ◌⊎◌, ⊎_elim}
 use Rattle.jc_classes.specs.Names.{Name, object as java_lang_object}
 use Rattle.jc_classes.specs.Numbers.{name_at}
 use Rattle.jc_classes.specs.Worlds.{Stands, World, supertypes_of}

@@ -1,7 +1,7 @@
 -- The loop that gathers a reach.
 use Rattle.std.proofs.Common.{get_or, slice_get, suc, take, ◌≡◌, ℕ, ◌+◌, ◌<◌, ◌≤◌, List, [], ◌∷◌, ◌++◌, map, length, option_map, Option, Some, None, refl, sym, ap, subst, ◌∙◌, arith, ◌⊎◌, inl, inr, ⊎_elim, zero, append_assoc, length-append}
 use Rattle.std.proofs.lemmas.Option.{slice_get_within, slice_get-get_or}
-use Rattle.std.proofs.lemmas.List.{get_or-map, get_or-take, length-map, length-take-le, map-append, get_or_push, get_or_append_left, get_or_past, get_or_default}
+use Rattle.std.proofs.lemmas.List.{get_or-map, get_or-take, length-map, length-take-le, map-append, get_or_push, get_or_append_left, get_or_past}
 use Rattle.std.proofs.lemmas.List.Elements.{Contains-append_left, Contains-append_right, Contains-append_cases, Contains-get_or}
 use Rattle.std.specs.List.{Contains, All}
 use Rattle.std.specs.Option.{option_to_list}
@@ -9,7 +9,7 @@ use Rattle.jc_classes.specs.Facts.{IsNamedBefore, Reference}
 use Rattle.jc_classes.specs.Facts.Named.{Class}
 use Rattle.jc_classes.specs.declared.reference_kind.ReferenceKind.TheVariants as kind
 use Rattle.jc_classes.specs.Names.{Name}
-use Rattle.jc_classes.specs.Worlds.{Stands, World, supertypes_of, references_of}
+use Rattle.jc_classes.specs.Worlds.{Stands, World, supertypes_of}
 use Rattle.jc_classes.specs.Worlds.Stands.{Nothing}
 use Rattle.jc_classes.specs.Parts.{class_of, class_in, names_in}
 use Rattle.jc_classes.specs.Numbers.{name_at, IsOnce, Grows, AddsNumbers}

@@ -8,11 +8,11 @@ use Rattle.jc_classes.specs.Facts.{Reference}
 use Rattle.jc_classes.specs.Lent.{stands_of}
 use Rattle.jc_classes.specs.Names.{Name, object}
 use Rattle.jc_classes.specs.Numbers.{name_at, IsOnce, Grows, AddsNumbers}
-use Rattle.jc_classes.specs.Parts.{Reach, class_of, names_in}
-use Rattle.jc_classes.specs.Worlds.{Stands, World, supertypes_of, references_of}
+use Rattle.jc_classes.specs.Parts.{class_of, names_in}
+use Rattle.jc_classes.specs.Worlds.{Stands, World, supertypes_of}
 use Rattle.jc_classes.specs.Worlds.Stands.{Nothing}
 use Rattle.jc_classes.specs.declared.standing.Standing.{Standing}
-use Rattle.jc_resolve.specs.Numbered.{IsClosed, NumberReferences}
+use Rattle.jc_resolve.specs.Numbered.{IsClosed}
 
 abbrev pub stand_at : List Stands → ℕ → Stands
 stand_at stands i = slice_index_or stands i Nothing

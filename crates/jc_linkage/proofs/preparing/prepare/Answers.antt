@@ -2,7 +2,7 @@ use Rattle.std.proofs.Common.{◌≡◌, ◌∙◌, ◌==◌, ◌++◌, List, []
 use Rattle.std.proofs.lemmas.Bool.{eqb-true}
 use Rattle.std.specs.List.{Contains}
 use Rattle.std.specs.Option.{option_copied, option_to_list}
-use Rattle.jc_classes.specs.Names.{Name, names_of}
+use Rattle.jc_classes.specs.Names.{names_of}
 use Rattle.jc_link.specs.Meters.{counted}
 use Rattle.jc_link.specs.Graphs.{ClassGraph, IsIn}
 use Rattle.jc_link.specs.Tables.{world}

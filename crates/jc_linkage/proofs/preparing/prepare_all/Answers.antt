@@ -1,4 +1,4 @@
-use Rattle.std.proofs.Common.{◌≡◌, ◌∙◌, ◌<◌, ◌++◌, length, arith, ap, sym, subst}
+use Rattle.std.proofs.Common.{◌∙◌, length, arith, ap, sym, subst}
 use Rattle.std.specs.Option.{option_copied, option_to_list}
 use Rattle.jc_classes.specs.Names.{names_of}
 use Rattle.jc_link.specs.Graphs.{ClassGraph, IsIn}

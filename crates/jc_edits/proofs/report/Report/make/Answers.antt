@@ -6,7 +6,7 @@ use Rattle.jc_edits.specs.SessionState.{Contents}
 use Rattle.jc_edits.specs.inside.Changing.{AreChanges}
 use Rattle.jc_edits.specs.inside.Growth.{put_at}
 use Rattle.jc_edits.specs.inside.Metered.{MetersChange}
-use Rattle.jc_edits.proofs.placing.EditPlaced.{held_after, put_after}
+use Rattle.jc_edits.proofs.placing.EditPlaced.{held_after}
 use Rattle.jc_edits.proofs.placing.HeldClasses.{change_of_files, nothing_counted}
 use Rattle.jc_edits.proofs.report.Report.make.Goals as goal
 

@@ -1,5 +1,4 @@
-use Rattle.std.proofs.Common.{◌∙◌, subst}
-use Rattle.jc_classes.specs.Numbers.{IsOnce}
+use Rattle.std.proofs.Common.{◌∙◌}
 use Rattle.jc_link.specs.Graphs.{names_of_classes}
 use Rattle.jc_link.specs.Tables.{classes_of}
 use Rattle.jc_link.proofs.graphs.ClassesNumbered.{none_once, only_classes}
