@@ -240,13 +240,13 @@ fn entries_of(
 }
 
 /// The answers to the references of a class, and the errors of its instructions. A class that does not load needs no
-/// room. `numbers` has a place for each class, with anything.
+/// room. `places` has an item for each class, with anything.
 pub(crate) fn linked(
     alloc: Global,
     classes: &Classes,
     loads: &[Load],
     kept: &mut Option<Room>,
-    numbers: &mut [usize],
+    places: &mut [usize],
     class: usize,
     nodes: &[Option<u32>],
 ) -> Result<Linked, NoMemory>
@@ -265,6 +265,6 @@ pub(crate) fn linked(
     };
     let entries = entries_of(alloc, classes, loads, kept, class, facts, nodes)?;
     let references = facts.shared_references()?;
-    let answers = Answers::of(alloc, classes, numbers, references, &entries)?;
+    let answers = Answers::of(alloc, classes, places, references, nodes, &entries)?;
     Linked::of(alloc, classes.name(class), facts, answers)
 }

@@ -1,6 +1,6 @@
 //! Answers in the order of their references.
 
-ghost use Rattle.std.specs.Prelude.{◌≡◌, ◌<◌, ℕ, [], Some, length, option_map, slice_get, slice_set, IfOk, IfSome, OnOk};
+ghost use Rattle.std.specs.Prelude.{◌≡◌, ◌<◌, ℕ, [], Some, length, option_map, slice_get, slice_set, IfOk, IfSome, IsTrue, OnOk};
 ghost use Rattle.jc_classes.specs.Facts.{Reference as Refers};
 ghost use Rattle.jc_classes.specs.Lent.{reference_lent};
 ghost use Rattle.jc_classes.specs.Names.{Name};
@@ -8,9 +8,8 @@ ghost use Rattle.jc_numbered.specs.inside.Indexed.{indexed_name};
 ghost use Rattle.jc_numbered.specs.inside.Shown.{indexed_of};
 ghost use Rattle.jc_resolve.specs.Answers.{answer_of, kind_of};
 ghost use Rattle.jc_code.specs.inside.Fronts.{BeginsWith};
-ghost use Rattle.jc_classes.specs.inside.FactsShown.{text_at};
-ghost use Rattle.jc_resolve.specs.inside.Entries.{IsSame, IsWithin, entries_shown, entry_shown, node_of, with_number};
-ghost use Rattle.jc_resolve.specs.inside.Naming.{AreNames, AreSame, IsNumberOf, references_in};
+ghost use Rattle.jc_resolve.specs.inside.Entries.{entry_shown, node_answers, node_of, with_number};
+ghost use Rattle.jc_resolve.specs.inside.Naming.{AreNamed, AreNames, AreNodes, IsNamed, IsNumberOf, IsToldBy, name_told, references_in};
 
 use crate::answers::{Answer, AnswerKind};
 use crate::entry::Entry;
@@ -21,33 +20,34 @@ use std::alloc::Global;
 use std::marker::Model;
 
 /// The answers to the references of a class, in their order. The texts of the references are those of the
-/// class's facts, and each name of another class stands once.
+/// class's facts. An answer mostly tells the class that its reference names; the names of other classes are listed,
+/// each once.
 #[derive(Drop)]
 pub struct Answers {
     references: Option<References>,
     names: TextList,
-    /// The answer to each reference, by the numbers of names.
+    /// The answer to each reference. A class has the number 0 if the reference names it, or an array of it. The
+    /// listed names are counted from 1.
     entries: Vec<Entry<u32>>,
 }
 
 impl Model for Answers {
     ghost use Rattle.std.specs.Prelude.{◌≡◌, List, length};
     ghost use Rattle.jc_classes.specs.Resolution as specs;
-    ghost use Rattle.jc_classes.specs.inside.FactsShown.{text_at};
     ghost use Rattle.jc_resolve.specs.inside.Entries.{entries_shown};
-    ghost use Rattle.jc_resolve.specs.inside.Naming.{references_in};
+    ghost use Rattle.jc_resolve.specs.inside.Naming.{name_told, references_in};
 
     ghost Value = { List specs.Answer };
 
-    ghost view = { λ a. entries_shown (text_at a.names) (references_in a.references) a.entries.items };
+    ghost view = { λ a. entries_shown (name_told a.names) (references_in a.references) a.entries.items };
 
     ghost invariant = { λ a. length a.entries.items ≡ length (references_in a.references) };
 }
 
 /// So many names of so many bytes together have room at once. Most classes need no more.
-const FEW_NAMES: usize = 32;
+const FEW_NAMES: usize = 8;
 
-const FEW_BYTES: usize = 1024;
+const FEW_BYTES: usize = 256;
 
 /// Names of classes, each once, by numbers of their own.
 #[derive(Drop)]
@@ -57,24 +57,34 @@ struct Naming {
     nodes: Vec<usize>,
 }
 
-/// The number that the name of a class has, if it has one. `numbers` has it at such a class, and anything at others.
-fn known(numbers: &[usize], nodes: &[usize], node: usize) -> Option<usize>
-    ensures { IfSome result (λ number. slice_get nodes.now number ≡ Some node) }
+/// The place of the name of a class, if it is listed. `places` has it at such a class, and anything at others.
+fn known(places: &[usize], nodes: &[usize], node: usize) -> Option<usize>
+    ensures { IfSome result (λ place. slice_get nodes.now place ≡ Some node) }
 {
-    let number = *numbers.get(node)?;
-    if *nodes.get(number)? == node {
-        Some(number)
+    let place = *places.get(node)?;
+    if *nodes.get(place)? == node {
+        Some(place)
     } else {
         None
     }
 }
 
-/// Notes the number of the name of a class.
-fn note(numbers: &mut [usize], node: usize, number: usize)
-    ensures { numbers.new ≡ slice_set numbers.old node number }
+/// Notes the place of the name of a class.
+fn note(places: &mut [usize], node: usize, place: usize)
+    ensures { places.new ≡ slice_set places.old node place }
 {
-    if node < numbers.len() {
-        numbers[node] = number;
+    if node < places.len() {
+        places[node] = place;
+    }
+}
+
+/// Whether the class that a reference names, `own`, is known to be that of a node.
+fn is_own(own: Option<u32>, node: usize) -> bool
+    ensures { IsTrue result → own ≡ Some node }
+{
+    match own {
+        Some(own) => own as usize == node,
+        None => false,
     }
 }
 
@@ -99,11 +109,30 @@ impl Naming {
         })
     }
 
-    /// The number of the name of a class.
+    /// The number by which an answer tells the class of a node. `own` is the class that its reference names.
     fn number(
         &mut self,
         classes: &Classes,
-        numbers: &mut [usize],
+        places: &mut [usize],
+        own: Option<u32>,
+        node: usize,
+    ) -> Result<u32, NoMemory>
+        requires { AreNames (indexed_name (indexed_of classes.now)) self.old }
+        ensures names { OnOk result (AreNames (indexed_name (indexed_of classes.now)) self.new) }
+        ensures front { OnOk result (BeginsWith self.new.texts self.old.texts) }
+        ensures number { IfOk result (IsToldBy (indexed_name (indexed_of classes.now)) self.new.texts own node) }
+    {
+        if is_own(own, node) {
+            return Ok(0);
+        }
+        self.listed(classes, places, node)
+    }
+
+    /// The number of the name of a class, which is listed if it is not yet.
+    fn listed(
+        &mut self,
+        classes: &Classes,
+        places: &mut [usize],
         node: usize,
     ) -> Result<u32, NoMemory>
         requires { AreNames (indexed_name (indexed_of classes.now)) self.old }
@@ -111,51 +140,46 @@ impl Naming {
         ensures front { OnOk result (BeginsWith self.new.texts self.old.texts) }
         ensures number { IfOk result (IsNumberOf self.new.texts (indexed_name (indexed_of classes.now) node)) }
     {
-        match known(numbers, self.nodes.as_slice(), node) {
-            Some(number) => {
-                let kept = small(number)?;
-                Ok(kept)
+        match known(places, self.nodes.as_slice(), node) {
+            Some(place) => {
+                let number = small(place + 1)?;
+                Ok(number)
             }
-            None => self.add(classes, numbers, node),
+            None => self.add(classes, places, node),
         }
     }
 
-    /// The same of a class whose name has none.
-    fn add(
-        &mut self,
-        classes: &Classes,
-        numbers: &mut [usize],
-        node: usize,
-    ) -> Result<u32, NoMemory>
+    /// Lists the name of a class.
+    fn add(&mut self, classes: &Classes, places: &mut [usize], node: usize) -> Result<u32, NoMemory>
         requires { AreNames (indexed_name (indexed_of classes.now)) self.old }
         ensures names { OnOk result (AreNames (indexed_name (indexed_of classes.now)) self.new) }
         ensures front { OnOk result (BeginsWith self.new.texts self.old.texts) }
         ensures number { IfOk result (IsNumberOf self.new.texts (indexed_name (indexed_of classes.now) node)) }
     {
-        let number = self.texts.len();
-        let kept = small(number)?;
+        let place = self.nodes.len();
+        let number = small(place + 1)?;
         self.texts.push(classes.name(node))?;
         self.nodes.push(node)?;
-        note(numbers, node, number);
-        Ok(kept)
+        note(places, node, place);
+        Ok(number)
     }
 
-    /// An answer by the numbers of names.
+    /// An answer by the numbers of names. `own` is the class that its reference names.
     fn entry(
         &mut self,
         classes: &Classes,
-        numbers: &mut [usize],
+        places: &mut [usize],
+        own: Option<u32>,
         entry: Entry<usize>,
     ) -> Result<Entry<u32>, NoMemory>
         requires { AreNames (indexed_name (indexed_of classes.now)) self.old }
         ensures names { OnOk result (AreNames (indexed_name (indexed_of classes.now)) self.new) }
         ensures front { OnOk result (BeginsWith self.new.texts self.old.texts) }
-        ensures within { IfOk result (IsWithin (length self.new.texts)) }
-        ensures same { IfOk result (λ named. IsSame (text_at self.new.texts) (indexed_name (indexed_of classes.now)) named entry) }
+        ensures named { IfOk result (IsNamed (indexed_name (indexed_of classes.now)) self.new.texts own entry) }
     {
         match node_of(entry) {
             Some(node) => {
-                let number = self.number(classes, numbers, node)?;
+                let number = self.number(classes, places, own, node)?;
                 Ok(with_number(entry, number))
             }
             None => Ok(with_number(entry, 0)),
@@ -201,19 +225,21 @@ impl Answers {
         }
     }
 
-    /// The answers to these references, of which each stands by the numbers of classes. `numbers` has a place for each
-    /// class, with anything.
+    /// The answers to these references, of which each stands by the numbers of classes. `nodes` are the classes that
+    /// the references name. `places` has an item for each class, with anything.
     pub(crate) fn of(
         alloc: Global,
         classes: &Classes,
-        numbers: &mut [usize],
+        places: &mut [usize],
         references: References,
+        nodes: &[Option<u32>],
         entries: &[Entry<usize>],
     ) -> Result<Answers, NoMemory>
-        requires { length entries.now ≡ length references }
-        ensures { IfOk result (λ answers. answers ≡ entries_shown (indexed_name (indexed_of classes.now)) references entries.now) }
+        requires nodes { AreNodes (indexed_name (indexed_of classes.now)) nodes.now references }
+        requires size { length entries.now ≡ length references }
+        ensures { IfOk result (λ answers. answers ≡ node_answers (indexed_name (indexed_of classes.now)) references entries.now) }
     {
-        let named = name_entries(alloc, classes, numbers, entries)?;
+        let named = name_entries(alloc, classes, places, nodes, entries)?;
         Ok(Answers {
             references: Some(references),
             names: named.texts.fitted(),
@@ -267,20 +293,23 @@ struct Named {
     entries: Vec<Entry<u32>>,
 }
 
-/// Adds answers with the numbers of the names in them, and adds these names.
+/// Adds answers with the numbers of the names in them, and lists these names.
 fn name_each(
     classes: &Classes,
-    numbers: &mut [usize],
+    places: &mut [usize],
+    nodes: &[Option<u32>],
     entries: &[Entry<usize>],
     names: &mut Naming,
     named: &mut Vec<Entry<u32>>,
 ) -> Result<(), NoMemory>
     requires names { AreNames (indexed_name (indexed_of classes.now)) names.old }
+    requires size { length nodes.now ≡ length entries.now }
     requires named { named.old.items ≡ [] }
-    ensures { OnOk result (AreSame (text_at names.new.texts) (indexed_name (indexed_of classes.now)) named.new.items entries.now) }
+    ensures size { OnOk result (length named.new.items ≡ length entries.now) }
+    ensures named { OnOk result (AreNamed (indexed_name (indexed_of classes.now)) names.new.texts nodes.now entries.now named.new.items) }
 {
-    for entry in entries {
-        let answer = names.entry(classes, numbers, *entry)?;
+    for number in 0..entries.len() {
+        let answer = names.entry(classes, places, nodes[number], entries[number])?;
         named.push(answer)?;
     }
     Ok(())
@@ -290,14 +319,17 @@ fn name_each(
 fn name_entries(
     alloc: Global,
     classes: &Classes,
-    numbers: &mut [usize],
+    places: &mut [usize],
+    nodes: &[Option<u32>],
     entries: &[Entry<usize>],
 ) -> Result<Named, NoMemory>
-    ensures { IfOk result (λ named. AreSame (text_at named.texts) (indexed_name (indexed_of classes.now)) named.entries.items entries.now) }
+    requires { length nodes.now ≡ length entries.now }
+    ensures size { IfOk result (λ named. length named.entries.items ≡ length entries.now) }
+    ensures named { IfOk result (λ named. AreNamed (indexed_name (indexed_of classes.now)) named.texts nodes.now entries.now named.entries.items) }
 {
     let mut names = Naming::new(alloc)?;
     let mut named = Vec::with_capacity(alloc, entries.len())?;
-    name_each(classes, numbers, entries, &mut names, &mut named)?;
+    name_each(classes, places, nodes, entries, &mut names, &mut named)?;
     Ok(Named {
         texts: names.texts,
         entries: named,
@@ -314,9 +346,19 @@ fn reference_at(references: &Option<References>, number: usize) -> Option<Refere
     }
 }
 
+/// The class that an answer to a reference tells by a number.
+fn told<'a>(names: &'a TextList, reference: Reference<'a>, number: u32) -> &'a [u8]
+    ensures { result.now ≡ name_told names.now (reference_lent reference.entry) number }
+{
+    if number == 0 {
+        return reference.class_name().unwrap_or(&[]);
+    }
+    names.text(number as usize - 1)
+}
+
 /// An answer, with its texts.
 fn lend<'a>(names: &'a TextList, reference: Reference<'a>, entry: Entry<u32>) -> Answer<'a>
-    ensures { answer_of result ≡ entry_shown (text_at names.now) (reference_lent reference.entry) entry }
+    ensures { answer_of result ≡ entry_shown (name_told names.now (reference_lent reference.entry)) (reference_lent reference.entry) entry }
 {
     match entry {
         Entry::ToClass(flags) => Answer::ToClass(reference.class, flags),
@@ -326,7 +368,7 @@ fn lend<'a>(names: &'a TextList, reference: Reference<'a>, entry: Entry<u32>) ->
                 descriptor: reference.key.descriptor,
                 flags,
             };
-            Answer::ToMember(names.text(class as usize), member)
+            Answer::ToMember(told(names, reference, class), member)
         }
         Entry::ToPolymorphic(flags, class) => {
             let member = Member {
@@ -334,11 +376,11 @@ fn lend<'a>(names: &'a TextList, reference: Reference<'a>, entry: Entry<u32>) ->
                 descriptor: b"([Ljava/lang/Object;)Ljava/lang/Object;",
                 flags,
             };
-            Answer::ToMember(names.text(class as usize), member)
+            Answer::ToMember(told(names, reference, class), member)
         }
-        Entry::Outside(name) => Answer::Outside(names.text(name as usize)),
+        Entry::Outside(class) => Answer::Outside(told(names, reference, class)),
         Entry::NotLoaded => Answer::NotLoaded,
-        Entry::Error(error, name) => Answer::Error(error, names.text(name as usize)),
+        Entry::Error(error, class) => Answer::Error(error, told(names, reference, class)),
         Entry::OwnError(error) => Answer::Error(error, reference.class),
     }
 }

@@ -41,9 +41,9 @@ pub struct Hierarchy<'c, 't> {
     circular: Vec<bool>,
     /// Room to look references up in, once a class needed it.
     room: Option<Room>,
-    /// A place for each class: the number of its name among those that answers tell. What other answers left there
-    /// is passed over.
-    numbers: Vec<usize>,
+    /// The place of the name of each class among the names that answers list. What other answers left there is passed
+    /// over.
+    places: Vec<usize>,
 }
 
 impl<'c, 't> Model for Hierarchy<'c, 't> {
@@ -85,14 +85,14 @@ impl<'c, 't> Hierarchy<'c, 't> {
         requires object_name { name_at (names_of names.now) object ≡ java_lang_object }
         ensures { IfOk result (λ h. h ≡ numbered names.now standing.now supertypes.now) }
     {
-        let numbers = vec![in alloc; 0usize; names.len()]?;
+        let places = vec![in alloc; 0usize; names.len()]?;
         let loaded = load_classes(alloc, names, standing, supertypes, object)?;
         Ok(Hierarchy {
             classes: loaded.classes,
             loads: loaded.loads,
             circular: loaded.circular,
             room: None,
-            numbers,
+            places,
         })
     }
 
@@ -133,7 +133,7 @@ impl<'c, 't> Hierarchy<'c, 't> {
             &self.classes,
             self.loads.as_slice(),
             &mut self.room,
-            self.numbers.as_mut_slice(),
+            self.places.as_mut_slice(),
             class,
             nodes,
         )

@@ -1,15 +1,14 @@
 -- Answers by numbers are those of the references.
-use Rattle.std.proofs.Common.{◌≡◌, ◌≢◌, ◌<◌, ℕ, zero, suc, List, [], ◌∷◌, ◌++◌, length, map, set, ◌⊎◌, inl, inr, refl, sym, ap, subst, ◌∙◌, arith}
-use Rattle.std.proofs.lemmas.List.{length-append}
-use Rattle.std.proofs.Math.ListN.{get_or-append}
+use Rattle.std.proofs.Common.{◌≡◌, ◌≢◌, ◌<◌, ℕ, zero, suc, List, [], ◌∷◌, ◌++◌, length, map, set, Option, Some, None, ◌⊎◌, inl, inr, refl, sym, ap, subst, ◌∙◌, arith}
 use Rattle.std.specs.List.{slice_get}
 use Rattle.std.specs.Option.{option_map}
-use Rattle.std.proofs.Common.{Some, None}
 use Rattle.jc_classes.specs.Facts.{Reference}
 use Rattle.jc_classes.specs.Names.{Name, polymorphic_descriptor}
 use Rattle.jc_classes.specs.Parts.{AreAnswers}
 use Rattle.jc_classes.specs.Resolution.{Answer as answer}
 use Rattle.jc_classes.specs.Worlds.{World}
+use Rattle.jc_code.proofs.appended.Fronts.{begins_through, begins_whole}
+use Rattle.jc_code.specs.inside.Fronts.{BeginsWith}
 use Rattle.jc_numbered.specs.declared.loads.Load.{Load}
 use Rattle.jc_numbered.specs.inside.Indexed.{Indexed, indexed_name, IsIndexed}
 use Rattle.jc_numbered.specs.inside.Loading.{load_at}
@@ -18,20 +17,21 @@ use Rattle.jc_resolve.specs.declared.answers.AnswerKind.{AnswerKind}
 use Rattle.jc_resolve.specs.declared.entry.Entry.{Entry}
 use Rattle.jc_resolve.specs.declared.entry.Entry.TheVariants as entry
 use Rattle.jc_resolve.specs.inside.Answered.{IsAnsweredAt, IsAnsweredBy}
-use Rattle.jc_code.specs.inside.Fronts.{BeginsWith}
-use Rattle.jc_classes.specs.inside.FactsShown.{text_at}
-use Rattle.jc_resolve.specs.inside.Entries.{IsSame, IsWithin, entries_shown, entry_shown, node_of, with_number}
-use Rattle.jc_resolve.specs.inside.Naming.{AreSame}
+use Rattle.jc_resolve.specs.inside.Entries.{entries_shown, entry_shown, node_answers, node_of, with_number}
+use Rattle.jc_resolve.specs.inside.Naming.{AreNamed, AreNodes, IsNamed, name_told}
 use Rattle.jc_resolve.specs.inside.Resolved.{loading_of, TellsLoads}
 
 some_is : {X : Type 0} {x y : X} → Some x ≡ Some y → x ≡ y
 some_is e = cc
 
+none_some : {X : Type 0} {x : X} → None ≡ Some x → ⊥
+none_some e = cc
+
 -- ---- one for each reference
 
 pub answered_all : (x : Indexed) (loads : List Load) (class : ℕ) (rs : List Reference) (es : List (Entry ℕ)) → length es ≡ length rs
     → ((at : ℕ) → at < length rs → IsAnsweredAt x loads class rs es at) → (m : World) → TellsLoads m x (length x.names) loads → IsIndexed m x
-    → AreAnswers m (indexed_name x class) (loading_of x (load_at loads class)) rs (entries_shown (indexed_name x) rs es)
+    → AreAnswers m (indexed_name x class) (loading_of x (load_at loads class)) rs (node_answers (indexed_name x) rs es)
 answered_all x loads class [] es size h m told index = tt
 answered_all x loads class (r ∷ rs) [] size h m told index = absurd (omega arith)
 answered_all x loads class (r ∷ rs) (e ∷ es) size h m told index =
@@ -64,136 +64,105 @@ answered_set x loads class rs es number r e got new at old = by (same_or at numb
         subst (λ z. IsAnsweredBy x loads class z f) same_reference (subst (IsAnsweredBy x loads class r) (sym same_entry) new)
     by (inr n) s f p g = old n s f p (get_set_other es number at e f n g)
 
--- ---- as names come behind
+-- ---- by the numbers of names
 
-stays : (a b : List Name) (n : ℕ) → BeginsWith b a → n < length a → text_at b n ≡ text_at a n
-stays a b n f l = ap (λ x. text_at x n) f.1 ∙ get_or-append a f.0 [] n l
+at_push : {X : Type 0} (xs : List X) (x y : X) (i : ℕ) → slice_get (xs ++ x ∷ []) i ≡ Some y → (slice_get xs i ≡ Some y) ⊎ ((i ≡ length xs) × (x ≡ y))
+at_push [] x y zero e = inr (refl, some_is e)
+at_push [] x y (suc i) e = absurd (none_some e)
+at_push (z ∷ xs) x y zero e = inl e
+at_push (z ∷ xs) x y (suc i) e = by (at_push xs x y i e)
+  where
+    by : (slice_get xs i ≡ Some y) ⊎ ((i ≡ length xs) × (x ≡ y)) → (slice_get (z ∷ xs) (suc i) ≡ Some y) ⊎ ((suc i ≡ suc (length xs)) × (x ≡ y))
+    by (inl f) = inl f
+    by (inr f) = inr (ap suc f.0, f.1)
 
-entry_stays : (a b : List Name) (r : Reference) (e : Entry ℕ) → BeginsWith b a → IsWithin (length a) e → entry_shown (text_at b) r e ≡ entry_shown (text_at a) r e
-entry_stays a b r (entry.ToClass flags) f l = refl
-entry_stays a b r (entry.ToMember flags n) f l = ap (λ z. answer.ToMember z (record { name = r.key.name; descriptor = r.key.descriptor; flags = flags })) (stays a b n f l)
-entry_stays a b r (entry.ToPolymorphic flags n) f l = ap (λ z. answer.ToMember z (record { name = r.key.name; descriptor = polymorphic_descriptor; flags = flags })) (stays a b n f l)
-entry_stays a b r (entry.Outside n) f l = ap answer.Outside (stays a b n f l)
-entry_stays a b r entry.NotLoaded f l = refl
-entry_stays a b r (entry.Error e n) f l = ap (answer.Error e) (stays a b n f l)
-entry_stays a b r (entry.OwnError e) f l = refl
+pub none_named : (name : ℕ → Name) (texts : List Name) (nodes : List (Option ℕ)) (entries named : List (Entry ℕ)) → named ≡ [] → AreNamed name texts nodes entries named
+none_named name texts nodes entries named is at own entry other n e f = absurd (nothing at other (sym (ap (λ xs. slice_get xs at) is) ∙ f))
+  where
+    nothing : (at : ℕ) (other : Entry ℕ) → slice_get [] at ≡ Some other → ⊥
+    nothing zero other g = none_some g
+    nothing (suc at) other g = none_some g
 
-pub within_more : (a b : List Name) (e : Entry ℕ) → BeginsWith b a → IsWithin (length a) e → IsWithin (length b) e
-within_more a b (entry.ToClass flags) f l = tt
-within_more a b (entry.ToMember flags n) f l = omega (arith, l, ap length f.1, length-append a f.0)
-within_more a b (entry.ToPolymorphic flags n) f l = omega (arith, l, ap length f.1, length-append a f.0)
-within_more a b (entry.Outside n) f l = omega (arith, l, ap length f.1, length-append a f.0)
-within_more a b entry.NotLoaded f l = tt
-within_more a b (entry.Error e n) f l = omega (arith, l, ap length f.1, length-append a f.0)
-within_more a b (entry.OwnError e) f l = tt
+-- one more is named, and the names that are listed for it come after the others
+pub named_push : (name : ℕ → Name) (old new : List Name) (nodes : List (Option ℕ)) (entries named : List (Entry ℕ)) (other : Entry ℕ) (more : List (Entry ℕ)) (own : Option ℕ) (entry : Entry ℕ)
+    → BeginsWith new old → AreNamed name old nodes entries named → slice_get nodes (length named) ≡ Some own → slice_get entries (length named) ≡ Some entry
+    → IsNamed name new own entry other → more ≡ named ++ other ∷ [] → AreNamed name new nodes entries more
+named_push name old new nodes entries named other more own entry front h n e one is at o f g p q r =
+    by (at_push named other g at (sym (ap (λ xs. slice_get xs at) is) ∙ r))
+  where
+    by : (slice_get named at ≡ Some g) ⊎ ((at ≡ length named) × (other ≡ g)) → IsNamed name new o f g
+    by (inl s) = λ reference texts names begins. h at o f g p q s reference texts names (begins_through old new texts front begins)
+    by (inr s) =
+        let same_own = some_is (sym n ∙ subst (λ i. slice_get nodes i ≡ Some o) s.0 p) in
+        let same_entry = some_is (sym e ∙ subst (λ i. slice_get entries i ≡ Some f) s.0 q) in
+        subst (IsNamed name new o f) s.1 (subst (λ z. IsNamed name new o z other) same_entry (subst (λ z. IsNamed name new z entry other) same_own one))
 
--- these tell the same as those, and so many texts hold their names
-abbrev pub AreNamed : (ℕ → Name) → List Name → List (Entry ℕ) → List (Entry ℕ) → Type 0
-AreNamed g texts [] [] = Unit {0}
-AreNamed g texts (a ∷ as1) (b ∷ bs) = (IsWithin (length texts) a × ((r : Reference) → entry_shown (text_at texts) r a ≡ entry_shown g r b)) × AreNamed g texts as1 bs
-AreNamed g texts [] (b ∷ bs) = ⊥
-AreNamed g texts (a ∷ as1) [] = ⊥
+head_is : {X : Type 0} {x y : X} {xs ys : List X} → x ∷ xs ≡ y ∷ ys → (x ≡ y) × (xs ≡ ys)
+head_is e = (cc, cc)
 
-pub named_push : (g : ℕ → Name) (a b : List Name) (as1 bs : List (Entry ℕ)) (e f : Entry ℕ) → BeginsWith b a → AreNamed g a as1 bs
-    → IsWithin (length b) e → ((r : Reference) → entry_shown (text_at b) r e ≡ entry_shown g r f) → AreNamed g b (as1 ++ e ∷ []) (bs ++ f ∷ [])
-named_push g a b [] [] e f front h l s = ((l, s), tt)
-named_push g a b [] (y ∷ bs) e f front h l s = absurd h
-named_push g a b (x ∷ as1) [] e f front h l s = absurd h
-named_push g a b (x ∷ as1) (y ∷ bs) e f front h l s =
-    ((within_more a b x front h.0.0, λ r. entry_stays a b r x front h.0.0 ∙ h.0.1 r), named_push g a b as1 bs e f front h.1 l s)
+no_head : {X : Type 0} {x : X} {xs : List X} → [] ≡ x ∷ xs → ⊥
+no_head e = cc
 
-pub named_same : (g : ℕ → Name) (texts : List Name) (as1 bs : List (Entry ℕ)) → AreNamed g texts as1 bs → AreSame (text_at texts) g as1 bs
-named_same g texts [] [] h = tt
-named_same g texts [] (y ∷ bs) h = absurd h
-named_same g texts (x ∷ as1) [] h = absurd h
-named_same g texts (x ∷ as1) (y ∷ bs) h = (h.0.1, named_same g texts as1 bs h.1)
-
--- ---- the same answers
-
-pub same_size : (f g : ℕ → Name) (as1 bs : List (Entry ℕ)) → AreSame f g as1 bs → length as1 ≡ length bs
-same_size f g [] [] h = refl
-same_size f g [] (b ∷ bs) h = absurd h
-same_size f g (a ∷ as1) [] h = absurd h
-same_size f g (a ∷ as1) (b ∷ bs) h = ap suc (same_size f g as1 bs h.1)
-
-pub same_shown : (f g : ℕ → Name) (rs : List Reference) (as1 bs : List (Entry ℕ)) → AreSame f g as1 bs → entries_shown f rs as1 ≡ entries_shown g rs bs
-same_shown f g [] as1 bs h = refl
-same_shown f g (r ∷ rs) [] [] h = refl
-same_shown f g (r ∷ rs) [] (b ∷ bs) h = absurd h
-same_shown f g (r ∷ rs) (a ∷ as1) [] h = absurd h
-same_shown f g (r ∷ rs) (a ∷ as1) (b ∷ bs) h =
-    let first = h.0 r in
-    let rest = same_shown f g rs as1 bs h.1 in
+pub named_shown : (name : ℕ → Name) (texts : List Name) (rs : List Reference) (nodes : List (Option ℕ)) (entries named : List (Entry ℕ))
+    → AreNodes name nodes rs → length named ≡ length entries → length entries ≡ length rs → AreNamed name texts nodes entries named
+    → entries_shown (name_told texts) rs named ≡ node_answers name rs entries
+named_shown name texts [] nodes entries named n s t h = refl
+named_shown name texts (r ∷ rs) [] entries named n s t h = absurd (no_head n)
+named_shown name texts (r ∷ rs) (o ∷ nodes) [] named n s t h = absurd (omega (arith, t))
+named_shown name texts (r ∷ rs) (o ∷ nodes) (e ∷ entries) [] n s t h = absurd (omega (arith, s))
+named_shown name texts (r ∷ rs) (o ∷ nodes) (e ∷ entries) (f ∷ named) n s t h =
+    let p = head_is n in
+    let first = h 0 o e f refl refl refl r texts p.0 (begins_whole texts) in
+    let rest = named_shown name texts rs nodes entries named p.1 (omega (arith, s)) (omega (arith, t)) (λ at. h (suc at)) in
     λ i. first i ∷ rest i
 
 -- ---- the list that is shown
 
-pub shown_size : (f : ℕ → Name) (rs : List Reference) (es : List (Entry ℕ)) → length es ≡ length rs → length (entries_shown f rs es) ≡ length es
+pub shown_size : (f : Reference → ℕ → Name) (rs : List Reference) (es : List (Entry ℕ)) → length es ≡ length rs → length (entries_shown f rs es) ≡ length es
 shown_size f [] [] e = refl
 shown_size f [] (x ∷ es) e = absurd (omega arith)
 shown_size f (r ∷ rs) [] e = refl
 shown_size f (r ∷ rs) (x ∷ es) e = ap suc (shown_size f rs es (omega (arith, e)))
 
-pub shown_at : (f : ℕ → Name) (rs : List Reference) (es : List (Entry ℕ)) (i : ℕ) (r : Reference) (e : Entry ℕ) → slice_get rs i ≡ Some r → slice_get es i ≡ Some e → slice_get (entries_shown f rs es) i ≡ Some (entry_shown f r e)
+pub shown_at : (f : Reference → ℕ → Name) (rs : List Reference) (es : List (Entry ℕ)) (i : ℕ) (r : Reference) (e : Entry ℕ) → slice_get rs i ≡ Some r → slice_get es i ≡ Some e → slice_get (entries_shown f rs es) i ≡ Some (entry_shown (f r) r e)
 shown_at f [] es i r e p q = absurd cc
 shown_at f (s ∷ rs) [] i r e p q = absurd cc
 shown_at f (s ∷ rs) (d ∷ es) zero r e p q =
     let a = some_is p in
     let b = some_is q in
-    λ i. Some (entry_shown f (a i) (b i))
+    λ i. Some (entry_shown (f (a i)) (a i) (b i))
 shown_at f (s ∷ rs) (d ∷ es) (suc i) r e p q = shown_at f rs es i r e p q
 
-pub kind_shown : (f : ℕ → Name) (rs : List Reference) (es : List (Entry ℕ)) (i : ℕ) (e : Entry ℕ) (k : AnswerKind) → length es ≡ length rs → slice_get es i ≡ Some e
-    → ((r : Reference) → kind_of (entry_shown f r e) ≡ k) → option_map kind_of (slice_get (entries_shown f rs es) i) ≡ Some k
+pub kind_shown : (f : Reference → ℕ → Name) (rs : List Reference) (es : List (Entry ℕ)) (i : ℕ) (e : Entry ℕ) (k : AnswerKind) → length es ≡ length rs → slice_get es i ≡ Some e
+    → ((r : Reference) → kind_of (entry_shown (f r) r e) ≡ k) → option_map kind_of (slice_get (entries_shown f rs es) i) ≡ Some k
 kind_shown f [] [] i e k size at kind = absurd cc
 kind_shown f [] (x ∷ es) i e k size at kind = absurd (omega (arith, size))
 kind_shown f (r ∷ rs) [] i e k size at kind = absurd cc
-kind_shown f (r ∷ rs) (x ∷ es) zero e k size at kind = ap Some (ap (λ y. kind_of (entry_shown f r y)) (some_is at) ∙ kind r)
+kind_shown f (r ∷ rs) (x ∷ es) zero e k size at kind = ap Some (ap (λ y. kind_of (entry_shown (f r) r y)) (some_is at) ∙ kind r)
 kind_shown f (r ∷ rs) (x ∷ es) (suc i) e k size at kind = kind_shown f rs es i e k (omega (arith, size)) at kind
 
 -- ---- none
 
-pub none_shown : (f : ℕ → Name) (rs : List Reference) → entries_shown f rs (map (λ (r : Reference). entry.NotLoaded) rs) ≡ map (λ (r : Reference). answer.NotLoaded) rs
+pub none_shown : (f : Reference → ℕ → Name) (rs : List Reference) → entries_shown f rs (map (λ (r : Reference). entry.NotLoaded) rs) ≡ map (λ (r : Reference). answer.NotLoaded) rs
 none_shown f [] = refl
 none_shown f (r ∷ rs) = ap (λ z. answer.NotLoaded ∷ z) (none_shown f rs)
 
--- ---- the same, with a number in place of a class
+-- ---- with a number in place of a class
 
-none_some : {X : Type 0} {x : X} → None ≡ Some x → ⊥
-none_some e = cc
+pub with_told : (f g : ℕ → Name) (r : Reference) (e : Entry ℕ) (n v : ℕ) → Some v ≡ node_of e → f n ≡ g v → entry_shown f r (with_number e n) ≡ entry_shown g r e
+with_told f g r (entry.ToClass flags) n v k h = refl
+with_told f g r (entry.ToMember flags w) n v k h = ap (λ t. answer.ToMember t (record { name = r.key.name; descriptor = r.key.descriptor; flags = flags })) (h ∙ ap g (some_is k))
+with_told f g r (entry.ToPolymorphic flags w) n v k h = ap (λ t. answer.ToMember t (record { name = r.key.name; descriptor = polymorphic_descriptor; flags = flags })) (h ∙ ap g (some_is k))
+with_told f g r (entry.Outside w) n v k h = ap answer.Outside (h ∙ ap g (some_is k))
+with_told f g r entry.NotLoaded n v k h = refl
+with_told f g r (entry.Error fault w) n v k h = ap (answer.Error fault) (h ∙ ap g (some_is k))
+with_told f g r (entry.OwnError fault) n v k h = refl
 
-pub same_with : (f g : ℕ → Name) (e : Entry ℕ) (n v : ℕ) → Some v ≡ node_of e → f n ≡ g v → IsSame f g (with_number e n) e
-same_with f g (entry.ToClass flags) n v k h r = refl
-same_with f g (entry.ToMember flags w) n v k h r = ap (λ t. answer.ToMember t (record { name = r.key.name; descriptor = r.key.descriptor; flags = flags })) (h ∙ ap g (some_is k))
-same_with f g (entry.ToPolymorphic flags w) n v k h r = ap (λ t. answer.ToMember t (record { name = r.key.name; descriptor = polymorphic_descriptor; flags = flags })) (h ∙ ap g (some_is k))
-same_with f g (entry.Outside w) n v k h r = ap answer.Outside (h ∙ ap g (some_is k))
-same_with f g entry.NotLoaded n v k h r = refl
-same_with f g (entry.Error fault w) n v k h r = ap (answer.Error fault) (h ∙ ap g (some_is k))
-same_with f g (entry.OwnError fault) n v k h r = refl
-
-pub same_without : (f g : ℕ → Name) (e : Entry ℕ) (n : ℕ) → None ≡ node_of e → IsSame f g (with_number e n) e
-same_without f g (entry.ToClass flags) n k r = refl
-same_without f g (entry.ToMember flags w) n k r = absurd (none_some k)
-same_without f g (entry.ToPolymorphic flags w) n k r = absurd (none_some k)
-same_without f g (entry.Outside w) n k r = absurd (none_some k)
-same_without f g entry.NotLoaded n k r = refl
-same_without f g (entry.Error fault w) n k r = absurd (none_some k)
-same_without f g (entry.OwnError fault) n k r = refl
-
-pub within_with : (count : ℕ) (e : Entry ℕ) (n : ℕ) → n < count → IsWithin count (with_number e n)
-within_with count (entry.ToClass flags) n l = tt
-within_with count (entry.ToMember flags w) n l = l
-within_with count (entry.ToPolymorphic flags w) n l = l
-within_with count (entry.Outside w) n l = l
-within_with count entry.NotLoaded n l = tt
-within_with count (entry.Error fault w) n l = l
-within_with count (entry.OwnError fault) n l = tt
-
-pub within_without : (count : ℕ) (e : Entry ℕ) (n : ℕ) → None ≡ node_of e → IsWithin count (with_number e n)
-within_without count (entry.ToClass flags) n k = tt
-within_without count (entry.ToMember flags w) n k = absurd (none_some k)
-within_without count (entry.ToPolymorphic flags w) n k = absurd (none_some k)
-within_without count (entry.Outside w) n k = absurd (none_some k)
-within_without count entry.NotLoaded n k = tt
-within_without count (entry.Error fault w) n k = absurd (none_some k)
-within_without count (entry.OwnError fault) n k = tt
+pub without_told : (f g : ℕ → Name) (r : Reference) (e : Entry ℕ) (n : ℕ) → None ≡ node_of e → entry_shown f r (with_number e n) ≡ entry_shown g r e
+without_told f g r (entry.ToClass flags) n k = refl
+without_told f g r (entry.ToMember flags w) n k = absurd (none_some k)
+without_told f g r (entry.ToPolymorphic flags w) n k = absurd (none_some k)
+without_told f g r (entry.Outside w) n k = absurd (none_some k)
+without_told f g r entry.NotLoaded n k = refl
+without_told f g r (entry.Error fault w) n k = absurd (none_some k)
+without_told f g r (entry.OwnError fault) n k = refl

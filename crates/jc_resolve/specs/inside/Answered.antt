@@ -1,9 +1,9 @@
 -- Answers by numbers, one for each reference of a class.
-use Rattle.std.specs.Prelude.{◌≡◌, ◌≢◌, ℕ, ◌<◌, List, length, map, slice_get, Option, Some, option_map}
+use Rattle.std.specs.Prelude.{◌≡◌, ◌≢◌, ℕ, ◌<◌, List, length, map, slice_get, Option, Some}
 use Rattle.std.specs.List.{Contains}
 use Rattle.jc_classes.specs.Facts.{AreNumbers, Reference}
 use Rattle.jc_classes.specs.LinkErrors.{LinkFault, links_of}
-use Rattle.jc_classes.specs.Parts.{AreAnswers, IsAnswer, class_of}
+use Rattle.jc_classes.specs.Parts.{AreAnswers, IsAnswer}
 use Rattle.jc_classes.specs.Resolution.{Answer}
 use Rattle.jc_classes.specs.Worlds.{World, references_of}
 use Rattle.jc_numbered.specs.declared.classes.Classes.{Classes}
@@ -14,8 +14,9 @@ use Rattle.jc_numbered.specs.inside.Shown.{indexed_of}
 use Rattle.jc_resolve.specs.declared.all_answers.Asked.{Asked}
 use Rattle.jc_resolve.specs.declared.entry.Entry.{Entry}
 use Rattle.jc_resolve.specs.declared.look.Look.{Look}
-use Rattle.jc_resolve.specs.inside.Entries.{entries_shown, entry_shown}
+use Rattle.jc_resolve.specs.inside.Entries.{entry_shown, node_answers}
 use Rattle.jc_resolve.specs.inside.Looks.{reach_of}
+use Rattle.jc_resolve.specs.inside.Naming.{AreNodes}
 use Rattle.jc_resolve.specs.inside.Resolved.{loading_of, TellsLoads}
 
 -- the numbers that are asked for are those below a count
@@ -24,7 +25,7 @@ AreNumbered count order = AreNumbers count (map (λ (a : Asked). a.number) order
 
 -- the nodes of the classes that references name
 pub record AreNodesOf (count : ℕ) (x : Indexed) (rs : List Reference) (nodes : List (Option ℕ)) : Type 0 where
-  pub named : map (option_map (indexed_name x)) nodes ≡ map (λ (r : Reference). class_of r.named) rs
+  pub named : AreNodes (indexed_name x) nodes rs
   pub within : (v : ℕ) → Contains nodes (Some v) → v < count
 
 -- whatever the worlds are that have what stands at the names of x
@@ -55,7 +56,7 @@ IsOneMore l rs number old new = (at : ℕ) → (at ≢ number → IsAnswered l r
 abbrev pub AreAnswered : Indexed → List Load → ℕ → List Reference → List (Entry ℕ) → Type 0
 AreAnswered x loads class rs entries = (length entries ≡ length rs)
     × ((m : World) → TellsLoads m x (length x.names) loads → IsIndexed m x
-    → AreAnswers m (indexed_name x class) (loading_of x (load_at loads class)) rs (entries_shown (indexed_name x) rs entries))
+    → AreAnswers m (indexed_name x class) (loading_of x (load_at loads class)) rs (node_answers (indexed_name x) rs entries))
 
 -- ---- of the class of a number
 

@@ -1,5 +1,5 @@
 -- Answers by numbers.
-use Rattle.std.specs.Prelude.{◌≡◌, ◌⊎◌, ℕ, ◌<◌, List, [], ◌∷◌, Option, Some, None}
+use Rattle.std.specs.Prelude.{◌≡◌, ◌⊎◌, ℕ, List, [], ◌∷◌, Option, Some, None}
 use Rattle.jc_classes.specs.Facts.{Key, Member, Reference}
 use Rattle.jc_classes.specs.Lent.{member_lent}
 use Rattle.jc_classes.specs.Names.{Name, polymorphic_descriptor}
@@ -25,11 +25,15 @@ entry_shown name r entry.NotLoaded = answer.NotLoaded
 entry_shown name r (entry.Error e n) = answer.Error e (name n)
 entry_shown name r (entry.OwnError e) = answer.Error e (text_of r.named)
 
--- the answer to each reference, in order
-abbrev pub entries_shown : (ℕ → Name) → List Reference → List (Entry ℕ) → List defs.Answer
+-- the answer to each reference, in order, where numbers have these names for it
+abbrev pub entries_shown : (Reference → ℕ → Name) → List Reference → List (Entry ℕ) → List defs.Answer
 entries_shown name [] entries = []
 entries_shown name (r ∷ rs) [] = []
-entries_shown name (r ∷ rs) (e ∷ entries) = entry_shown name r e ∷ entries_shown name rs entries
+entries_shown name (r ∷ rs) (e ∷ entries) = entry_shown (name r) r e ∷ entries_shown name rs entries
+
+-- the same by nodes, whose names are those of classes
+abbrev pub node_answers : (ℕ → Name) → List Reference → List (Entry ℕ) → List defs.Answer
+node_answers name rs entries = entries_shown (λ r. name) rs entries
 
 -- a member has the name that a reference asks for, and its descriptor, or that of signature polymorphic methods (JVMS 2.9)
 abbrev pub IsKeyed : Key → Member → Type 0
@@ -47,21 +51,7 @@ IsKeyedOutcome k (outcome.Ends b) = Unit {0}
 IsKeyedOutcome k (outcome.Settled s) = HasKey k s
 IsKeyedOutcome k outcome.NoInterface = Unit {0}
 
--- an entry tells the same of any reference, where numbers have these names, as another where they have those
-abbrev pub IsSame : (ℕ → Name) → (ℕ → Name) → Entry ℕ → Entry ℕ → Type 0
-IsSame f g a b = (r : Reference) → entry_shown f r a ≡ entry_shown g r b
-
 -- ---- by the numbers of texts
-
--- so many texts hold those of an answer
-abbrev pub IsWithin : ℕ → Entry ℕ → Type 0
-IsWithin count (entry.ToClass flags) = Unit {0}
-IsWithin count (entry.ToMember flags n) = n < count
-IsWithin count (entry.ToPolymorphic flags n) = n < count
-IsWithin count (entry.Outside n) = n < count
-IsWithin count entry.NotLoaded = Unit {0}
-IsWithin count (entry.Error e n) = n < count
-IsWithin count (entry.OwnError e) = Unit {0}
 
 -- the class whose name an answer tells
 abbrev pub node_of : Entry ℕ → Option ℕ

@@ -1,26 +1,55 @@
 -- Names of classes by numbers of their own.
-use Rattle.std.specs.Prelude.{◌≡◌, ℕ, ◌<◌, List, [], ◌∷◌, length, map, None, Some, Option}
+use Rattle.std.specs.Prelude.{◌≡◌, ℕ, zero, suc, List, [], map, None, Some, Option, option_map, slice_get}
+use Rattle.std.specs.Option.{option_map_or}
+use Rattle.jc_code.specs.inside.Fronts.{BeginsWith}
 use Rattle.jc_classes.specs.Facts.{Reference}
 use Rattle.jc_classes.specs.Names.{Name}
+use Rattle.jc_classes.specs.Parts.{class_of}
+use Rattle.jc_classes.specs.inside.FactsShown.{text_at}
 use Rattle.jc_resolve.specs.declared.answer_list.Naming.{Naming}
 use Rattle.jc_resolve.specs.declared.entry.Entry.{Entry}
-use Rattle.jc_classes.specs.inside.FactsShown.{text_at}
-use Rattle.jc_resolve.specs.inside.Entries.{IsSame}
+use Rattle.jc_resolve.specs.inside.Entries.{entry_shown}
 
 abbrev pub references_in : Option (List Reference) → List Reference
 references_in None = []
 references_in (Some references) = references
 
+-- the class that an answer to a reference tells by a number: 0 is the class that the reference names, and the names of a list
+-- are counted from 1
+abbrev pub name_told : List Name → Reference → ℕ → Name
+name_told texts r zero = option_map_or (λ c. c) (class_of r.named) []
+name_told texts r (suc place) = text_at texts place
+
+-- a number tells a name, whatever names are added
+abbrev pub Tells : List Name → Reference → ℕ → Name → Type 0
+Tells texts r number name = (more : List Name) → BeginsWith more texts → name_told more r number ≡ name
+
 abbrev pub IsNumberOf : List Name → Name → ℕ → Type 0
-IsNumberOf texts name number = (number < length texts) × (text_at texts number ≡ name)
+IsNumberOf texts name number = (r : Reference) → Tells texts r number name
+
+-- a reference names the class of a node, or an array of it
+abbrev pub NamesNode : (ℕ → Name) → Option ℕ → Reference → Type 0
+NamesNode name node r = option_map name node ≡ class_of r.named
+
+-- a number tells the class of a node, of a reference that names the class of this one
+abbrev pub IsToldBy : (ℕ → Name) → List Name → Option ℕ → ℕ → ℕ → Type 0
+IsToldBy name texts own node number = (r : Reference) → NamesNode name own r → Tells texts r number (name node)
+
+-- an answer by the numbers of names tells what one by nodes does, of a reference that names the class of this node
+abbrev pub IsNamed : (ℕ → Name) → List Name → Option ℕ → Entry ℕ → Entry ℕ → Type 0
+IsNamed name texts own entry named = (r : Reference) (more : List Name) → NamesNode name own r → BeginsWith more texts
+    → entry_shown (name_told more r) r named ≡ entry_shown name r entry
+
+-- so at each place
+abbrev pub AreNamed : (ℕ → Name) → List Name → List (Option ℕ) → List (Entry ℕ) → List (Entry ℕ) → Type 0
+AreNamed name texts nodes entries named = (at : ℕ) (own : Option ℕ) (entry other : Entry ℕ)
+    → slice_get nodes at ≡ Some own → slice_get entries at ≡ Some entry → slice_get named at ≡ Some other
+    → IsNamed name texts own entry other
+
+-- the nodes of the classes that references name
+abbrev pub AreNodes : (ℕ → Name) → List (Option ℕ) → List Reference → Type 0
+AreNodes name nodes rs = map (option_map name) nodes ≡ map (λ (r : Reference). class_of r.named) rs
 
 -- the texts are the names of the classes
 abbrev pub AreNames : (ℕ → Name) → Naming → Type 0
 AreNames name a = a.texts ≡ map name a.nodes.items
-
--- answers that tell the same of any references, by the numbers of these texts and of those classes
-abbrev pub AreSame : (ℕ → Name) → (ℕ → Name) → List (Entry ℕ) → List (Entry ℕ) → Type 0
-AreSame f g [] [] = Unit {0}
-AreSame f g (a ∷ as1) (b ∷ bs) = IsSame f g a b × AreSame f g as1 bs
-AreSame f g [] (b ∷ bs) = ⊥
-AreSame f g (a ∷ as1) [] = ⊥

@@ -32,7 +32,7 @@ returns-in_default-clause-answered c =
     subst (AreAnswered x c.args.loads.now c.args.class refs) (sym e) (
       length-map refs (λ (r : Reference). NotLoaded),
       λ (m : World) (told : TellsLoads m x (length x.names) c.args.loads.now) (index : IsIndexed m x).
-          subst (AreAnswers m d (loading_of x l) refs) (sym (none_shown (indexed_name x) refs)) (none_answers m d x l not refs),
+          subst (AreAnswers m d (loading_of x l) refs) (sym (none_shown (λ r. indexed_name x) refs)) (none_answers m d x l not refs),
     ) in
     if_ok_map _ _ _ f c.none_loaded.ensures
 

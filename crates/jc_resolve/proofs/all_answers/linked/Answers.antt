@@ -9,7 +9,7 @@ use Rattle.jc_numbered.specs.inside.Shown.{indexed_of}
 use Rattle.jc_numbered.specs.inside.Loading.{load_at}
 use Rattle.jc_resolve.specs.Linked.{Linked}
 use Rattle.jc_resolve.specs.inside.Answered.{AreNodesOf}
-use Rattle.jc_resolve.specs.inside.Entries.{entries_shown}
+use Rattle.jc_resolve.specs.inside.Entries.{node_answers}
 use Rattle.jc_resolve.specs.inside.Resolved.{loading_of, TellsLoads}
 use Rattle.jc_resolve.proofs.answering.Entries.{shown_size}
 use Rattle.jc_resolve.proofs.lookups.IfOks.{if_ok_map}
@@ -27,8 +27,8 @@ of-requires-2 c =
     let refs = c.in-Class.facts.now.references in
     let entries = c.in_ok-entries.entries.items in
     let size = c.in_ok-entries.ensures.answered.0 in
-    let is = c.in_ok-answers.ensures ∙ ap (λ rs. entries_shown (indexed_name x) rs c.deref.result.now) c.in_ok-references.ensures ∙ ap (entries_shown (indexed_name x) refs) c.deref.ensures.value in
-    ap length is ∙ shown_size (indexed_name x) refs entries size ∙ size
+    let is = c.in_ok-answers.ensures ∙ ap (λ rs. node_answers (indexed_name x) rs c.deref.result.now) c.in_ok-references.ensures ∙ ap (node_answers (indexed_name x) refs) c.deref.ensures.value in
+    ap length is ∙ shown_size (λ r. indexed_name x) refs entries size ∙ size
 
 pub returns-clause-answers : goal.returns-clause-answers
 returns-clause-answers c =
@@ -42,7 +42,7 @@ returns-clause-answers c =
     let shared : c.in_ok-references.references ≡ refs = c.in_ok-references.ensures in
     let made = c.in_ok-entries.ensures.answered in
     let list = c.in_ok-answers.answers in
-    let is : list ≡ entries_shown (indexed_name x) refs c.in_ok-entries.entries.items = c.in_ok-answers.ensures ∙ ap (λ rs. entries_shown (indexed_name x) rs c.deref.result.now) shared ∙ ap (entries_shown (indexed_name x) refs) c.deref.ensures.value in
+    let is : list ≡ node_answers (indexed_name x) refs c.in_ok-entries.entries.items = c.in_ok-answers.ensures ∙ ap (λ rs. node_answers (indexed_name x) rs c.deref.result.now) shared ∙ ap (node_answers (indexed_name x) refs) c.deref.ensures.value in
     let f = λ (linked : Linked) (e : linked ≡ record { answers = list; links = links_in c.name.result.now c.in-Class.facts.now list })
     (m : World) (told : TellsLoads m x count c.args.loads.now) (index : IsIndexed m x).
     subst (λ rs. AreAnswers m d how rs linked.answers) own (subst (AreAnswers m d how refs) (sym (ap (λ (l : Linked). l.answers) e ∙ is)) (made.1 m (subst (λ n. TellsLoads m x n c.args.loads.now) (sym size) told) index)) in

@@ -8,5 +8,8 @@ name_each-requires-clause-names c = c.in_ok-names.ensures (indexed_name (indexed
 pub name_each-requires-clause-named : goal.name_each-requires-clause-named
 name_each-requires-clause-named c = c.in_ok-named.ensures.items
 
-pub returns : goal.returns
-returns c = c.in_ok-name_each.ensures
+pub returns-clause-size : goal.returns-clause-size
+returns-clause-size c = c.in_ok-name_each.ensures.size
+
+pub returns-clause-named : goal.returns-clause-named
+returns-clause-named c = c.in_ok-name_each.ensures.named

@@ -3,9 +3,8 @@ use Rattle.std.proofs.lemmas.Option.{slice_get-get_or}
 use Rattle.std.specs.List.{slice_get}
 use Rattle.jc_classes.specs.Lent.{reference_lent}
 use Rattle.jc_classes.specs.Resolution.{Answer}
-use Rattle.jc_classes.specs.inside.FactsShown.{text_at}
 use Rattle.jc_resolve.specs.inside.Entries.{entries_shown}
-use Rattle.jc_resolve.specs.inside.Naming.{references_in}
+use Rattle.jc_resolve.specs.inside.Naming.{name_told, references_in}
 use Rattle.jc_resolve.proofs.answering.Entries.{shown_at, shown_size}
 use Rattle.jc_resolve.proofs.answering.Lists.{past}
 use Rattle.jc_resolve.proofs.answer_list.Answers.at.Goals as goal
@@ -15,7 +14,7 @@ returns-in-Some c =
     let a = c.self.inside in
     let n = c.args.number in
     let rs = references_in a.references in
-    let v = text_at a.names in
+    let v = name_told a.names in
     let l : n < length (entries_shown v rs a.entries.items) = subst (λ (z : List Answer). n < length z) (sym c.self.view_is) c.requires in
     let s = shown_size v rs a.entries.items c.self.invariant in
     let e : slice_get a.entries.items n ≡ Some c.index.result.now = slice_get-get_or a.entries.items n c.index.result.now (omega (arith, l, s)) ∙ ap Some (sym c.index.ensures) in
@@ -27,7 +26,7 @@ returns-in-None c =
     let a = c.self.inside in
     let n = c.args.number in
     let rs = references_in a.references in
-    let v = text_at a.names in
+    let v = name_told a.names in
     let l : n < length (entries_shown v rs a.entries.items) = subst (λ (z : List Answer). n < length z) (sym c.self.view_is) c.requires in
     let s = shown_size v rs a.entries.items c.self.invariant in
     let r : slice_get rs n ≡ None = sym c.reference_at.ensures ∙ ap (option_map reference_lent) c.in-None.is in

@@ -1,4 +1,5 @@
-use Rattle.std.proofs.Common.{[], ◌∷◌, ◌∙◌, subst}
+use Rattle.std.proofs.Common.{◌≡◌, [], ◌∷◌, length, ap, subst, arith}
+use Rattle.std.proofs.lemmas.List.{length-map}
 use Rattle.jc_numbered.specs.inside.Indexed.{indexed_name}
 use Rattle.jc_numbered.specs.inside.Shown.{indexed_of}
 use Rattle.jc_resolve.specs.inside.Naming.{IsNumberOf}
@@ -14,4 +15,9 @@ pub returns-clause-front : goal.returns-clause-front
 returns-clause-front c = (c.name.result.now ∷ [], c.in_ok-push.ensures.ok)
 
 pub returns-clause-number : goal.returns-clause-number
-returns-clause-number c = subst (λ t. IsNumberOf c.push.new.self t c.in_ok-kept.kept) c.name.ensures (last_number c.args.self.now.texts c.push.new.self c.name.result.now c.in_ok-kept.kept c.in_ok-push.ensures.ok (c.in_ok-kept.ensures ∙ c.len-number.ensures))
+returns-clause-number c =
+    let name = indexed_name (indexed_of c.args.classes.now) in
+    let nodes = c.args.self.now.nodes in
+    let place : c.len-place.result ≡ length c.args.self.now.texts = omega (arith, c.len-place.ensures, nodes.ok.0, ap length c.requires, length-map nodes.items name) in
+    subst (λ t. IsNumberOf c.push.new.self t c.in_ok-number.number) c.name.ensures
+    (last_number c.args.self.now.texts c.push.new.self c.name.result.now c.len-place.result c.in_ok-number.number c.in_ok-push.ensures.ok place (omega (arith, c.in_ok-number.ensures)))
