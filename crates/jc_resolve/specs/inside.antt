@@ -3,7 +3,6 @@ pub mod Chain
 pub mod Entries
 pub mod Found
 pub mod Gathered
-pub mod LinkTargets
 pub mod Links
 pub mod Loaded
 pub mod Loading
@@ -11,7 +10,9 @@ pub mod Looking
 pub mod Looks
 pub mod Named
 pub mod Naming
+pub mod Numbers
 pub mod Picks
 pub mod Resolved
 pub mod Rooms
 pub mod Shows
+pub mod Sites

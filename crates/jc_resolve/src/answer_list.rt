@@ -4,14 +4,16 @@ ghost use Rattle.std.specs.Prelude.{◌≡◌, ◌<◌, ℕ, [], Some, length, o
 ghost use Rattle.jc_classes.specs.Facts.{Reference as Refers};
 ghost use Rattle.jc_classes.specs.Lent.{reference_lent};
 ghost use Rattle.jc_classes.specs.Names.{Name};
+ghost use Rattle.jc_classes.specs.Resolution.{Answer as Told};
 ghost use Rattle.jc_numbered.specs.inside.Indexed.{indexed_name};
 ghost use Rattle.jc_numbered.specs.inside.Shown.{indexed_of};
 ghost use Rattle.jc_resolve.specs.Answers.{answer_of, kind_of};
 ghost use Rattle.jc_code.specs.inside.Fronts.{BeginsWith};
 ghost use Rattle.jc_resolve.specs.inside.Entries.{entry_shown, node_answers, node_of, with_number};
+ghost use Rattle.jc_resolve.specs.inside.Sites.{found_of};
 ghost use Rattle.jc_resolve.specs.inside.Naming.{AreNamed, AreNames, AreNodes, IsNamed, IsNumberOf, IsToldBy, name_told, references_in};
 
-use crate::answers::{Answer, AnswerKind};
+use crate::answers::{Answer, AnswerKind, Found};
 use crate::entry::Entry;
 use jc_base::NoMemory;
 use jc_classes::{Member, Reference, References, TextList};
@@ -262,6 +264,16 @@ impl Answers {
         kind_of(self.entries[number])
     }
 
+    /// What the answer to the reference of a number finds, if it finds anything. No memory.
+    pub(crate) fn found(&self, number: usize) -> Option<Found>
+        ensures { (answer : Told) → slice_get self.now number ≡ Some answer → found_of answer ≡ result }
+    {
+        if number >= self.entries.len() {
+            return None;
+        }
+        found_of(self.entries[number])
+    }
+
     /// The answer to the reference of a number. No memory.
     pub fn at(&self, number: usize) -> Answer<'_>
         requires { number < length self.now }
@@ -283,6 +295,17 @@ fn kind_of(entry: Entry<u32>) -> AnswerKind
         Entry::Outside(_) => AnswerKind::Outside,
         Entry::NotLoaded => AnswerKind::NotLoaded,
         Entry::Error(error, _) | Entry::OwnError(error) => AnswerKind::Error(error),
+    }
+}
+
+/// What an answer finds.
+fn found_of(entry: Entry<u32>) -> Option<Found>
+    ensures { (name : ℕ → Name) (r : Refers) → found_of (entry_shown name r entry) ≡ result }
+{
+    match entry {
+        Entry::ToClass(flags) => Some(Found::Class(flags)),
+        Entry::ToMember(flags, _) | Entry::ToPolymorphic(flags, _) => Some(Found::Member(flags)),
+        Entry::Outside(_) | Entry::NotLoaded | Entry::Error(_, _) | Entry::OwnError(_) => None,
     }
 }
 

@@ -38,6 +38,15 @@ pub enum AnswerKind {
     Error(LinkageError),
 }
 
+/// What an answer finds, with its access flags.
+#[derive(Clone, Copy)]
+pub(crate) enum Found {
+    /// A class, or an array, which has no flags.
+    Class(u16),
+    /// A field or a method.
+    Member(u16),
+}
+
 impl<'l, 'c, 't> Look<'l, 'c, 't> {
     /// The answer of a reference to the class of a node, which has these flags, or to an array of it.
     fn node_entry(&self, node: usize, flags: u16) -> Entry<usize>

@@ -9,14 +9,15 @@ mod answers;
 mod entry;
 mod fields;
 mod hierarchy;
-mod link_targets;
 mod linked;
 mod loaded;
 mod look;
 mod methods;
+mod numbers_by_index;
 mod references;
 mod resolve;
 mod room;
+mod site;
 mod superinterfaces;
 
 pub use answer_list::Answers;

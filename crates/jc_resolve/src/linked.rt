@@ -1,18 +1,19 @@
 //! The answers to the references of a class, and which of its instructions do not link (JVMS 6.5).
 
-ghost use Rattle.std.specs.Prelude.{◌≡◌, List, [], ◌++◌, length, map, IfOk, OnOk};
+ghost use Rattle.std.specs.Prelude.{◌≡◌, List, [], ◌++◌, length, map, option_map, slice_get, IfOk, OnOk};
 ghost use Rattle.std.specs.Iterator.{YieldsFirstBy, item_count};
-ghost use Rattle.std.specs.Option.{option_to_list};
-ghost use Rattle.jc_classes.specs.LinkErrors.{links_in};
+ghost use Rattle.std.specs.Option.{option_map_or, option_to_list};
+ghost use Rattle.jc_classes.specs.LinkErrors.{link_of, links_in};
 ghost use Rattle.jc_classes.specs.Resolution.{Answer as Told};
+ghost use Rattle.jc_classes.specs.Worlds.{text_of};
 ghost use Rattle.jc_resolve.specs.Linked.{link_lent};
-ghost use Rattle.jc_resolve.specs.inside.Links as specs;
-ghost use Rattle.jc_resolve.specs.inside.Links.{class_at, link_shown, links_shown};
+ghost use Rattle.jc_resolve.specs.inside.Links.{link_shown, links_shown};
 ghost use Rattle.jc_resolve.specs.inside.Naming.{references_in};
+ghost use Rattle.jc_resolve.specs.inside.Numbers.{AreNumbersBy};
 
 use crate::answer_list::Answers;
-use crate::answers::Answer;
-use crate::link_targets::{AtFault, Resolved, judge, resolved_by_index};
+use crate::numbers_by_index::{number_at, numbers_by_index};
+use crate::site::{Site, class_told};
 use jc_base::NoMemory;
 use jc_classes::{Facts, LinkageError, References};
 use jc_code::MethodUse;
@@ -36,7 +37,6 @@ struct LinkEntry {
     place: u16,
     reference: usize,
     error: LinkageError,
-    fault: AtFault,
 }
 
 /// An instruction that does not link, though its reference resolves (JVMS 6.5).
@@ -147,9 +147,9 @@ impl<'a> Iterator for Links<'a> {
 fn lend<'a>(references: &'a Option<References>, answers: &'a Answers, entry: LinkEntry) -> Link<'a>
     ensures { link_lent result ≡ link_shown (references_in references.now) answers.now entry }
 {
-    let class = match entry.fault {
-        AtFault::Answered => class_told(answers, entry.reference),
-        AtFault::Named => class_named(references, entry.reference),
+    let class = match entry.error {
+        LinkageError::NoMethod => class_named(references, entry.reference),
+        _ => class_told(answers, entry.reference),
     };
     Link {
         method: entry.method,
@@ -159,22 +159,9 @@ fn lend<'a>(references: &'a Option<References>, answers: &'a Answers, entry: Lin
     }
 }
 
-/// The class that the answer to the reference of a number tells.
-fn class_told(answers: &Answers, reference: usize) -> &[u8]
-    ensures { result.now ≡ class_at [] answers.now reference AtFault.Answered }
-{
-    if reference >= answers.len() {
-        return &[];
-    }
-    match answers.at(reference) {
-        Answer::ToClass(class, _) | Answer::ToMember(class, _) => class,
-        Answer::Outside(_) | Answer::NotLoaded | Answer::Error(_, _) => &[],
-    }
-}
-
 /// What the reference of a number names.
 fn class_named(references: &Option<References>, reference: usize) -> &[u8]
-    ensures { result.now ≡ class_at (references_in references.now) [] reference AtFault.Named }
+    ensures { result.now ≡ option_map_or (λ r. text_of r.named) (slice_get (references_in references.now) reference) [] }
 {
     let Some(references) = references else {
         return &[];
@@ -206,40 +193,50 @@ fn links_of(
     requires { length answers.now ≡ length facts.now.references }
     ensures { IfOk result (λ links. links_shown facts.now.references answers.now links.items ≡ links_in own.now facts.now answers.now) }
 {
-    let table = resolved_by_index(alloc, own, facts, answers)?;
+    let numbers = numbers_by_index(alloc, facts)?;
     let mut links = Vec::new(alloc);
     for one in facts.uses() {
-        push_link(&mut links, facts, &table, *one)?;
+        push_some(&mut links, entry_of(own, facts, answers, &numbers, *one))?;
     }
     Ok(links)
 }
 
-/// Adds the error of an instruction, if it has one.
-fn push_link(
-    links: &mut Vec<LinkEntry>,
+/// The error of an instruction of the class of this name, if it has one. `numbers` are those of the references by the
+/// indexes of their constants.
+fn entry_of(
+    own: &[u8],
     facts: &Facts,
-    table: &[Option<Resolved>],
+    answers: &Answers,
+    numbers: &[Option<usize>],
     one: MethodUse,
-) -> Result<(), NoMemory>
-    ensures { OnOk result (links.new.items ≡ links.old.items ++ option_to_list (specs.entry_of facts.now table.now one)) }
+) -> Option<LinkEntry>
+    requires size { length answers.now ≡ length facts.now.references }
+    requires numbers { AreNumbersBy facts.now.references 0 numbers.now }
+    ensures { option_map (link_shown facts.now.references answers.now) result ≡ link_of own.now facts.now answers.now one }
 {
-    if let Some(resolved) = resolved_at(table, one.index)
-        && let Some((error, fault)) = judge(facts, one, resolved.target)
-    {
-        links.push(LinkEntry {
-            method: one.method,
-            place: one.place,
-            reference: resolved.number,
-            error,
-            fault,
-        })?;
-    }
-    Ok(())
+    let reference = number_at(numbers, one.index)?;
+    let site = Site {
+        class: own,
+        facts,
+        answers,
+        one,
+        reference,
+    };
+    let error = site.judge()?;
+    Some(LinkEntry {
+        method: one.method,
+        place: one.place,
+        reference,
+        error,
+    })
 }
 
-/// The reference of an index, where it is answered To.
-fn resolved_at(table: &[Option<Resolved>], index: u16) -> Option<Resolved>
-    ensures { result ≡ specs.resolved_at table.now index }
+/// Adds an entry, if there is one.
+fn push_some(links: &mut Vec<LinkEntry>, entry: Option<LinkEntry>) -> Result<(), NoMemory>
+    ensures { OnOk result (links.new.items ≡ links.old.items ++ option_to_list entry) }
 {
-    *table.get(index as usize)?
+    if let Some(entry) = entry {
+        links.push(entry)?;
+    }
+    Ok(())
 }

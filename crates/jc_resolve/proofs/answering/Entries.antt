@@ -5,6 +5,7 @@ use Rattle.std.specs.Option.{option_map}
 use Rattle.jc_classes.specs.Facts.{Reference}
 use Rattle.jc_classes.specs.Names.{Name, polymorphic_descriptor}
 use Rattle.jc_classes.specs.Parts.{AreAnswers}
+use Rattle.jc_classes.specs.Resolution.{Answer}
 use Rattle.jc_classes.specs.Resolution.{Answer as answer}
 use Rattle.jc_classes.specs.Worlds.{World}
 use Rattle.jc_code.proofs.appended.Fronts.{begins_through, begins_whole}
@@ -12,8 +13,6 @@ use Rattle.jc_code.specs.inside.Fronts.{BeginsWith}
 use Rattle.jc_numbered.specs.declared.loads.Load.{Load}
 use Rattle.jc_numbered.specs.inside.Indexed.{Indexed, indexed_name, IsIndexed}
 use Rattle.jc_numbered.specs.inside.Loading.{load_at}
-use Rattle.jc_resolve.specs.Answers.{kind_of}
-use Rattle.jc_resolve.specs.declared.answers.AnswerKind.{AnswerKind}
 use Rattle.jc_resolve.specs.declared.entry.Entry.{Entry}
 use Rattle.jc_resolve.specs.declared.entry.Entry.TheVariants as entry
 use Rattle.jc_resolve.specs.inside.Answered.{IsAnsweredAt, IsAnsweredBy}
@@ -133,13 +132,14 @@ shown_at f (s ∷ rs) (d ∷ es) zero r e p q =
     λ i. Some (entry_shown (f (a i)) (a i) (b i))
 shown_at f (s ∷ rs) (d ∷ es) (suc i) r e p q = shown_at f rs es i r e p q
 
-pub kind_shown : (f : Reference → ℕ → Name) (rs : List Reference) (es : List (Entry ℕ)) (i : ℕ) (e : Entry ℕ) (k : AnswerKind) → length es ≡ length rs → slice_get es i ≡ Some e
-    → ((r : Reference) → kind_of (entry_shown (f r) r e) ≡ k) → option_map kind_of (slice_get (entries_shown f rs es) i) ≡ Some k
-kind_shown f [] [] i e k size at kind = absurd cc
-kind_shown f [] (x ∷ es) i e k size at kind = absurd (omega (arith, size))
-kind_shown f (r ∷ rs) [] i e k size at kind = absurd cc
-kind_shown f (r ∷ rs) (x ∷ es) zero e k size at kind = ap Some (ap (λ y. kind_of (entry_shown (f r) r y)) (some_is at) ∙ kind r)
-kind_shown f (r ∷ rs) (x ∷ es) (suc i) e k size at kind = kind_shown f rs es i e k (omega (arith, size)) at kind
+-- what an entry says of any reference, its answer says
+pub said_at : {X : Type 0} (says : Answer → X) (f : Reference → ℕ → Name) (rs : List Reference) (es : List (Entry ℕ)) (i : ℕ) (e : Entry ℕ) (k : X) → length es ≡ length rs → slice_get es i ≡ Some e
+    → ((r : Reference) → says (entry_shown (f r) r e) ≡ k) → option_map says (slice_get (entries_shown f rs es) i) ≡ Some k
+said_at says f [] [] i e k size at kind = absurd cc
+said_at says f [] (x ∷ es) i e k size at kind = absurd (omega (arith, size))
+said_at says f (r ∷ rs) [] i e k size at kind = absurd cc
+said_at says f (r ∷ rs) (x ∷ es) zero e k size at kind = ap Some (ap (λ y. says (entry_shown (f r) r y)) (some_is at) ∙ kind r)
+said_at says f (r ∷ rs) (x ∷ es) (suc i) e k size at kind = said_at says f rs es i e k (omega (arith, size)) at kind
 
 -- ---- none
 

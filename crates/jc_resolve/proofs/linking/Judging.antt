@@ -1,132 +1,174 @@
--- An instruction is judged by what its reference resolves to.
-use Rattle.std.proofs.Common.{◌≡◌, ◌∙◌, ◌==◌, ◌&&◌, not, Bool, true, false, ℕ, ◌+◌, List, [], ◌∷◌, Option, Some, None, drop, refl, ap, sym}
+-- An instruction is judged by the answer to its reference.
+use Rattle.std.proofs.Common.{◌≡◌, ◌∙◌, Bool, true, false, ℕ, List, [], Option, Some, None, length, refl, ap, sym, subst, arith}
 use Rattle.std.specs.List.{slice_get}
 use Rattle.std.specs.Option.{option_map_or}
-use Rattle.std.specs.Prelude.{if◌then◌else◌, codes, option_and_then, option_map}
-use Rattle.jc_file.specs.AccessFlags.{final, has, static}
+use Rattle.std.specs.Prelude.{codes, option_and_then, option_map}
 use Rattle.jc_code.specs.declared.insn.LinkKind.{LinkKind}
 use Rattle.jc_code.specs.declared.insn.LinkKind.TheVariants as kinds
 use Rattle.jc_code.specs.declared.method_use.MethodUse.{MethodUse}
 use Rattle.jc_classes.specs.Facts.{Facts, Member, Reference}
-use Rattle.jc_classes.specs.LinkErrors as defs
-use Rattle.jc_classes.specs.LinkErrors.{LinkFault, Site, answered, link_at, link_fault, link_of, method_name}
-use Rattle.jc_classes.specs.Names.{Name, same_name}
+use Rattle.jc_classes.specs.LinkErrors.{Fault, LinkFault, Site, class_fault, final_fault, line, link_at, link_by, link_fault, link_of, member_fault, site_of, static_fault}
+use Rattle.jc_classes.specs.Names.{Name}
 use Rattle.jc_classes.specs.Resolution.{Answer}
 use Rattle.jc_classes.specs.Resolution.{Answer as answer}
 use Rattle.jc_classes.specs.Worlds.{text_of}
 use Rattle.jc_classes.specs.declared.linkage_error.LinkageError.{LinkageError}
 use Rattle.jc_classes.specs.declared.linkage_error.LinkageError.TheVariants as errors
-use Rattle.jc_resolve.specs.declared.link_targets.AtFault.{AtFault}
-use Rattle.jc_resolve.specs.declared.link_targets.AtFault.TheVariants as at
-use Rattle.jc_resolve.specs.declared.link_targets.Target.{Target}
-use Rattle.jc_resolve.specs.declared.link_targets.Resolved.{Resolved}
-use Rattle.jc_resolve.specs.inside.LinkTargets.{AreResolved, Judged, target_judged, line, resolved_from, target_of, with_number}
-use Rattle.jc_resolve.specs.inside.Links.{class_at, class_told, entry_by, entry_of, link_shown}
-use Rattle.jc_resolve.proofs.linking.Tables.{behind}
+use Rattle.jc_resolve.specs.declared.answers.Found.TheVariants as found
+use Rattle.jc_resolve.specs.declared.linked.LinkEntry.{LinkEntry}
+use Rattle.jc_resolve.specs.inside.Sites.{class_told, error_of, found_of}
+use Rattle.jc_resolve.specs.inside.Links.{class_at, link_shown}
+use Rattle.jc_resolve.specs.inside.Numbers.{number_from}
+use Rattle.jc_resolve.proofs.linking.Tables.{IsFirst, is_answered, not_answered}
 
--- the class at fault, by the reference and its answer
-abbrev class_by : Reference → Answer → AtFault → Name
-class_by r a at.Answered = class_told a
-class_by r a at.Named = text_of r.named
+some_is : {X : Type 0} {x y : X} → Some x ≡ Some y → x ≡ y
+some_is e = cc
 
-abbrev named : Reference → Answer → Judged → LinkageError × Name
-named r a j = (j.0, class_by r a j.1)
+none_some : {X : Type 0} {x : X} → None ≡ Some x → ⊥
+none_some e = cc
 
--- a line of the one table says what that of the other does
-line_same : (r : Reference) (a : Answer) (b : Bool) (e : LinkageError) (f : AtFault) (x : Option (LinkageError × Name)) (y : Option Judged) → x ≡ option_map (named r a) y
-    → defs.line b e (class_by r a f) x ≡ option_map (named r a) (line b e f y)
-line_same r a true e f x y h = refl
-line_same r a false e f x y h = h
+-- ---- the error of a fault tells its class
 
-module _ (d : Name) (method : Name) (r : Reference) where
-  abbrev site : Site
-  site = record { class = d; method = method; named = r.named }
+-- by the text that is named
+abbrev class_by : Name → Answer → LinkageError → Name
+class_by text a errors.NoMethod = text
+class_by text a errors.NoClass = class_told a
+class_by text a errors.Format = class_told a
+class_by text a errors.Circular = class_told a
+class_by text a errors.Incompatible = class_told a
+class_by text a errors.IllegalAccess = class_told a
+class_by text a errors.NoField = class_told a
+class_by text a errors.Instantiation = class_told a
 
-  member_same : (kind : LinkKind) (home : Name) (x : Member)
-      → link_fault site kind (answer.ToMember home x) ≡ option_map (named r (answer.ToMember home x)) (option_and_then (target_judged method kind) (target_of d r (answer.ToMember home x)))
-  member_same kinds.GetStatic home x = line_same r (answer.ToMember home x) _ _ at.Answered None None refl
-  member_same kinds.PutStatic home x =
-      let ours = same_name home d && same_name method (codes "<clinit>") in
-      line_same r (answer.ToMember home x) (not (has x.flags static)) errors.Incompatible at.Answered (defs.line (has x.flags final && not ours) errors.IllegalAccess home None) (line (has x.flags final && not ours) errors.IllegalAccess at.Answered None)
-      (line_same r (answer.ToMember home x) (has x.flags final && not ours) errors.IllegalAccess at.Answered None None refl)
-  member_same kinds.GetField home x = line_same r (answer.ToMember home x) _ _ at.Answered None None refl
-  member_same kinds.PutField home x =
-      let ours = same_name home d && same_name method (codes "<init>") in
-      line_same r (answer.ToMember home x) (has x.flags static) errors.Incompatible at.Answered (defs.line (has x.flags final && not ours) errors.IllegalAccess home None) (line (has x.flags final && not ours) errors.IllegalAccess at.Answered None)
-      (line_same r (answer.ToMember home x) (has x.flags final && not ours) errors.IllegalAccess at.Answered None None refl)
-  member_same kinds.InvokeSpecial home x =
-      line_same r (answer.ToMember home x) (defs.is_init x && not (same_name home (text_of r.named))) errors.NoMethod at.Named (defs.line (has x.flags static) errors.Incompatible home None) (line (has x.flags static) errors.Incompatible at.Answered None)
-      (line_same r (answer.ToMember home x) (has x.flags static) errors.Incompatible at.Answered None None refl)
-  member_same kinds.InvokeVirtual home x = line_same r (answer.ToMember home x) _ _ at.Answered None None refl
-  member_same kinds.InvokeStatic home x = line_same r (answer.ToMember home x) _ _ at.Answered None None refl
-  member_same kinds.InvokeInterface home x = line_same r (answer.ToMember home x) _ _ at.Answered None None refl
-  member_same kinds.New home x = refl
+class_is : (rs : List Reference) (answers : List Answer) (number : ℕ) (r : Reference) (a : Answer) → slice_get rs number ≡ Some r → slice_get answers number ≡ Some a
+    → (e : LinkageError) → class_at rs answers number e ≡ class_by (text_of r.named) a e
+class_is rs answers number r a got told e = by e
+  where
+    of_answer : option_map_or class_told (slice_get answers number) [] ≡ class_told a
+    of_answer = ap (λ o. option_map_or class_told o []) told
 
-  class_same : (kind : LinkKind) (c : Name) (flags : ℕ)
-      → link_fault site kind (answer.ToClass c flags) ≡ option_map (named r (answer.ToClass c flags)) (option_and_then (target_judged method kind) (target_of d r (answer.ToClass c flags)))
-  class_same kinds.New c flags = line_same r (answer.ToClass c flags) _ _ at.Answered None None refl
-  class_same kinds.GetStatic c flags = refl
-  class_same kinds.PutStatic c flags = refl
-  class_same kinds.GetField c flags = refl
-  class_same kinds.PutField c flags = refl
-  class_same kinds.InvokeSpecial c flags = refl
-  class_same kinds.InvokeVirtual c flags = refl
-  class_same kinds.InvokeStatic c flags = refl
-  class_same kinds.InvokeInterface c flags = refl
+    by : (e : LinkageError) → class_at rs answers number e ≡ class_by (text_of r.named) a e
+    by errors.NoMethod = ap (λ o. option_map_or (λ (r : Reference). text_of r.named) o []) got
+    by errors.NoClass = of_answer
+    by errors.Format = of_answer
+    by errors.Circular = of_answer
+    by errors.Incompatible = of_answer
+    by errors.IllegalAccess = of_answer
+    by errors.NoField = of_answer
+    by errors.Instantiation = of_answer
 
-  fault_same : (kind : LinkKind) (a : Answer) → link_fault site kind a ≡ option_map (named r a) (option_and_then (target_judged method kind) (target_of d r a))
-  fault_same kind (answer.ToClass c flags) = class_same kind c flags
-  fault_same kind (answer.ToMember home x) = member_same kind home x
-  fault_same kind (answer.Outside n) = refl
-  fault_same kind answer.NotLoaded = refl
-  fault_same kind (answer.Error e n) = refl
+module _ (s : Site) where
+  abbrev text : Name
+  text = text_of s.named
 
-module _ (d : Name) (method : Name) (u : MethodUse) (rs : List Reference) (answers : List Answer) where
-  class_is : (number : ℕ) (r : Reference) (a : Answer) → slice_get rs number ≡ Some r → slice_get answers number ≡ Some a → (f : AtFault) → class_by r a f ≡ class_at rs answers number f
-  class_is number r a got told at.Answered = sym (ap (λ o. option_map_or class_told o []) told)
-  class_is number r a got told at.Named = sym (ap (λ o. option_map_or (λ (r : Reference). text_of r.named) o []) got)
+  abbrev IsFault : Answer → Option Fault → Type 0
+  IsFault a f = (e : LinkageError) (c : Name) → f ≡ Some (e, c) → c ≡ class_by text a e
 
-  abbrev linked : Option (LinkageError × Name) → Option LinkFault
+  none_at : (a : Answer) → IsFault a None
+  none_at a e c eq = absurd (none_some eq)
+
+  line_at : (a : Answer) (b : Bool) (e : LinkageError) (c : Name) (behind : Option Fault) → c ≡ class_by text a e → IsFault a behind → IsFault a (line b e c behind)
+  line_at a true e c behind is h = λ f d eq.
+      let p = some_is eq in
+      sym (ap (λ (q : Fault). q.1) p) ∙ is ∙ ap (λ (q : Fault). class_by text a q.0) p
+  line_at a false e c behind is h = h
+
+  final_at : (initializer : List ℕ) (home : Name) (x : Member) → IsFault (answer.ToMember home x) (final_fault s initializer home x)
+  final_at initializer home x = line_at (answer.ToMember home x) _ errors.IllegalAccess home None refl (none_at (answer.ToMember home x))
+
+  static_at : (b : Bool) (home : Name) (x : Member) (behind : Option Fault) → IsFault (answer.ToMember home x) behind → IsFault (answer.ToMember home x) (static_fault b home behind)
+  static_at b home x behind h = line_at (answer.ToMember home x) b errors.Incompatible home behind refl h
+
+  member_at : (kind : LinkKind) (home : Name) (x : Member) → IsFault (answer.ToMember home x) (member_fault s kind home x)
+  member_at kinds.GetStatic home x = static_at _ home x None (none_at (answer.ToMember home x))
+  member_at kinds.PutStatic home x = static_at _ home x _ (final_at (codes "<clinit>") home x)
+  member_at kinds.GetField home x = static_at _ home x None (none_at (answer.ToMember home x))
+  member_at kinds.PutField home x = static_at _ home x _ (final_at (codes "<init>") home x)
+  member_at kinds.InvokeSpecial home x = line_at (answer.ToMember home x) _ errors.NoMethod text _ refl (static_at _ home x None (none_at (answer.ToMember home x)))
+  member_at kinds.InvokeVirtual home x = static_at _ home x None (none_at (answer.ToMember home x))
+  member_at kinds.InvokeStatic home x = static_at _ home x None (none_at (answer.ToMember home x))
+  member_at kinds.InvokeInterface home x = static_at _ home x None (none_at (answer.ToMember home x))
+  member_at kinds.New home x = none_at (answer.ToMember home x)
+
+  at_class : (kind : LinkKind) (c : Name) (flags : ℕ) → IsFault (answer.ToClass c flags) (class_fault kind c flags)
+  at_class kinds.New c flags = line_at (answer.ToClass c flags) _ errors.Instantiation c None refl (none_at (answer.ToClass c flags))
+  at_class kinds.GetStatic c flags = none_at (answer.ToClass c flags)
+  at_class kinds.PutStatic c flags = none_at (answer.ToClass c flags)
+  at_class kinds.GetField c flags = none_at (answer.ToClass c flags)
+  at_class kinds.PutField c flags = none_at (answer.ToClass c flags)
+  at_class kinds.InvokeSpecial c flags = none_at (answer.ToClass c flags)
+  at_class kinds.InvokeVirtual c flags = none_at (answer.ToClass c flags)
+  at_class kinds.InvokeStatic c flags = none_at (answer.ToClass c flags)
+  at_class kinds.InvokeInterface c flags = none_at (answer.ToClass c flags)
+
+  fault_at : (kind : LinkKind) (a : Answer) → IsFault a (link_fault s kind a)
+  fault_at kind (answer.ToClass c flags) = at_class kind c flags
+  fault_at kind (answer.ToMember home x) = member_at kind home x
+  fault_at kind (answer.Outside n) = none_at (answer.Outside n)
+  fault_at kind answer.NotLoaded = none_at answer.NotLoaded
+  fault_at kind (answer.Error e n) = none_at (answer.Error e n)
+
+  -- ---- by what the answer finds
+
+  pub class_found : (kind : LinkKind) (a : Answer) (flags : ℕ) (error : Option LinkageError) → found_of a ≡ Some (found.Class flags)
+      → ((class : Name) → error ≡ error_of (class_fault kind class flags)) → error ≡ error_of (link_fault s kind a)
+  class_found kind (answer.ToClass c other) flags error is h = let same : flags ≡ other = cc in h c ∙ ap (λ n. error_of (class_fault kind c n)) same
+  class_found kind (answer.ToMember home x) flags error is h = absurd cc
+  class_found kind (answer.Outside n) flags error is h = absurd cc
+  class_found kind answer.NotLoaded flags error is h = absurd cc
+  class_found kind (answer.Error e n) flags error is h = absurd cc
+
+  pub member_found : (kind : LinkKind) (a : Answer) (flags : ℕ) (error : Option LinkageError) → found_of a ≡ Some (found.Member flags)
+      → ((home : Name) (x : Member) → a ≡ answer.ToMember home x → flags ≡ x.flags → error ≡ error_of (member_fault s kind home x)) → error ≡ error_of (link_fault s kind a)
+  member_found kind (answer.ToClass c other) flags error is h = absurd cc
+  member_found kind (answer.ToMember home x) flags error is h = let same : flags ≡ x.flags = cc in h home x refl same
+  member_found kind (answer.Outside n) flags error is h = absurd cc
+  member_found kind answer.NotLoaded flags error is h = absurd cc
+  member_found kind (answer.Error e n) flags error is h = absurd cc
+
+  pub none_found : (kind : LinkKind) (a : Answer) → found_of a ≡ None → None ≡ error_of (link_fault s kind a)
+  none_found kind (answer.ToClass c other) is = absurd cc
+  none_found kind (answer.ToMember home x) is = absurd cc
+  none_found kind (answer.Outside n) is = refl
+  none_found kind answer.NotLoaded is = refl
+  none_found kind (answer.Error e n) is = refl
+
+-- ---- of the instructions of a class
+
+module _ (d : Name) (f : Facts) (answers : List Answer) (u : MethodUse) where
+  -- no reference has the index
+  pub no_link : number_from 0 u.index f.references ≡ None → None ≡ link_of d f answers u
+  no_link e = sym (ap (option_and_then (link_by d f u)) (not_answered 0 u.index f.references answers e))
+
+  abbrev linked : Option Fault → Option LinkFault
   linked o = option_and_then (λ fault. Some (link_at u fault)) o
 
-  abbrev shown : Option Resolved → Option LinkFault
-  shown o = option_map (link_shown rs answers) (option_and_then (λ (found : Resolved). option_map (entry_by u found) (target_judged method u.kind found.target)) o)
+  abbrev entry : ℕ → LinkageError → LinkEntry
+  entry number e = record { method = u.method; place = u.place; reference = number; error = e }
 
-  -- of a reference that is answered
-  one_same : (number : ℕ) (r : Reference) (a : Answer) → slice_get rs number ≡ Some r → slice_get answers number ≡ Some a
-      → linked (link_fault (record { class = d; method = method; named = r.named }) u.kind a) ≡ shown (with_number number (target_of d r a))
-  one_same number r a got told = ap linked (fault_same d method r u.kind a) ∙ by (target_of d r a)
+  -- the error of the reference that has it, with the class at fault
+  pub one_link : (number : ℕ) (judged error : Option LinkageError) → length answers ≡ length f.references → number_from 0 u.index f.references ≡ Some number
+      → ((r : Reference) (a : Answer) → slice_get f.references number ≡ Some r → slice_get answers number ≡ Some a → judged ≡ error_of (link_fault (site_of d f u r) u.kind a))
+      → judged ≡ error
+      → option_map (link_shown f.references answers) (option_map (entry number) error) ≡ link_of d f answers u
+  one_link number judged error size is h e =
+      let p : IsFirst u.index f.references answers 0 number = is_answered 0 u.index number f.references answers size is in
+      let r = p.reference in
+      let a = p.answer in
+      let same : p.at ≡ number = omega (arith, p.is) in
+      let got : slice_get f.references number ≡ Some r = subst (λ n. slice_get f.references n ≡ Some r) same p.got in
+      let told : slice_get answers number ≡ Some a = subst (λ n. slice_get answers n ≡ Some a) same p.told in
+      let site = site_of d f u r in
+      by r a got told error (link_fault site u.kind a) (sym e ∙ h r a got told) (fault_at site u.kind a) ∙ sym (ap (option_and_then (link_by d f u)) p.first)
     where
-      of_judged : (t : Target) (j : Option Judged) → linked (option_map (named r a) j) ≡ option_map (link_shown rs answers) (option_map (entry_by u (record { number = number; target = t })) j)
-      of_judged t None = refl
-      of_judged t (Some j) = ap (λ c. Some (link_at u (j.0, c))) (class_is number r a got told j.1)
-
-      by : (o : Option Target) → linked (option_map (named r a) (option_and_then (target_judged method u.kind) o)) ≡ shown (with_number number o)
-      by None = refl
-      by (Some t) = of_judged t (target_judged method u.kind t)
-
-  abbrev site_at : Reference → Site
-  site_at r = record { class = d; method = method; named = r.named }
-
-  all_same : (number : ℕ) (left : List Reference) (told : List Answer) → drop number rs ≡ left → drop number answers ≡ told
-      → option_and_then (λ pair. linked (link_fault (site_at pair.0) u.kind pair.1)) (answered u.index left told) ≡ shown (resolved_from d number u.index left told)
-  all_same number [] told e f = refl
-  all_same number (r ∷ left) [] e f = refl
-  all_same number (r ∷ left) (a ∷ told) e f =
-      let p = behind rs number r left e in
-      let q = behind answers number a told f in
-      by (r.index == u.index) (one_same number r a p.0 q.0) (all_same (number + 1) left told p.1 q.1)
-    where
-      by : (b : Bool) → linked (link_fault (site_at r) u.kind a) ≡ shown (with_number number (target_of d r a))
-          → option_and_then (λ pair. linked (link_fault (site_at pair.0) u.kind pair.1)) (answered u.index left told) ≡ shown (resolved_from d (number + 1) u.index left told)
-          → option_and_then (λ pair. linked (link_fault (site_at pair.0) u.kind pair.1)) (if b then Some (r, a) else answered u.index left told)
-          ≡ shown (if b then with_number number (target_of d r a) else resolved_from d (number + 1) u.index left told)
-      by true h k = h
-      by false h k = k
-
--- what is noted of an instruction shows its error
-pub link_same : (d : Name) (f : Facts) (answers : List Answer) (table : List (Option Resolved)) (u : MethodUse) → AreResolved d f.references answers 0 table
-    → option_map (link_shown f.references answers) (entry_of f table u) ≡ link_of d f answers u
-link_same d f answers table u h =
-    let method = method_name f u.method in
-    sym (all_same d method u f.references answers 0 f.references answers refl refl ∙ ap (shown d method u f.references answers) (sym (h u.index)))
+      by : (r : Reference) (a : Answer) → slice_get f.references number ≡ Some r → slice_get answers number ≡ Some a → (e : Option LinkageError) (fault : Option Fault)
+          → e ≡ error_of fault → IsFault (site_of d f u r) a fault
+          → option_map (link_shown f.references answers) (option_map (entry number) e) ≡ linked fault
+      by r a got told None None same is = refl
+      by r a got told None (Some fault) same is = absurd (none_some same)
+      by r a got told (Some e) None same is = absurd (none_some (sym same))
+      by r a got told (Some e) (Some fault) same is =
+          let error : e ≡ fault.0 = some_is same in
+          let class : class_at f.references answers number e ≡ fault.1 =
+          class_is f.references answers number r a got told e ∙ ap (class_by (text_of r.named) a) error ∙ sym (is fault.0 fault.1 refl) in
+          λ i. Some (record { method = u.method; place = u.place; error = error i; class = class i })

@@ -7,8 +7,7 @@ use Rattle.jc_code.specs.declared.insn.LinkKind.TheVariants as kinds
 use Rattle.jc_code.specs.declared.method_use.MethodUse.{MethodUse}
 use Rattle.jc_classes.specs.LinkErrors.{link_of}
 use Rattle.jc_classes.proofs.texts.Entries.{shown_some}
-use Rattle.jc_resolve.specs.inside.Links.{entry_of, link_shown}
-use Rattle.jc_resolve.proofs.linking.Judging.{link_same}
+use Rattle.jc_resolve.specs.inside.Links.{link_shown}
 use Rattle.jc_resolve.proofs.linked.links_of.Goals as goal
 
 pub loop-one-preserved : goal.loop-one-preserved
@@ -16,14 +15,12 @@ loop-one-preserved c =
     let d = c.args.own.now in
     let f = c.args.facts.now in
     let answers = c.args.answers.now in
-    let table = c.in_ok-table.table.items in
     let items = c.uses-one-items.result.now in
     let i = c.loop-one.one-index in
     let told = λ (u : MethodUse). option_to_list (link_of d f answers u) in
     let none : MethodUse = record { method = 0; place = 0; kind = kinds.GetStatic; index = 0 } in
     let one = get_or items i none in
-    let noted = c.in_ok-push_link.ensures ∙ ap (λ t. c.loop-one.links.items ++ option_to_list (entry_of f t one)) c.deref.ensures.value in
-    let more = shown_some (link_shown f.references answers) c.push_link.new.links.items c.loop-one.links.items (entry_of f table one) (link_of d f answers one) noted (link_same d f answers table one c.in_ok-table.ensures) in
+    let more = shown_some (link_shown f.references answers) c.push_some.new.links.items c.loop-one.links.items c.entry_of.result (link_of d f answers one) c.in_ok-push_some.ensures c.entry_of.ensures in
     more
     ∙ ap (λ xs. xs ++ told one) c.loop-one.invariant
     ∙ ap (λ xs. flat_map told (take i items) ++ xs) (sym (append-nil (told one)))

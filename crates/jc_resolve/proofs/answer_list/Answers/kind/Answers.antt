@@ -5,7 +5,7 @@ use Rattle.jc_classes.specs.Resolution.{Answer}
 use Rattle.jc_resolve.specs.Answers.{kind_of}
 use Rattle.jc_resolve.specs.inside.Entries.{entries_shown}
 use Rattle.jc_resolve.specs.inside.Naming.{name_told, references_in}
-use Rattle.jc_resolve.proofs.answering.Entries.{kind_shown, shown_size}
+use Rattle.jc_resolve.proofs.answering.Entries.{said_at, shown_size}
 use Rattle.jc_resolve.proofs.answer_list.Answers.kind.Goals as goal
 
 pub index-requires : goal.index-requires
@@ -27,4 +27,4 @@ returns c =
     let l : n < length (entries_shown v rs a.entries.items) = subst (λ (z : List Answer). n < length z) (sym c.self.view_is) c.requires in
     let s = shown_size v rs a.entries.items c.self.invariant in
     let e : slice_get a.entries.items n ≡ Some c.index.result.now = slice_get-get_or a.entries.items n c.index.result.now (omega (arith, l, s)) ∙ ap Some (sym c.index.ensures) in
-    sym (ap (λ (z : List Answer). option_map kind_of (slice_get z n)) c.self.view_is) ∙ kind_shown v rs a.entries.items n c.index.result.now c.kind_of.result c.self.invariant e (λ r. c.kind_of.ensures (v r) r)
+    sym (ap (λ (z : List Answer). option_map kind_of (slice_get z n)) c.self.view_is) ∙ said_at kind_of v rs a.entries.items n c.index.result.now c.kind_of.result c.self.invariant e (λ r. c.kind_of.ensures (v r) r)

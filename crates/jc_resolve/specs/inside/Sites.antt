@@ -1,0 +1,62 @@
+-- What instructions are judged by.
+use Rattle.std.specs.Prelude.{◌≡◌, ℕ, List, [], Option, Some, None, option_map, slice_get}
+use Rattle.jc_classes.specs.Facts.{Member, Reference}
+use Rattle.jc_classes.specs.LinkErrors as defs
+use Rattle.jc_classes.specs.LinkErrors.{Fault, final_fault, link_fault, member_fault, site_of}
+use Rattle.jc_classes.specs.Names.{Name}
+use Rattle.jc_classes.specs.Resolution.{Answer}
+use Rattle.jc_classes.specs.Resolution.{Answer as answer}
+use Rattle.jc_classes.specs.declared.linkage_error.LinkageError.{LinkageError}
+use Rattle.jc_resolve.specs.declared.answers.Found.{Found}
+use Rattle.jc_resolve.specs.declared.answers.Found.TheVariants as found
+use Rattle.jc_resolve.specs.declared.site.Site.{Site}
+
+-- what an answer finds
+abbrev pub found_of : Answer → Option Found
+found_of (answer.ToClass c flags) = Some (found.Class flags)
+found_of (answer.ToMember home x) = Some (found.Member x.flags)
+found_of (answer.Outside n) = None
+found_of answer.NotLoaded = None
+found_of (answer.Error e n) = None
+
+-- the class that an answer tells: the one that is named, or the one that declares the member
+abbrev pub class_told : Answer → Name
+class_told (answer.ToClass c flags) = c
+class_told (answer.ToMember home x) = home
+class_told (answer.Outside n) = []
+class_told answer.NotLoaded = []
+class_told (answer.Error e n) = []
+
+-- the name of the member that it tells
+abbrev pub member_told : Answer → Name
+member_told (answer.ToClass c flags) = []
+member_told (answer.ToMember home x) = x.name
+member_told (answer.Outside n) = []
+member_told answer.NotLoaded = []
+member_told (answer.Error e n) = []
+
+-- ---- errors, without the class at fault
+
+abbrev pub error_of : Option Fault → Option LinkageError
+error_of fault = option_map (λ (f : Fault). f.0) fault
+
+-- the site has this reference and this answer
+pub record IsAt (s : Site) (r : Reference) (a : Answer) : Type 0 where
+  pub reference : slice_get s.facts.now.references s.reference ≡ Some r
+  pub answer : slice_get s.answers.now s.reference ≡ Some a
+
+abbrev pub site_at : Site → Reference → defs.Site
+site_at s r = site_of s.class.now s.facts.now s.one r
+
+abbrev pub TellsError : Site → Option LinkageError → Type 0
+TellsError s error = (r : Reference) (a : Answer) → IsAt s r a → error ≡ error_of (link_fault (site_at s r) s.one.kind a)
+
+-- at a member with these flags
+abbrev pub TellsMemberError : Site → ℕ → Option LinkageError → Type 0
+TellsMemberError s flags error = (r : Reference) (home : Name) (x : Member) → IsAt s r (answer.ToMember home x) → flags ≡ x.flags
+    → error ≡ error_of (member_fault (site_at s r) s.one.kind home x)
+
+-- of a store into it
+abbrev pub TellsFinal : Site → ℕ → List ℕ → Option LinkageError → Type 0
+TellsFinal s flags initializer error = (r : Reference) (home : Name) (x : Member) → IsAt s r (answer.ToMember home x) → flags ≡ x.flags
+    → error ≡ error_of (final_fault (site_at s r) initializer home x)
