@@ -1,14 +1,9 @@
 //! Answers by numbers.
 
 ghost use Rattle.std.specs.Prelude.{◌≡◌};
-ghost use Rattle.jc_classes.specs.Facts.{Reference};
 ghost use Rattle.jc_classes.specs.Lent.{key_lent};
-ghost use Rattle.jc_numbered.specs.inside.Indexed.{Indexed, indexed_name};
-ghost use Rattle.jc_resolve.specs.inside.Entries.{entry_shown};
-ghost use Rattle.jc_resolve.specs.inside.Resolved.{begun_of, ended_of};
-ghost use Rattle.jc_resolve.specs.inside.Shows.{ShowsHit, ShowsOutcome, ShowsSettled};
+ghost use Rattle.jc_resolve.specs.inside.Shows.{ShowsHit, ShowsSettled};
 
-use crate::resolve::{Begun, MemberOutcome};
 use jc_classes::{Key, LinkageError, same};
 use jc_numbered::{Hit, Settled};
 use std::alloc::AllocError;
@@ -41,17 +36,6 @@ impl<N: Copy> Clone for Entry<N> {
     }
 }
 
-/// The answer of a reference for which look-up did not begin.
-fn begun_entry(begun: Begun) -> Entry<usize>
-    ensures { (x : Indexed) (r : Reference) → entry_shown (indexed_name x) r result ≡ ended_of x (begun_of x begun) }
-{
-    match begun {
-        Begun::At(_) => Entry::NotLoaded,
-        Begun::Outside(node) => Entry::Outside(node),
-        Begun::Fails(error, node) => Entry::Error(error, node),
-    }
-}
-
 /// The answer of a reference that finds a member.
 fn hit_entry(hit: Hit<'_>, key: Key<'_>) -> Entry<usize>
     ensures { ShowsHit (key_lent key.entry) hit.entry result }
@@ -64,7 +48,11 @@ fn hit_entry(hit: Hit<'_>, key: Key<'_>) -> Entry<usize>
 }
 
 /// The answer of a reference for which look-up began. `missing` is the error where nothing is there.
-fn settled_entry(settled: Settled<'_>, missing: LinkageError, key: Key<'_>) -> Entry<usize>
+pub(crate) fn settled_entry(
+    settled: Settled<'_>,
+    missing: LinkageError,
+    key: Key<'_>,
+) -> Entry<usize>
     ensures { ShowsSettled (key_lent key.entry) missing settled.entry result }
 {
     match settled {
@@ -72,20 +60,5 @@ fn settled_entry(settled: Settled<'_>, missing: LinkageError, key: Key<'_>) -> E
         Settled::Outside(node) => Entry::Outside(node),
         Settled::Hidden(node) => Entry::Error(LinkageError::IllegalAccess, node),
         Settled::Missing => Entry::OwnError(missing),
-    }
-}
-
-/// The answer of a reference to a member.
-pub(crate) fn outcome_entry(
-    outcome: MemberOutcome<'_>,
-    missing: LinkageError,
-    key: Key<'_>,
-) -> Entry<usize>
-    ensures { ShowsOutcome (key_lent key.entry) missing outcome.entry result }
-{
-    match outcome {
-        MemberOutcome::Ends(begun) => begun_entry(begun),
-        MemberOutcome::Settled(settled) => settled_entry(settled, missing, key),
-        MemberOutcome::NoInterface => Entry::OwnError(LinkageError::Incompatible),
     }
 }

@@ -7,12 +7,12 @@ ghost use Rattle.jc_resolve.specs.inside.Named.{TellsNamed, TellsNamedWithin, Is
 ghost use Rattle.jc_resolve.specs.inside.Resolved.{IsWithinSome};
 ghost use Rattle.jc_resolve.specs.inside.Rooms.{IsRoom};
 
-use crate::entry::{Entry, outcome_entry};
+use crate::entry::Entry;
 use crate::look::Look;
 use crate::resolve::NamedNode;
 use crate::room::Room;
 use jc_base::NoMemory;
-use jc_classes::{LinkageError, Reference, ReferenceKind};
+use jc_classes::{Reference, ReferenceKind};
 use std::alloc::Global;
 
 /// What a reference names, by the node of its class.
@@ -48,18 +48,9 @@ impl<'l, 'c, 't> Look<'l, 'c, 't> {
         let key = reference.key;
         match reference.kind {
             ReferenceKind::Class => Ok(self.class_entry(named)),
-            ReferenceKind::Field => {
-                let outcome = self.field(alloc, room, named, key)?;
-                Ok(outcome_entry(outcome, LinkageError::NoField, key))
-            }
-            ReferenceKind::Method => {
-                let outcome = self.method(alloc, room, named, key)?;
-                Ok(outcome_entry(outcome, LinkageError::NoMethod, key))
-            }
-            ReferenceKind::InterfaceMethod => {
-                let outcome = self.interface_method(alloc, room, named, key)?;
-                Ok(outcome_entry(outcome, LinkageError::NoMethod, key))
-            }
+            ReferenceKind::Field => self.field(alloc, room, named, key),
+            ReferenceKind::Method => self.method(alloc, room, named, key),
+            ReferenceKind::InterfaceMethod => self.interface_method(alloc, room, named, key),
         }
     }
 }

@@ -1,19 +1,19 @@
 //! The answer of a reference to a member.
 
-ghost use Rattle.std.specs.Prelude.{◌≡◌, ◌<◌, ℕ, true, IfOk, OnOk};
+ghost use Rattle.std.specs.Prelude.{◌≡◌, ◌<◌, ℕ, true, IfOk, Ok, OnOk};
 ghost use Rattle.std.specs.Option.{IfSome};
 ghost use Rattle.jc_classes.specs.Lent.{key_lent, member_lent};
 ghost use Rattle.jc_classes.specs.Names.{Name};
 ghost use Rattle.jc_classes.specs.Resolution.{ResolvesField, ResolvesInterfaceMethod, ResolvesMethod};
-ghost use Rattle.jc_classes.specs.declared.linkage_error.LinkageError.TheVariants.{NoField, NoMethod};
 ghost use Rattle.jc_numbered.specs.inside.Access.{named_at, IsTarget};
 ghost use Rattle.jc_numbered.specs.inside.Indexed.{Indexed, good_at};
-ghost use Rattle.jc_resolve.specs.inside.Entries.{IsKeyed, IsKeyedOutcome};
+ghost use Rattle.jc_resolve.specs.inside.Entries.{IsKeyed};
 ghost use Rattle.jc_resolve.specs.inside.Looks.{reach_of, size_of, TellsMember, TellsOutcome, TellsStart};
 ghost use Rattle.jc_resolve.specs.inside.Resolved.{element_of, named_of, target_at, IsWithinAll};
 ghost use Rattle.jc_resolve.specs.inside.Resolved.{StartsInArray, StartsInClass, StartsInObject};
 ghost use Rattle.jc_resolve.specs.inside.Rooms.{IsRoom};
 
+use crate::entry::{Entry, settled_entry};
 use crate::fields::find_field;
 use crate::look::Look;
 use crate::methods::{find_interface_method, find_method};
@@ -21,7 +21,7 @@ use crate::room::Room;
 use jc_base::NoMemory;
 use jc_classes::{Key, LinkageError};
 use jc_file::AccessFlag;
-use jc_numbered::{Hit, Load, Settled, Target, can_see, settle};
+use jc_numbered::{Hit, Load, Target, can_see, settle};
 use std::alloc::Global;
 
 /// What a Class constant names: a class, or an array with its innermost class.
@@ -31,69 +31,58 @@ pub(crate) enum NamedNode {
     Array(Option<usize>),
 }
 
-/// Where look-up begins, or why it does not.
-#[derive(Clone, Copy)]
-pub(crate) enum Begun {
-    At(usize),
-    /// The class is outside.
-    Outside(usize),
-    Fails(LinkageError, usize),
-}
-
-/// The answer of a reference to a member.
-#[derive(Clone, Copy)]
-pub(crate) enum MemberOutcome<'a> {
-    Ends(Begun),
-    Settled(Settled<'a>),
-    /// What is named is no interface.
-    NoInterface,
-}
-
-/// Where look-up begins for a class, by how it loads and whether it is accessible.
-fn class_begun(sees: bool, load: Load, node: usize) -> Begun
+/// Where look-up begins for a class, by how it loads and whether it is accessible. The error is the answer without
+/// look-up.
+fn start_in_class(sees: bool, load: Load, node: usize) -> Result<usize, Entry<usize>>
     ensures start { StartsInClass sees load node result }
-    ensures at { (v : ℕ) → result ≡ Begun.At v → (v ≡ node) × (load ≡ Load.Loaded) }
+    ensures at { (v : ℕ) → result ≡ Ok v → (v ≡ node) × (load ≡ Load.Loaded) }
 {
     match load {
         Load::Loaded => {
             if sees {
-                Begun::At(node)
+                Ok(node)
             } else {
-                Begun::Fails(LinkageError::IllegalAccess, node)
+                Err(Entry::Error(LinkageError::IllegalAccess, node))
             }
         }
-        Load::Outside => Begun::Outside(node),
-        Load::Fails(fault, other) => Begun::Fails(fault, other),
+        Load::Outside => Err(Entry::Outside(node)),
+        Load::Fails(error, other) => Err(Entry::Error(error, other)),
     }
 }
 
 /// Where look-up begins for an array of a primitive type: at `java/lang/Object`.
-fn object_begun(object: usize, load: Load) -> Begun
+fn start_in_object(object: usize, load: Load) -> Result<usize, Entry<usize>>
     ensures start { StartsInObject object load result }
-    ensures at { (v : ℕ) → result ≡ Begun.At v → (v ≡ object) × (load ≡ Load.Loaded) }
+    ensures at { (v : ℕ) → result ≡ Ok v → (v ≡ object) × (load ≡ Load.Loaded) }
 {
     match load {
-        Load::Loaded => Begun::At(object),
-        Load::Outside => Begun::Outside(object),
-        Load::Fails(fault, other) => Begun::Fails(fault, other),
+        Load::Loaded => Ok(object),
+        Load::Outside => Err(Entry::Outside(object)),
+        Load::Fails(error, other) => Err(Entry::Error(error, other)),
     }
 }
 
 /// Where look-up begins for an array of a class, by how that loads and whether it is accessible.
-fn element_begun(sees: bool, load: Load, node: usize, object: usize, object_load: Load) -> Begun
+fn start_in_array(
+    sees: bool,
+    load: Load,
+    node: usize,
+    object: usize,
+    object_load: Load,
+) -> Result<usize, Entry<usize>>
     ensures start { StartsInArray sees load node object object_load result }
-    ensures at { (v : ℕ) → result ≡ Begun.At v → (v ≡ object) × (object_load ≡ Load.Loaded) }
+    ensures at { (v : ℕ) → result ≡ Ok v → (v ≡ object) × (object_load ≡ Load.Loaded) }
 {
     match load {
         Load::Loaded => {
             if sees {
-                object_begun(object, object_load)
+                start_in_object(object, object_load)
             } else {
-                Begun::Fails(LinkageError::IllegalAccess, node)
+                Err(Entry::Error(LinkageError::IllegalAccess, node))
             }
         }
-        Load::Outside => object_begun(object, object_load),
-        Load::Fails(fault, other) => Begun::Fails(fault, other),
+        Load::Outside => start_in_object(object, object_load),
+        Load::Fails(error, other) => Err(Entry::Error(error, other)),
     }
 }
 
@@ -109,21 +98,21 @@ pub(crate) fn target_of(reference: NamedNode) -> Target
 }
 
 impl<'l, 'c, 't> Look<'l, 'c, 't> {
-    /// Where look-up of a member begins.
-    fn begin(&self, named: NamedNode) -> Begun
+    /// Where look-up of a member begins. The error is the answer without look-up.
+    fn begin(&self, named: NamedNode) -> Result<usize, Entry<usize>>
         requires { IsWithinAll (size_of self.now) named }
-        ensures at { (v : ℕ) → result ≡ Begun.At v → (v < size_of self.now) × (good_at (reach_of self.now) v ≡ true) }
-        ensures target { (v : ℕ) → result ≡ Begun.At v → IsTarget (size_of self.now) (reach_of self.now) (target_at named) }
+        ensures at { (v : ℕ) → result ≡ Ok v → (v < size_of self.now) × (good_at (reach_of self.now) v ≡ true) }
+        ensures target { (v : ℕ) → result ≡ Ok v → IsTarget (size_of self.now) (reach_of self.now) (target_at named) }
         ensures starts { TellsStart self.now named result }
     {
         let classes = self.classes;
         match named {
             NamedNode::Class(node) => {
-                class_begun(can_see(classes, self.class, node), self.loads[node], node)
+                start_in_class(can_see(classes, self.class, node), self.loads[node], node)
             }
             NamedNode::Array(element) => match element {
-                None => object_begun(classes.object, self.loads[classes.object]),
-                Some(node) => element_begun(
+                None => start_in_object(classes.object, self.loads[classes.object]),
+                Some(node) => start_in_array(
                     can_see(classes, self.class, node),
                     self.loads[node],
                     node,
@@ -134,7 +123,7 @@ impl<'l, 'c, 't> Look<'l, 'c, 't> {
         }
     }
 
-    /// Settles what look-up from the class at `start` found.
+    /// The answer once look-up from the class at `start` found this. `missing` is the error where nothing is there.
     fn settle_found(
         &self,
         alloc: Global,
@@ -142,16 +131,16 @@ impl<'l, 'c, 't> Look<'l, 'c, 't> {
         named: NamedNode,
         start: usize,
         found: Option<Hit<'l>>,
+        missing: LinkageError,
         key: Key,
-    ) -> Result<MemberOutcome<'l>, NoMemory>
+    ) -> Result<Entry<usize>, NoMemory>
         requires start { start < size_of self.now }
         requires target { IsTarget (size_of self.now) (reach_of self.now) (target_at named) }
         requires room { IsRoom self.now.classes.now room.old }
         requires home { IfSome found (λ h. h.node < size_of self.now) }
         requires keyed { IfSome found (λ h. IsKeyed (key_lent key) (member_lent h.member)) }
         ensures room { OnOk result (IsRoom self.now.classes.now room.new) }
-        ensures keyed { IfOk result (IsKeyedOutcome (key_lent key.entry)) }
-        ensures settled { IfOk result (TellsOutcome self.now named start found.entry) }
+        ensures settled { IfOk result (TellsOutcome self.now named (key_lent key.entry) missing start found.entry) }
     {
         let target = target_of(named);
         let settled = settle(
@@ -163,7 +152,7 @@ impl<'l, 'c, 't> Look<'l, 'c, 't> {
             start,
             found,
         )?;
-        Ok(MemberOutcome::Settled(settled))
+        Ok(settled_entry(settled, missing, key))
     }
 
     /// The answer of a reference to a field (JVMS 5.4.3.2).
@@ -173,20 +162,19 @@ impl<'l, 'c, 't> Look<'l, 'c, 't> {
         room: &mut Room,
         named: NamedNode,
         key: Key,
-    ) -> Result<MemberOutcome<'l>, NoMemory>
+    ) -> Result<Entry<usize>, NoMemory>
         requires named { IsWithinAll (size_of self.now) named }
         requires room { IsRoom self.now.classes.now room.old }
         ensures room { OnOk result (IsRoom self.now.classes.now room.new) }
-        ensures keyed { IfOk result (IsKeyedOutcome (key_lent key.entry)) }
-        ensures found { IfOk result (TellsMember ResolvesField NoField self.now named (key_lent key.entry)) }
+        ensures found { IfOk result (TellsMember ResolvesField self.now named (key_lent key.entry)) }
     {
         let classes = self.classes;
         match self.begin(named) {
-            Begun::At(start) => {
+            Ok(start) => {
                 let found = find_field(alloc, classes, &mut room.covered, start, key)?;
-                self.settle_found(alloc, room, named, start, found, key)
+                self.settle_found(alloc, room, named, start, found, LinkageError::NoField, key)
             }
-            other => Ok(MemberOutcome::Ends(other)),
+            Err(entry) => Ok(entry),
         }
     }
 
@@ -197,23 +185,30 @@ impl<'l, 'c, 't> Look<'l, 'c, 't> {
         room: &mut Room,
         named: NamedNode,
         key: Key,
-    ) -> Result<MemberOutcome<'l>, NoMemory>
+    ) -> Result<Entry<usize>, NoMemory>
         requires named { IsWithinAll (size_of self.now) named }
         requires room { IsRoom self.now.classes.now room.old }
         ensures room { OnOk result (IsRoom self.now.classes.now room.new) }
-        ensures keyed { IfOk result (IsKeyedOutcome (key_lent key.entry)) }
-        ensures found { IfOk result (TellsMember ResolvesMethod NoMethod self.now named (key_lent key.entry)) }
+        ensures found { IfOk result (TellsMember ResolvesMethod self.now named (key_lent key.entry)) }
     {
         let classes = self.classes;
         match self.begin(named) {
-            Begun::At(start) => {
+            Ok(start) => {
                 if AccessFlag::Interface.is_in(classes.flags(start)) {
-                    return Ok(MemberOutcome::Ends(Begun::Fails(LinkageError::Incompatible, start)));
+                    return Ok(Entry::Error(LinkageError::Incompatible, start));
                 }
                 let found = find_method(alloc, classes, room, start, key)?;
-                self.settle_found(alloc, room, named, start, found, key)
+                self.settle_found(
+                    alloc,
+                    room,
+                    named,
+                    start,
+                    found,
+                    LinkageError::NoMethod,
+                    key,
+                )
             }
-            other => Ok(MemberOutcome::Ends(other)),
+            Err(entry) => Ok(entry),
         }
     }
 
@@ -224,23 +219,30 @@ impl<'l, 'c, 't> Look<'l, 'c, 't> {
         room: &mut Room,
         named: NamedNode,
         key: Key,
-    ) -> Result<MemberOutcome<'l>, NoMemory>
+    ) -> Result<Entry<usize>, NoMemory>
         requires named { IsWithinAll (size_of self.now) named }
         requires room { IsRoom self.now.classes.now room.old }
         ensures room { OnOk result (IsRoom self.now.classes.now room.new) }
-        ensures keyed { IfOk result (IsKeyedOutcome (key_lent key.entry)) }
-        ensures found { IfOk result (TellsMember ResolvesInterfaceMethod NoMethod self.now named (key_lent key.entry)) }
+        ensures found { IfOk result (TellsMember ResolvesInterfaceMethod self.now named (key_lent key.entry)) }
     {
         let classes = self.classes;
         match self.begin(named) {
-            Begun::At(start) => {
+            Ok(start) => {
                 if !AccessFlag::Interface.is_in(classes.flags(start)) {
-                    return Ok(MemberOutcome::NoInterface);
+                    return Ok(Entry::OwnError(LinkageError::Incompatible));
                 }
                 let found = find_interface_method(alloc, classes, room, start, key)?;
-                self.settle_found(alloc, room, named, start, found, key)
+                self.settle_found(
+                    alloc,
+                    room,
+                    named,
+                    start,
+                    found,
+                    LinkageError::NoMethod,
+                    key,
+                )
             }
-            other => Ok(MemberOutcome::Ends(other)),
+            Err(entry) => Ok(entry),
         }
     }
 }

@@ -7,10 +7,7 @@ use Rattle.jc_classes.specs.Loading.{Load, can_see}
 use Rattle.jc_classes.specs.Resolution.{Start, Starts, ResolvesClass as rclass, class_answer, start_of, object_start}
 use Rattle.jc_classes.specs.Resolution.Starts.{starts}
 use Rattle.jc_numbered.specs.inside.Indexed.{Indexed, indexed_name, standing_of, IsGraph, IsIndexed}
-use Rattle.jc_classes.specs.Resolution.Start.{Ends}
-use Rattle.jc_resolve.specs.declared.resolve.Begun.{Begun}
-use Rattle.jc_resolve.specs.declared.resolve.Begun.TheVariants as begun
-use Rattle.jc_resolve.specs.inside.Resolved.{loading_of, begun_of, ended_of, TellsLoads}
+use Rattle.jc_resolve.specs.inside.Resolved.{loading_of, TellsLoads}
 use Rattle.jc_numbered.specs.inside.Loading.{load_at}
 use Rattle.jc_numbered.specs.declared.loads.Load.{Load as LoadState}
 use Rattle.jc_numbered.proofs.lookups.Bridge.{named}
@@ -36,9 +33,3 @@ module _ (m : World) (count : ℕ) (x : Indexed) (graph : IsGraph count x) (inde
 
   pub primitive_starts : (text : Name) (lo : LoadState) → lo ≡ load_at loads object → (s : Start) → s ≡ object_start (loading_of x lo) → Starts m d (Array text None) s
   primitive_starts text lo o s h = starts rclass.primitives (object_loads lo o) h
-
--- what does not begin ends
-pub begun_ends : (x : Indexed) (b : Begun) → ((v : ℕ) → b ≡ begun.At v → ⊥) → begun_of x b ≡ Ends (ended_of x (begun_of x b))
-begun_ends x (begun.At v) n = absurd (n v refl)
-begun_ends x (begun.Outside v) n = refl
-begun_ends x (begun.Fails f v) n = refl

@@ -10,8 +10,6 @@ use Rattle.jc_numbered.specs.declared.settled.Settled.{Settled}
 use Rattle.jc_numbered.specs.declared.settled.Settled.TheVariants as settled
 use Rattle.jc_resolve.specs.declared.entry.Entry.{Entry}
 use Rattle.jc_resolve.specs.declared.entry.Entry.TheVariants as entry
-use Rattle.jc_resolve.specs.declared.resolve.MemberOutcome.{MemberOutcome}
-use Rattle.jc_resolve.specs.declared.resolve.MemberOutcome.TheVariants as outcome
 
 -- the answer of a reference, where numbers have these names
 abbrev pub entry_shown : (ℕ → Name) → Reference → Entry ℕ → defs.Answer
@@ -45,11 +43,6 @@ HasKey k (settled.To hit) = IsKeyed k (member_lent hit.member)
 HasKey k (settled.Outside v) = Unit {0}
 HasKey k (settled.Hidden v) = Unit {0}
 HasKey k settled.Missing = Unit {0}
-
-abbrev pub IsKeyedOutcome : Key → MemberOutcome → Type 0
-IsKeyedOutcome k (outcome.Ends b) = Unit {0}
-IsKeyedOutcome k (outcome.Settled s) = HasKey k s
-IsKeyedOutcome k outcome.NoInterface = Unit {0}
 
 -- ---- by the numbers of texts
 

@@ -1,6 +1,6 @@
 -- What a class that asks is told, in every world that has what stands at the names of its reach and in which each class
 -- loads as is known.
-use Rattle.std.specs.Prelude.{◌≡◌, ℕ, Option, length, option_map}
+use Rattle.std.specs.Prelude.{◌≡◌, ℕ, Option, Result, length, option_map}
 use Rattle.jc_classes.specs.Facts.{Key, Named, Reference}
 use Rattle.jc_classes.specs.Names.{Name}
 use Rattle.jc_classes.specs.Parts.{ResolvesOf}
@@ -13,11 +13,9 @@ use Rattle.jc_numbered.specs.inside.Loading.{load_at, sees}
 use Rattle.jc_numbered.specs.inside.Shown.{found_at, indexed_of}
 use Rattle.jc_resolve.specs.declared.entry.Entry.{Entry}
 use Rattle.jc_resolve.specs.declared.look.Look.{Look}
-use Rattle.jc_resolve.specs.declared.resolve.Begun.{Begun}
 use Rattle.jc_resolve.specs.declared.resolve.NamedNode.{NamedNode}
-use Rattle.jc_resolve.specs.declared.resolve.MemberOutcome.{MemberOutcome}
 use Rattle.jc_resolve.specs.inside.Entries.{entry_shown}
-use Rattle.jc_resolve.specs.inside.Resolved.{begun_of, loading_of, named_of, outcome_of, TellsLoads}
+use Rattle.jc_resolve.specs.inside.Resolved.{loading_of, start_shown, NamesSo, TellsLoads}
 
 abbrev pub size_of : Look → ℕ
 size_of l = length l.classes.now.standing.now
@@ -29,24 +27,22 @@ reach_of l = indexed_of l.classes.now
 abbrev pub asker_of : Look → Name
 asker_of l = indexed_name (reach_of l) l.class
 
--- where look-up of a member begins, of what is named so
-abbrev pub TellsStart : Look → NamedNode → Begun → Type 0
-TellsStart l named b = (m : World) (text : Name) → TellsLoads m (reach_of l) (size_of l) l.loads.now → IsIndexed m (reach_of l)
-    → Starts m (asker_of l) (named_of (reach_of l) named text) (begun_of (reach_of l) b)
+-- where look-up of a member begins, or the answer without it, of a reference that names this
+abbrev pub TellsStart : Look → NamedNode → Result ℕ (Entry ℕ) → Type 0
+TellsStart l named b = (m : World) (r : Reference) → TellsLoads m (reach_of l) (size_of l) l.loads.now → IsIndexed m (reach_of l)
+    → NamesSo (reach_of l) named r → Starts m (asker_of l) r.named (start_shown (reach_of l) r b)
 
--- the answer of a reference to a member, by the relation for members of its kind, where `missing` is the error if nothing is there
-abbrev pub TellsMember : (World → Name → Named → Key → Answer → Type 0) → LinkageError
-    → Look → NamedNode → Key → MemberOutcome → Type 0
-TellsMember Resolves missing l named k o = (m : World) (text : Name)
-    → TellsLoads m (reach_of l) (size_of l) l.loads.now → IsIndexed m (reach_of l)
-    → Resolves m (asker_of l) (named_of (reach_of l) named text) k
-    (outcome_of (reach_of l) (named_of (reach_of l) named text) missing o)
+-- the answer of a reference to a member, by the relation for members of its kind
+abbrev pub TellsMember : (World → Name → Named → Key → Answer → Type 0) → Look → NamedNode → Key → Entry ℕ → Type 0
+TellsMember Resolves l named k e = (m : World) (r : Reference) → TellsLoads m (reach_of l) (size_of l) l.loads.now → IsIndexed m (reach_of l)
+    → NamesSo (reach_of l) named r → r.key ≡ k → Resolves m (asker_of l) r.named k (entry_shown (indexed_name (reach_of l)) r e)
 
--- what becomes of what look-up of a member found from a node
-abbrev pub TellsOutcome : Look → NamedNode → ℕ → Option Hit → MemberOutcome → Type 0
-TellsOutcome l named start found o = (m : World) (text : Name) (missing : LinkageError) → IsIndexed m (reach_of l)
-    → Settles m (asker_of l) (named_of (reach_of l) named text) (indexed_name (reach_of l) start) missing
-    (option_map (found_at (reach_of l)) found) (outcome_of (reach_of l) (named_of (reach_of l) named text) missing o)
+-- what becomes of what look-up of a member found from a node, where `missing` is the error if nothing is there
+abbrev pub TellsOutcome : Look → NamedNode → Key → LinkageError → ℕ → Option Hit → Entry ℕ → Type 0
+TellsOutcome l named k missing start found e = (m : World) (r : Reference) → IsIndexed m (reach_of l)
+    → NamesSo (reach_of l) named r → r.key ≡ k
+    → Settles m (asker_of l) r.named (indexed_name (reach_of l) start) missing
+    (option_map (found_at (reach_of l)) found) (entry_shown (indexed_name (reach_of l)) r e)
 
 -- the answer of a reference to the class of a node with these flags, or to an array of it
 abbrev pub TellsNode : Look → ℕ → ℕ → Entry ℕ → Type 0
@@ -57,7 +53,7 @@ TellsNode l node flags e = (r : Reference) → entry_shown (indexed_name (reach_
 -- the answer of a reference to a class
 abbrev pub TellsClass : Look → NamedNode → Entry ℕ → Type 0
 TellsClass l named e = (m : World) (r : Reference) → TellsLoads m (reach_of l) (size_of l) l.loads.now → IsIndexed m (reach_of l)
-    → named_of (reach_of l) named (text_of r.named) ≡ r.named
+    → NamesSo (reach_of l) named r
     → ResolvesClass m (asker_of l) r.named (entry_shown (indexed_name (reach_of l)) r e)
 
 -- the answer of a reference of any kind

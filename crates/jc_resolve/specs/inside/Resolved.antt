@@ -1,40 +1,29 @@
 -- The answer of a reference, by numbers.
-use Rattle.std.specs.Prelude.{◌≡◌, ℕ, ◌<◌, Bool, true, false, List, Option, Some, None, option_map}
+use Rattle.std.specs.Prelude.{◌≡◌, ℕ, ◌<◌, Bool, true, false, List, Option, Some, None, Result, Ok, Err, option_map}
 use Rattle.jc_classes.specs.Names.{Name, object as java_lang_object}
 use Rattle.jc_classes.specs.Worlds.{World, text_of}
-use Rattle.jc_classes.specs.Facts.{Named}
+use Rattle.jc_classes.specs.Facts.{Named, Reference}
 use Rattle.jc_classes.specs.Facts.Named.{Class, Array}
 use Rattle.jc_classes.specs.Loading.{Loading, Load}
-use Rattle.jc_classes.specs.declared.linkage_error.LinkageError.TheVariants as error
 use Rattle.jc_classes.specs.Loading.{Loading as loading}
-use Rattle.jc_classes.specs.Resolution.{Answer, Start, class_answer, object_start, start_of}
-use Rattle.jc_classes.specs.Resolution.{Answer as answer, Start as start}
+use Rattle.jc_classes.specs.Resolution.{Start, class_answer, object_start, start_of}
+use Rattle.jc_classes.specs.Resolution.{Start as start}
 use Rattle.jc_numbered.specs.inside.Indexed.{Indexed, indexed_name, good_at, IsIndexed}
 use Rattle.jc_numbered.specs.inside.Loading.{load_at}
 use Rattle.jc_numbered.specs.declared.access.Target.{Target}
 use Rattle.jc_numbered.specs.declared.access.Target.TheVariants as target
-use Rattle.jc_numbered.specs.inside.Settled.{answer_of}
-use Rattle.jc_classes.specs.declared.linkage_error.LinkageError.{LinkageError}
 use Rattle.jc_numbered.specs.declared.loads.Load.{Load as LoadState}
 use Rattle.jc_numbered.specs.declared.loads.Load.TheVariants as state
+use Rattle.jc_resolve.specs.declared.entry.Entry.{Entry}
 use Rattle.jc_resolve.specs.declared.resolve.NamedNode.{NamedNode}
 use Rattle.jc_resolve.specs.declared.resolve.NamedNode.TheVariants as reference
-use Rattle.jc_resolve.specs.declared.resolve.Begun.{Begun}
-use Rattle.jc_resolve.specs.declared.resolve.Begun.TheVariants as begun
-use Rattle.jc_resolve.specs.declared.resolve.MemberOutcome.{MemberOutcome}
-use Rattle.jc_resolve.specs.declared.resolve.MemberOutcome.TheVariants as outcome
+use Rattle.jc_resolve.specs.inside.Entries.{entry_shown}
 
 -- how a class loads, by name
 abbrev pub loading_of : Indexed → LoadState → Loading
 loading_of x state.Loaded = loading.Loaded
 loading_of x state.Outside = loading.Outside
 loading_of x (state.Fails f v) = loading.Fails f (indexed_name x v)
-
--- where look-up begins, by name
-abbrev pub begun_of : Indexed → Begun → Start
-begun_of x (begun.At v) = start.At (indexed_name x v)
-begun_of x (begun.Outside v) = start.Ends (answer.Outside (indexed_name x v))
-begun_of x (begun.Fails f v) = start.Ends (answer.Error f (indexed_name x v))
 
 abbrev pub element_of : Indexed → NamedNode → Option Name
 element_of x (reference.Class v) = None
@@ -44,6 +33,10 @@ element_of x (reference.Array e) = option_map (indexed_name x) e
 abbrev pub named_of : Indexed → NamedNode → Name → Named
 named_of x (reference.Class v) text = Class (indexed_name x v)
 named_of x (reference.Array e) text = Array text (option_map (indexed_name x) e)
+
+-- a reference names this
+abbrev pub NamesSo : Indexed → NamedNode → Reference → Type 0
+NamesSo x named r = named_of x named (text_of r.named) ≡ r.named
 
 abbrev pub IsWithinSome : ℕ → Option ℕ → Type 0
 IsWithinSome count None = Unit {0}
@@ -70,34 +63,30 @@ has_loaded (state.Fails f v) = false
 abbrev pub TellsGood : Indexed → List LoadState → Type 0
 TellsGood x loads = (v : ℕ) → load_at loads v ≡ state.Loaded → good_at x v ≡ true
 
-abbrev pub ended_of : Indexed → Start → Answer
-ended_of x (start.At c) = answer.NotLoaded
-ended_of x (start.Ends a) = a
-
--- the answer, where `missing` is the error if nothing is there
-abbrev pub outcome_of : Indexed → Named → LinkageError → MemberOutcome → Answer
-outcome_of x t missing (outcome.Ends b) = ended_of x (begun_of x b)
-outcome_of x t missing (outcome.Settled s) = answer_of x t missing s
-outcome_of x t missing outcome.NoInterface = answer.Error error.Incompatible (text_of t)
-
 abbrev pub target_at : NamedNode → Target
 target_at (reference.Class v) = target.Class v
 target_at (reference.Array e) = target.Array
 
 -- ---- where look-up begins, by how classes load, whatever these are
 
+-- by name, or the answer without look-up
+abbrev pub start_shown : Indexed → Reference → Result ℕ (Entry ℕ) → Start
+start_shown x r (Ok v) = start.At (indexed_name x v)
+start_shown x r (Err e) = start.Ends (entry_shown (indexed_name x) r e)
+
 -- for the class of a node
-abbrev pub StartsInClass : Bool → LoadState → ℕ → Begun → Type 0
-StartsInClass sees load v b = (x : Indexed) (l : Loading) (flags : ℕ)
-    → begun_of x b
+abbrev pub StartsInClass : Bool → LoadState → ℕ → Result ℕ (Entry ℕ) → Type 0
+StartsInClass sees load v b = (x : Indexed) (r : Reference) (l : Loading) (flags : ℕ)
+    → start_shown x r b
     ≡ start_of (Class (indexed_name x v)) (class_answer (indexed_name x v) (indexed_name x v) (loading_of x load) sees flags) l
 
 -- for an array of a primitive type
-abbrev pub StartsInObject : ℕ → LoadState → Begun → Type 0
-StartsInObject object load b = (x : Indexed) → indexed_name x object ≡ java_lang_object → begun_of x b ≡ object_start (loading_of x load)
+abbrev pub StartsInObject : ℕ → LoadState → Result ℕ (Entry ℕ) → Type 0
+StartsInObject object load b = (x : Indexed) (r : Reference) → indexed_name x object ≡ java_lang_object
+    → start_shown x r b ≡ object_start (loading_of x load)
 
 -- for an array of the class of a node
-abbrev pub StartsInArray : Bool → LoadState → ℕ → ℕ → LoadState → Begun → Type 0
-StartsInArray sees load v object object_load b = (x : Indexed) (text : Name) (flags : ℕ) → indexed_name x object ≡ java_lang_object
-    → begun_of x b ≡ start_of (Array text (Some (indexed_name x v))) (class_answer text (indexed_name x v) (loading_of x load) sees flags)
+abbrev pub StartsInArray : Bool → LoadState → ℕ → ℕ → LoadState → Result ℕ (Entry ℕ) → Type 0
+StartsInArray sees load v object object_load b = (x : Indexed) (r : Reference) (text : Name) (flags : ℕ) → indexed_name x object ≡ java_lang_object
+    → start_shown x r b ≡ start_of (Array text (Some (indexed_name x v))) (class_answer text (indexed_name x v) (loading_of x load) sees flags)
     (loading_of x object_load)

@@ -9,9 +9,7 @@ use Rattle.jc_numbered.specs.declared.settled.Settled.{Settled}
 use Rattle.jc_numbered.specs.inside.Indexed.{Indexed, indexed_name}
 use Rattle.jc_numbered.specs.inside.Settled.{answer_of}
 use Rattle.jc_resolve.specs.declared.entry.Entry.{Entry}
-use Rattle.jc_resolve.specs.declared.resolve.MemberOutcome.{MemberOutcome}
-use Rattle.jc_resolve.specs.inside.Entries.{HasKey, IsKeyed, IsKeyedOutcome, entry_shown}
-use Rattle.jc_resolve.specs.inside.Resolved.{outcome_of}
+use Rattle.jc_resolve.specs.inside.Entries.{HasKey, IsKeyed, entry_shown}
 
 -- that it finds this member
 abbrev pub ShowsHit : Key → Hit → Entry ℕ → Type 0
@@ -22,7 +20,3 @@ ShowsHit k hit e = (x : Indexed) (r : Reference) → r.key ≡ k → IsKeyed r.k
 abbrev pub ShowsSettled : Key → LinkageError → Settled → Entry ℕ → Type 0
 ShowsSettled k missing s e = (x : Indexed) (r : Reference) → r.key ≡ k → HasKey r.key s
     → entry_shown (indexed_name x) r e ≡ answer_of x r.named missing s
-
-abbrev pub ShowsOutcome : Key → LinkageError → MemberOutcome → Entry ℕ → Type 0
-ShowsOutcome k missing o e = (x : Indexed) (r : Reference) → r.key ≡ k → IsKeyedOutcome r.key o
-    → entry_shown (indexed_name x) r e ≡ outcome_of x r.named missing o
