@@ -1,9 +1,9 @@
 //! The answers to all references of a class.
 
 ghost use Rattle.std.specs.Prelude.{◌≡◌, ◌<◌, length, map, IfOk, IfSome, OnOk};
-ghost use Rattle.jc_classes.specs.Facts.{Reference};
+ghost use Rattle.jc_classes.specs.Facts.{AreNumbers, Reference};
 ghost use Rattle.jc_numbered.specs.inside.Shown.{indexed_of};
-ghost use Rattle.jc_resolve.specs.inside.Answered.{node_links, node_references, AreAnswered, AreNodesOf, AreNumbered, TellsNodeAnswers};
+ghost use Rattle.jc_resolve.specs.inside.Answered.{node_links, node_references, AreAnswered, AreNodesOf, TellsNodeAnswers};
 ghost use Rattle.jc_resolve.specs.inside.Answered.{AreAllAnswered, IsAnsweredBefore, IsOneMore};
 ghost use Rattle.jc_resolve.specs.inside.Looks.{reach_of, size_of};
 ghost use Rattle.jc_resolve.specs.inside.Resolved.{TellsGood};
@@ -18,15 +18,6 @@ use jc_base::NoMemory;
 use jc_classes::{Facts, Standing};
 use jc_numbered::{Classes, Load};
 use std::alloc::Global;
-
-/// A reference by its number, and the number of the class that it names. Of those that name one class those that
-/// ask for the same stand side by side, by their places.
-#[derive(Clone, Copy, PartialEq, Eq, PartialOrd, Ord)]
-struct Asked {
-    node: Option<u32>,
-    place: usize,
-    number: usize,
-}
 
 /// So many classes may be walked over in vain: with fewer, for all references together, those that name the same class
 /// are not brought together.
@@ -43,30 +34,20 @@ fn most_walked(classes: &Classes, nodes: &[Option<u32>]) -> usize {
     walked
 }
 
-/// The references; where it may cost more to walk over what is above them than to bring them together, those that name
-/// one class side by side, and of these those that ask for the same.
+/// The numbers of the references in the order in which they are answered: those that ask for the same side by side.
+/// Where it may cost more to walk over what is above the classes than to sort, those that name one class are side by
+/// side too.
 fn by_class(
     alloc: Global,
     classes: &Classes,
     facts: &Facts,
     nodes: &[Option<u32>],
-) -> Result<Vec<Asked>, NoMemory>
-    requires { length nodes.now ≡ length facts.now.references }
-    ensures { IfOk result (λ order. AreNumbered (length facts.now.references) order.items) }
+) -> Result<Vec<usize>, NoMemory>
+    ensures { IfOk result (λ order. AreNumbers (length facts.now.references) order.items) }
 {
-    let alike = facts.alike_references(alloc)?;
-    let mut order = Vec::with_capacity(alloc, alike.len())?;
-    for place in 0..alike.len() {
-        let number = alike[place];
-        order.push(Asked {
-            node: nodes[number],
-            place,
-            number,
-        })?;
-    }
-    let walked = most_walked(classes, nodes);
-    if walked >= FEW {
-        order.sort_unstable();
+    let mut order = facts.alike_references(alloc)?;
+    if most_walked(classes, nodes) >= FEW {
+        order.sort_by_key(|number| nodes.get(*number).copied())?;
     }
     Ok(order)
 }
@@ -156,10 +137,9 @@ fn answer_each(
 {
     let order = by_class(alloc, look.classes, facts, nodes)?;
     let mut before = None;
-    for asked in &order {
-        let number = asked.number;
-        answer_next(alloc, look, room, facts, nodes, entries, before, number)?;
-        before = Some(number);
+    for number in &order {
+        answer_next(alloc, look, room, facts, nodes, entries, before, *number)?;
+        before = Some(*number);
     }
     Ok(())
 }

@@ -1,7 +1,7 @@
 -- Answers by numbers, one for each reference of a class.
-use Rattle.std.specs.Prelude.{◌≡◌, ◌≢◌, ℕ, ◌<◌, List, length, map, slice_get, Option, Some}
+use Rattle.std.specs.Prelude.{◌≡◌, ◌≢◌, ℕ, ◌<◌, List, length, slice_get, Option, Some}
 use Rattle.std.specs.List.{Contains}
-use Rattle.jc_classes.specs.Facts.{AreNumbers, Reference}
+use Rattle.jc_classes.specs.Facts.{Reference}
 use Rattle.jc_classes.specs.LinkErrors.{LinkFault, links_of}
 use Rattle.jc_classes.specs.Parts.{AreAnswers, IsAnswer}
 use Rattle.jc_classes.specs.Resolution.{Answer}
@@ -11,17 +11,12 @@ use Rattle.jc_numbered.specs.declared.loads.Load.{Load}
 use Rattle.jc_numbered.specs.inside.Indexed.{Indexed, indexed_name, standing_of, IsIndexed}
 use Rattle.jc_numbered.specs.inside.Loading.{load_at}
 use Rattle.jc_numbered.specs.inside.Shown.{indexed_of}
-use Rattle.jc_resolve.specs.declared.all_answers.Asked.{Asked}
 use Rattle.jc_resolve.specs.declared.entry.Entry.{Entry}
 use Rattle.jc_resolve.specs.declared.look.Look.{Look}
 use Rattle.jc_resolve.specs.inside.Entries.{entry_shown, node_answers}
 use Rattle.jc_resolve.specs.inside.Looks.{reach_of}
 use Rattle.jc_resolve.specs.inside.Naming.{AreNodes}
 use Rattle.jc_resolve.specs.inside.Resolved.{loading_of, TellsLoads}
-
--- the numbers that are asked for are those below a count
-abbrev pub AreNumbered : ℕ → List Asked → Type 0
-AreNumbered count order = AreNumbers count (map (λ (a : Asked). a.number) order)
 
 -- the nodes of the classes that references name
 pub record AreNodesOf (count : ℕ) (x : Indexed) (rs : List Reference) (nodes : List (Option ℕ)) : Type 0 where
