@@ -1,11 +1,11 @@
 //! How an instruction is judged, by the answer to the reference that it names (JVMS 6.5).
 
-ghost use Rattle.std.specs.Prelude.{◌≡◌, ◌&&◌, [], codes, not, slice_get};
+ghost use Rattle.std.specs.Prelude.{◌≡◌, ◌&&◌, false, [], slice_get};
 ghost use Rattle.std.specs.Option.{option_map_or};
 ghost use Rattle.jc_classes.specs.LinkErrors.{class_fault, line, method_name, static_fault};
 ghost use Rattle.jc_classes.specs.Names.{same_name, Name};
 ghost use Rattle.jc_classes.specs.Worlds.{text_of};
-ghost use Rattle.jc_resolve.specs.inside.Sites.{class_told, error_of, member_told};
+ghost use Rattle.jc_resolve.specs.inside.Sites.{class_told, error_of, is_other_init};
 ghost use Rattle.jc_resolve.specs.inside.Sites.{TellsError, TellsFinal, TellsMemberError};
 
 use crate::answer_list::Answers;
@@ -82,12 +82,18 @@ impl<'a> Site<'a> {
 
     /// Whether the member is an `<init>` that another class declares than the one that is named.
     fn is_other_init(&self) -> bool
-        ensures { result ≡ (same_name (option_map_or member_told (slice_get self.now.answers.now self.now.reference) []) (codes "<init>")
-            && not (same_name (option_map_or class_told (slice_get self.now.answers.now self.now.reference) [])
-            (option_map_or (λ r. text_of r.named) (slice_get self.now.facts.now.references self.now.reference) []))) }
+        ensures { result ≡ option_map_or (is_other_init (option_map_or (λ r. text_of r.named) (slice_get self.now.facts.now.references self.now.reference) []))
+            (slice_get self.now.answers.now self.now.reference) false }
     {
-        same(member_told(self.answers, self.reference), b"<init>")
-            && !same(class_told(self.answers, self.reference), self.named())
+        if self.reference >= self.answers.len() {
+            return false;
+        }
+        match self.answers.at(self.reference) {
+            Answer::ToMember(home, member) => {
+                same(member.name, b"<init>") && !same(home, self.named())
+            }
+            _ => false,
+        }
     }
 
     /// The name of its method. A class without a format fault keeps each of its methods, so the numbers are those of
@@ -135,19 +141,6 @@ pub(crate) fn class_told(answers: &Answers, reference: usize) -> &[u8]
     match answers.at(reference) {
         Answer::ToClass(class, _) | Answer::ToMember(class, _) => class,
         Answer::Outside(_) | Answer::NotLoaded | Answer::Error(_, _) => &[],
-    }
-}
-
-/// The name of the member that the answer to the reference of a number tells.
-fn member_told(answers: &Answers, reference: usize) -> &[u8]
-    ensures { result.now ≡ option_map_or member_told (slice_get answers.now reference) [] }
-{
-    if reference >= answers.len() {
-        return &[];
-    }
-    match answers.at(reference) {
-        Answer::ToMember(_, member) => member.name,
-        _ => &[],
     }
 }
 

@@ -1,9 +1,9 @@
 -- What instructions are judged by.
-use Rattle.std.specs.Prelude.{◌≡◌, ℕ, List, [], Option, Some, None, option_map, slice_get}
+use Rattle.std.specs.Prelude.{◌≡◌, ℕ, ◌&&◌, Bool, false, not, List, [], Option, Some, None, option_map, slice_get}
 use Rattle.jc_classes.specs.Facts.{Member, Reference}
 use Rattle.jc_classes.specs.LinkErrors as defs
-use Rattle.jc_classes.specs.LinkErrors.{Fault, final_fault, link_fault, member_fault, site_of}
-use Rattle.jc_classes.specs.Names.{Name}
+use Rattle.jc_classes.specs.LinkErrors.{Fault, final_fault, is_init, link_fault, member_fault, site_of}
+use Rattle.jc_classes.specs.Names.{Name, same_name}
 use Rattle.jc_classes.specs.Resolution.{Answer}
 use Rattle.jc_classes.specs.Resolution.{Answer as answer}
 use Rattle.jc_classes.specs.declared.linkage_error.LinkageError.{LinkageError}
@@ -27,13 +27,13 @@ class_told (answer.Outside n) = []
 class_told answer.NotLoaded = []
 class_told (answer.Error e n) = []
 
--- the name of the member that it tells
-abbrev pub member_told : Answer → Name
-member_told (answer.ToClass c flags) = []
-member_told (answer.ToMember home x) = x.name
-member_told (answer.Outside n) = []
-member_told answer.NotLoaded = []
-member_told (answer.Error e n) = []
+-- it tells an `<init>` that another class declares than the one of this text
+abbrev pub is_other_init : Name → Answer → Bool
+is_other_init text (answer.ToClass c flags) = false
+is_other_init text (answer.ToMember home x) = is_init x && not (same_name home text)
+is_other_init text (answer.Outside n) = false
+is_other_init text answer.NotLoaded = false
+is_other_init text (answer.Error e n) = false
 
 -- ---- errors, without the class at fault
 
