@@ -1,6 +1,6 @@
 //! Look-up of fields.
 
-ghost use Rattle.std.specs.Prelude.{◌≡◌, ◌<◌, [], length, IfOk, OnOk, true};
+ghost use Rattle.std.specs.Prelude.{◌≡◌, ◌<◌, length, IfOk, OnOk, true};
 ghost use Rattle.std.specs.Option.{IfSome};
 ghost use Rattle.jc_classes.specs.Lent.{key_lent, member_lent};
 ghost use Rattle.jc_numbered.specs.inside.Indexed.{good_at};
@@ -12,30 +12,9 @@ use jc_base::NoMemory;
 use jc_classes::Key;
 use jc_graph::Seen;
 use jc_numbered::{Classes, Hit};
-use std::alloc::Global;
 
-/// The field that a class has or inherits.
+/// The field that a class has or inherits. It goes over the classes by way of a stack, whatever is left on it.
 pub(crate) fn find_field<'a>(
-    alloc: Global,
-    classes: &'a Classes,
-    seen: &mut Seen,
-    start: usize,
-    key: Key,
-) -> Result<Option<Hit<'a>>, NoMemory>
-    requires start { start < length classes.now.standing.now }
-    requires good { good_at (indexed_of classes.now) start ≡ true }
-    requires seen { length seen.old.flags ≡ length classes.now.standing.now }
-    ensures keyed { IfOk result (λ r. IfSome r (λ h. IsKeyed (key_lent key.entry) (member_lent h.member))) }
-    ensures within { IfOk result (λ r. IfSome r (λ h. h.node < length classes.now.standing.now)) }
-    ensures seen { OnOk result (length seen.new.flags ≡ length classes.now.standing.now) }
-    ensures found { IfOk result (TellsField (indexed_of classes.now) (key_lent key.entry) start) }
-{
-    let mut stack = Vec::new(alloc);
-    find_from(classes, seen, &mut stack, start, key)
-}
-
-/// Finds the field from the class at `start` on, by way of an empty stack.
-fn find_from<'a>(
     classes: &'a Classes,
     seen: &mut Seen,
     stack: &mut Vec<usize>,
@@ -45,13 +24,13 @@ fn find_from<'a>(
     requires start { start < length classes.now.standing.now }
     requires good { good_at (indexed_of classes.now) start ≡ true }
     requires seen { length seen.old.flags ≡ length classes.now.standing.now }
-    requires stack { stack.old.items ≡ [] }
     ensures keyed { IfOk result (λ r. IfSome r (λ h. IsKeyed (key_lent key.entry) (member_lent h.member))) }
     ensures within { IfOk result (λ r. IfSome r (λ h. h.node < length classes.now.standing.now)) }
     ensures seen { OnOk result (length seen.new.flags ≡ length classes.now.standing.now) }
     ensures found { IfOk result (TellsField (indexed_of classes.now) (key_lent key.entry) start) }
 {
     seen.clear();
+    stack.clear();
     stack.push(start)?;
     while let Some(node) = stack.pop() {
         if !seen.has(node) {

@@ -171,7 +171,7 @@ impl<'l, 'c, 't> Look<'l, 'c, 't> {
         let classes = self.classes;
         match self.begin(named) {
             Ok(start) => {
-                let found = find_field(alloc, classes, &mut room.covered, start, key)?;
+                let found = find_field(classes, &mut room.covered, &mut room.stack, start, key)?;
                 self.settle_found(alloc, room, named, start, found, LinkageError::NoField, key)
             }
             Err(entry) => Ok(entry),

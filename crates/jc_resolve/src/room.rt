@@ -15,6 +15,8 @@ pub(crate) struct Room {
     pub(crate) above: Above,
     /// The classes where a field was looked for, or those above the interfaces that may be chosen among.
     pub(crate) covered: Seen,
+    /// The classes where a field is still to be looked for, the next last.
+    pub(crate) stack: Vec<usize>,
 }
 
 impl Room {
@@ -25,6 +27,7 @@ impl Room {
         Ok(Room {
             above: Above::new(alloc, classes.len())?,
             covered: Seen::new(alloc, classes.len())?,
+            stack: Vec::new(alloc),
         })
     }
 
