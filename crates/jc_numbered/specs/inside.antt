@@ -4,8 +4,7 @@ pub mod Chain
 pub mod Indexed
 pub mod Loading
 pub mod Members
+pub mod Outside
 pub mod Packages
 pub mod Picks
-pub mod Settled
-pub mod Settles
 pub mod Shown

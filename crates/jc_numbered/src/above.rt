@@ -5,7 +5,7 @@ ghost use Rattle.std.specs.List.{All, filter};
 ghost use Rattle.jc_numbered.specs.inside.Above.{IsAbove, Knows, SeesAbove};
 ghost use Rattle.jc_numbered.specs.inside.Picks.{is_interface_at};
 ghost use Rattle.jc_numbered.specs.inside.Shown.{indexed_of};
-ghost use Rattle.jc_numbered.specs.inside.Settled.{lies_outside, TellsOutsideAbove};
+ghost use Rattle.jc_numbered.specs.inside.Outside.{lies_outside, TellsOutsideAbove};
 
 use crate::classes::Classes;
 use crate::picks::lowest;
@@ -66,7 +66,7 @@ impl Above {
     }
 
     /// The outside one of these with the least name.
-    pub(crate) fn outside(&self) -> Option<usize>
+    pub fn outside(&self) -> Option<usize>
         ensures { result ≡ self.now.outside }
     {
         self.outside

@@ -115,7 +115,7 @@ fn is_open(classes: &Classes, target: Target, hit: Hit) -> bool
 }
 
 /// Whether a class may use a member that it named so.
-pub(crate) fn can_use(classes: &Classes, target: Target, class: usize, hit: Hit) -> bool
+pub fn can_use(classes: &Classes, target: Target, class: usize, hit: Hit) -> bool
     requires target { IsTarget (length classes.now.standing.now) (indexed_of classes.now) target }
     requires class { class < length classes.now.standing.now }
     requires home { hit.node < length classes.now.standing.now }

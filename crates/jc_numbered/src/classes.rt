@@ -11,7 +11,7 @@ ghost use Rattle.jc_numbered.specs.inside.Indexed.{filled, indexed_name, standin
 ghost use Rattle.jc_numbered.specs.inside.Members.{declared_at};
 ghost use Rattle.jc_numbered.specs.inside.Packages.{package_end, same_package};
 ghost use Rattle.jc_numbered.specs.inside.Picks.{gives, is_interface_at};
-ghost use Rattle.jc_numbered.specs.inside.Settled.{lies_outside};
+ghost use Rattle.jc_numbered.specs.inside.Outside.{lies_outside};
 
 use crate::polymorphic::declared;
 use jc_base::NoMemory;

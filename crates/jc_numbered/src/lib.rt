@@ -10,12 +10,10 @@ mod loads;
 mod packages;
 mod picks;
 mod polymorphic;
-mod settled;
 
 pub use above::Above;
-pub use access::Target;
+pub use access::{Target, can_use};
 pub use classes::{Classes, Hit};
 pub use loads::{Load, can_see, judge_each};
 pub use packages::package_ends;
 pub use picks::{candidates, is_pick, lowest};
-pub use settled::{Settled, settle};

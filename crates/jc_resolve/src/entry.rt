@@ -2,10 +2,10 @@
 
 ghost use Rattle.std.specs.Prelude.{◌≡◌};
 ghost use Rattle.jc_classes.specs.Lent.{key_lent};
-ghost use Rattle.jc_resolve.specs.inside.Shows.{ShowsHit, ShowsSettled};
+ghost use Rattle.jc_resolve.specs.inside.Shows.{ShowsHit};
 
 use jc_classes::{Key, LinkageError, same};
-use jc_numbered::{Hit, Settled};
+use jc_numbered::Hit;
 use std::alloc::AllocError;
 
 /// The answer of a reference. Its texts are the reference's own, or the name of a class by its number: a `usize` where
@@ -37,28 +37,12 @@ impl<N: Copy> Clone for Entry<N> {
 }
 
 /// The answer of a reference that finds a member.
-fn hit_entry(hit: Hit<'_>, key: Key<'_>) -> Entry<usize>
+pub(crate) fn hit_entry(hit: Hit<'_>, key: Key<'_>) -> Entry<usize>
     ensures { ShowsHit (key_lent key.entry) hit.entry result }
 {
     if same(hit.member.descriptor, key.descriptor) {
         Entry::ToMember(hit.member.flags, hit.node)
     } else {
         Entry::ToPolymorphic(hit.member.flags, hit.node)
-    }
-}
-
-/// The answer of a reference for which look-up began. `missing` is the error where nothing is there.
-pub(crate) fn settled_entry(
-    settled: Settled<'_>,
-    missing: LinkageError,
-    key: Key<'_>,
-) -> Entry<usize>
-    ensures { ShowsSettled (key_lent key.entry) missing settled.entry result }
-{
-    match settled {
-        Settled::To(hit) => hit_entry(hit, key),
-        Settled::Outside(node) => Entry::Outside(node),
-        Settled::Hidden(node) => Entry::Error(LinkageError::IllegalAccess, node),
-        Settled::Missing => Entry::OwnError(missing),
     }
 }

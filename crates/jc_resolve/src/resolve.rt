@@ -13,7 +13,7 @@ ghost use Rattle.jc_resolve.specs.inside.Resolved.{element_of, named_of, target_
 ghost use Rattle.jc_resolve.specs.inside.Resolved.{StartsInArray, StartsInClass, StartsInObject};
 ghost use Rattle.jc_resolve.specs.inside.Rooms.{IsRoom};
 
-use crate::entry::{Entry, settled_entry};
+use crate::entry::{Entry, hit_entry};
 use crate::fields::find_field;
 use crate::look::Look;
 use crate::methods::{find_interface_method, find_method};
@@ -21,7 +21,7 @@ use crate::room::Room;
 use jc_base::NoMemory;
 use jc_classes::{Key, LinkageError};
 use jc_file::AccessFlag;
-use jc_numbered::{Hit, Load, Target, can_see, settle};
+use jc_numbered::{Hit, Load, Target, can_see, can_use};
 use std::alloc::Global;
 
 /// What a Class constant names: a class, or an array with its innermost class.
@@ -124,7 +124,7 @@ impl<'l, 'c, 't> Look<'l, 'c, 't> {
     }
 
     /// The answer once look-up from the class at `start` found this. `missing` is the error where nothing is there.
-    fn settle_found(
+    fn settle(
         &self,
         alloc: Global,
         room: &mut Room,
@@ -143,16 +143,22 @@ impl<'l, 'c, 't> Look<'l, 'c, 't> {
         ensures settled { IfOk result (TellsOutcome self.now named (key_lent key.entry) missing start found.entry) }
     {
         let target = target_of(named);
-        let settled = settle(
-            alloc,
-            self.classes,
-            &mut room.above,
-            self.class,
-            target,
-            start,
-            found,
-        )?;
-        Ok(settled_entry(settled, missing, key))
+        match found {
+            Some(hit) => {
+                if can_use(self.classes, target, self.class, hit) {
+                    Ok(hit_entry(hit, key))
+                } else {
+                    Ok(Entry::Error(LinkageError::IllegalAccess, hit.node))
+                }
+            }
+            None => {
+                room.above.see(alloc, self.classes, start)?;
+                match room.above.outside() {
+                    Some(node) => Ok(Entry::Outside(node)),
+                    None => Ok(Entry::OwnError(missing)),
+                }
+            }
+        }
     }
 
     /// The answer of a reference to a field (JVMS 5.4.3.2).
@@ -172,7 +178,7 @@ impl<'l, 'c, 't> Look<'l, 'c, 't> {
         match self.begin(named) {
             Ok(start) => {
                 let found = find_field(classes, &mut room.covered, &mut room.stack, start, key)?;
-                self.settle_found(alloc, room, named, start, found, LinkageError::NoField, key)
+                self.settle(alloc, room, named, start, found, LinkageError::NoField, key)
             }
             Err(entry) => Ok(entry),
         }
@@ -198,7 +204,7 @@ impl<'l, 'c, 't> Look<'l, 'c, 't> {
                     return Ok(Entry::Error(LinkageError::Incompatible, start));
                 }
                 let found = find_method(alloc, classes, room, start, key)?;
-                self.settle_found(
+                self.settle(
                     alloc,
                     room,
                     named,
@@ -232,7 +238,7 @@ impl<'l, 'c, 't> Look<'l, 'c, 't> {
                     return Ok(Entry::OwnError(LinkageError::Incompatible));
                 }
                 let found = find_interface_method(alloc, classes, room, start, key)?;
-                self.settle_found(
+                self.settle(
                     alloc,
                     room,
                     named,

@@ -10,7 +10,7 @@ use Rattle.jc_numbered.specs.inside.Indexed.{Indexed, indexed_name, standing_of,
 use Rattle.jc_graph.specs.Graph.{Above as AboveNode}
 use Rattle.jc_graph.specs.Seen.{TellsAbove}
 use Rattle.jc_numbered.specs.inside.Picks.{TellsLowest}
-use Rattle.jc_numbered.specs.inside.Settled.{is_outside, lies_outside, TellsOutside}
+use Rattle.jc_numbered.specs.inside.Outside.{is_outside, lies_outside, TellsOutside}
 use Rattle.jc_graph.proofs.marked.SeenLemmas.{contains_one}
 use Rattle.jc_numbered.proofs.lookups.Bridge.{filter_in, filter_out, node_in, above_named, above_numbered}
 

@@ -6,7 +6,7 @@ use Rattle.jc_graph.specs.declared.seen.Seen.{Seen}
 use Rattle.jc_numbered.specs.declared.above.Above.{Above}
 use Rattle.jc_numbered.specs.inside.Indexed.{Indexed}
 use Rattle.jc_numbered.specs.inside.Picks.{is_interface_at}
-use Rattle.jc_numbered.specs.inside.Settled.{TellsOutsideAbove}
+use Rattle.jc_numbered.specs.inside.Outside.{TellsOutsideAbove}
 
 -- it is what is above some nodes
 abbrev pub SeesAbove : ℕ → Indexed → List ℕ → Seen → Type 0

@@ -1,8 +1,7 @@
 -- What look-up finds has the key that was asked for.
-use Rattle.std.proofs.Common.{◌≡◌, ◌==◌, Bool, true, false, ◌&&◌, ◌||◌, not, cond, List, [], ◌∷◌, Option, Some, None, IfSome, ◌⊎◌, inl, inr, refl, sym, ap, subst, ◌∙◌}
+use Rattle.std.proofs.Common.{◌≡◌, ◌==◌, Bool, true, false, ◌&&◌, ◌||◌, not, cond, List, [], ◌∷◌, Option, Some, None, ◌⊎◌, inl, inr, refl, sym, ap, subst, ◌∙◌}
 use Rattle.std.specs.Option.{option_or}
 use Rattle.jc_classes.specs.Facts.{Key, Member}
-use Rattle.jc_classes.specs.Lent.{member_lent}
 use Rattle.jc_classes.specs.MethodLookup.{count_named, declared, first_named, given_by, if_polymorphic, is_polymorphic, of_object, only_inheritable, only_open, polymorphic, sole_named}
 use Rattle.jc_classes.specs.Names.{Name, method_handle, polymorphic_descriptor, same_name}
 use Rattle.jc_classes.specs.Worlds.{Stands, is_at, is_interface, member, methods_of}
@@ -10,10 +9,7 @@ use Rattle.jc_file.specs.AccessFlags.{has, native, private, public, static, vara
 use Rattle.jc_classes.proofs.worlds.NameTests.{same_is, same_self}
 use Rattle.std.proofs.lemmas.Bool.{false≢true}
 use Rattle.jc_classes.specs.Resolution.Answer.{ToMember}
-use Rattle.jc_numbered.specs.declared.classes.Hit.{Hit}
-use Rattle.jc_numbered.specs.declared.settled.Settled.{Settled}
-use Rattle.jc_numbered.specs.declared.settled.Settled.TheVariants as settled
-use Rattle.jc_resolve.specs.inside.Entries.{HasKey, IsKeyed}
+use Rattle.jc_resolve.specs.inside.Entries.{IsKeyed}
 
 some_is : {X : Type 0} {x y : X} → Some x ≡ Some y → x ≡ y
 some_is e = cc
@@ -89,12 +85,6 @@ open_keyed_of k (Some y) x h e = let p = passed (has y.flags public && not (has 
 
 pub open_keyed : (r : Stands) (k : Key) (x : Member) → of_object r k ≡ Some x → IsKeyed k x
 open_keyed r k x e = open_keyed_of k (member (methods_of r) k) x (member_keyed (methods_of r) k) e
-
-pub settled_keyed : (k : Key) (found : Option Hit) (s : Settled) → ((hit : Hit) → s ≡ settled.To hit → found ≡ Some hit) → IfSome found (λ h. IsKeyed k (member_lent h.member)) → HasKey k s
-settled_keyed k found (settled.To hit) h keyed = subst (λ o. IfSome o (λ (h : Hit). IsKeyed k (member_lent h.member))) (h hit refl) keyed
-settled_keyed k found (settled.Outside v) h keyed = tt
-settled_keyed k found (settled.Hidden v) h keyed = tt
-settled_keyed k found settled.Missing h keyed = tt
 
 -- ---- what is found, by its descriptor
 

@@ -1,13 +1,10 @@
 -- Answers by numbers.
 use Rattle.std.specs.Prelude.{◌≡◌, ◌⊎◌, ℕ, List, [], ◌∷◌, Option, Some, None}
 use Rattle.jc_classes.specs.Facts.{Key, Member, Reference}
-use Rattle.jc_classes.specs.Lent.{member_lent}
 use Rattle.jc_classes.specs.Names.{Name, polymorphic_descriptor}
 use Rattle.jc_classes.specs.Resolution as defs
 use Rattle.jc_classes.specs.Resolution.{Answer as answer}
 use Rattle.jc_classes.specs.Worlds.{text_of}
-use Rattle.jc_numbered.specs.declared.settled.Settled.{Settled}
-use Rattle.jc_numbered.specs.declared.settled.Settled.TheVariants as settled
 use Rattle.jc_resolve.specs.declared.entry.Entry.{Entry}
 use Rattle.jc_resolve.specs.declared.entry.Entry.TheVariants as entry
 
@@ -36,13 +33,6 @@ node_answers name rs entries = entries_shown (λ r. name) rs entries
 -- a member has the name that a reference asks for, and its descriptor, or that of signature polymorphic methods (JVMS 2.9)
 abbrev pub IsKeyed : Key → Member → Type 0
 IsKeyed k x = (x.name ≡ k.name) × ((x.descriptor ≡ k.descriptor) ⊎ (x.descriptor ≡ polymorphic_descriptor))
-
--- so has what is found
-abbrev pub HasKey : Key → Settled → Type 0
-HasKey k (settled.To hit) = IsKeyed k (member_lent hit.member)
-HasKey k (settled.Outside v) = Unit {0}
-HasKey k (settled.Hidden v) = Unit {0}
-HasKey k settled.Missing = Unit {0}
 
 -- ---- by the numbers of texts
 

@@ -3,20 +3,12 @@ use Rattle.std.specs.Prelude.{ℕ, ◌≡◌}
 use Rattle.jc_classes.specs.Facts.{Key, Reference}
 use Rattle.jc_classes.specs.Lent.{member_lent}
 use Rattle.jc_classes.specs.Resolution.Answer.{ToMember}
-use Rattle.jc_classes.specs.declared.linkage_error.LinkageError.{LinkageError}
 use Rattle.jc_numbered.specs.declared.classes.Hit.{Hit}
-use Rattle.jc_numbered.specs.declared.settled.Settled.{Settled}
 use Rattle.jc_numbered.specs.inside.Indexed.{Indexed, indexed_name}
-use Rattle.jc_numbered.specs.inside.Settled.{answer_of}
 use Rattle.jc_resolve.specs.declared.entry.Entry.{Entry}
-use Rattle.jc_resolve.specs.inside.Entries.{HasKey, IsKeyed, entry_shown}
+use Rattle.jc_resolve.specs.inside.Entries.{IsKeyed, entry_shown}
 
 -- that it finds this member
 abbrev pub ShowsHit : Key → Hit → Entry ℕ → Type 0
 ShowsHit k hit e = (x : Indexed) (r : Reference) → r.key ≡ k → IsKeyed r.key (member_lent hit.member)
     → entry_shown (indexed_name x) r e ≡ ToMember (indexed_name x hit.node) (member_lent hit.member)
-
--- what look-up came to, where `missing` is the error if nothing is there
-abbrev pub ShowsSettled : Key → LinkageError → Settled → Entry ℕ → Type 0
-ShowsSettled k missing s e = (x : Indexed) (r : Reference) → r.key ≡ k → HasKey r.key s
-    → entry_shown (indexed_name x) r e ≡ answer_of x r.named missing s

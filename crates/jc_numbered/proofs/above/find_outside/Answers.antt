@@ -1,6 +1,6 @@
 use Rattle.std.proofs.Common.{◌≡◌, ◌<◌, length, sym, ap, subst, ◌∙◌}
 use Rattle.std.specs.List.{All, filter}
-use Rattle.jc_numbered.specs.inside.Settled.{lies_outside}
+use Rattle.jc_numbered.specs.inside.Outside.{lies_outside}
 use Rattle.jc_numbered.specs.inside.Shown.{indexed_of}
 use Rattle.jc_numbered.specs.inside.Picks.{TellsLowest}
 use Rattle.jc_graph.proofs.marked.Climbs.{seen_in}

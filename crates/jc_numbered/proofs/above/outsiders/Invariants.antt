@@ -1,7 +1,7 @@
 use Rattle.std.proofs.Common.{◌≡◌, take}
 use Rattle.std.specs.List.{filter}
 use Rattle.jc_numbered.specs.inside.Shown.{indexed_of}
-use Rattle.jc_numbered.specs.inside.Settled.{lies_outside}
+use Rattle.jc_numbered.specs.inside.Outside.{lies_outside}
 use Rattle.jc_numbered.proofs.above.outsiders.Given as goal
 
 abbrev pub invariant-loop-node : goal.invariant-loop-node

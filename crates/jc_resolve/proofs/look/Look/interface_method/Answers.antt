@@ -14,30 +14,30 @@ use Rattle.jc_resolve.proofs.look.Look.interface_method.Goals as goal
 pub find_interface_method-requires-clause-start : goal.find_interface_method-requires-clause-start
 find_interface_method-requires-clause-start c = (c.begin.ensures.at c.in-Ok.start c.in-Ok.is).0
 
-pub settle_found-requires-clause-start : goal.settle_found-requires-clause-start
-settle_found-requires-clause-start c = (c.begin.ensures.at c.in-Ok.start c.in-Ok.is).0
+pub settle-requires-clause-start : goal.settle-requires-clause-start
+settle-requires-clause-start c = (c.begin.ensures.at c.in-Ok.start c.in-Ok.is).0
 
-pub settle_found-requires-clause-target : goal.settle_found-requires-clause-target
-settle_found-requires-clause-target c = c.begin.ensures.target c.in-Ok.start c.in-Ok.is
+pub settle-requires-clause-target : goal.settle-requires-clause-target
+settle-requires-clause-target c = c.begin.ensures.target c.in-Ok.start c.in-Ok.is
 
-pub settle_found-requires-clause-home : goal.settle_found-requires-clause-home
-settle_found-requires-clause-home c = c.in_ok-found-in-Ok.ensures.within
+pub settle-requires-clause-home : goal.settle-requires-clause-home
+settle-requires-clause-home c = c.in_ok-found-in-Ok.ensures.within
 
-pub settle_found-requires-clause-keyed : goal.settle_found-requires-clause-keyed
-settle_found-requires-clause-keyed c = c.in_ok-found-in-Ok.ensures.keyed
+pub settle-requires-clause-keyed : goal.settle-requires-clause-keyed
+settle-requires-clause-keyed c = c.in_ok-found-in-Ok.ensures.keyed
 
-pub settle_found-requires-clause-room : goal.settle_found-requires-clause-room
-settle_found-requires-clause-room c = c.in_ok-found-in-Ok.ensures.room
+pub settle-requires-clause-room : goal.settle-requires-clause-room
+settle-requires-clause-room c = c.in_ok-found-in-Ok.ensures.room
 
 pub returns-in_ok-found-in-Ok-clause-found : goal.returns-in_ok-found-in-Ok-clause-found
 returns-in_ok-found-in-Ok-clause-found c =
     let x = indexed_of c.args.self.now.classes.now in
     let d = indexed_name x c.args.self.now.class in
-    if_ok_map c.settle_found.result _ _ (λ e f m r t h so key. looks
+    if_ok_map c.settle.result _ _ (λ e f m r t h so key. looks
     (subst (λ b. Starts m d r.named (start_shown x r b)) c.in-Ok.is (c.begin.ensures.starts m r t h so))
     (record_is m (length c.args.self.now.classes.now.standing.now) x c.args.self.now.classes.now.graph h (λ r. is_interface r) c.in-Ok.start true (c.begin.ensures.at c.in-Ok.start c.in-Ok.is).0 (ap (λ f. has f interface_flag) (sym c.flags.ensures) ∙ sym c.is_in.ensures ∙ c.if-not-is_in.false))
     (c.in_ok-found-in-Ok.ensures.found m h)
-    (f m r h so key)) c.settle_found.ensures.settled
+    (f m r h so key)) c.settle.ensures.settled
 
 pub returns-in-Err-clause-found : goal.returns-in-Err-clause-found
 returns-in-Err-clause-found c =
@@ -57,4 +57,4 @@ returns-then-not-is_in-clause-found c =
     refl
 
 pub returns-in_ok-found-in-Ok-clause-room : goal.returns-in_ok-found-in-Ok-clause-room
-returns-in_ok-found-in-Ok-clause-room c = c.settle_found.ensures.room
+returns-in_ok-found-in-Ok-clause-room c = c.settle.ensures.room

@@ -1,17 +1,10 @@
--- What becomes of what look-up found.
+-- The outside names above a class.
 use Rattle.jc_classes.specs.Worlds.{Stands as stands}
-use Rattle.jc_classes.specs.Resolution.{Answer as answer}
 use Rattle.std.specs.Prelude.{◌≡◌, ℕ, Bool, true, false, Option, Some, None}
 use Rattle.jc_classes.specs.Names.{Name, name_less}
-use Rattle.jc_classes.specs.Worlds.{World, Stands, text_of}
-use Rattle.jc_classes.specs.Facts.{Named}
-use Rattle.jc_classes.specs.declared.linkage_error.LinkageError.{LinkageError}
-use Rattle.jc_classes.specs.declared.linkage_error.LinkageError.TheVariants.{IllegalAccess}
-use Rattle.jc_classes.specs.Resolution.{Answer, IsOutsideAbove}
-use Rattle.jc_classes.specs.Lent.{member_lent}
+use Rattle.jc_classes.specs.Worlds.{World, Stands}
+use Rattle.jc_classes.specs.Resolution.{IsOutsideAbove}
 use Rattle.jc_numbered.specs.inside.Indexed.{Indexed, indexed_name, standing_of, IsIndexed}
-use Rattle.jc_numbered.specs.declared.settled.Settled.{Settled}
-use Rattle.jc_numbered.specs.declared.settled.Settled.TheVariants as settled
 
 abbrev pub is_outside : Stands → Bool
 is_outside (stands.Class r) = false
@@ -31,10 +24,3 @@ TellsOutside m x c (Some v) =
 -- so of a node, in every world that has what stands at the names of x
 abbrev pub TellsOutsideAbove : Indexed → ℕ → Option ℕ → Type 0
 TellsOutsideAbove x start r = (m : World) → IsIndexed m x → TellsOutside m x (indexed_name x start) r
-
--- the answer, where `missing` is the error if nothing is there
-abbrev pub answer_of : Indexed → Named → LinkageError → Settled → Answer
-answer_of x t missing (settled.To h) = answer.ToMember (indexed_name x h.node) (member_lent h.member)
-answer_of x t missing (settled.Outside v) = answer.Outside (indexed_name x v)
-answer_of x t missing (settled.Hidden v) = answer.Error IllegalAccess (indexed_name x v)
-answer_of x t missing settled.Missing = answer.Error missing (text_of t)
