@@ -8,6 +8,7 @@ use Rattle.jc_view.specs.ConstantPool as pool
 use Rattle.jc_view.specs.AttributeReading.{bootstraps_in}
 use Rattle.jc_view.specs.Attributes.{bootstrap_attributes}
 use Rattle.jc_view.specs.ClassFile.{ClassFile, all_slots, class_text_at, constant_at}
+use Rattle.jc_view.specs.Lookups.{owner}
 use Rattle.jc_code.specs.NamedConstants.{named_by_method}
 use Rattle.jc_classes.specs.NameLists.{has}
 use Rattle.jc_classes.specs.NamedTexts.{named_by}
@@ -48,13 +49,6 @@ by_named f c =
     flat_map
     (λ index. option_to_list (if is_among (named c) index then option_and_then f (constant_at c (record { 0 = index })) else None))
     (range_with_len 1 (all_slots c.constants))
-
--- the class of a reference to a member
-abbrev pub owner : pool.Constant → Option ConstantIndex
-owner (pool.Fieldref class entry) = Some class
-owner (pool.Methodref class entry) = Some class
-owner (pool.InterfaceMethodref class entry) = Some class
-owner constant = None
 
 -- the descriptors that are resolved with what is named, and with the method handles
 unfoldable pub resolved_descriptors : ClassFile → List ConstantIndex

@@ -7,7 +7,8 @@ use Rattle.jc_view.specs.ClassFile.{ClassFile, Member, constant_at}
 use Rattle.jc_code.specs.NamedConstants.{named_by_method}
 use Rattle.jc_classes.specs.declared.user.User.{User}
 use Rattle.jc_classes.specs.declared.user.User.TheVariants as user
-use Rattle.jc_classes.specs.UsedConstants.{is_among, owner, used_constants}
+use Rattle.jc_view.specs.Lookups.{owner}
+use Rattle.jc_classes.specs.UsedConstants.{is_among, used_constants}
 
 -- whether the constant is a reference to a member, and its class is the constant at i
 abbrev pub is_owner : ClassFile → ℕ → ConstantIndex → Bool

@@ -1,44 +1,46 @@
 //! The Class constants whose classes code resolves by a descriptor (JVMS 5.4.3.3, 5.4.3.5, 5.4.3.6).
 
-ghost use Rattle.std.specs.Prelude.{◌≡◌, ◌++◌, [], ◌∷◌, Some, IfOk, OnOk, if◌then◌else◌};
+ghost use Rattle.std.specs.Prelude.{◌≡◌, ◌++◌, [], ◌∷◌, None, Some, IfOk, OnOk, if◌then◌else◌, slice_index_or, slice_set};
 ghost use Rattle.std.specs.FinMap as map;
 ghost use Rattle.std.specs.List.{list_any};
 ghost use Rattle.jc_view.specs.Lookups.{utf8_at};
 ghost use Rattle.jc_classes.specs.NameLists.{has};
 ghost use Rattle.jc_classes.specs.Names.{Name};
 ghost use Rattle.jc_classes.specs.ResolvedDescriptors.{class_in_type, classes_at, classes_in};
-ghost use Rattle.jc_classes.specs.UsedConstants.{classes_that, is_resolved, named};
+ghost use Rattle.jc_classes.specs.UsedConstants.{by_constants, class_that, classes_that, is_resolved, named, named_by_handle};
 ghost use Rattle.jc_classes.specs.inside.Using.{are_marks, mark_at};
-ghost use Rattle.jc_classes.specs.inside.DescriptorClasses.{Adds, class_marked, classes_marked, names_one, text_marks};
+ghost use Rattle.jc_classes.specs.inside.DescriptorClasses.{Adds, AreKnown, names_one};
 
 use crate::read_facts::push_some;
 use crate::reference::{class_in_descriptor, class_named, without_dimensions};
 use crate::resolved_descriptors::resolved_descriptors;
 use crate::used::{is_marked, marked};
 use jc_base::{ByteMap, MethodDesc, NoMemory};
-use jc_view::{ClassView, Constant, ConstantIndex, ConstantKind};
+use jc_view::{ClassView, ConstantIndex};
 use std::alloc::Global;
 
 /// Adds the Class constants whose classes, or of arrays the innermost ones, are in descriptors that code resolves.
-/// `marks` has the constants that code names. Each text is read once, however many constants name it.
+/// `handles` has what method handles name, and `marks` the constants that code names. Each text is read once, however many
+/// constants name it.
 ///
 /// Returns `NoMemory` only when an allocation fails.
 pub(crate) fn add_resolved_classes(
     alloc: Global,
     names: &mut Vec<ConstantIndex>,
     class: &ClassView,
+    handles: &[ConstantIndex],
     marks: &[bool],
 ) -> Result<(), NoMemory>
-    requires { marks.now ≡ are_marks class.now (named class.now) }
+    requires handles { handles.now ≡ by_constants named_by_handle class.now }
+    requires marks { marks.now ≡ are_marks class.now (named class.now) }
     ensures { OnOk result (names.new.items ≡ names.old.items ++ classes_that (is_resolved class.now) class.now) }
 {
-    let descriptors = resolved_descriptors(alloc, class, marks)?;
+    let descriptors = resolved_descriptors(alloc, class, handles, marks)?;
     if descriptors.is_empty() {
         return Ok(());
     }
     let found = classes_in_all(alloc, class, &descriptors)?;
-    let texts = mark_texts(alloc, class, &found)?;
-    add_marked(names, class, &texts)
+    add_classes_found(alloc, names, class, &found)
 }
 
 /// Returns the names of the classes in descriptors.
@@ -126,25 +128,84 @@ fn add(alloc: Global, found: &mut ByteMap<()>, name: &[u8]) -> Result<(), NoMemo
     Ok(())
 }
 
-/// Returns a mark for each constant by its index, set if the constant is a text that names one of these classes, or
-/// an array of one.
-fn mark_texts(alloc: Global, class: &ClassView, found: &ByteMap<()>) -> Result<Vec<bool>, NoMemory>
-    ensures { IfOk result (λ marks. marks.items ≡ text_marks (map.contains_key found.now) class.now) }
+/// Adds the Class constants whose classes, or of arrays the innermost ones, are among these. Each text is read once.
+fn add_classes_found(
+    alloc: Global,
+    names: &mut Vec<ConstantIndex>,
+    class: &ClassView,
+    found: &ByteMap<()>,
+) -> Result<(), NoMemory>
+    ensures { OnOk result (names.new.items ≡ names.old.items ++ classes_that (map.contains_key found.now) class.now) }
 {
-    let mut marks = Vec::with_capacity(alloc, class.constant_count() as usize)?;
-    for index in 0..class.constant_count() {
-        marks.push(names_one(class, found, index))?;
+    let mut known = vec![in alloc; None; class.constant_count() as usize]?;
+    for index in 1..class.constant_count() {
+        push_some(names, class_if_found(class, found, &mut known, index))?;
     }
-    Ok(marks)
+    Ok(())
+}
+
+/// Returns `index` if the constant there is a Class whose class, or of an array the innermost one, is among these.
+fn class_if_found(
+    class: &ClassView,
+    found: &ByteMap<()>,
+    known: &mut Vec<Option<bool>>,
+    index: u16,
+) -> Option<ConstantIndex>
+    requires { AreKnown (map.contains_key found.now) class.now known.old.items }
+    ensures known { AreKnown (map.contains_key found.now) class.now known.new.items }
+    ensures class { result ≡ class_that (map.contains_key found.now) class.now index }
+{
+    let text = class.class_entry(ConstantIndex(index))?;
+    if names_once(class, found, known, text) {
+        Some(ConstantIndex(index))
+    } else {
+        None
+    }
+}
+
+/// Returns whether the text at `index` names one of these classes, or an array of one, and notes it.
+fn names_once(
+    class: &ClassView,
+    found: &ByteMap<()>,
+    known: &mut Vec<Option<bool>>,
+    index: ConstantIndex,
+) -> bool
+    requires { AreKnown (map.contains_key found.now) class.now known.old.items }
+    ensures known { AreKnown (map.contains_key found.now) class.now known.new.items }
+    ensures names { result ≡ names_one (map.contains_key found.now) (utf8_at class.now index) }
+{
+    if let Some(names) = known_at(known, index) {
+        return names;
+    }
+    let names = names_one(class, found, index);
+    note(known, index, names);
+    names
 }
 
 /// Returns whether the text at `index` names one of these classes, or an array of one.
-fn names_one(class: &ClassView, found: &ByteMap<()>, index: u16) -> bool
-    ensures { result ≡ names_one (map.contains_key found.now) (utf8_at class.now (record { 0 = index })) }
+fn names_one(class: &ClassView, found: &ByteMap<()>, index: ConstantIndex) -> bool
+    ensures { result ≡ names_one (map.contains_key found.now) (utf8_at class.now index) }
 {
-    match class.utf8(ConstantIndex(index)) {
+    match class.utf8(index) {
         Some(text) => names_found(found, text),
         None => false,
+    }
+}
+
+/// Returns what is known at an index.
+fn known_at(known: &[Option<bool>], index: ConstantIndex) -> Option<bool>
+    ensures { result ≡ slice_index_or known.now index.0 None }
+{
+    *known.get(index.0 as usize)?
+}
+
+/// Notes what is known at an index.
+fn note(known: &mut Vec<Option<bool>>, index: ConstantIndex, names: bool)
+    ensures { known.new.items ≡ slice_set known.old.items index.0 (Some names) }
+{
+    let place = index.0 as usize;
+    if place < known.len() {
+        known[place] = Some(names);
     }
 }
 
@@ -155,36 +216,5 @@ fn names_found(found: &ByteMap<()>, text: &[u8]) -> bool
     match class_named(text) {
         Some(name) => found.contains_key(name),
         None => false,
-    }
-}
-
-/// Adds the Class constants whose texts are marked.
-fn add_marked(
-    names: &mut Vec<ConstantIndex>,
-    class: &ClassView,
-    marks: &[bool],
-) -> Result<(), NoMemory>
-    ensures { OnOk result (names.new.items ≡ names.old.items ++ classes_marked marks.now class.now) }
-{
-    for index in 1..class.constant_count() {
-        push_some(names, class_if_marked(class, marks, index))?;
-    }
-    Ok(())
-}
-
-/// Returns `index` if the constant there is a Class whose text is marked.
-fn class_if_marked(class: &ClassView, marks: &[bool], index: u16) -> Option<ConstantIndex>
-    ensures { result ≡ class_marked marks.now class.now index }
-{
-    if !class.is_entry(ConstantKind::Class, ConstantIndex(index)) {
-        return None;
-    }
-    let Constant::Class(text) = class.constant(index)? else {
-        return None;
-    };
-    if is_marked(marks, text.0) {
-        Some(ConstantIndex(index))
-    } else {
-        None
     }
 }

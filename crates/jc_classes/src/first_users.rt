@@ -7,7 +7,7 @@ ghost use Rattle.jc_classes.specs.UsedConstants.{is_among};
 ghost use Rattle.jc_classes.specs.inside.Using.{Marks};
 ghost use Rattle.jc_classes.specs.inside.FirstUsers.{AddsFirst, AreSeen, IsEmpty, SetsFirst, first_at};
 
-use crate::used::{is_marked, mark, owner};
+use crate::used::{is_marked, mark};
 use jc_base::NoMemory;
 use jc_view::{ClassView, ConstantIndex};
 use std::alloc::Global;
@@ -56,7 +56,7 @@ impl FirstUsers {
         }
         mark(&mut self.seen, index);
         set_first(&mut self.numbers, index, method);
-        if let Some(owner) = owner(class, index.0) {
+        if let Some(owner) = class.owner(index) {
             set_first(&mut self.numbers, owner, method);
         }
     }

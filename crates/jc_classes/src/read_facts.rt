@@ -195,10 +195,7 @@ fn own_name_index(class: &ClassView) -> u16
 pub(crate) fn name_index(class: &ClassView, index: ConstantIndex) -> Option<u16>
     ensures { option_map (text_at (texts_of class.now)) result ≡ class_text_at class.now index }
 {
-    let Constant::Class(name) = class.constant(index.0)? else {
-        return None;
-    };
-    text_index(class, name)
+    text_index(class, class.class_entry(index)?)
 }
 
 /// The index, where a Utf8 constant has it.
@@ -216,9 +213,7 @@ fn text_index(class: &ClassView, index: ConstantIndex) -> Option<u16>
 fn name_and_type(class: &ClassView, index: ConstantIndex) -> Option<(u16, u16)>
     ensures { option_map (key_shown (texts_of class.now)) result ≡ key_at class.now index }
 {
-    let Constant::NameAndType(name, descriptor) = class.constant(index.0)? else {
-        return None;
-    };
+    let (name, descriptor) = class.name_and_type(index)?;
     let name = text_index(class, name)?;
     let descriptor = text_index(class, descriptor)?;
     Some((name, descriptor))

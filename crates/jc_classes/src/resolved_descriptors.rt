@@ -1,33 +1,37 @@
 //! The descriptors whose classes code resolves (JVMS 5.4.3.3, 5.4.3.5, 5.4.3.6).
 
 ghost use Rattle.std.specs.Prelude.{◌≡◌, ◌++◌, None, IfOk, OnOk, if◌then◌else◌, option_and_then};
+ghost use Rattle.std.specs.List.{flat_map};
 ghost use Rattle.jc_view.specs.ClassFile.{constant_at};
-ghost use Rattle.jc_view.specs.Lookups.{signature_entry};
-ghost use Rattle.jc_classes.specs.ResolvedDescriptors.{descriptor_in, handle_descriptor, is_method_handle, own_descriptor};
-ghost use Rattle.jc_classes.specs.UsedConstants.{by_constants, by_named, named, resolved_descriptors};
+ghost use Rattle.jc_classes.specs.ResolvedDescriptors.{descriptor_in, is_method_handle, own_descriptor};
+ghost use Rattle.jc_classes.specs.UsedConstants.{by_constants, by_named, named, named_by_handle, resolved_descriptors};
+ghost use Rattle.jc_classes.specs.inside.DescriptorClasses.{descriptor_of_member, member_descriptor};
 ghost use Rattle.jc_classes.specs.inside.Using.{are_marks, mark_at};
 
 use crate::names::same;
 use crate::read_facts::push_some;
-use crate::used::{is_marked, named_by_handle};
+use crate::used::is_marked;
 use jc_base::NoMemory;
 use jc_view::{ClassView, Constant, ConstantIndex};
 use std::alloc::Global;
 
-/// Returns the indexes of the descriptors that code resolves. `marks` has the constants that code names.
+/// Returns the indexes of the descriptors that code resolves. `handles` has what method handles name, and `marks` the constants
+/// that code names.
 ///
 /// Returns `NoMemory` only when an allocation fails.
 pub(crate) fn resolved_descriptors(
     alloc: Global,
     class: &ClassView,
+    handles: &[ConstantIndex],
     marks: &[bool],
 ) -> Result<Vec<ConstantIndex>, NoMemory>
-    requires { marks.now ≡ are_marks class.now (named class.now) }
+    requires handles { handles.now ≡ by_constants named_by_handle class.now }
+    requires marks { marks.now ≡ are_marks class.now (named class.now) }
     ensures { IfOk result (λ descriptors. descriptors.items ≡ resolved_descriptors class.now) }
 {
     let mut descriptors = Vec::new(alloc);
     add_own(&mut descriptors, class, marks)?;
-    add_by_handles(&mut descriptors, class)?;
+    add_of_members(&mut descriptors, class, handles)?;
     Ok(descriptors)
 }
 
@@ -99,38 +103,27 @@ fn is_method_handle(class: &ClassView, owner: ConstantIndex) -> bool
 fn descriptor_in(class: &ClassView, entry: ConstantIndex) -> Option<ConstantIndex>
     ensures { result ≡ descriptor_in class.now entry }
 {
-    match class.constant(entry.0)? {
-        Constant::NameAndType(_, descriptor) => Some(descriptor),
-        _ => None,
-    }
+    let (_, descriptor) = class.name_and_type(entry)?;
+    Some(descriptor)
 }
 
-/// Adds the descriptors of the members that method handles refer to.
-fn add_by_handles(descriptors: &mut Vec<ConstantIndex>, class: &ClassView) -> Result<(), NoMemory>
-    ensures { OnOk result (descriptors.new.items ≡ descriptors.old.items ++ by_constants (handle_descriptor class.now) class.now) }
+/// Adds the descriptors of members.
+fn add_of_members(
+    descriptors: &mut Vec<ConstantIndex>,
+    class: &ClassView,
+    members: &[ConstantIndex],
+) -> Result<(), NoMemory>
+    ensures { OnOk result (descriptors.new.items ≡ descriptors.old.items ++ flat_map (descriptor_of_member class.now) members.now) }
 {
-    for index in 1..class.constant_count() {
-        push_some(descriptors, handle_descriptor(class, index))?;
+    for member in members {
+        push_some(descriptors, member_descriptor(class, *member))?;
     }
     Ok(())
 }
 
-/// Returns the descriptor of the member that the method handle at `index` refers to.
-fn handle_descriptor(class: &ClassView, index: u16) -> Option<ConstantIndex>
-    ensures { result ≡ option_and_then (handle_descriptor class.now) (constant_at class.now (record { 0 = index })) }
-{
-    member_descriptor(class, named_by_handle(class, index)?)
-}
-
 /// Returns the descriptor of the member that the constant at `index` refers to.
 fn member_descriptor(class: &ClassView, index: ConstantIndex) -> Option<ConstantIndex>
-    ensures { result ≡ option_and_then (descriptor_in class.now) (option_and_then signature_entry (constant_at class.now index)) }
+    ensures { result ≡ member_descriptor class.now index }
 {
-    match class.constant(index.0)? {
-        Constant::Fieldref(_, entry)
-        | Constant::Methodref(_, entry)
-        | Constant::InterfaceMethodref(_, entry)
-        | Constant::InvokeDynamic(_, entry) => descriptor_in(class, entry),
-        _ => None,
-    }
+    descriptor_in(class, class.signature_entry(index)?)
 }

@@ -7,7 +7,8 @@ ghost use Rattle.jc_view.specs.Attributes.{bootstrap_attributes};
 ghost use Rattle.jc_view.specs.ClassFile.{constant_at};
 ghost use Rattle.jc_view.specs.Moves.{Lends};
 ghost use Rattle.jc_view.specs.Reading.{after_table};
-ghost use Rattle.jc_classes.specs.UsedConstants.{by_constants, is_among, named, named_by_handle, named_by_methods, named_by_table, owner, used_constants};
+ghost use Rattle.jc_view.specs.Lookups.{owner};
+ghost use Rattle.jc_classes.specs.UsedConstants.{by_constants, is_among, named, named_by_handle, named_by_methods, named_by_table, used_constants};
 ghost use Rattle.jc_classes.specs.inside.Using.{Marks, are_marks, arguments_at, mark_at, named_by_attribute, owners};
 
 use crate::descriptor_classes::add_resolved_classes;
@@ -34,21 +35,29 @@ pub(crate) fn used(
     requires { marks.items ≡ are_marks class.now (named_by_methods class.now) }
     ensures { IfOk result (λ marks. marks.items ≡ are_marks class.now (used_constants class.now)) }
 {
-    mark_named(alloc, class, &mut marks)?;
+    let mut handles = Vec::new(alloc);
+    add_by_handles(&mut handles, class)?;
+    mark_named(alloc, class, &handles, &mut marks)?;
     let mut classes = Vec::new(alloc);
     add_owners(&mut classes, class, &marks)?;
-    add_resolved_classes(alloc, &mut classes, class, &marks)?;
+    add_resolved_classes(alloc, &mut classes, class, &handles, &marks)?;
     mark_all(&mut marks, &classes);
     Ok(marks)
 }
 
-/// Sets the marks of what method handles and bootstrap methods name.
-fn mark_named(alloc: Global, class: &ClassView, marks: &mut Vec<bool>) -> Result<(), NoMemory>
-    requires { marks.old.items ≡ are_marks class.now (named_by_methods class.now) }
+/// Sets the marks of what method handles and bootstrap methods name. `handles` has what method handles name.
+fn mark_named(
+    alloc: Global,
+    class: &ClassView,
+    handles: &[ConstantIndex],
+    marks: &mut Vec<bool>,
+) -> Result<(), NoMemory>
+    requires handles { handles.now ≡ by_constants named_by_handle class.now }
+    requires marks { marks.old.items ≡ are_marks class.now (named_by_methods class.now) }
     ensures { OnOk result (marks.new.items ≡ are_marks class.now (named class.now)) }
 {
+    mark_all(marks, handles);
     let mut names = Vec::new(alloc);
-    add_by_handles(&mut names, class)?;
     add_by_bootstraps(alloc, &mut names, class)?;
     mark_all(marks, &names);
     Ok(())
@@ -65,7 +74,7 @@ fn add_by_handles(names: &mut Vec<ConstantIndex>, class: &ClassView) -> Result<(
 }
 
 /// Returns the member that the method handle at `index` refers to.
-pub(crate) fn named_by_handle(class: &ClassView, index: u16) -> Option<ConstantIndex>
+fn named_by_handle(class: &ClassView, index: u16) -> Option<ConstantIndex>
     ensures { result ≡ option_and_then named_by_handle (constant_at class.now (record { 0 = index })) }
 {
     if !class.is_entry(ConstantKind::MethodHandle, ConstantIndex(index)) {
@@ -177,21 +186,9 @@ fn owner_if_marked(class: &ClassView, marks: &[bool], index: u16) -> Option<Cons
     ensures { result ≡ (if mark_at marks.now index then option_and_then owner (constant_at class.now (record { 0 = index })) else None) }
 {
     if *marks.get(index as usize)? {
-        owner(class, index)
+        class.owner(ConstantIndex(index))
     } else {
         None
-    }
-}
-
-/// The class of a reference to a member.
-pub(crate) fn owner(class: &ClassView, index: u16) -> Option<ConstantIndex>
-    ensures { result ≡ option_and_then owner (constant_at class.now (record { 0 = index })) }
-{
-    match class.constant(index)? {
-        Constant::Fieldref(owner, _)
-        | Constant::Methodref(owner, _)
-        | Constant::InterfaceMethodref(owner, _) => Some(owner),
-        _ => None,
     }
 }
 

@@ -5,7 +5,7 @@ ghost use Rattle.std.specs.Prelude.{◌≡◌, IfOk, None, slice_index_or};
 ghost use Rattle.jc_code.specs.inside.TextSizes.{entry_slots, slots_in, slots_of_text};
 
 use jc_base::{MethodDesc, NoMemory};
-use jc_view::{ClassView, Constant, ConstantIndex};
+use jc_view::{ClassView, ConstantIndex};
 use std::alloc::Global;
 use std::marker::Model;
 
@@ -52,9 +52,9 @@ impl<'c, 'a> KnownSlots<'c, 'a> {
         ensures class { self.new ≡ self.old }
         ensures slots { IfOk result (λ slots. slots ≡ entry_slots self.old index) }
     {
-        match self.class.constant(index.0) {
-            Some(Constant::NameAndType(_, descriptor)) => self.by_descriptor(descriptor),
-            _ => Ok(None),
+        match self.class.name_and_type(index) {
+            Some((_, descriptor)) => self.by_descriptor(descriptor),
+            None => Ok(None),
         }
     }
 

@@ -73,9 +73,7 @@ impl<'c, 'a> TextSizes<'c, 'a> {
     pub(crate) fn dimensions(&self, index: ConstantIndex) -> Option<u8>
         ensures { result ≡ option_map dimensions_of (class_text_at self.now index) }
     {
-        let Some(Constant::Class(text)) = self.class.constant(index.0) else {
-            return None;
-        };
+        let text = self.class.class_entry(index)?;
         self.class.utf8(text)?;
         Some(dims_at(&self.sizes.dims, text))
     }

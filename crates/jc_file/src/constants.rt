@@ -8,7 +8,7 @@ ghost use Rattle.jc_view.specs.Lent.{constant_of};
 ghost use Rattle.jc_view.specs.declared.constant_pool.ConstantKind.TheVariants as kinds;
 ghost use Rattle.jc_view.specs.ConstantPool.{Utf8, Class, String, Fieldref, Methodref, InterfaceMethodref};
 ghost use Rattle.jc_view.specs.ConstantPool.{NameAndType, MethodHandle, MethodType, InvokeDynamic};
-ghost use Rattle.jc_view.specs.Lookups.{fails, is_entry, is_kind, member_descriptor_at, member_name_at, name_and_type_at, name_of, passes, utf8_at};
+ghost use Rattle.jc_view.specs.Lookups.{fails, is_entry, is_kind, member_descriptor_at, member_name_at, name_of, passes, utf8_at};
 ghost use Rattle.jc_base.specs.DescriptorTests.{is_field_text, is_method_text};
 ghost use Rattle.jc_file.specs.FormatRules.{breaks_f3, breaks_f5, breaks_f8, breaks_f9, fits_handle, is_bad_special, is_wrong_name};
 ghost use Rattle.jc_file.specs.FormatRules.{is_array_text, lacks_member_entries, returns_value};
@@ -221,7 +221,7 @@ fn is_no_field(texts: &mut Texts, entry: ConstantIndex) -> bool
     ensures same { texts.new ≡ texts.old }
     ensures fails { result ≡ fails is_field_text (member_descriptor_at texts.old entry) }
 {
-    match name_and_type_at(texts.class(), entry) {
+    match texts.class().name_and_type(entry) {
         Some((_, descriptor)) => is_no_field_text(texts, descriptor),
         None => false,
     }
@@ -232,7 +232,7 @@ fn is_no_method(texts: &mut Texts, entry: ConstantIndex) -> bool
     ensures same { texts.new ≡ texts.old }
     ensures fails { result ≡ fails is_method_text (member_descriptor_at texts.old entry) }
 {
-    match name_and_type_at(texts.class(), entry) {
+    match texts.class().name_and_type(entry) {
         Some((_, descriptor)) => is_no_method_text(texts, descriptor),
         None => false,
     }
@@ -271,25 +271,12 @@ fn is_array_text(texts: &mut Texts, index: ConstantIndex) -> bool
     }
 }
 
-/// Returns the name and the descriptor of a `NameAndType`.
-fn name_and_type_at(
-    class: &ClassView,
-    entry: ConstantIndex,
-) -> Option<(ConstantIndex, ConstantIndex)>
-    ensures { result ≡ name_and_type_at class.now entry }
-{
-    match class.constant(entry.0)? {
-        Constant::NameAndType(name, descriptor) => Some((name, descriptor)),
-        _ => None,
-    }
-}
-
 /// Returns whether a method with this `NameAndType` has a special name that it may not have.
 fn breaks_f7(texts: &mut Texts, entry: ConstantIndex) -> bool
     ensures same { texts.new ≡ texts.old }
     ensures breaks { result ≡ passes (is_bad_special (member_descriptor_at texts.old entry)) (member_name_at texts.old entry) }
 {
-    let Some((name, descriptor)) = name_and_type_at(texts.class(), entry) else {
+    let Some((name, descriptor)) = texts.class().name_and_type(entry) else {
         return false;
     };
     match texts.class().utf8(name) {

@@ -1,11 +1,11 @@
 //! Names in one buffer.
 
-ghost use Rattle.std.specs.Prelude.{◌≡◌, [], is_ok, length, IfOk, IsTrue};
+ghost use Rattle.std.specs.Prelude.{◌≡◌, [], is_ok, length, map, IfOk, IsTrue};
+ghost use Rattle.std.specs.List.Sorted.{IsStrictlySortedBy};
 ghost use Rattle.jc_classes.specs.NameLists.{has};
-ghost use Rattle.jc_classes.specs.Names.{names_of};
+ghost use Rattle.jc_classes.specs.Names.{Name, name_cmp};
 ghost use Rattle.jc_classes.specs.Numbers.{name_at};
 
-use crate::name_list::NameList;
 use jc_base::NoMemory;
 use jc_classes::{TextList, same};
 use std::alloc::Global;
@@ -44,11 +44,15 @@ impl PackedNames {
         }
     }
 
-    /// The names of a list.
-    pub fn of(alloc: Global, list: &NameList) -> Result<PackedNames, NoMemory>
-        ensures { IfOk result (λ packed. packed ≡ list.now) }
+    /// Copies of these names, put in order, each once.
+    pub fn of(alloc: Global, names: Vec<&[u8]>) -> Result<PackedNames, NoMemory>
+        ensures same { IfOk result (λ packed. (name : Name) → has packed name ≡ has (map (λ n. n.now) names.entry.items) name) }
+        ensures rises { IfOk result (λ packed. IsStrictlySortedBy name_cmp packed) }
     {
-        let names = pack(alloc, list.names())?;
+        let mut names = names;
+        names.sort_unstable();
+        names.dedup();
+        let names = pack(alloc, &names)?;
         Ok(PackedNames { names })
     }
 
@@ -102,8 +106,8 @@ impl PackedNames {
 }
 
 /// Copies of names, one behind the other, with no room to spare.
-fn pack(alloc: Global, names: &[Vec<u8>]) -> Result<TextList, NoMemory>
-    ensures { IfOk result (λ texts. texts ≡ names_of names.now) }
+fn pack(alloc: Global, names: &[&[u8]]) -> Result<TextList, NoMemory>
+    ensures { IfOk result (λ texts. texts ≡ map (λ name. name.now) names.now) }
 {
     let mut texts = TextList::with_room(alloc, names.len(), 0)?;
     for name in names {

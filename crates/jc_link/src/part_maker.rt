@@ -4,7 +4,6 @@ ghost use Rattle.std.specs.Prelude.{◌≡◌, ◌<◌, ◌≤◌, ◌++◌, IfO
 ghost use Rattle.std.specs.List.{All, flat_map};
 ghost use Rattle.std.specs.Option.{option_copied, option_to_list};
 ghost use Rattle.jc_classes.specs.NameLists.{Lists};
-ghost use Rattle.jc_classes.specs.Names.{names_of};
 ghost use Rattle.jc_classes.specs.Numbers.{name_at};
 ghost use Rattle.jc_classes.specs.Parts.{IsPart, Reach};
 ghost use Rattle.jc_classes.specs.Worlds.{World};
@@ -19,7 +18,7 @@ use crate::part::{Part, part_of};
 use jc_base::NoMemory;
 use jc_classes::{Facts, Numbers};
 use jc_graph::{Seen, mark_above};
-use jc_index::NameList;
+use jc_index::PackedNames;
 use jc_resolve::Hierarchy;
 use std::alloc::Global;
 use std::marker::Model;
@@ -87,7 +86,7 @@ impl<'g, 't> PartMaker<'g, 't> {
     }
 
     /// Returns the names that the class at a place reaches.
-    pub fn reach(&mut self, alloc: Global, place: usize) -> Result<NameList, NoMemory>
+    pub fn reach(&mut self, alloc: Global, place: usize) -> Result<PackedNames, NoMemory>
         requires { place < length self.old.classes }
         ensures reach { (m : World) → IsIn m self.old
             → IfOk result (λ names. Lists names (Reach m (name_at self.old.classes place))) }
@@ -97,8 +96,9 @@ impl<'g, 't> PartMaker<'g, 't> {
         let mut seen = room(alloc, self.seen.take(), graph)?;
         see_reach(alloc, graph, &mut seen, place)?;
         let names = names_at(alloc, &graph.names, seen.nodes())?;
+        let reach = PackedNames::of(alloc, names)?;
         self.seen = Some(seen);
-        Ok(NameList::of(names))
+        Ok(reach)
     }
 }
 
@@ -184,14 +184,18 @@ fn push_some(numbers: &mut Vec<usize>, others: &[Option<u32>]) -> Result<(), NoM
     Ok(())
 }
 
-/// The names of these numbers.
-fn names_at(alloc: Global, numbers: &Numbers, nodes: &[usize]) -> Result<Vec<Vec<u8>>, NoMemory>
+/// The names of these numbers, lent.
+fn names_at<'n>(
+    alloc: Global,
+    numbers: &'n Numbers,
+    nodes: &[usize],
+) -> Result<Vec<&'n [u8]>, NoMemory>
     requires { All (λ v. v < length numbers.now) nodes.now }
-    ensures { IfOk result (λ names. names_of names.items ≡ map (name_at numbers.now) nodes.now) }
+    ensures { IfOk result (λ names. map (λ name. name.now) names.items ≡ map (name_at numbers.now) nodes.now) }
 {
     let mut names = Vec::with_capacity(alloc, nodes.len())?;
     for node in nodes {
-        names.push(Vec::from_slice(alloc, numbers.name(*node))?)?;
+        names.push(numbers.name(*node))?;
     }
     Ok(names)
 }

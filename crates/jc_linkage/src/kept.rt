@@ -81,8 +81,7 @@ pub(crate) fn make_one(
     let name_kept = Vec::from_slice(alloc, name)?;
     let part = maker.part(alloc, place, meter)?;
     let required = required_by(alloc, maker.record(place), &part, before)?;
-    let names = maker.reach(alloc, place)?;
-    let reach = PackedNames::of(alloc, &names)?;
+    let reach = maker.reach(alloc, place)?;
     let kept = Kept {
         part,
         reach,

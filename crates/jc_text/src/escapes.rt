@@ -16,12 +16,23 @@ impl<'w, W: Output> TextWriter<'w, W> {
     pub fn shown(&mut self, text: &[u8])
         ensures { Sends W.written W.failures self.old self.new (shown text.now) }
     {
+        if are_plain(text) {
+            self.text(text);
+        } else {
+            self.shown_escaped(text);
+        }
+    }
+
+    /// The same of a text with an escape, of which there are few.
+    #[cold]
+    #[inline(never)]
+    fn shown_escaped(&mut self, text: &[u8])
+        ensures { Sends W.written W.failures self.old self.new (shown text.now) }
+    {
         if self.has_failed() {
             return;
         }
-        if are_plain(text) {
-            self.text(text);
-        } else if check_units(text).is_ok() {
+        if check_units(text).is_ok() {
             self.units(text);
         } else {
             self.text(b"!");

@@ -23,6 +23,13 @@ abbrev pub name_and_type : Constant → Option (ConstantIndex × ConstantIndex)
 name_and_type (NameAndType name descriptor) = Some (name, descriptor)
 name_and_type constant = None
 
+-- the class of a reference to a member
+abbrev pub owner : Constant → Option ConstantIndex
+owner (Fieldref class entry) = Some class
+owner (Methodref class entry) = Some class
+owner (InterfaceMethodref class entry) = Some class
+owner constant = None
+
 -- the NameAndType of a reference to a member
 abbrev pub signature_entry : Constant → Option ConstantIndex
 signature_entry (Fieldref class entry) = Some entry

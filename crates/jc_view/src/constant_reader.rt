@@ -4,12 +4,12 @@ ghost use Rattle.std.specs.Prelude.{◌≡◌, ◌+◌, ◌≤◌, drop, length,
 ghost use Rattle.std.specs.Option.{option_copied, option_map};
 ghost use Rattle.jc_view.specs.Reading.{after, after_body, after_sized, body_value, sized_value};
 ghost use Rattle.jc_view.specs.inside.ConstantRead.{constant_read, kind_read};
-ghost use Rattle.jc_view.specs.ConstantPool.{index_value, kind_of, utf8_text};
+ghost use Rattle.jc_view.specs.ConstantPool.{class_entry, index_value, kind_of, utf8_text};
 ghost use Rattle.jc_base.specs.Endian.{big_number};
 ghost use Rattle.jc_view.specs.Moves.{Lends};
 ghost use Rattle.jc_view.specs.declared.constant_pool.ConstantKind.TheVariants as kinds;
 ghost use Rattle.jc_view.specs.ClassFile.{ClassFile, constant_at};
-ghost use Rattle.jc_view.specs.Lookups.{utf8_at};
+ghost use Rattle.jc_view.specs.Lookups.{name_and_type, name_and_type_at, owner, signature_entry, utf8_at};
 ghost use Rattle.jc_view.specs.inside.ConstantPlaces.{Holds};
 ghost use Rattle.jc_view.specs.Places.{place_at};
 ghost use Rattle.jc_view.specs.Lent.{constant_of};
@@ -76,6 +76,108 @@ fn text_at(bytes: &[u8], place: usize) -> Option<&[u8]>
         return None;
     }
     read_text(&mut cursor)
+}
+
+/// The index in the Class constant of an index; the constants of other kinds are not read.
+pub(crate) fn class_entry(
+    bytes: &[u8],
+    offsets: &[Option<usize>],
+    index: ConstantIndex,
+) -> Option<ConstantIndex>
+    ensures { (c : ClassFile) → Holds bytes.now offsets.now c → result ≡ option_and_then class_entry (constant_at c index) }
+{
+    class_at(bytes, place_at(offsets, index)?)
+}
+
+/// The index in the Class constant that begins at a place (JVMS 4.4.1).
+#[tactic(auto, unfolding(crate::specs::inside::ConstantRead::constant_read))]
+fn class_at(bytes: &[u8], place: usize) -> Option<ConstantIndex>
+    ensures { result ≡ option_and_then class_entry (constant_read place bytes.now) }
+{
+    let mut cursor = Cursor::new(bytes);
+    cursor.take(place)?;
+    if cursor.u1()? != ConstantKind::Class.tag() {
+        return None;
+    }
+    read_index(&mut cursor)
+}
+
+/// The name and the descriptor of the NameAndType of an index; the constants of other kinds are not read.
+pub(crate) fn name_and_type_entry(
+    bytes: &[u8],
+    offsets: &[Option<usize>],
+    index: ConstantIndex,
+) -> Option<(ConstantIndex, ConstantIndex)>
+    ensures { (c : ClassFile) → Holds bytes.now offsets.now c → result ≡ name_and_type_at c index }
+{
+    name_and_type_at(bytes, place_at(offsets, index)?)
+}
+
+/// The name and the descriptor of the NameAndType that begins at a place (JVMS 4.4.6).
+#[tactic(auto, unfolding(crate::specs::inside::ConstantRead::constant_read))]
+fn name_and_type_at(bytes: &[u8], place: usize) -> Option<(ConstantIndex, ConstantIndex)>
+    ensures { result ≡ option_and_then name_and_type (constant_read place bytes.now) }
+{
+    let mut cursor = Cursor::new(bytes);
+    cursor.take(place)?;
+    if cursor.u1()? != ConstantKind::NameAndType.tag() {
+        return None;
+    }
+    read_pair(&mut cursor)
+}
+
+/// The class of the reference to a member of an index; the constants of other kinds are not read.
+pub(crate) fn owner_entry(
+    bytes: &[u8],
+    offsets: &[Option<usize>],
+    index: ConstantIndex,
+) -> Option<ConstantIndex>
+    ensures { (c : ClassFile) → Holds bytes.now offsets.now c → result ≡ option_and_then owner (constant_at c index) }
+{
+    owner_at(bytes, place_at(offsets, index)?)
+}
+
+/// The class of the reference to a member that begins at a place (JVMS 4.4.2).
+#[tactic(auto, unfolding(crate::specs::inside::ConstantRead::constant_read))]
+fn owner_at(bytes: &[u8], place: usize) -> Option<ConstantIndex>
+    ensures { result ≡ option_and_then owner (constant_read place bytes.now) }
+{
+    let mut cursor = Cursor::new(bytes);
+    cursor.take(place)?;
+    match ConstantKind::of_tag(cursor.u1()?)? {
+        ConstantKind::Fieldref | ConstantKind::Methodref | ConstantKind::InterfaceMethodref => {
+            Some(read_pair(&mut cursor)?.0)
+        }
+        _ => None,
+    }
+}
+
+/// The NameAndType of the reference to a member, or of the InvokeDynamic, of an index; the constants of other kinds are not
+/// read.
+pub(crate) fn signature_entry(
+    bytes: &[u8],
+    offsets: &[Option<usize>],
+    index: ConstantIndex,
+) -> Option<ConstantIndex>
+    ensures { (c : ClassFile) → Holds bytes.now offsets.now c → result ≡ option_and_then signature_entry (constant_at c index) }
+{
+    signature_at(bytes, place_at(offsets, index)?)
+}
+
+/// The NameAndType of the reference to a member, or of the InvokeDynamic, that begins at a place (JVMS 4.4.2, 4.4.10).
+#[tactic(auto, unfolding(crate::specs::inside::ConstantRead::constant_read))]
+fn signature_at(bytes: &[u8], place: usize) -> Option<ConstantIndex>
+    ensures { result ≡ option_and_then signature_entry (constant_read place bytes.now) }
+{
+    let mut cursor = Cursor::new(bytes);
+    cursor.take(place)?;
+    match ConstantKind::of_tag(cursor.u1()?)? {
+        ConstantKind::Fieldref
+        | ConstantKind::Methodref
+        | ConstantKind::InterfaceMethodref
+        | ConstantKind::InvokeDynamic => Some(read_pair(&mut cursor)?.1),
+        _ => None,
+    }
 }
 
 /// The constant that begins at a place.

@@ -1,11 +1,11 @@
 //! A class file as a borrowed view (JVMS 4.1).
 
-ghost use Rattle.std.specs.Prelude.{◌≡◌, ◌⊎◌, ◌+◌, ◌<◌, ◌^◌, ℕ, List, length, IfOk, IfErr, IfSome, IfNone};
+ghost use Rattle.std.specs.Prelude.{◌≡◌, ◌⊎◌, ◌+◌, ◌<◌, ◌^◌, ℕ, List, length, option_and_then, IfOk, IfErr, IfSome, IfNone};
 ghost use Rattle.jc_view.specs.declared.parse_error.ParseError.TheVariants.{NoMemory};
 ghost use Rattle.std.specs.Option.{option_copied, option_map};
 ghost use Rattle.jc_view.specs.ClassFile.{ClassFile, all_slots, class_text_at, constant_at};
-ghost use Rattle.jc_view.specs.ConstantPool.{kind_of};
-ghost use Rattle.jc_view.specs.Lookups.{member_descriptor_at, is_entry, member_name_at, utf8_at};
+ghost use Rattle.jc_view.specs.ConstantPool.{class_entry, kind_of};
+ghost use Rattle.jc_view.specs.Lookups.{is_entry, member_descriptor_at, member_name_at, name_and_type_at, owner, signature_entry, utf8_at};
 ghost use Rattle.jc_view.specs.Places.{fields_in, methods_in, attributes_in, IsLent};
 ghost use Rattle.jc_view.specs.Lent.{constant_of};
 ghost use Rattle.jc_view.specs.inside.ConstantPlaces.{Holds, IsNamedAt};
@@ -15,7 +15,9 @@ ghost use Rattle.jc_view.specs.Refusal.{HasHead, IsLayoutOf, IsNamed, IsNameless
 use crate::attribute_kind::Holder;
 use crate::attributes::Attributes;
 use crate::constant_pool::{Constant, ConstantIndex, ConstantKind};
-use crate::constant_reader::{entry, kind_entry, text_entry};
+use crate::constant_reader::{
+    class_entry, entry, kind_entry, name_and_type_entry, owner_entry, signature_entry, text_entry,
+};
 use crate::indexes::Indexes;
 use crate::interfaces::Interfaces;
 use crate::layout_reader::{ClassNumbers, ClassTables, skip_class};
@@ -188,13 +190,39 @@ impl<'a> ClassView<'a> {
         class_text(self.bytes, &self.offsets, index)
     }
 
+    /// The index of the text of the Class constant of an index.
+    pub fn class_entry(&self, index: ConstantIndex) -> Option<ConstantIndex>
+        ensures { result ≡ option_and_then class_entry (constant_at self.now index) }
+    {
+        class_entry(self.bytes, &self.offsets, index)
+    }
+
+    /// The indexes of the name and of the descriptor that the NameAndType of an index gives.
+    pub fn name_and_type(&self, index: ConstantIndex) -> Option<(ConstantIndex, ConstantIndex)>
+        ensures { result ≡ name_and_type_at self.now index }
+    {
+        name_and_type_entry(self.bytes, &self.offsets, index)
+    }
+
+    /// The index of the class of the reference to a member of an index.
+    pub fn owner(&self, index: ConstantIndex) -> Option<ConstantIndex>
+        ensures { result ≡ option_and_then owner (constant_at self.now index) }
+    {
+        owner_entry(self.bytes, &self.offsets, index)
+    }
+
+    /// The index of the NameAndType of the reference to a member, or of the InvokeDynamic, of an index.
+    pub fn signature_entry(&self, index: ConstantIndex) -> Option<ConstantIndex>
+        ensures { result ≡ option_and_then signature_entry (constant_at self.now index) }
+    {
+        signature_entry(self.bytes, &self.offsets, index)
+    }
+
     /// The name that the NameAndType of an index gives; `None` where one of the two is missing.
     pub fn member_name_at(&self, index: ConstantIndex) -> Option<&'a [u8]>
         ensures { option_copied result ≡ member_name_at self.now index }
     {
-        let Some(Constant::NameAndType(name, _)) = self.constant(index.0) else {
-            return None;
-        };
+        let (name, _) = self.name_and_type(index)?;
         self.utf8(name)
     }
 
@@ -202,9 +230,7 @@ impl<'a> ClassView<'a> {
     pub fn member_descriptor_at(&self, index: ConstantIndex) -> Option<&'a [u8]>
         ensures { option_copied result ≡ member_descriptor_at self.now index }
     {
-        let Some(Constant::NameAndType(_, descriptor)) = self.constant(index.0) else {
-            return None;
-        };
+        let (_, descriptor) = self.name_and_type(index)?;
         self.utf8(descriptor)
     }
 
@@ -268,10 +294,7 @@ fn class_text<'a>(
 ) -> Option<&'a [u8]>
     ensures { (c : ClassFile) → Holds bytes.now offsets.now c → option_copied result ≡ class_text_at c index }
 {
-    let Some(Constant::Class(text)) = entry(bytes, offsets, index) else {
-        return None;
-    };
-    text_entry(bytes, offsets, text)
+    text_entry(bytes, offsets, class_entry(bytes, offsets, index)?)
 }
 
 /// The text of the Class constant of an index, where it is a class name.

@@ -62,15 +62,12 @@ used_whole c = refl
 
 -- ---- marks
 
-pub named_marks : (c : ClassFile) (names : List ConstantIndex) (old new : List Bool) → old ≡ are_marks c (named_by_methods c)
-    → names ≡ by_constants named_by_handle c ++ flat_map (λ (a : Attribute). named_by_table a.bytes) (bootstrap_attributes c)
-    → Marks (is_among names) old new → new ≡ are_marks c (named c)
-named_marks c names old new e is step =
-    let handles = by_constants named_by_handle c in
-    let tables = flat_map (λ (a : Attribute). named_by_table a.bytes) (bootstrap_attributes c) in
-    marks_added c (named_by_methods c) names old new e step
-    ∙ ap (λ v. are_marks c (named_by_methods c ++ v)) is
-    ∙ ap (are_marks c) (sym (append_assoc (named_by_methods c) handles tables) ∙ named_whole c)
+pub named_marks : (c : ClassFile) (handles names : List ConstantIndex) (old found new : List Bool) → old ≡ are_marks c (named_by_methods c)
+    → handles ≡ by_constants named_by_handle c → names ≡ flat_map (λ (a : Attribute). named_by_table a.bytes) (bootstrap_attributes c)
+    → Marks (is_among handles) old found → Marks (is_among names) found new → new ≡ are_marks c (named c)
+named_marks c handles names old found new e by is first second =
+    marks_added c (named_by_methods c ++ handles) names found new (marks_added c (named_by_methods c) handles old found e first) second
+    ∙ ap (are_marks c) (ap (λ v. named_by_methods c ++ v ++ names) by ∙ ap (λ v. named_by_methods c ++ by_constants named_by_handle c ++ v) is ∙ named_whole c)
 
 pub used_marks : (c : ClassFile) (classes : List ConstantIndex) (old new : List Bool) → old ≡ are_marks c (named c) → classes ≡ owners c (named c) ++ classes_that (is_resolved c) c
     → Marks (is_among classes) old new → new ≡ are_marks c (used_constants c)

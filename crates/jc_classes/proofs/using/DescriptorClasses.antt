@@ -1,5 +1,5 @@
 -- The names of classes in descriptors, as a set, and the Class constants that name them.
-use Rattle.std.proofs.Common.{◌≡◌, ◌∙◌, ℕ, zero, suc, ◌+◌, ◌<◌, ◌≤◌, ◌||◌, ◌&&◌, ◌==◌, Bool, true, false, cond, List, [], ◌∷◌, ◌++◌, length, Option, Some, None, is_some, refl, ap, sym, arith, ◌⊎◌, ⊎_elim, if◌then◌else◌}
+use Rattle.std.proofs.Common.{◌≡◌, ◌∙◌, ℕ, zero, suc, ◌+◌, ◌<◌, ◌≤◌, ◌||◌, ◌&&◌, ◌==◌, Bool, true, false, cond, List, [], ◌∷◌, ◌++◌, length, Option, Some, None, is_some, refl, ap, sym, arith, replicate, slice_index_or, slice_set, ◌⊎◌, inl, inr, ⊎_elim, if◌then◌else◌}
 use Rattle.std.specs.FinMap as fin
 use Rattle.std.specs.List.{flat_map, list_any, range_with_len}
 use Rattle.std.specs.Option.{option_map_or, option_to_list}
@@ -11,7 +11,8 @@ use Rattle.std.proofs.lemmas.List.FromFn.{get_or-map-range_with_len, length-map-
 use Rattle.jc_base.specs.Bytes.{bytes_cmp}
 use Rattle.jc_base.proofs.maps.FiniteMaps.{bytes_cmp_total}
 use Rattle.jc_view.specs.declared.constant_pool.ConstantIndex.{ConstantIndex}
-use Rattle.jc_view.specs.ConstantPool.{Constant, class_entry}
+use Rattle.jc_view.specs.ConstantPool as pool
+use Rattle.jc_view.specs.ConstantPool.{Constant}
 use Rattle.jc_view.specs.ClassFile.{ClassFile, all_slots, class_text_at, constant_at}
 use Rattle.jc_view.specs.Lookups.{utf8_at}
 use Rattle.jc_classes.specs.NameLists.{has}
@@ -19,9 +20,8 @@ use Rattle.jc_classes.specs.NamedTexts.{named_by}
 use Rattle.jc_classes.specs.Names.{Name, same_name}
 use Rattle.jc_classes.specs.Parts.{class_of}
 use Rattle.jc_classes.specs.ResolvedDescriptors.{class_in_type, classes_in, handle_descriptor, own_descriptor}
-use Rattle.jc_classes.specs.UsedConstants.{by_constants, by_named, class_that, classes_that, is_among, resolved_descriptors}
-use Rattle.jc_classes.specs.inside.DescriptorClasses.{Adds, NameSet, class_marked, classes_marked, names_one, text_marks}
-use Rattle.jc_classes.specs.inside.Using.{mark_at}
+use Rattle.jc_classes.specs.UsedConstants.{by_constants, by_named, class_that, classes_that, is_among, named_by_handle, resolved_descriptors}
+use Rattle.jc_classes.specs.inside.DescriptorClasses.{Adds, AreKnown, NameSet, descriptor_of_member, names_one}
 use Rattle.jc_classes.proofs.texts.ConstantTexts.{range_more, text_within}
 use Rattle.jc_classes.proofs.worlds.NameTests.{same_is}
 
@@ -208,26 +208,35 @@ pub if_marked : (b : Bool) (names : List Name) (n : Name) → has (if b then nam
 if_marked true names n = refl
 if_marked false names n = refl
 
--- ---- Class constants
+-- ---- what is known of texts
 
-text_mark : (test : Name → Bool) (c : ClassFile) (index : ConstantIndex) → mark_at (text_marks test c) index.0 ≡ names_one test (utf8_at c index)
-text_mark test c index =
-    let count = 1 + all_slots c.constants in
-    let one = λ (i : ℕ). names_one test (utf8_at c (record { 0 = i })) in
-    ⊎_elim
-    (λ l. get_or-map-range_with_len one 0 count index.0 index.0 false l (omega arith))
-    (λ le. get_or_past (text_marks test c) index.0 false (rw (length-map-range_with_len one 0 count) le) ∙ sym (ap (names_one test) (no_text_past c index le)))
-    (order_cases index.0 count)
+none_there : (n i : ℕ) (names : Bool) → slice_index_or (replicate n None) i None ≡ Some names → ⊥
+none_there zero i names e = absurd cc
+none_there (suc n) zero names e = absurd cc
+none_there (suc n) (suc i) names e = none_there n i names e
 
-mark_of : (test : Name → Bool) (c : ClassFile) (o : Option Constant)
-    → option_map_or (λ text. mark_at (text_marks test c) text.0) (option_and_then class_entry o) false
-    ≡ names_one test (option_and_then (λ class. option_and_then (utf8_at c) (class_entry class)) o)
-mark_of test c None = refl
-mark_of test c (Some class) = by (class_entry class)
-  where
-    by : (o : Option ConstantIndex) → option_map_or (λ text. mark_at (text_marks test c) text.0) o false ≡ names_one test (option_and_then (utf8_at c) o)
-    by None = refl
-    by (Some text) = text_mark test c text
+-- what is read after a write was written there, or read before
+read_back : (known : List (Option Bool)) (j i : ℕ) (written read : Bool) → slice_index_or (slice_set known j (Some written)) i None ≡ Some read
+    → ((j ≡ i) × (written ≡ read)) ⊎ (slice_index_or known i None ≡ Some read)
+read_back [] j i written read e = inr e
+read_back (x ∷ known) zero zero written read e = inl (refl, cc)
+read_back (x ∷ known) zero (suc i) written read e = inr e
+read_back (x ∷ known) (suc j) zero written read e = inr e
+read_back (x ∷ known) (suc j) (suc i) written read e = elim (read_back known j i written read e) [
+  | inl same ↦ inl (ap suc same.0, same.1)
+  | inr before ↦ inr before
+]
+
+module _ (test : Name → Bool) (c : ClassFile) (known : List (Option Bool)) where
+  pub nothing_known : (n : ℕ) → known ≡ replicate n None → AreKnown test c known
+  nothing_known n none i names e = absurd (none_there n i names (sym (ap (λ k. slice_index_or k i None) none) ∙ e))
+
+  pub one_known : (index : ConstantIndex) (names : Bool) → AreKnown test c known → names ≡ names_one test (utf8_at c index)
+      → AreKnown test c (slice_set known index.0 (Some names))
+  one_known index names right is i read e = elim (read_back known index.0 i names read e) [
+    | inl same ↦ sym same.1 ∙ is ∙ ap (λ k. names_one test (utf8_at c (record { 0 = k }))) same.0
+    | inr before ↦ right i read before
+  ]
 
 flat_same : {X A : Type 0} (f g : X → List A) (xs : List X) → ((x : X) → f x ≡ g x) → flat_map f xs ≡ flat_map g xs
 flat_same f g [] e = refl
@@ -243,16 +252,6 @@ test_same test other (Some n) e = e n
 
 if_class : Bool → ℕ → List ConstantIndex
 if_class b index = option_to_list (if b then Some (record { 0 = index }) else None)
-
--- the constants whose texts are marked are those whose classes pass
-pub marked_that : (test : Name → Bool) (c : ClassFile) → classes_marked (text_marks test c) c ≡ classes_that test c
-unfolding if_class
-marked_that test c =
-    flat_same
-    (λ index. option_to_list (class_marked (text_marks test c) c index))
-    (λ index. option_to_list (class_that test c index))
-    (range_with_len 1 (all_slots c.constants))
-    (λ index. ap (λ b. if_class b index) (mark_of test c (constant_at c (record { 0 = index }))))
 
 pub same_classes : (test other : Name → Bool) (c : ClassFile) → ((n : Name) → test n ≡ other n) → classes_that test c ≡ classes_that other c
 unfolding if_class
@@ -283,6 +282,37 @@ no_classes c =
 
 -- ---- the whole
 
-pub descriptors_whole : (c : ClassFile) → by_named (own_descriptor c) c ++ by_constants (handle_descriptor c) c ≡ resolved_descriptors c
+flat_flat : {X A B : Type 0} (f : X → List A) (g : A → List B) (xs : List X) → flat_map g (flat_map f xs) ≡ flat_map (λ x. flat_map g (f x)) xs
+flat_flat f g [] = refl
+flat_flat f g (x ∷ xs) = flat_map-append g (f x) (flat_map f xs) ∙ ap (λ v. flat_map g (f x) ++ v) (flat_flat f g xs)
+
+-- the descriptors of the members that method handles refer to
+by_handles : (c : ClassFile) → flat_map (descriptor_of_member c) (by_constants named_by_handle c) ≡ by_constants (handle_descriptor c) c
+by_handles c =
+    flat_flat (λ index. option_to_list (option_and_then named_by_handle (constant_at c (record { 0 = index })))) (descriptor_of_member c) (range_with_len 1 (all_slots c.constants))
+    ∙ flat_same
+    (λ index. flat_map (descriptor_of_member c) (option_to_list (option_and_then named_by_handle (constant_at c (record { 0 = index })))))
+    (λ index. option_to_list (option_and_then (handle_descriptor c) (constant_at c (record { 0 = index }))))
+    (range_with_len 1 (all_slots c.constants))
+    (λ index. of_one (constant_at c (record { 0 = index })))
+  where
+    of_one : (o : Option Constant) → flat_map (descriptor_of_member c) (option_to_list (option_and_then named_by_handle o)) ≡ option_to_list (option_and_then (handle_descriptor c) o)
+    of_one None = refl
+    of_one (Some (pool.MethodHandle kind reference)) = append-nil (descriptor_of_member c reference)
+    of_one (Some (pool.Utf8 text)) = refl
+    of_one (Some (pool.Integer bits)) = refl
+    of_one (Some (pool.Float bits)) = refl
+    of_one (Some (pool.Long bits)) = refl
+    of_one (Some (pool.Double bits)) = refl
+    of_one (Some (pool.Class name)) = refl
+    of_one (Some (pool.String text)) = refl
+    of_one (Some (pool.Fieldref class entry)) = refl
+    of_one (Some (pool.Methodref class entry)) = refl
+    of_one (Some (pool.InterfaceMethodref class entry)) = refl
+    of_one (Some (pool.NameAndType name descriptor)) = refl
+    of_one (Some (pool.MethodType descriptor)) = refl
+    of_one (Some (pool.InvokeDynamic bootstrap entry)) = refl
+
+pub descriptors_whole : (c : ClassFile) → by_named (own_descriptor c) c ++ flat_map (descriptor_of_member c) (by_constants named_by_handle c) ≡ resolved_descriptors c
 unfolding resolved_descriptors
-descriptors_whole c = refl
+descriptors_whole c = ap (λ v. by_named (own_descriptor c) c ++ v) (by_handles c)

@@ -10,7 +10,7 @@ use Rattle.std.proofs.lemmas.Iterator.Adapters.{position_from-zero}
 use Rattle.std.proofs.lemmas.List.{get_or-replicate, get_or_past, length-append, length-replicate, take_all}
 use Rattle.jc_view.specs.declared.constant_pool.ConstantIndex.{ConstantIndex}
 use Rattle.jc_view.specs.ClassFile.{ClassFile, Member, all_slots, constant_at}
-use Rattle.jc_classes.specs.UsedConstants.{owner}
+use Rattle.jc_view.specs.Lookups.{owner}
 use Rattle.jc_classes.specs.Users.{first_user, names_constant, uses_constant}
 use Rattle.jc_classes.specs.declared.first_users.FirstUsers.{FirstUsers}
 use Rattle.jc_classes.specs.inside.FirstUsers.{AddsFirst, AreFirst, AreSeen, IsEmpty, SetsFirst, first_at, method_if}

@@ -12,7 +12,8 @@ use Rattle.jc_view.specs.ConstantPool.{Constant}
 use Rattle.jc_view.specs.ClassFile.{Attribute, ClassFile, all_slots, constant_at}
 use Rattle.jc_code.specs.NamedConstants.{named_by_method}
 use Rattle.jc_file.proofs.violations.Constants.{usable_within}
-use Rattle.jc_classes.specs.UsedConstants.{by_constants, by_named, classes_that, is_among, is_resolved, named, named_by_handle, named_by_methods, named_by_table, owner, used_constants}
+use Rattle.jc_view.specs.Lookups.{owner}
+use Rattle.jc_classes.specs.UsedConstants.{by_constants, by_named, classes_that, is_among, is_resolved, named, named_by_handle, named_by_methods, named_by_table, used_constants}
 use Rattle.jc_classes.specs.Users.{first_user, is_owner, names_constant, user_by, user_of, uses_constant}
 use Rattle.jc_classes.specs.declared.user.User.TheVariants as user
 use Rattle.jc_classes.proofs.using.Adding.{named_whole}

@@ -1,18 +1,16 @@
 -- How the Class constants are found whose classes are in descriptors.
-use Rattle.std.specs.Prelude.{◌≡◌, ℕ, ◌+◌, ◌||◌, Bool, false, List, map, Option, Some, None, option_and_then, if◌then◌else◌}
+use Rattle.std.specs.Prelude.{◌≡◌, ℕ, ◌||◌, Bool, false, List, Option, Some, None, option_and_then, slice_index_or}
 use Rattle.std.specs.FinMap as fin
-use Rattle.std.specs.List.{flat_map, range_with_len}
 use Rattle.std.specs.Option.{option_map_or, option_to_list}
 use Rattle.jc_base.specs.Bytes.{bytes_cmp}
 use Rattle.jc_view.specs.declared.constant_pool.ConstantIndex.{ConstantIndex}
-use Rattle.jc_view.specs.ClassFile.{ClassFile, all_slots, constant_at}
-use Rattle.jc_view.specs.ConstantPool.{class_entry}
-use Rattle.jc_view.specs.Lookups.{utf8_at}
+use Rattle.jc_view.specs.ClassFile.{ClassFile, constant_at}
+use Rattle.jc_view.specs.Lookups.{signature_entry, utf8_at}
 use Rattle.jc_classes.specs.NameLists.{has}
 use Rattle.jc_classes.specs.NamedTexts.{named_by}
 use Rattle.jc_classes.specs.Names.{Name}
 use Rattle.jc_classes.specs.Parts.{class_of}
-use Rattle.jc_classes.specs.inside.Using.{mark_at}
+use Rattle.jc_classes.specs.ResolvedDescriptors.{descriptor_in}
 
 -- names as a set
 abbrev pub NameSet : Type 0
@@ -26,16 +24,13 @@ pub record Adds (names : List Name) (old new : NameSet) : Type 0 where
 abbrev pub names_one : (Name → Bool) → Option (List ℕ) → Bool
 names_one test text = option_map_or test (option_and_then (λ t. class_of (named_by t)) text) false
 
--- of each index of the constants whether its text does
-abbrev pub text_marks : (Name → Bool) → ClassFile → List Bool
-text_marks test c = map (λ index. names_one test (utf8_at c (record { 0 = index }))) (range_with_len 0 (1 + all_slots c.constants))
+-- what is known of texts is right
+abbrev pub AreKnown : (Name → Bool) → ClassFile → List (Option Bool) → Type 0
+AreKnown test c known = (i : ℕ) (names : Bool) → slice_index_or known i None ≡ Some names → names ≡ names_one test (utf8_at c (record { 0 = i }))
 
--- the Class constant of the index, where its text is marked
-abbrev pub class_marked : List Bool → ClassFile → ℕ → Option ConstantIndex
-class_marked marks c index =
-    if option_map_or (λ text. mark_at marks text.0) (option_and_then class_entry (constant_at c (record { 0 = index }))) false
-    then Some (record { 0 = index })
-    else None
+-- the descriptor of the member that the constant of the index refers to
+abbrev pub member_descriptor : ClassFile → ConstantIndex → Option ConstantIndex
+member_descriptor c index = option_and_then (descriptor_in c) (option_and_then signature_entry (constant_at c index))
 
-abbrev pub classes_marked : List Bool → ClassFile → List ConstantIndex
-classes_marked marks c = flat_map (λ index. option_to_list (class_marked marks c index)) (range_with_len 1 (all_slots c.constants))
+abbrev pub descriptor_of_member : ClassFile → ConstantIndex → List ConstantIndex
+descriptor_of_member c index = option_to_list (member_descriptor c index)

@@ -9,7 +9,8 @@ use Rattle.jc_view.specs.Places.{PlacedAttribute}
 use Rattle.jc_view.specs.AttributeReading.{after_bootstrap, bootstrap_value}
 use Rattle.jc_view.specs.ClassFile.{ClassFile, all_slots, constant_at}
 use Rattle.jc_view.specs.Reading.{table_value}
-use Rattle.jc_classes.specs.UsedConstants.{is_among, named_by_table, owner}
+use Rattle.jc_view.specs.Lookups.{owner}
+use Rattle.jc_classes.specs.UsedConstants.{is_among, named_by_table}
 
 -- what an attribute of the class names, if it tells bootstrap methods
 abbrev pub named_by_attribute : ClassFile → PlacedAttribute → List ConstantIndex

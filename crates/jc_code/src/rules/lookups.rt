@@ -1,10 +1,8 @@
 //! What an instruction's index leads to.
 
-ghost use Rattle.std.specs.Prelude.{◌≡◌, option_and_then};
+ghost use Rattle.std.specs.Prelude.{◌≡◌};
 ghost use Rattle.std.specs.Option.{option_copied};
 ghost use Rattle.jc_base.specs.DescriptorTests.{begins_with};
-ghost use Rattle.jc_view.specs.ClassFile.{constant_at};
-ghost use Rattle.jc_view.specs.Lookups.{signature_entry};
 ghost use Rattle.jc_code.specs.CodeRules.{double_kinds, is_either_method, is_init, is_one_of, is_special, referred_name, single_kinds};
 
 use jc_view::{ClassView, Constant, ConstantIndex};
@@ -47,26 +45,11 @@ pub(crate) fn is_either_method(class: &ClassView, index: ConstantIndex) -> bool
     }
 }
 
-/// The `NameAndType` of the reference to a member, or of the `InvokeDynamic`, of an index.
-fn signature_entry(class: &ClassView, index: ConstantIndex) -> Option<ConstantIndex>
-    ensures { result ≡ option_and_then signature_entry (constant_at class.now index) }
-{
-    match class.constant(index.0) {
-        Some(
-            Constant::Fieldref(_, entry)
-            | Constant::Methodref(_, entry)
-            | Constant::InterfaceMethodref(_, entry)
-            | Constant::InvokeDynamic(_, entry),
-        ) => Some(entry),
-        _ => None,
-    }
-}
-
 /// The name of the member to which an entry refers.
 pub(crate) fn referred_name<'a>(class: &ClassView<'a>, index: ConstantIndex) -> Option<&'a [u8]>
     ensures { option_copied result ≡ referred_name class.now index }
 {
-    class.member_name_at(signature_entry(class, index)?)
+    class.member_name_at(class.signature_entry(index)?)
 }
 
 /// Whether a method's name begins with `<`.

@@ -7,8 +7,7 @@ use Rattle.jc_view.specs.declared.constant_pool.ConstantIndex.{ConstantIndex}
 use Rattle.jc_classes.specs.NameLists.{has}
 use Rattle.jc_classes.specs.ResolvedDescriptors.{classes_at}
 use Rattle.jc_classes.specs.UsedConstants.{is_resolved}
-use Rattle.jc_classes.specs.inside.DescriptorClasses.{classes_marked}
-use Rattle.jc_classes.proofs.using.DescriptorClasses.{empty_list, marked_that, no_classes, same_classes}
+use Rattle.jc_classes.proofs.using.DescriptorClasses.{empty_list, no_classes, same_classes}
 use Rattle.jc_classes.proofs.descriptor_classes.add_resolved_classes.Goals as goal
 
 none_kept : {X : Type 0} (xs : List X) (n : ℕ) → n ≡ length xs → (n == 0) ≡ true → xs ≡ []
@@ -31,10 +30,7 @@ returns c =
     let class = c.args.class.now in
     let names = c.args.names.now.items in
     let found = c.in_ok-found.found in
-    let texts = ap (λ ms. classes_marked ms class) (c.deref-2.ensures.value ∙ c.in_ok-texts.ensures) in
-    subst (λ v. OnOk c.add_marked.result (c.add_marked.new.names.items ≡ names ++ v))
-    (texts
-    ∙ marked_that (map.contains_key found) class
-    ∙ same_classes (map.contains_key found) (is_resolved class) class
+    subst (λ v. OnOk c.add_classes_found.result (c.add_classes_found.new.names.items ≡ names ++ v))
+    (same_classes (map.contains_key found) (is_resolved class) class
     (λ n. c.in_ok-found.ensures n ∙ ap (list_any (λ (index : ConstantIndex). has (classes_at class index) n)) (c.deref.ensures.value ∙ c.in_ok-descriptors.ensures)))
-    c.add_marked.ensures
+    c.add_classes_found.ensures

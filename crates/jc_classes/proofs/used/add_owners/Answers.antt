@@ -4,7 +4,8 @@ use Rattle.std.specs.Option.{option_to_list}
 use Rattle.std.specs.Prelude.{option_and_then}
 use Rattle.jc_view.specs.declared.constant_pool.ConstantIndex.{ConstantIndex}
 use Rattle.jc_view.specs.ClassFile.{ClassFile, all_slots, constant_at}
-use Rattle.jc_classes.specs.UsedConstants.{is_among, named, owner}
+use Rattle.jc_view.specs.Lookups.{owner}
+use Rattle.jc_classes.specs.UsedConstants.{is_among, named}
 use Rattle.jc_classes.proofs.using.Adding.{next_in_range}
 use Rattle.jc_classes.proofs.using.Marking.{mark_there}
 use Rattle.jc_classes.proofs.used.add_owners.Goals as goal

@@ -3,7 +3,8 @@ use Rattle.std.specs.List.{flat_map, range_with_len}
 use Rattle.std.specs.Option.{option_to_list}
 use Rattle.std.specs.Prelude.{option_and_then}
 use Rattle.jc_view.specs.ClassFile.{constant_at}
-use Rattle.jc_classes.specs.UsedConstants.{is_among, named, owner}
+use Rattle.jc_view.specs.Lookups.{owner}
+use Rattle.jc_classes.specs.UsedConstants.{is_among, named}
 use Rattle.jc_classes.proofs.used.add_owners.Given as goal
 
 abbrev pub invariant-loop-index : goal.invariant-loop-index

@@ -1,20 +1,7 @@
 use Rattle.std.proofs.Common.{sym, ◌∙◌}
-use Rattle.jc_text.proofs.Sending.{◌⟫◌, sends_dropped, sends_equal}
-use Rattle.jc_text.proofs.texts.PlainRuns.{shown_plain, shown_spelled, shown_unspelled}
+use Rattle.jc_text.proofs.Sending.{sends_equal}
+use Rattle.jc_text.proofs.texts.PlainRuns.{shown_plain}
 use Rattle.jc_text.proofs.text_writer.TextWriter.shown.Goals as goal
-
-pub returns-then-has_failed : goal.returns-then-has_failed
-returns-then-has_failed g c = sends_dropped (sym c.has_failed.ensures ∙ c.if-has_failed.true)
 
 pub returns-then-are_plain : goal.returns-then-are_plain
 returns-then-are_plain g c = sends_equal (sym (shown_plain c.args.text.now (sym c.are_plain.ensures ∙ c.if-are_plain.true))) c.text.ensures
-
-pub returns-then-is_ok : goal.returns-then-is_ok
-returns-then-is_ok g c =
-    let spelled = sym c.check_units.ensures.computed ∙ sym c.is_ok.ensures.value ∙ c.if-is_ok.true in
-    sends_equal (sym (shown_spelled c.args.text.now spelled)) c.units.ensures
-
-pub returns-else-is_ok : goal.returns-else-is_ok
-returns-else-is_ok g c =
-    let spelled = sym c.check_units.ensures.computed ∙ sym c.is_ok.ensures.value ∙ c.if-is_ok.false in
-    sends_equal (sym (shown_unspelled c.args.text.now spelled)) (c.text-else-is_ok.ensures ⟫ c.hexadecimal.ensures)
