@@ -5,6 +5,7 @@ ghost use Rattle.std.specs.IoError.{error_kind};
 ghost use Rattle.jc_input.specs.declared.source.SourceError.TheVariants.{NoMemory};
 ghost use Rattle.jc_input.specs.Sources.{SourceAnswers, TakesAnswer, answer_of, by_any_path};
 
+use std::alloc::Global;
 use std::fs;
 use std::io::{self, ErrorKind, Read};
 use std::marker::Model;
@@ -85,10 +86,15 @@ impl Source for MemSource {
 /// So many bytes of a file are read at most: one more than a file may have.
 const MOST_BYTES: u64 = 16_777_217;
 
+/// So many bytes of a file are read at once. Most class files have fewer.
+const ROOM: usize = 16_384;
+
 /// A source that reads files. Nothing is known of what it answers.
 #[derive(Drop)]
 pub struct FileSource<'a, R> {
     rt: &'a R,
+    /// Room to read into, once a file was read.
+    room: Vec<u8>,
 }
 
 impl<'a, R: Files + AllocGlobal> FileSource<'a, R> {
@@ -98,7 +104,19 @@ impl<'a, R: Files + AllocGlobal> FileSource<'a, R> {
     pub fn new(rt: &'a R) -> FileSource<'a, R>
         ensures { runtime_of result ≡ rt.now }
     {
-        FileSource { rt }
+        FileSource {
+            rt,
+            room: Vec::new(rt.alloc()),
+        }
+    }
+
+    /// The bytes of a file, or the first 16,777,217 of them, with no room to spare.
+    fn read_file(&mut self, path: &str) -> io::Result<Vec<u8>> {
+        if self.room.is_empty() {
+            self.room.resize(ROOM, 0)?;
+        }
+        let mut file = fs::open(self.rt, path)?.take(MOST_BYTES);
+        read_all(self.rt.alloc(), &mut file, &mut self.room)
     }
 }
 
@@ -108,7 +126,7 @@ impl<R: Files + AllocGlobal> Source for FileSource<'_, R> {
     /// The bytes of the file, or the first 16,777,217 of them. A path that is not UTF-8 is `Unread`.
     fn read(&mut self, path: &[u8]) -> Result<Vec<u8>, SourceError> {
         match str::from_utf8(path) {
-            Ok(path) => match read_file(self.rt, path) {
+            Ok(path) => match self.read_file(path) {
                 Ok(bytes) => Ok(bytes),
                 Err(error) => Err(refusal(&error)),
             },
@@ -117,12 +135,17 @@ impl<R: Files + AllocGlobal> Source for FileSource<'_, R> {
     }
 }
 
-/// The bytes of a file, or the first 16,777,217 of them, with no room to spare.
-fn read_file<R: Files + AllocGlobal>(rt: &R, path: &str) -> io::Result<Vec<u8>> {
-    let mut bytes = Vec::new(rt.alloc());
-    fs::open(rt, path)?
-        .take(MOST_BYTES)
-        .read_to_end(&mut bytes)?;
+/// All bytes of a reader, with no room to spare. They are read by way of the room, which no read has to clear.
+fn read_all<R: Read>(alloc: Global, reader: &mut R, room: &mut [u8]) -> io::Result<Vec<u8>> {
+    let mut bytes = Vec::new(alloc);
+    for _ in 0..u64::MAX {
+        match reader.read(room) {
+            Ok(0) => break,
+            Ok(count) => bytes.extend_from_slice(&room[..count])?,
+            Err(error) if error.kind() == ErrorKind::Interrupted => {}
+            Err(error) => return Err(error),
+        }
+    }
     bytes.shrink_to_fit();
     Ok(bytes)
 }

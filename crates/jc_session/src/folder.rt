@@ -14,12 +14,17 @@ use std::rt::Files;
 pub(crate) struct FolderSource<'a, R> {
     rt: &'a R,
     folder: &'a str,
+    files: FileSource<'a, R>,
 }
 
 impl<'a, R: Files + AllocGlobal> FolderSource<'a, R> {
     /// A source over the files of a runtime, by their paths below a folder.
     pub(crate) fn new(rt: &'a R, folder: &'a str) -> FolderSource<'a, R> {
-        FolderSource { rt, folder }
+        FolderSource {
+            rt,
+            folder,
+            files: FileSource::new(rt),
+        }
     }
 }
 
@@ -32,7 +37,7 @@ impl<R: Files + AllocGlobal> Source for FolderSource<'_, R> {
             return Err(SourceError::Unread);
         };
         match path_below(self.rt.alloc(), self.folder, path) {
-            Ok(path) => FileSource::new(self.rt).read(path.as_bytes()),
+            Ok(path) => self.files.read(path.as_bytes()),
             Err(_) => Err(SourceError::NoMemory),
         }
     }
