@@ -4,6 +4,7 @@ pub mod Chain
 pub mod Indexed
 pub mod Loading
 pub mod Members
+pub mod Overriding
 pub mod Packages
 pub mod Picks
 pub mod Settled
