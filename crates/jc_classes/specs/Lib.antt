@@ -6,6 +6,7 @@ pub mod FactsOrder
 pub mod FieldLookup
 pub mod Laws
 pub mod Lent
+pub mod Inheritance
 pub mod LinkErrors
 pub mod LinkLaws
 pub mod LinkageErrors
@@ -16,6 +17,7 @@ pub mod NameLists
 pub mod NamedTexts
 pub mod Names
 pub mod Numbers
+pub mod Overriding
 pub mod Parts
 pub mod Resolution
 pub mod ResolvedDescriptors

@@ -3,6 +3,7 @@
 ghost use Rattle.std.specs.Prelude.{◌≡◌, ◌<◌, ◌≤◌, ◌++◌, IfOk, OnErr, OnOk, length, map};
 ghost use Rattle.std.specs.List.{All, flat_map};
 ghost use Rattle.std.specs.Option.{option_copied, option_to_list};
+ghost use Rattle.jc_classes.specs.Inheritance.{IsInheritance};
 ghost use Rattle.jc_classes.specs.NameLists.{Lists};
 ghost use Rattle.jc_classes.specs.Numbers.{name_at};
 ghost use Rattle.jc_classes.specs.Parts.{IsPart, Reach};
@@ -19,7 +20,7 @@ use jc_base::NoMemory;
 use jc_classes::{Facts, Numbers};
 use jc_graph::{Seen, mark_above};
 use jc_index::PackedNames;
-use jc_resolve::Hierarchy;
+use jc_resolve::{Hierarchy, InheritanceErrors};
 use std::alloc::Global;
 use std::marker::Model;
 
@@ -85,6 +86,18 @@ impl<'g, 't> PartMaker<'g, 't> {
         self.graph.record(place)
     }
 
+    /// Finds the errors of inheritance of the class at a place.
+    pub fn inheritance_errors(
+        &self,
+        alloc: Global,
+        place: usize,
+    ) -> Result<InheritanceErrors, NoMemory>
+        requires { place < length self.now.classes }
+        ensures { (m : World) → IsIn m self.now → IfOk result (IsInheritance m (name_at self.now.classes place)) }
+    {
+        inheritance_at(alloc, self.graph, &self.hierarchy, place)
+    }
+
     /// Returns the names that the class at a place reaches.
     pub fn reach(&mut self, alloc: Global, place: usize) -> Result<PackedNames, NoMemory>
         requires { place < length self.old.classes }
@@ -125,6 +138,20 @@ fn part_at(
     let part = part_of(alloc, hierarchy, class, own, references)?;
     meter.count_part();
     Ok(part)
+}
+
+/// The errors of inheritance of the class at a place, over the hierarchy of its graph.
+fn inheritance_at(
+    alloc: Global,
+    graph: &ClassGraph,
+    hierarchy: &Hierarchy,
+    place: usize,
+) -> Result<InheritanceErrors, NoMemory>
+    requires hierarchy { IsHierarchyOf graph.now hierarchy.now }
+    requires place { place < length graph.now.classes }
+    ensures { (m : World) → IsIn m graph.now → IfOk result (IsInheritance m (name_at graph.now.classes place)) }
+{
+    hierarchy.inheritance_errors(alloc, graph.classes[place])
 }
 
 /// The room that was kept, or new room.

@@ -5,6 +5,7 @@ pub mod Indexed
 pub mod Loading
 pub mod Members
 pub mod Outside
+pub mod Overriding
 pub mod Packages
 pub mod Picks
 pub mod Shown

@@ -105,7 +105,7 @@ impl<'c, 't> Classes<'c, 't> {
     }
 
     /// The package of a node's name.
-    fn package(&self, node: usize) -> &[u8]
+    pub(crate) fn package(&self, node: usize) -> &[u8]
         ensures { result.now ≡ package_of (indexed_name (indexed_of self.now) node) }
     {
         match self.package_ends.get(node) {

@@ -8,3 +8,4 @@ pub mod OneReport
 pub mod ProvidedByClass
 pub mod ReferencesByIndex
 pub mod RowsByClass
+pub mod Inheritances

@@ -13,6 +13,7 @@ use Rattle.jc_list.specs.FaultLines.{format_line}
 use Rattle.jc_classes.specs.declared.user.User.{User}
 use Rattle.jc_classes.specs.declared.user.User.TheVariants as user
 use Rattle.jc_classes.specs.Facts.{Facts, Reference}
+use Rattle.jc_classes.specs.Inheritance.{Inherited, InheritanceErrors}
 use Rattle.jc_classes.specs.LinkErrors.{LinkFault}
 use Rattle.jc_classes.specs.Loading.{Loading}
 use Rattle.jc_classes.specs.Loading.{Loading as loading}
@@ -26,6 +27,7 @@ use Rattle.jc_report.specs.FileRows.{FileRow, is_unreadable}
 use Rattle.jc_report.specs.FileRowText.{row_text}
 use Rattle.jc_report.specs.PartText.{answer_text, error_text, member_text, reference_text}
 use Rattle.jc_report.specs.Reports.{Class, Report, is_error, is_load_error, name_of}
+use Rattle.jc_report.specs.TreeErrors.{TreeErrors, is_any}
 
 -- ---- what is asked for
 
@@ -113,6 +115,18 @@ link_error f link =
     of_method f link.method
     (decimal link.place ++ codes ": " ++ instruction_text f link ++ codes " -> " ++ error_text link.error link.class ++ codes "\n")
 
+-- ---- inheritance
+
+abbrev pub final_superclass_error : Facts → List ℕ
+final_superclass_error f = of_class f.name (codes "extends FINAL " ++ shown (unwrap_or f.superclass []) ++ codes "\n")
+
+-- a method overrides that of another class, with the same name and descriptor
+abbrev pub overridden_error : Name → Inherited → List ℕ
+overridden_error name i = member_text name i.key ++ codes ": overrides FINAL " ++ member_text i.home i.key ++ codes "\n"
+
+abbrev pub inheritance_errors : Facts → InheritanceErrors → List ℕ
+inheritance_errors f e = cond e.extends_final (final_superclass_error f) [] ++ flat_map (overridden_error f.name) e.overridden
+
 -- ---- references that errors answer
 
 -- what uses the reference of a number
@@ -155,17 +169,24 @@ answer_errors used_only f number (r ∷ rs) (a ∷ answers) =
 
 -- ---- all of a report
 
--- of a class, in the order of the lines of its part
-unfoldable pub part_errors : (used_only : Bool) → Facts → Part → List ℕ
-part_errors used_only f p =
+-- of a class, in the order of the lines of its part; the errors of inheritance before the references
+unfoldable pub part_errors : (used_only : Bool) → Facts → Part → InheritanceErrors → List ℕ
+part_errors used_only f p e =
     load_error f.name p.load
     ++ flat_map (λ fault. of_class f.name (format_line fault)) p.format_faults
     ++ flat_map (code_error f) p.code_faults
     ++ flat_map (link_error f) p.links
+    ++ inheritance_errors f e
     ++ answer_errors used_only f 0 f.references p.answers
 
-abbrev pub class_errors : Asked → Class → List ℕ
-class_errors asked c = cond (is_asked asked (name_of c)) (part_errors asked.used_only c.facts c.part) []
+abbrev pub class_errors : Asked → Class → InheritanceErrors → List ℕ
+class_errors asked c e = cond (is_asked asked (name_of c)) (part_errors asked.used_only c.facts c.part e) []
+
+-- of each class, with its errors of inheritance
+abbrev pub classes_errors : Asked → List Class → List InheritanceErrors → List ℕ
+classes_errors asked [] es = []
+classes_errors asked (c ∷ cs) [] = []
+classes_errors asked (c ∷ cs) (e ∷ es) = class_errors asked c e ++ classes_errors asked cs es
 
 -- an unreadable file that is asked for
 abbrev pub is_wrong_file : Asked → FileRow → Bool
@@ -176,8 +197,8 @@ abbrev pub file_error : Asked → FileRow → List ℕ
 file_error asked row = cond (is_wrong_file asked row) (row_text row) []
 
 -- the errors that are asked for
-unfoldable pub errors_text : Asked → Report → List ℕ
-errors_text asked r = flat_map (file_error asked) r.files ++ flat_map (class_errors asked) r.classes
+unfoldable pub errors_text : Asked → TreeErrors → List ℕ
+errors_text asked e = flat_map (file_error asked) e.report.files ++ classes_errors asked e.report.classes e.inheritance
 
 -- ---- whether there are any
 
@@ -198,3 +219,13 @@ is_wrong_class asked c = is_asked asked (name_of c) && is_wrong_listed asked.use
 -- whether a file or a class that is asked for is wrong
 abbrev pub is_wrong_among : Asked → Report → Bool
 is_wrong_among asked r = list_any (is_wrong_file asked) r.files || list_any (is_wrong_class asked) r.classes
+
+-- whether a class that is asked for has an error of inheritance
+abbrev pub has_inheritance_error : Asked → List Class → List InheritanceErrors → Bool
+has_inheritance_error asked [] es = false
+has_inheritance_error asked (c ∷ cs) [] = false
+has_inheritance_error asked (c ∷ cs) (e ∷ es) = (is_asked asked (name_of c) && is_any e) || has_inheritance_error asked cs es
+
+-- whether a file or a class that is asked for is wrong or has such an error
+abbrev pub has_error_among : Asked → TreeErrors → Bool
+has_error_among asked e = is_wrong_among asked e.report || has_inheritance_error asked e.report.classes e.inheritance

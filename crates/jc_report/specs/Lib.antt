@@ -16,6 +16,7 @@ pub mod RowKeyLaws
 pub mod RowKeys
 pub mod RowView
 pub mod Rows
+pub mod TreeErrors
 pub mod Trees
 pub mod Winners
 pub mod inside

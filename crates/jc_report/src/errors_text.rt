@@ -8,49 +8,53 @@ ghost use Rattle.jc_text.specs.Escapes.{shown};
 ghost use Rattle.jc_text.specs.Sends.{Sends};
 ghost use Rattle.jc_list.specs.FaultLines.{format_line};
 ghost use Rattle.jc_resolve.specs.Answers.{loading_of};
-ghost use Rattle.jc_report.specs.ErrorsText.{asked_lent, class_errors, errors_text, file_error, load_error, of_class, part_errors};
+ghost use Rattle.jc_report.specs.ErrorsText.{asked_lent, class_errors, classes_errors, errors_text, file_error, load_error, of_class, part_errors};
 ghost use Rattle.jc_report.specs.FileRows.{is_unreadable};
 ghost use Rattle.jc_report.specs.FileRowView as lent;
 
 use crate::asked::{Asked, is_asked};
 use crate::file_row::{FileRow, FileState};
 use crate::file_row_text::write_file_row;
+use crate::inheritance_errors::write_inheritance_errors;
 use crate::method_errors::{write_code_errors, write_link_errors};
 use crate::part_text::write_error;
 use crate::reference_errors::write_answer_errors;
-use crate::report::{Class, TreeReport, is_wrong_file};
+use crate::report::{Class, is_wrong_file};
+use crate::tree_errors::TreeErrors;
 use jc_base::{DeviceFault, Output};
 use jc_classes::Facts;
 use jc_file::Fault;
 use jc_link::Part;
 use jc_list::write_format_line;
-use jc_resolve::Loading;
+use jc_resolve::{InheritanceErrors, Loading};
 use jc_text::TextWriter;
 
 /// Writes what makes a report wrong, as far as it is asked for, in one line each.
 ///
 /// Unreadable files are first, by path. Then follow the classes by name: the load error or the format faults of each, its
-/// code faults by method, its instructions that do not link by method and offset, and its references by index. An output
+/// code faults by method, its instructions that do not link by method and offset, its FINAL superclass and the FINAL methods
+/// that it overrides, and its references by index. An output
 /// that fails has a beginning of this text.
 pub fn write_errors<W: Output>(
-    report: &TreeReport<'_>,
+    errors: &TreeErrors<'_>,
     asked: Asked<'_>,
     out: &mut W,
 ) -> Result<(), DeviceFault>
-    ensures ok { OnOk result (Appends (W.written out.old) (W.written out.new) (errors_text (asked_lent asked.entry) report.now)) }
-    ensures front { OnErr result (WritesFront (W.written out.old) (W.written out.new) (errors_text (asked_lent asked.entry) report.now)) }
+    ensures ok { OnOk result (Appends (W.written out.old) (W.written out.new) (errors_text (asked_lent asked.entry) errors.now)) }
+    ensures front { OnErr result (WritesFront (W.written out.old) (W.written out.new) (errors_text (asked_lent asked.entry) errors.now)) }
     ensures failures { CountsFault result (W.failures out.old) (W.failures out.new) }
 {
     let mut text = TextWriter::new(out);
-    write_each(&mut text, report, asked);
+    write_each(&mut text, errors, asked);
     text.finish()
 }
 
-fn write_each<W: Output>(text: &mut TextWriter<'_, W>, report: &TreeReport<'_>, asked: Asked<'_>)
-    ensures { Sends W.written W.failures text.old text.new (errors_text (asked_lent asked.entry) report.now) }
+fn write_each<W: Output>(text: &mut TextWriter<'_, W>, errors: &TreeErrors<'_>, asked: Asked<'_>)
+    ensures { Sends W.written W.failures text.old text.new (errors_text (asked_lent asked.entry) errors.now) }
 {
+    let report = errors.report();
     write_files(text, report.files(), asked);
-    write_classes(text, report.classes(), asked);
+    write_classes(text, report.classes(), errors.inheritance(), asked);
 }
 
 fn write_files<W: Output>(text: &mut TextWriter<'_, W>, files: &[FileRow<'_>], asked: Asked<'_>)
@@ -71,20 +75,40 @@ fn write_file<W: Output>(text: &mut TextWriter<'_, W>, row: &FileRow<'_>, asked:
     }
 }
 
-fn write_classes<W: Output>(text: &mut TextWriter<'_, W>, classes: &[Class<'_>], asked: Asked<'_>)
-    ensures { Sends W.written W.failures text.old text.new (flat_map (class_errors (asked_lent asked.entry)) classes.now) }
+/// The errors of classes, each with its errors of inheritance.
+fn write_classes<W: Output>(
+    text: &mut TextWriter<'_, W>,
+    classes: &[Class<'_>],
+    inheritance: &[InheritanceErrors],
+    asked: Asked<'_>,
+)
+    ensures { Sends W.written W.failures text.old text.new (classes_errors (asked_lent asked.entry) classes.now inheritance.now) }
 {
-    for class in classes {
-        write_class(text, class, asked);
+    for place in 0..inheritance.len() {
+        match classes.get(place) {
+            Some(class) => write_class(text, class, &inheritance[place], asked),
+            None => return,
+        }
     }
 }
 
 /// The errors of a class that is asked for.
-fn write_class<W: Output>(text: &mut TextWriter<'_, W>, class: &Class<'_>, asked: Asked<'_>)
-    ensures { Sends W.written W.failures text.old text.new (class_errors (asked_lent asked.entry) class.now) }
+fn write_class<W: Output>(
+    text: &mut TextWriter<'_, W>,
+    class: &Class<'_>,
+    inheritance: &InheritanceErrors,
+    asked: Asked<'_>,
+)
+    ensures { Sends W.written W.failures text.old text.new (class_errors (asked_lent asked.entry) class.now inheritance.now) }
 {
     if is_asked(asked, class.facts().name()) {
-        write_part_errors(text, class.facts(), class.part(), asked.used_only);
+        write_part_errors(
+            text,
+            class.facts(),
+            class.part(),
+            inheritance,
+            asked.used_only,
+        );
     }
 }
 
@@ -92,19 +116,21 @@ fn write_part_errors<W: Output>(
     text: &mut TextWriter<'_, W>,
     facts: &Facts,
     part: &Part,
+    inheritance: &InheritanceErrors,
     used_only: bool,
 )
-    ensures { Sends W.written W.failures text.old text.new (part_errors used_only facts.now part.now) }
+    ensures { Sends W.written W.failures text.old text.new (part_errors used_only facts.now part.now inheritance.now) }
 {
     write_load_error(text, facts.name(), part.load());
     write_format_errors(text, facts.name(), part.format_faults());
     write_code_errors(text, facts, part.code_faults());
     write_link_errors(text, facts, part.links());
+    write_inheritance_errors(text, facts, inheritance);
     write_answer_errors(text, facts, part.answers(), used_only);
 }
 
 /// The name of the class that what follows is told of.
-fn write_front<W: Output>(text: &mut TextWriter<'_, W>, name: &[u8])
+pub(crate) fn write_front<W: Output>(text: &mut TextWriter<'_, W>, name: &[u8])
     ensures { Sends W.written W.failures text.old text.new (shown name.now ++ codes ": ") }
 {
     text.shown(name);

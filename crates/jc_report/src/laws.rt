@@ -19,8 +19,8 @@ pub fn report_is_one()
     ensures { ReportIsOne }
 {}
 
-/// The text of the errors that are asked for is empty exactly if nothing that is asked for is wrong. If all errors are
-/// asked for, something is wrong exactly if the report is wrong.
+/// The text of the errors that are asked for is empty exactly if nothing that is asked for is wrong and no class that is
+/// asked for has an error of inheritance. If everything is asked for, something is wrong exactly if the report is wrong.
 pub fn errors_are_told()
     ensures told { ErrorsAreTold }
     ensures all { WrongAmongAll }

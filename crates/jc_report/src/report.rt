@@ -115,8 +115,29 @@ impl<'t> TreeReport<'t> {
         ensures made_rise { meter.old.made ≤ meter.new.made }
         ensures asks_rise { meter.old.asks ≤ meter.new.asks }
     {
+        let graph = ClassGraph::of(alloc, &tree.table, outside, meter)?;
+        let mut maker = PartMaker::new(alloc, &graph)?;
+        TreeReport::over(alloc, tree, &mut maker, meter)
+    }
+
+    /// Makes the report over the graph of the tree's classes.
+    pub(crate) fn over(
+        alloc: Global,
+        tree: &'t Tree,
+        maker: &mut PartMaker,
+        meter: &mut Meter,
+    ) -> Result<TreeReport<'t>, NoMemory>
+        requires classes { maker.old.classes ≡ names_of_classes (classes_of tree.now.classes) }
+        ensures report { (prefixes : List Name) → IsIn (world tree.now.classes prefixes) maker.old
+            → (f : Files) → IsTree f tree.now → IfOk result (λ r. IsReport f prefixes r) }
+        ensures names { IfOk result (λ r. map name_of r.classes ≡ maker.old.classes) }
+        ensures graph { maker.new ≡ maker.old }
+        ensures made { IfOk result (λ r. meter.new.made ≡ counted meter.old.made (length r.classes)) }
+        ensures made_rise { meter.old.made ≤ meter.new.made }
+        ensures asks_rise { meter.old.asks ≤ meter.new.asks }
+    {
         let mut report = TreeReport::empty(alloc);
-        report.fill(alloc, tree, outside, meter)?;
+        report.fill(alloc, tree, maker, meter)?;
         Ok(report)
     }
 
@@ -138,19 +159,23 @@ impl<'t> TreeReport<'t> {
         &mut self,
         alloc: Global,
         tree: &'t Tree,
-        outside: &Outside,
+        maker: &mut PartMaker,
         meter: &mut Meter,
     ) -> Result<(), NoMemory>
         requires files { self.old.files ≡ [] }
         requires classes { self.old.classes ≡ [] }
         requires required { self.old.required ≡ [] }
-        ensures report { (f : Files) → IsTree f tree.now → OnOk result (IsReport f outside.now self.new) }
+        requires graph { maker.old.classes ≡ names_of_classes (classes_of tree.now.classes) }
+        ensures report { (prefixes : List Name) → IsIn (world tree.now.classes prefixes) maker.old
+            → (f : Files) → IsTree f tree.now → OnOk result (IsReport f prefixes self.new) }
+        ensures names { OnOk result (map name_of self.new.classes ≡ maker.old.classes) }
+        ensures graph { maker.new ≡ maker.old }
         ensures made { OnOk result (meter.new.made ≡ counted meter.old.made (length self.new.classes)) }
         ensures made_rise { meter.old.made ≤ meter.new.made }
         ensures asks_rise { meter.old.asks ≤ meter.new.asks }
     {
         fill_files(&mut self.files, tree, meter)?;
-        fill_classes(&mut self.classes, alloc, tree, outside, meter)?;
+        push_classes(&mut self.classes, alloc, &tree.table, maker, meter)?;
         provided_by_name(&self.classes);
         fill_required(&mut self.required, alloc, &self.classes)
     }
@@ -241,25 +266,6 @@ fn fill_files<'t>(
     Ok(())
 }
 
-/// The classes that the files of a tree give, by name, each with its part.
-fn fill_classes<'t>(
-    classes: &mut Vec<Class<'t>>,
-    alloc: Global,
-    tree: &'t Tree,
-    outside: &Outside,
-    meter: &mut Meter,
-) -> Result<(), NoMemory>
-    requires { classes.old.items ≡ [] }
-    ensures classes { (f : Files) → IsTree f tree.now → OnOk result (AreClasses f outside.now classes.new.items) }
-    ensures made { OnOk result (meter.new.made ≡ counted meter.old.made (length classes.new.items)) }
-    ensures made_rise { meter.old.made ≤ meter.new.made }
-    ensures asks_rise { meter.old.asks ≤ meter.new.asks }
-{
-    let graph = ClassGraph::of(alloc, &tree.table, outside, meter)?;
-    let mut maker = PartMaker::new(alloc, &graph)?;
-    push_classes(classes, alloc, &tree.table, &mut maker, meter)
-}
-
 /// The classes of a table, each with its part, which a maker makes.
 fn push_classes<'t>(
     classes: &mut Vec<Class<'t>>,
@@ -272,6 +278,8 @@ fn push_classes<'t>(
     requires names { maker.old.classes ≡ names_of_classes (classes_of table.now) }
     ensures classes { (prefixes : List Name) → IsIn (world table.now prefixes) maker.old
         → OnOk result (AreMadeOf table.now prefixes classes.new.items) }
+    ensures names { OnOk result (map name_of classes.new.items ≡ maker.old.classes) }
+    ensures graph { maker.new ≡ maker.old }
     ensures made { OnOk result (meter.new.made ≡ counted meter.old.made (length classes.new.items)) }
     ensures made_rise { meter.old.made ≤ meter.new.made }
     ensures asks { meter.new.asks ≡ meter.old.asks }

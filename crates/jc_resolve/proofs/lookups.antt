@@ -3,3 +3,4 @@ pub mod FieldWalk
 pub mod Looks
 pub mod Choose
 pub mod Chain
+pub mod InheritanceLemmas

@@ -3,6 +3,7 @@ pub mod Chain
 pub mod Entries
 pub mod Found
 pub mod Gathered
+pub mod Inheritance
 pub mod Links
 pub mod Loaded
 pub mod Loading

@@ -4,6 +4,7 @@
 ghost use Rattle.std.specs.Prelude.{◌≡◌, ◌<◌, ℕ, length, Some, IfOk};
 ghost use Rattle.std.specs.Bool.{Decides};
 ghost use Rattle.std.specs.List.{Contains};
+ghost use Rattle.jc_classes.specs.Inheritance.{IsInheritance};
 ghost use Rattle.jc_classes.specs.Loading.{Load as Loads};
 ghost use Rattle.jc_classes.specs.Names.{names_of, object as java_lang_object};
 ghost use Rattle.jc_classes.specs.Numbers.{name_at};
@@ -15,6 +16,7 @@ ghost use Rattle.jc_resolve.specs.Numbered.{Agrees, IsClosed, NumberReferences, 
 ghost use Rattle.jc_resolve.specs.inside.Resolved.{loading_of as loading_at};
 
 use crate::all_answers::linked;
+use crate::inheritance::InheritanceErrors;
 use crate::linked::Linked;
 use crate::loaded::load_classes;
 use crate::room::Room;
@@ -137,5 +139,21 @@ impl<'c, 't> Hierarchy<'c, 't> {
             class,
             nodes,
         )
+    }
+
+    /// Finds the errors of inheritance of a class (JVMS 4.10). Takes as long as its methods are looked up in each of its
+    /// superclasses.
+    pub fn inheritance_errors(
+        &self,
+        alloc: Global,
+        class: usize,
+    ) -> Result<InheritanceErrors, NoMemory>
+        requires { class < length self.now.names }
+        ensures { IfOk result (λ e. (m : World) → Agrees m self.now → IsInheritance m (node_name self.now class) e) }
+    {
+        match self.loads[class] {
+            Load::Loaded => InheritanceErrors::of(alloc, &self.classes, class),
+            _ => Ok(InheritanceErrors::none(alloc)),
+        }
     }
 }

@@ -1,5 +1,6 @@
 //! Loading, look-up and resolution (JVMS 5.3.5, 5.4.3, 6.5) over the classes of a class graph, by their numbers:
-//! how each class loads, the answer to each reference of a class, and which of its instructions do not link.
+//! how each class loads, the answer to each reference of a class, which of its instructions do not link, and which FINAL
+//! methods and classes it overrides and extends.
 #![tactic(auto)]
 
 mod all_answers;
@@ -9,6 +10,7 @@ mod answers;
 mod entry;
 mod fields;
 mod hierarchy;
+mod inheritance;
 mod linked;
 mod loaded;
 mod look;
@@ -23,4 +25,5 @@ mod superinterfaces;
 pub use answer_list::Answers;
 pub use answers::{Answer, AnswerKind};
 pub use hierarchy::{Hierarchy, Loading};
+pub use inheritance::{InheritanceErrors, Inherited};
 pub use linked::{Link, Linked, Links};

@@ -3,9 +3,10 @@ use Rattle.std.specs.Prelude.{◌≡◌, ◌≤◌, ℕ, Bool, List, [], ◌∷�
 use Rattle.std.specs.Io.KnownBytes.{Appends, Keeps}
 use Rattle.jc_base.specs.Device.{MoreFaults, WritesFront}
 use Rattle.jc_report.specs.Files.{Files}
-use Rattle.jc_report.specs.ErrorsText.{errors_text, is_wrong_among}
+use Rattle.jc_report.specs.ErrorsText.{errors_text, has_error_among}
 use Rattle.jc_report.specs.ReportText.{report_text}
 use Rattle.jc_report.specs.Reports.{IsReport, Report, is_wrong}
+use Rattle.jc_report.specs.TreeErrors.{IsTreeErrors, TreeErrors}
 use Rattle.jc_input.specs.declared.edit.EditError.{EditError}
 use Rattle.jc_input.specs.declared.source.SourceError.{SourceError}
 use Rattle.jc_input.specs.declared.source.SourceError.TheVariants as sources
@@ -78,23 +79,22 @@ pub data CheckFault : Type 0 where
   WriteFailed : CheckFault
   NoMemory : CheckFault
 
--- what is written of a report, and what it is judged by: the whole, or what makes it wrong, as far as it is asked for
-abbrev pub written_text : CheckForm → Report → List ℕ
-written_text forms.Report r = report_text r
-written_text (forms.Errors only used_only) r = errors_text (record { only = only; used_only = used_only }) r
-
-abbrev pub is_wrong_by : CheckForm → Report → Bool
-is_wrong_by forms.Report r = is_wrong r
-is_wrong_by (forms.Errors only used_only) r = is_wrong_among (record { only = only; used_only = used_only }) r
+-- what is written, and whether something is wrong: of the whole report, or of the errors that are asked for
+abbrev pub AreWritten : CheckForm → Files → (prefixes : List (List ℕ)) → (text : List ℕ) → (wrong : Bool) → Type 0
+AreWritten forms.Report f prefixes text wrong =
+    (r : Report) × IsReport f prefixes r × (text ≡ report_text r) × (wrong ≡ is_wrong r)
+AreWritten (forms.Errors only used_only) f prefixes text wrong =
+    (e : TreeErrors) × IsTreeErrors f prefixes e × (text ≡ errors_text (record { only = only; used_only = used_only }) e)
+    × (wrong ≡ has_error_among (record { only = only; used_only = used_only }) e)
 
 -- what is asked of the report of all the files was written, or a proper beginning of it where the output failed, or nothing;
 -- memory was wanted only where no file before was unread or refused
 abbrev pub ChecksAs : (prefixes : List (List ℕ)) → CheckForm → Added → Result Bool CheckFault → (before now : Option (List ℕ)) → Type 0
 ChecksAs prefixes form files (Ok wrong) before now =
-    (f : Files) × (r : Report) × (files ≡ All f) × IsReport f prefixes r × (wrong ≡ is_wrong_by form r)
-    × Appends before now (written_text form r)
+    (f : Files) × (text : List ℕ) × (files ≡ All f) × AreWritten form f prefixes text wrong × Appends before now text
 ChecksAs prefixes form files (Err WriteFailed) before now =
-    (f : Files) × (r : Report) × (files ≡ All f) × IsReport f prefixes r × WritesFront before now (written_text form r)
+    (f : Files) × (text : List ℕ) × (wrong : Bool) × (files ≡ All f) × AreWritten form f prefixes text wrong
+    × WritesFront before now text
 ChecksAs prefixes form files (Err (FileUnread path)) before now = (files ≡ Unread path) × Keeps before now
 ChecksAs prefixes form files (Err (FileRefused e path)) before now = (files ≡ Refused e path) × Keeps before now
 ChecksAs prefixes form files (Err NoMemory) before now = AreAdded files × Keeps before now

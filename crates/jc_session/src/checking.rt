@@ -12,13 +12,13 @@ ghost use Rattle.jc_input.specs.FileEdits as edits;
 ghost use Rattle.jc_input.specs.Changes.{Adds};
 ghost use Rattle.jc_input.specs.FileEdits.{judge};
 ghost use Rattle.jc_input.specs.Sources.{answer_of};
-ghost use Rattle.jc_session.specs.inside.Adding.{AddsOne, ReadsTree, TellsOf, TellsOfTree, tree_of};
+ghost use Rattle.jc_session.specs.inside.Adding.{AddsOne, ReadsTree, TellsOfTree, tree_of};
 ghost use Rattle.jc_session.specs.LentChecks.{ChecksPaths, check_lent};
 
 use jc_base::{NoMemory, Output};
 use jc_input::{EditError, Source, SourceError, path_fault, room_fault, size_fault};
 use jc_link::{Meter, Outside};
-use jc_report::{AddError, Asked, Tree, TreeReport, write_errors, write_report};
+use jc_report::{AddError, Asked, Tree, TreeErrors, TreeReport, write_errors, write_report};
 use std::alloc::Global;
 use thiserror::Error;
 
@@ -71,7 +71,7 @@ pub fn check<'p, S: Source, W: Output>(
     check_tree(alloc, outside, form, &tree, &mut meter, out)
 }
 
-/// Writes what is asked of the report of the files of a tree, and says whether that is wrong.
+/// Writes what is asked for of the files of a tree, and returns whether something is wrong.
 fn check_tree<'p, W: Output>(
     alloc: Global,
     outside: &Outside,
@@ -83,54 +83,52 @@ fn check_tree<'p, W: Output>(
     ensures tells { TellsOfTree tree.now outside.now form.now (check_lent result) (W.written out.old) (W.written out.new) }
     ensures failures { CountsCheck (check_lent result) (W.failures out.old) (W.failures out.new) }
 {
-    let report = TreeReport::make(alloc, tree, outside, meter)?;
-    write_and_judge(&report, form, out)
-}
-
-/// Writes what is asked of a report, and says whether that is wrong.
-fn write_and_judge<'p, W: Output>(
-    report: &TreeReport<'_>,
-    form: &CheckForm,
-    out: &mut W,
-) -> Result<bool, CheckError<'p>>
-    ensures tells { TellsOf report.now form.now (check_lent result) (W.written out.old) (W.written out.new) }
-    ensures failures { CountsCheck (check_lent result) (W.failures out.old) (W.failures out.new) }
-{
     match form {
-        CheckForm::Report => write_whole(report, out),
+        CheckForm::Report => check_report(alloc, outside, tree, meter, out),
         CheckForm::Errors { only, used_only } => {
             let asked = Asked {
                 only: only.as_ref(),
                 used_only: *used_only,
             };
-            write_wrong(report, asked, out)
+            check_errors(alloc, outside, asked, tree, meter, out)
         }
     }
 }
 
-/// Writes a report, and says whether it is wrong.
-fn write_whole<'p, W: Output>(report: &TreeReport<'_>, out: &mut W) -> Result<bool, CheckError<'p>>
-    ensures tells { TellsOf report.now forms.Report (check_lent result) (W.written out.old) (W.written out.new) }
+/// Writes the report of a tree, and returns whether it is wrong.
+fn check_report<'p, W: Output>(
+    alloc: Global,
+    outside: &Outside,
+    tree: &Tree,
+    meter: &mut Meter,
+    out: &mut W,
+) -> Result<bool, CheckError<'p>>
+    ensures tells { TellsOfTree tree.now outside.now forms.Report (check_lent result) (W.written out.old) (W.written out.new) }
     ensures failures { CountsCheck (check_lent result) (W.failures out.old) (W.failures out.new) }
 {
-    match write_report(report, out) {
+    let report = TreeReport::make(alloc, tree, outside, meter)?;
+    match write_report(&report, out) {
         Ok(()) => Ok(report.wrong()),
         Err(_) => Err(CheckError::Write),
     }
 }
 
-/// Writes what makes a report wrong, of the files and classes that are asked for, and says whether anything does.
-fn write_wrong<'p, W: Output>(
-    report: &TreeReport<'_>,
+/// Writes the errors of a tree that are asked for, and returns whether there are any.
+fn check_errors<'p, W: Output>(
+    alloc: Global,
+    outside: &Outside,
     asked: Asked<'_>,
+    tree: &Tree,
+    meter: &mut Meter,
     out: &mut W,
 ) -> Result<bool, CheckError<'p>>
-    ensures tells { TellsOf report.now (forms.Errors (asked_lent asked.entry).only asked.entry.used_only) (check_lent result)
+    ensures tells { TellsOfTree tree.now outside.now (forms.Errors (asked_lent asked.entry).only asked.entry.used_only) (check_lent result)
         (W.written out.old) (W.written out.new) }
     ensures failures { CountsCheck (check_lent result) (W.failures out.old) (W.failures out.new) }
 {
-    match write_errors(report, asked, out) {
-        Ok(()) => Ok(report.wrong_among(asked)),
+    let errors = TreeErrors::make(alloc, tree, outside, meter)?;
+    match write_errors(&errors, asked, out) {
+        Ok(()) => Ok(errors.has_error_among(asked)),
         Err(_) => Err(CheckError::Write),
     }
 }

@@ -39,7 +39,7 @@ or_assoc false b c = refl
 
 -- ---- names in a set
 
-in_set : (found : NameSet) (k n : Name) → fin.contains_key (fin.insert found k tt) n ≡ (fin.contains_key found n || same_name n k)
+pub in_set : (found : NameSet) (k n : Name) → fin.contains_key (fin.insert found k tt) n ≡ (fin.contains_key found n || same_name n k)
 in_set found k n = ap is_some (fin.get-insert bytes_cmp_total found k tt n) ∙ by (same_name n k) (fin.get found n)
   where
     by : (b : Bool) (o : Option (Unit {0})) → is_some (cond b (Some tt) o) ≡ (is_some o || b)

@@ -1,8 +1,10 @@
 -- The text of what makes a report wrong is empty exactly where nothing is wrong.
-use Rattle.std.proofs.Common.{◌≡◌, ◌++◌, ◌+◌, ◌||◌, ℕ, ◌==◌, Bool, true, false, not, length, List, [], ◌∷◌, ap, codes, refl, subst}
+use Rattle.std.proofs.Common.{◌≡◌, ◌++◌, ◌+◌, ◌||◌, ◌&&◌, ℕ, suc, arith, ◌==◌, Bool, true, false, not, length, List, [], ◌∷◌, ap, codes, refl, subst}
+use Rattle.std.specs.List.{All, list_any}
 use Rattle.jc_text.specs.Escapes.{path_text, shown}
 use Rattle.jc_list.specs.FaultLines.{format_line}
 use Rattle.jc_classes.specs.Facts.{Facts, Reference}
+use Rattle.jc_classes.specs.Inheritance.{Inherited, InheritanceErrors}
 use Rattle.jc_classes.specs.Loading.{Loading}
 use Rattle.jc_classes.specs.Loading.{Loading as loading}
 use Rattle.jc_classes.specs.Names.{Name}
@@ -12,13 +14,14 @@ use Rattle.jc_classes.specs.Worlds.{World, references_of}
 use Rattle.jc_classes.specs.declared.user.User.{User}
 use Rattle.jc_link.specs.Prefixes.{is_covered}
 use Rattle.jc_link.specs.Tables.{or_built_in, stands_by}
-use Rattle.jc_report.specs.ErrorsText.{Asked, answer_errors, answered_text, class_errors, code_error, code_text, errors_text, file_error, has_listed_error, is_asked, is_listed, is_wrong_among, is_wrong_class, is_wrong_file}
+use Rattle.jc_report.specs.ErrorsText.{Asked, answer_errors, answered_text, class_errors, classes_errors, code_error, code_text, errors_text, file_error, final_superclass_error, has_error_among, has_inheritance_error, has_listed_error, inheritance_errors, is_asked, is_listed, is_wrong_class, is_wrong_file, overridden_error}
 use Rattle.jc_report.specs.ErrorsText.{is_wrong_listed, link_error, load_error, method_text, of_class, of_method, part_errors, use_mark, user_at, user_text}
 use Rattle.jc_report.specs.Files.{Files}
 use Rattle.jc_report.specs.FileRows.{FileRow}
 use Rattle.jc_report.specs.FileRowText.{row_text, state_text}
-use Rattle.jc_report.specs.PartText.{answer_text, reference_text}
-use Rattle.jc_report.specs.Reports.{Class, IsClassOf, IsReport, Report, is_load_error, name_of, world_of}
+use Rattle.jc_report.specs.PartText.{answer_text, member_text, reference_text}
+use Rattle.jc_report.specs.Reports.{Class, IsClassOf, is_load_error, name_of, world_of}
+use Rattle.jc_report.specs.TreeErrors.{AreInheritances, IsTreeErrors, TreeErrors, is_any}
 use Rattle.jc_report.proofs.errors.EmptyTexts.{Tells, behind_empty, front_empty, tells_any, tells_asked, tells_or, tells_some, tells_text}
 
 row_there : (row : FileRow) → row_text row ≡ [] → ⊥
@@ -58,29 +61,80 @@ load_last false true c = refl
 load_last false false true = refl
 load_last false false false = refl
 
-part_told : (used_only : Bool) (m : World) (d : Name) (f : Facts) (p : Part) → AreAnswers m d p.load f.references p.answers → Tells (is_wrong_listed used_only f p) (part_errors used_only f p)
+final_there : (f : Facts) → final_superclass_error f ≡ [] → ⊥
+final_there f = of_class_there f.name _
+
+overridden_there : (name : Name) (i : Inherited) → overridden_error name i ≡ [] → ⊥
+overridden_there name i e =
+    let none : codes "\n" ≡ [] = behind_empty (member_text name i.key ++ codes ": overrides FINAL " ++ member_text i.home i.key) (codes "\n") e in absurd cc
+
+inheritance_told : (f : Facts) (e : InheritanceErrors) → Tells (is_any e) (inheritance_errors f e)
+inheritance_told f e =
+    tells_or _ _ (tells_text e.extends_final (final_superclass_error f) (final_there f)) (tells_some (overridden_error f.name) e.overridden (overridden_there f.name))
+
+-- the errors of inheritance stand before those of the answers
+inherited_last : (a b c : Bool) → ((a || b) || c) ≡ ((a || c) || b)
+inherited_last true b c = refl
+inherited_last false true true = refl
+inherited_last false true false = refl
+inherited_last false false true = refl
+inherited_last false false false = refl
+
+part_told : (used_only : Bool) (m : World) (d : Name) (f : Facts) (p : Part) (e : InheritanceErrors) → AreAnswers m d p.load f.references p.answers
+    → Tells (is_wrong_listed used_only f p || is_any e) (part_errors used_only f p e)
 unfolding part_errors
-part_told used_only m d f p are =
+part_told used_only m d f p e are =
     let format = tells_some (λ fault. of_class f.name (format_line fault)) p.format_faults (λ fault. of_class_there f.name (format_line fault)) in
     let code = tells_some (code_error f) p.code_faults (λ fault. method_there f fault.0 (code_text fault.1)) in
     let links = tells_some (link_error f) p.links (λ link. method_there f link.method _) in
     let answers = answers_told used_only m d f p.load 0 f.references p.answers are in
-    subst (λ test. Tells (test || not (length p.links == 0) || has_listed_error used_only f 0 p.answers) (part_errors used_only f p))
+    let listed = has_listed_error used_only f 0 p.answers in
+    let wrong = not (length p.format_faults == 0) || not (length p.code_faults == 0) || is_load_error p.load || not (length p.links == 0) in
+    subst (λ test. Tells test (part_errors used_only f p e)) (inherited_last wrong (is_any e) listed)
+    (subst (λ test. Tells (((test || not (length p.links == 0)) || is_any e) || listed) (part_errors used_only f p e))
     (load_last (is_load_error p.load) (not (length p.format_faults == 0)) (not (length p.code_faults == 0)))
-    (tells_or _ _ (tells_or _ _ (tells_or _ _ (tells_or _ _ (load_told f.name p.load) format) code) links) answers)
+    (tells_or _ _ (tells_or _ _ (tells_or _ _ (tells_or _ _ (tells_or _ _ (load_told f.name p.load) format) code) links) (inheritance_told f e)) answers))
 
-class_told : (asked : Asked) (f : Files) (prefixes : List Name) (c : Class) → IsClassOf f prefixes c → Tells (is_wrong_class asked c) (class_errors asked c)
-class_told asked f prefixes c is =
-    tells_asked (is_asked asked (name_of c)) (is_wrong_listed asked.used_only c.facts c.part)
-    (part_told asked.used_only (world_of f prefixes) (name_of c) c.facts c.part
+class_told : (asked : Asked) (f : Files) (prefixes : List Name) (c : Class) (e : InheritanceErrors) → IsClassOf f prefixes c
+    → Tells (is_asked asked (name_of c) && (is_wrong_listed asked.used_only c.facts c.part || is_any e)) (class_errors asked c e)
+class_told asked f prefixes c e is =
+    tells_asked (is_asked asked (name_of c)) (is_wrong_listed asked.used_only c.facts c.part || is_any e)
+    (part_told asked.used_only (world_of f prefixes) (name_of c) c.facts c.part e
     (subst (λ references. AreAnswers (world_of f prefixes) (name_of c) c.part.load references c.part.answers)
     (ap (λ o. references_of (stands_by (or_built_in o (name_of c)) (is_covered prefixes (name_of c)))) is.facts) is.part.answers))
+
+-- the tests of a class and of those after it, part by part
+apart : (a w n l h : Bool) → ((a && (w || n)) || (l || h)) ≡ (((a && w) || l) || ((a && n) || h))
+apart false w n l h = refl
+apart true true n l h = refl
+apart true false true true h = refl
+apart true false true false h = refl
+apart true false false true h = refl
+apart true false false false h = refl
+
+classes_told : (asked : Asked) (f : Files) (prefixes : List Name) (m : World) (cs : List Class) (es : List InheritanceErrors) → All (IsClassOf f prefixes) cs → AreInheritances m cs es
+    → Tells (list_any (is_wrong_class asked) cs || has_inheritance_error asked cs es) (classes_errors asked cs es)
+classes_told asked f prefixes m [] [] all are = (λ e. refl, λ e. refl)
+classes_told asked f prefixes m (c ∷ cs) (e ∷ es) all are =
+    subst (λ test. Tells test (classes_errors asked (c ∷ cs) (e ∷ es)))
+    (apart (is_asked asked (name_of c)) (is_wrong_listed asked.used_only c.facts c.part) (is_any e) (list_any (is_wrong_class asked) cs) (has_inheritance_error asked cs es))
+    (tells_or _ _ (class_told asked f prefixes c e (all 0 c (omega arith)))
+    (classes_told asked f prefixes m cs es (λ k d within. all (suc k) d (omega (arith, within))) are.1))
+classes_told asked f prefixes m [] (e ∷ es) all are = absurd are
+classes_told asked f prefixes m (c ∷ cs) [] all are = absurd are
 
 file_told : (asked : Asked) (row : FileRow) → Tells (is_wrong_file asked row) (file_error asked row)
 file_told asked row = tells_text (is_wrong_file asked row) (row_text row) (row_there row)
 
-pub errors_told : (f : Files) (prefixes : List Name) (asked : Asked) (r : Report) → IsReport f prefixes r → Tells (is_wrong_among asked r) (errors_text asked r)
+or_assoc : (a b c : Bool) → (a || (b || c)) ≡ ((a || b) || c)
+or_assoc true b c = refl
+or_assoc false b c = refl
+
+pub errors_told : (f : Files) (prefixes : List Name) (asked : Asked) (e : TreeErrors) → IsTreeErrors f prefixes e → Tells (has_error_among asked e) (errors_text asked e)
 unfolding errors_text
-errors_told f prefixes asked r is =
-    tells_or _ _ (tells_any (is_wrong_file asked) (file_error asked) r.files (λ k row within. file_told asked _))
-    (tells_any (is_wrong_class asked) (class_errors asked) r.classes (λ k c within. class_told asked f prefixes _ (is.sound k c within)))
+errors_told f prefixes asked e is =
+    let r = e.report in
+    subst (λ test. Tells test (errors_text asked e))
+    (or_assoc (list_any (is_wrong_file asked) r.files) (list_any (is_wrong_class asked) r.classes) (has_inheritance_error asked r.classes e.inheritance))
+    (tells_or _ _ (tells_any (is_wrong_file asked) (file_error asked) r.files (λ k row within. file_told asked _))
+    (classes_told asked f prefixes (world_of f prefixes) r.classes e.inheritance is.report.sound is.inheritance))

@@ -102,6 +102,9 @@ names_of : (made : List Class) → map name_of made ≡ map (λ x. x.name) (fact
 names_of [] = refl
 names_of (c ∷ made) = ap (λ ns. name_of c ∷ ns) (names_of made)
 
+pub names_made : (places : Places) (made : List Class) → IsSplit places made [] → map name_of made ≡ names_of_classes (classes_of places)
+names_made places made all = names_of made ∙ ap (map (λ x. x.name)) (sym (append-nil (facts_in made)) ∙ all)
+
 -- ---- the classes of files
 
 all_from_has : {X : Type 0} (P : X → Type 0) (xs : List X) → ((x : X) → Has xs x → P x) → (k : ℕ) (d : X) → k < length xs → P (get_or xs k d)

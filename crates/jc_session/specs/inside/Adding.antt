@@ -2,7 +2,6 @@
 use Rattle.std.specs.Prelude.{◌≡◌, ℕ, Bool, List, [], Option, Result, Ok, Err}
 use Rattle.std.specs.FinMap as map
 use Rattle.jc_report.specs.Files.{Files}
-use Rattle.jc_report.specs.Reports.{IsReport, Report}
 use Rattle.jc_report.specs.Trees.{IsTree, Tree}
 use Rattle.jc_session.specs.declared.checking.CheckError.{CheckError}
 use Rattle.jc_session.specs.declared.checking.CheckError.TheVariants as errors
@@ -38,8 +37,3 @@ ReadsTree paths old new result =
 -- what is asked of the report of these files was written, whichever files are those of the tree
 abbrev pub TellsOfTree : Tree → (prefixes : List (List ℕ)) → CheckForm → Result Bool CheckFault → (before now : Option (List ℕ)) → Type 0
 TellsOfTree tree prefixes form result before now = (f : Files) → IsTree f tree → ChecksAs prefixes form (All f) result before now
-
--- the same of a report
-abbrev pub TellsOf : Report → CheckForm → Result Bool CheckFault → (before now : Option (List ℕ)) → Type 0
-TellsOf report form result before now =
-    (f : Files) (prefixes : List (List ℕ)) → IsReport f prefixes report → ChecksAs prefixes form (All f) result before now

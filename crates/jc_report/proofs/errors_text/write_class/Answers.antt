@@ -6,14 +6,16 @@ use Rattle.jc_report.proofs.errors_text.write_class.Goals as goal
 pub returns-then-is_asked : goal.returns-then-is_asked
 returns-then-is_asked g c =
     let x = c.args.class.now in
+    let e = c.args.inheritance.now in
+    let used_only = c.args.asked.used_only in
     let asked = c.is_asked.ensures ∙ ap (is_asked (asked_lent c.args.asked)) (c.name.ensures ∙ ap (λ f. f.name) c.facts.ensures) in
     sends_equal
-    (ap (λ f. part_errors c.args.asked.used_only f c.part.result.now) c.facts-then-is_asked.ensures ∙ ap (part_errors c.args.asked.used_only x.facts) c.part.ensures
-    ∙ ap (λ b. cond b (part_errors c.args.asked.used_only x.facts x.part) []) (sym c.if-is_asked.true ∙ asked))
+    (ap (λ f. part_errors used_only f c.part.result.now e) c.facts-then-is_asked.ensures ∙ ap (λ p. part_errors used_only x.facts p e) c.part.ensures
+    ∙ ap (λ b. cond b (part_errors used_only x.facts x.part e) []) (sym c.if-is_asked.true ∙ asked))
     c.write_part_errors.ensures
 
 pub returns-else-is_asked : goal.returns-else-is_asked
 returns-else-is_asked g c =
     let x = c.args.class.now in
     let asked = c.is_asked.ensures ∙ ap (is_asked (asked_lent c.args.asked)) (c.name.ensures ∙ ap (λ f. f.name) c.facts.ensures) in
-    sends_equal (ap (λ b. cond b (part_errors c.args.asked.used_only x.facts x.part) []) (sym c.if-is_asked.false ∙ asked)) (sends_nothing _ _ _)
+    sends_equal (ap (λ b. cond b (part_errors c.args.asked.used_only x.facts x.part c.args.inheritance.now) []) (sym c.if-is_asked.false ∙ asked)) (sends_nothing _ _ _)

@@ -15,4 +15,5 @@ returns g c =
     ⟫ sends_equal (ap (λ n. flat_map (λ fault. of_class n (format_line fault)) c.format_faults.result.now) c.name-2.ensures ∙ ap (flat_map (λ fault. of_class name (format_line fault))) c.format_faults.ensures) c.write_format_errors.ensures
     ⟫ sends_equal (ap (flat_map (code_error f)) c.code_faults.ensures) c.write_code_errors.ensures
     ⟫ sends_equal (ap (flat_map (link_error f)) c.links.ensures) c.write_link_errors.ensures
+    ⟫ c.write_inheritance_errors.ensures
     ⟫ sends_equal (ap (answer_errors c.args.used_only f 0 f.references) c.answers.ensures) c.write_answer_errors.ensures

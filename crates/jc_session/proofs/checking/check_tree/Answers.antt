@@ -1,4 +1,7 @@
 use Rattle.jc_session.proofs.checking.check_tree.Goals as goal
 
-pub returns-clause-tells : goal.returns-clause-tells
-returns-clause-tells g c = λ f is. c.write_and_judge.ensures.tells f c.args.outside.now (c.in_ok-report.ensures.report f is)
+pub returns-in-Report-clause-tells : goal.returns-in-Report-clause-tells
+returns-in-Report-clause-tells g c = rw c.in-Report.is c.check_report.ensures.tells
+
+pub returns-in-Errors-clause-tells : goal.returns-in-Errors-clause-tells
+returns-in-Errors-clause-tells g c = rw (c.in-Errors.is, ← c.as_ref.ensures.value) c.check_errors.ensures.tells

@@ -1,0 +1,13 @@
+use Rattle.std.proofs.Common.{◌∙◌, ap}
+use Rattle.std.specs.List.{flat_map}
+use Rattle.jc_text.proofs.Sending.{◌⟫◌, sends_equal}
+use Rattle.jc_report.specs.ErrorsText.{overridden_error}
+use Rattle.jc_report.proofs.inheritance_errors.write_inheritance_errors.Goals as goal
+
+pub returns : goal.returns
+returns g c =
+    let name = c.args.facts.now.name in
+    c.write_final_superclass.ensures
+    ⟫ sends_equal
+        (ap (λ n. flat_map (overridden_error n) c.overridden.result.now) c.name.ensures ∙ ap (flat_map (overridden_error name)) c.overridden.ensures)
+        c.write_overridden.ensures
