@@ -1,12 +1,8 @@
 -- Reading a list in order.
-use Rattle.std.proofs.Common.{◌≡◌, ℕ, ◌+◌, ◌<◌, ◌≤◌, List, [], ◌∷◌, ◌++◌, map, option_map, take, length, Option, Some, None, get_or, sym, ap, ◌∙◌, ⊎_elim, arith}
-use Rattle.std.proofs.lemmas.List.{length-map, take_more, map-append}
+use Rattle.std.proofs.Common.{◌≡◌, ℕ, ◌≤◌, List, map, option_map, length, Option, Some, None, sym, ap, ◌∙◌, ⊎_elim}
+use Rattle.std.proofs.lemmas.List.{length-map}
 use Rattle.std.proofs.lemmas.Option.{slice_get_cases}
 use Rattle.std.specs.List.{slice_get}
-
-pub map_more : {X Y : Type 0} (y : Y) (xs : List X) (i : ℕ) → i < length xs → map (λ (x : X). y) (take (i + 1) xs) ≡ map (λ (x : X). y) (take i xs) ++ y ∷ []
-map_more y [] i l = absurd (omega arith)
-map_more y (x ∷ xs) i l = ap (map (λ z. y)) (take_more (x ∷ xs) i x l) ∙ map-append (λ z. y) (take i (x ∷ xs)) (get_or (x ∷ xs) i x ∷ [])
 
 no_some : {X : Type 0} (x : X) → None ≡ Some x → ⊥
 no_some x e = cc

@@ -18,7 +18,7 @@ drop_from [] n x e = absurd cc
 drop_from (y ∷ ys) zero x e = ap (λ z. z ∷ ys) (some_is e)
 drop_from (y ∷ ys) (suc n) x e = drop_from ys n x e
 
-pub drop_at : {X : Type 0} (xs : List X) (n : ℕ) (x : X) → slice_get xs n ≡ Some x → drop n xs ≡ x ∷ drop (n + 1) xs
+drop_at : {X : Type 0} (xs : List X) (n : ℕ) (x : X) → slice_get xs n ≡ Some x → drop n xs ≡ x ∷ drop (n + 1) xs
 drop_at xs n x e = let next : suc n ≡ n + 1 = omega arith in drop_from xs n x e ∙ ap (λ m. x ∷ drop m xs) next
 
 drop_all : {X : Type 0} (xs : List X) (n : ℕ) → length xs ≤ n → drop n xs ≡ []

@@ -9,12 +9,10 @@ use Rattle.jc_classes.specs.Worlds.{World, Stands, superclass_of, interfaces_of}
 use Rattle.jc_classes.specs.Facts.{Reference}
 use Rattle.jc_classes.specs.Worlds.Stands.{Nothing}
 use Rattle.jc_classes.specs.Loading.{Loading}
-use Rattle.jc_classes.specs.Resolution.{Answer}
 use Rattle.jc_classes.specs.Resolution.Answer.{NotLoaded}
 use Rattle.jc_classes.specs.Parts.{IsAnswer, AreAnswers, class_of}
 use Rattle.jc_classes.specs.Loading.{Loading as loading}
 use Rattle.jc_resolve.specs.inside.Resolved.{IsWithinSome, loading_of, TellsLoads}
-use Rattle.std.proofs.Common.{take}
 use Rattle.jc_classes.proofs.worlds.NameTests.{same_is, same_self}
 use Rattle.jc_numbered.specs.declared.loads.Load.{Load}
 use Rattle.jc_graph.specs.Graph.{TellsCircular, IsOrder}
@@ -121,14 +119,6 @@ graph_last count x y net graph flags order tells ordered loads size told net2 up
     let d : Contains (x.supertypes a) b = subst (λ u. Contains (u a) b) ups c in
     is b (graph.nodes a b d) ∙ stays m count x graph index flags order y.rank tells ordered ranked loads t a b l (sym (is a l) ∙ g) d)
 
--- ---- answers
-
-pub answers_push : (m : World) (d : Name) (l : Loading) (rs : List Reference) (more : List Answer) (r : Reference) (a : Answer) → AreAnswers m d l rs more → IsAnswer m d l r a → AreAnswers m d l (rs ++ r ∷ []) (more ++ a ∷ [])
-answers_push m d l [] [] r a h k = (k, tt)
-answers_push m d l [] (b ∷ more) r a h k = absurd h
-answers_push m d l (s ∷ rs) [] r a h k = absurd h
-answers_push m d l (s ∷ rs) (b ∷ more) r a h k = (h.0, answers_push m d l rs more r a h.1 k)
-
 -- ---- as the code has it
 
 module _ (n : List (Vec ℕ Global)) (s : List Standing) (u : List (Vec ℕ Global)) (r r2 : List ℕ) (g g2 : List Bool) where
@@ -154,12 +144,6 @@ node_within count [] i h = tt
 node_within count (None ∷ nodes) zero h = tt
 node_within count (Some v ∷ nodes) zero h = h v (zero, omega arith, refl)
 node_within count (n ∷ nodes) (suc i) h = node_within count nodes i (λ v c. h v (suc c.0, omega (arith, c.1), c.2))
-
-pub take_whole : {X : Type 0} (xs : List X) (i : ℕ) → length xs ≤ i → take i xs ≡ xs
-take_whole [] zero l = refl
-take_whole [] (suc i) l = refl
-take_whole (x ∷ xs) zero l = absurd (omega arith)
-take_whole (x ∷ xs) (suc i) l = ap (λ z. x ∷ z) (take_whole xs i (omega arith))
 
 pub not_loaded_all : (m : World) (d : Name) (l : Loading) → ((r : Reference) → IsAnswer m d l r NotLoaded) → (rs : List Reference) → AreAnswers m d l rs (map (λ (r : Reference). NotLoaded) rs)
 not_loaded_all m d l h [] = tt

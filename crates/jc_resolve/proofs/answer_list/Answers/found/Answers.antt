@@ -8,8 +8,8 @@ use Rattle.jc_resolve.specs.inside.Naming.{name_told, references_in}
 use Rattle.jc_resolve.proofs.answering.Entries.{said_at, shown_size}
 use Rattle.jc_resolve.proofs.answer_list.Answers.found.Goals as goal
 
-said_found : {X : Type 0} {x y : X} → Some x ≡ Some y → x ≡ y
-said_found e = cc
+some_is : {X : Type 0} {x y : X} → Some x ≡ Some y → x ≡ y
+some_is e = cc
 
 pub returns-then-number-len : goal.returns-then-number-len
 returns-then-number-len c = λ answer at.
@@ -28,4 +28,4 @@ returns c = λ answer at.
     let v = name_told a.names in
     let shown : slice_get (entries_shown v rs a.entries.items) n ≡ Some answer = ap (λ (z : List Answer). slice_get z n) c.self.view_is ∙ at in
     let e : slice_get a.entries.items n ≡ Some c.index.result.now = slice_get-get_or a.entries.items n c.index.result.now (omega (arith, a.entries.ok.0, c.len.ensures, c.if-number-len.false)) ∙ ap Some (sym c.index.ensures) in
-    said_found (ap (option_map found_of) (sym shown) ∙ said_at found_of v rs a.entries.items n c.index.result.now c.found_of.result c.self.invariant e (λ r. c.found_of.ensures (v r) r))
+    some_is (ap (option_map found_of) (sym shown) ∙ said_at found_of v rs a.entries.items n c.index.result.now c.found_of.result c.self.invariant e (λ r. c.found_of.ensures (v r) r))
