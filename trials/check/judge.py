@@ -127,12 +127,26 @@ class Report:
             answers = iter(self.resolved(name))
             if name not in self.loaded:
                 lines = [first.removeprefix(f"part {links.shown(name)}: "), *lines]
-            for line in lines if is_asked(name) else ():
-                is_answer = line.startswith("  #")
-                if not is_answer or name in self.loaded and next(answers)[1][0] == "error":
+            if not is_asked(name):
+                continue
+            is_answer = lambda line: line.startswith("  #")
+            yield from (self.errors_of(name, line)[0] for line in lines if not is_answer(line))
+            yield from self.inheritance(name)
+            for line in filter(is_answer, lines):
+                if name in self.loaded and next(answers)[1][0] == "error":
                     text, is_marked = self.errors_of(name, line)
                     if not (used_only and is_marked):
                         yield text
+
+    def inheritance(self, name):
+        """Yields the lines of the errors of inheritance of a class; none if it does not load."""
+        if name not in self.loaded:
+            return
+        parent = self.world.final_superclass(name)
+        if parent is not None:
+            yield f"{links.shown(name)}: extends FINAL {links.shown(parent)}"
+        for key, other in self.world.overridden(name):
+            yield f"{links.shown(name)}{links.member(key)}: overrides FINAL {links.shown(other)}{links.member(key)}"
 
     def is_wrong(self, name):
         record = self.world.given[name]

@@ -40,7 +40,7 @@ DOCUMENT = common.TOP / "docs" / "COMPATIBILITY.md"
 PARTS = ("both", "old", "new", "client", "beside", "main")
 MACHINE = ["java", "-XX:TieredStopAtLevel=1", "-XX:+UseSerialGC"]
 THROWN = re.compile(r'^(?:Exception in thread "main"|Caused by:) ([\w.$]+)', re.M)
-ERROR = re.compile(r"error (\d [A-Z]\w+) .*?( \(unused\))?$")
+ERROR = re.compile(r"error (\d [A-Z]\w+) .*?( \(unused\))?$|(?:extends|overrides) FINAL(?= )")
 MAIN = "package {0};\nimport {0}.lib.*;\npublic class Main {{\n    public static void main(String[] arguments) throws Exception {{\n{1}\n    }}\n}}\n"
 # The headings of the document's tables, each with its columns.
 TABLES = {
@@ -138,7 +138,8 @@ def errors_of(tree, clients):
         name = re.match(r"[^.:]+", line)[0]
         if name not in clients:
             sys.exit(f"an error of a library: {line}")
-        error, unused = ERROR.search(line).groups()
+        found_error = ERROR.search(line)
+        error, unused = found_error[1] or found_error[0], found_error[2]
         kinds = found[name.partition("/")[0]]
         kinds[error] = kinds.get(error, True) and bool(unused)
     return found

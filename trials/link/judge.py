@@ -5,6 +5,7 @@ instructions do not link. Each question searches the whole world.
 
 World(files, prefixes) takes pairs of a path and a file's bytes. parts() returns the lines of the parts. uses(name) yields the
 instructions of a class that are judged. deciding(use) returns the line of the table by which an instruction does not link.
+final_superclass(name) and overridden(name) return the errors of inheritance of a class that loads.
 """
 import importlib.util
 import pathlib
@@ -405,6 +406,45 @@ class World:
             if line:
                 _, _, _, error, fault = line
                 yield use, ("error", error, getattr(use, fault))
+
+    # ---- inheritance
+
+    def superclasses(self, name):
+        """Returns the superclasses of a class, the nearest first, as far as files give them."""
+        found = []
+        while name in self.records and self.records[name].parent in self.records:
+            name = self.records[name].parent
+            found.append(name)
+        return found
+
+    def overridable(self, name, key):
+        """Returns the flags of a class's method that is neither STATIC nor PRIVATE, or None."""
+        return next((method[2] for method in self.records[name].methods if method[:2] == key and not method[2] & (STATIC | PRIVATE)),
+                    None)
+
+    def overrides(self, name, other, key):
+        """Returns whether the method of a class overrides that of a superclass (5.4.5)."""
+        flags = self.overridable(other, key)
+        if self.overridable(name, key) is None or flags is None:
+            return False
+        if flags & (PUBLIC | PROTECTED) or package(name) == package(other):
+            return True
+        between = self.superclasses(name)
+        return any(self.overrides(name, middle, key) and self.overrides(middle, other, key)
+                   for middle in between[:between.index(other)])
+
+    def final_superclass(self, name):
+        """Returns the FINAL superclass of a class that loads, or None."""
+        parent = self.records[name].parent
+        return parent if parent in self.records and self.records[parent].flags & FINAL else None
+
+    def overridden(self, name):
+        """Yields the nearest FINAL method that each method of a class overrides: its name and descriptor, and its class."""
+        for key in sorted({method[:2] for method in self.records[name].methods}):
+            for other in self.superclasses(name):
+                if self.overrides(name, other, key) and self.overridable(other, key) & FINAL:
+                    yield key, other
+                    break
 
     # ---- access
 

@@ -14,7 +14,7 @@ ghost use Rattle.jc_report.specs.Files.{Files};
 ghost use Rattle.jc_report.specs.FileRows.{rows};
 ghost use Rattle.jc_report.specs.FileRowView as lent;
 ghost use Rattle.jc_report.specs.ReportLists.{AreListedIn};
-ghost use Rattle.jc_report.specs.Reports.{GivesRow, IsReport, Report, circular_names, is_load_error, is_wrong};
+ghost use Rattle.jc_report.specs.Reports.{GivesRow, IsReport, Report, circular_names, is_load_error, is_wrong, name_of};
 ghost use Rattle.jc_report.specs.ErrorsText.{asked_lent, has_listed_error, is_wrong_among, is_wrong_class};
 ghost use Rattle.jc_report.specs.ErrorsText.{is_wrong_file, is_wrong_listed};
 ghost use Rattle.jc_report.specs.Rows.{AreRows};
@@ -175,7 +175,7 @@ impl<'t> TreeReport<'t> {
         ensures asks_rise { meter.old.asks ≤ meter.new.asks }
     {
         fill_files(&mut self.files, tree, meter)?;
-        push_classes(&mut self.classes, alloc, &tree.table, maker, meter)?;
+        fill_classes(&mut self.classes, alloc, tree, maker, meter)?;
         provided_by_name(&self.classes);
         fill_required(&mut self.required, alloc, &self.classes)
     }
@@ -264,6 +264,27 @@ fn fill_files<'t>(
         files.push(FileRow { path, state })?;
     }
     Ok(())
+}
+
+/// The classes that the files of a tree give, by name, each with its part.
+fn fill_classes<'t>(
+    classes: &mut Vec<Class<'t>>,
+    alloc: Global,
+    tree: &'t Tree,
+    maker: &mut PartMaker,
+    meter: &mut Meter,
+) -> Result<(), NoMemory>
+    requires none { classes.old.items ≡ [] }
+    requires graph { maker.old.classes ≡ names_of_classes (classes_of tree.now.classes) }
+    ensures classes { (prefixes : List Name) → IsIn (world tree.now.classes prefixes) maker.old
+        → (f : Files) → IsTree f tree.now → OnOk result (AreClasses f prefixes classes.new.items) }
+    ensures names { OnOk result (map name_of classes.new.items ≡ maker.old.classes) }
+    ensures graph { maker.new ≡ maker.old }
+    ensures made { OnOk result (meter.new.made ≡ counted meter.old.made (length classes.new.items)) }
+    ensures made_rise { meter.old.made ≤ meter.new.made }
+    ensures asks { meter.new.asks ≡ meter.old.asks }
+{
+    push_classes(classes, alloc, &tree.table, maker, meter)
 }
 
 /// The classes of a table, each with its part, which a maker makes.

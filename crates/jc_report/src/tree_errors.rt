@@ -1,11 +1,12 @@
 //! The errors of a tree of class files.
 
-ghost use Rattle.std.specs.Prelude.{◌≡◌, ◌≤◌, length, IfOk};
+ghost use Rattle.std.specs.Prelude.{◌≡◌, ◌≤◌, ◌&&◌, length, IfOk};
 ghost use Rattle.jc_classes.specs.Worlds.{World};
 ghost use Rattle.jc_link.specs.Graphs.{IsIn};
 ghost use Rattle.jc_link.specs.Meters.{counted};
-ghost use Rattle.jc_report.specs.ErrorsText.{asked_lent, has_error_among, has_inheritance_error};
+ghost use Rattle.jc_report.specs.ErrorsText.{asked_lent, has_error_among, has_inheritance_error, is_asked};
 ghost use Rattle.jc_report.specs.Files.{Files};
+ghost use Rattle.jc_report.specs.Reports.{name_of};
 ghost use Rattle.jc_report.specs.TreeErrors.{IsTreeErrors, is_any};
 ghost use Rattle.jc_report.specs.Trees.{IsTree};
 ghost use Rattle.jc_report.specs.inside.Made.{AreInherited};
@@ -28,7 +29,8 @@ pub struct TreeErrors<'t> {
 }
 
 impl<'t> Model for TreeErrors<'t> {
-    ghost use Rattle.jc_report.specs.TreeErrors as specs;
+    ghost use Rattle.jc_report.specs.Reports.{name_of};
+ghost use Rattle.jc_report.specs.TreeErrors as specs;
 
     ghost Value = { specs.TreeErrors };
 
@@ -92,7 +94,8 @@ fn find_inheritance(
 {
     let mut found = Vec::with_capacity(alloc, count)?;
     for place in 0..count {
-        found.push(maker.inheritance_errors(alloc, place)?)?;
+        let errors = maker.inheritance_errors(alloc, place)?;
+        found.push(errors)?;
     }
     Ok(found)
 }
@@ -108,7 +111,7 @@ fn has_inheritance_error(
     for place in 0..inheritance.len() {
         match classes.get(place) {
             Some(class) => {
-                if is_asked(asked, class.facts().name()) && is_any(&inheritance[place]) {
+                if has_error(class, &inheritance[place], asked) {
                     return true;
                 }
             }
@@ -116,6 +119,13 @@ fn has_inheritance_error(
         }
     }
     false
+}
+
+/// Returns whether a class is asked for and has an error of inheritance.
+fn has_error(class: &Class<'_>, errors: &InheritanceErrors, asked: Asked<'_>) -> bool
+    ensures { result ≡ (is_asked (asked_lent asked.entry) (name_of class.now) && is_any errors.now) }
+{
+    is_asked(asked, class.facts().name()) && is_any(errors)
 }
 
 fn is_any(errors: &InheritanceErrors) -> bool

@@ -7,7 +7,7 @@ use Rattle.jc_link.specs.Tables.{classes_of, world}
 use Rattle.jc_link.proofs.meters.Counting.{counted_add, counted_none}
 use Rattle.jc_report.specs.Reports.{Class}
 use Rattle.jc_report.specs.inside.Made.{HaveParts, IsSplit}
-use Rattle.jc_report.proofs.reports.ClassesOfTables.{next_of_table, no_parts, one_part, one_split}
+use Rattle.jc_report.proofs.reports.ClassesOfTables.{names_made, next_of_table, no_parts, one_part, one_split}
 use Rattle.jc_report.proofs.report.push_classes.Goals as goal
 
 pub loop-facts-init : goal.loop-facts-init
@@ -61,3 +61,11 @@ returns-clause-made c = c.loop-facts.invariant.made
 
 pub returns-clause-made_rise : goal.returns-clause-made_rise
 returns-clause-made_rise c = omega (arith, c.loop-facts.invariant.made, c.args.meter.now.made_fit)
+
+pub returns-clause-names : goal.returns-clause-names
+returns-clause-names c =
+    names_made c.args.table.now c.loop-facts.classes.items (subst (IsSplit c.args.table.now c.loop-facts.classes.items) c.in-None.ensures.steps.0 c.loop-facts.invariant.split)
+    ∙ sym c.requires.names
+
+pub returns-clause-graph : goal.returns-clause-graph
+returns-clause-graph c = c.loop-facts.invariant.maker
