@@ -1,10 +1,11 @@
 //! Names of classes, interfaces, fields and methods, as class files write them (JVMS 4.2).
 
-ghost use Rattle.std.specs.Prelude.{◌≡◌, ◌↔◌, true, ℕ, List, Some, Contains, IsTrue, codes};
+ghost use Rattle.std.specs.Prelude.{◌≡◌, ◌↔◌, ◌<◌, true, ℕ, List, Some, Contains, IsTrue, codes};
+ghost use Rattle.std.specs.List.{list_all};
 ghost use Rattle.jc_base.specs.Names.{Lacks, name_stops, method_name_stops, IsUnqualifiedName};
 ghost use Rattle.jc_base.specs.Names.{IsSpecialMethodName, IsMethodName, IsClassName};
 ghost use Rattle.jc_base.specs.ModifiedUtf8.{IsWellSpelled, Spells};
-ghost use Rattle.jc_base.specs.inside.PlainNames.{are_plain_parts, is_plain_byte, may_follow};
+ghost use Rattle.jc_base.specs.inside.PlainNames.{are_plain_parts, is_plain_byte, place_behind};
 ghost use Rattle.jc_base.specs.TextTests.{units_of, is_unqualified_text, is_method_name_text, is_class_text};
 
 use crate::modified_utf8::check_units;
@@ -15,7 +16,39 @@ pub fn is_unqualified(text: &[u8]) -> bool
     ensures name { IsTrue result ↔ IsUnqualifiedName text.now }
     ensures computed { result ≡ is_unqualified_text text.now }
 {
+    is_plain_name(text) || is_spelled_name(text)
+}
+
+// The same by the code units of the text.
+fn is_spelled_name(text: &[u8]) -> bool
+    ensures name { IsTrue result ↔ IsUnqualifiedName text.now }
+    ensures computed { result ≡ is_unqualified_text text.now }
+{
     !text.is_empty() && check_units(text).is_ok() && lacks_name_stops(text)
+}
+
+// Whether `text` is an unqualified name of characters below 0x80, as nearly all are.
+fn is_plain_name(text: &[u8]) -> bool
+    ensures { IsTrue result → IsUnqualifiedName text.now }
+{
+    !text.is_empty() && are_plain(text)
+}
+
+fn are_plain(text: &[u8]) -> bool
+    ensures { result ≡ list_all is_plain_byte text.now }
+{
+    let mut are_plain = true;
+    for byte in text {
+        are_plain &= is_plain_byte(*byte);
+    }
+    are_plain
+}
+
+// Whether the byte is a character below 0x80 that an unqualified name may have.
+fn is_plain_byte(byte: u8) -> bool
+    ensures { result ≡ is_plain_byte byte }
+{
+    place_behind(BEGINS, byte) == WITHIN
 }
 
 /// Whether `text` is a method's name (JVMS 4.2.2): `<init>`, `<clinit>` or an unqualified name
@@ -40,31 +73,61 @@ pub fn is_class_name(text: &[u8]) -> bool
 fn is_plain_class_name(text: &[u8]) -> bool
     ensures { result ≡ are_plain_parts true text.now }
 {
-    let (mut is_plain, mut begins) = (true, true);
+    let mut place = BEGINS;
     for byte in text {
-        is_plain &= may_follow(begins, *byte);
-        begins = *byte == b'/';
+        place = place_behind(place, *byte);
     }
-    is_plain && !begins
+    place == WITHIN
 }
 
-// Whether a character below 0x80 may stand here: a `/` not where a part of the name begins.
-fn may_follow(begins: bool, byte: u8) -> bool
-    ensures { result ≡ may_follow begins byte }
+// The places in a class name of characters below 0x80: where a part begins, within a part, and after bytes with which no
+// such name begins (2).
+const BEGINS: u8 = 0;
+
+const WITHIN: u8 = 1;
+
+// The place after a byte at a place.
+fn place_behind(place: u8, byte: u8) -> u8
+    requires { place < 3 }
+    ensures { result ≡ place_behind place byte }
 {
-    if byte == b'/' {
-        !begins
-    } else {
-        is_plain_byte(byte)
-    }
+    PLACES[place as usize][byte as usize]
 }
 
-// Whether the byte is a character below 0x80 that an unqualified name may have.
-fn is_plain_byte(byte: u8) -> bool
-    ensures { result ≡ is_plain_byte byte }
-{
-    0 < byte && byte < 0x80 && byte != b'.' && byte != b';' && byte != b'[' && byte != b'/'
-}
+// For each place, the place after each byte.
+#[rattlefmt::skip]
+static PLACES: [[u8; 256]; 3] = [
+    [
+        2, 1, 1, 1, 1, 1, 1, 1, 1, 1, 1, 1, 1, 1, 1, 1, 1, 1, 1, 1, 1, 1, 1, 1, 1, 1, 1, 1, 1, 1, 1, 1,
+        1, 1, 1, 1, 1, 1, 1, 1, 1, 1, 1, 1, 1, 1, 2, 2, 1, 1, 1, 1, 1, 1, 1, 1, 1, 1, 1, 2, 1, 1, 1, 1,
+        1, 1, 1, 1, 1, 1, 1, 1, 1, 1, 1, 1, 1, 1, 1, 1, 1, 1, 1, 1, 1, 1, 1, 1, 1, 1, 1, 2, 1, 1, 1, 1,
+        1, 1, 1, 1, 1, 1, 1, 1, 1, 1, 1, 1, 1, 1, 1, 1, 1, 1, 1, 1, 1, 1, 1, 1, 1, 1, 1, 1, 1, 1, 1, 1,
+        2, 2, 2, 2, 2, 2, 2, 2, 2, 2, 2, 2, 2, 2, 2, 2, 2, 2, 2, 2, 2, 2, 2, 2, 2, 2, 2, 2, 2, 2, 2, 2,
+        2, 2, 2, 2, 2, 2, 2, 2, 2, 2, 2, 2, 2, 2, 2, 2, 2, 2, 2, 2, 2, 2, 2, 2, 2, 2, 2, 2, 2, 2, 2, 2,
+        2, 2, 2, 2, 2, 2, 2, 2, 2, 2, 2, 2, 2, 2, 2, 2, 2, 2, 2, 2, 2, 2, 2, 2, 2, 2, 2, 2, 2, 2, 2, 2,
+        2, 2, 2, 2, 2, 2, 2, 2, 2, 2, 2, 2, 2, 2, 2, 2, 2, 2, 2, 2, 2, 2, 2, 2, 2, 2, 2, 2, 2, 2, 2, 2,
+    ],
+    [
+        2, 1, 1, 1, 1, 1, 1, 1, 1, 1, 1, 1, 1, 1, 1, 1, 1, 1, 1, 1, 1, 1, 1, 1, 1, 1, 1, 1, 1, 1, 1, 1,
+        1, 1, 1, 1, 1, 1, 1, 1, 1, 1, 1, 1, 1, 1, 2, 0, 1, 1, 1, 1, 1, 1, 1, 1, 1, 1, 1, 2, 1, 1, 1, 1,
+        1, 1, 1, 1, 1, 1, 1, 1, 1, 1, 1, 1, 1, 1, 1, 1, 1, 1, 1, 1, 1, 1, 1, 1, 1, 1, 1, 2, 1, 1, 1, 1,
+        1, 1, 1, 1, 1, 1, 1, 1, 1, 1, 1, 1, 1, 1, 1, 1, 1, 1, 1, 1, 1, 1, 1, 1, 1, 1, 1, 1, 1, 1, 1, 1,
+        2, 2, 2, 2, 2, 2, 2, 2, 2, 2, 2, 2, 2, 2, 2, 2, 2, 2, 2, 2, 2, 2, 2, 2, 2, 2, 2, 2, 2, 2, 2, 2,
+        2, 2, 2, 2, 2, 2, 2, 2, 2, 2, 2, 2, 2, 2, 2, 2, 2, 2, 2, 2, 2, 2, 2, 2, 2, 2, 2, 2, 2, 2, 2, 2,
+        2, 2, 2, 2, 2, 2, 2, 2, 2, 2, 2, 2, 2, 2, 2, 2, 2, 2, 2, 2, 2, 2, 2, 2, 2, 2, 2, 2, 2, 2, 2, 2,
+        2, 2, 2, 2, 2, 2, 2, 2, 2, 2, 2, 2, 2, 2, 2, 2, 2, 2, 2, 2, 2, 2, 2, 2, 2, 2, 2, 2, 2, 2, 2, 2,
+    ],
+    [
+        2, 2, 2, 2, 2, 2, 2, 2, 2, 2, 2, 2, 2, 2, 2, 2, 2, 2, 2, 2, 2, 2, 2, 2, 2, 2, 2, 2, 2, 2, 2, 2,
+        2, 2, 2, 2, 2, 2, 2, 2, 2, 2, 2, 2, 2, 2, 2, 2, 2, 2, 2, 2, 2, 2, 2, 2, 2, 2, 2, 2, 2, 2, 2, 2,
+        2, 2, 2, 2, 2, 2, 2, 2, 2, 2, 2, 2, 2, 2, 2, 2, 2, 2, 2, 2, 2, 2, 2, 2, 2, 2, 2, 2, 2, 2, 2, 2,
+        2, 2, 2, 2, 2, 2, 2, 2, 2, 2, 2, 2, 2, 2, 2, 2, 2, 2, 2, 2, 2, 2, 2, 2, 2, 2, 2, 2, 2, 2, 2, 2,
+        2, 2, 2, 2, 2, 2, 2, 2, 2, 2, 2, 2, 2, 2, 2, 2, 2, 2, 2, 2, 2, 2, 2, 2, 2, 2, 2, 2, 2, 2, 2, 2,
+        2, 2, 2, 2, 2, 2, 2, 2, 2, 2, 2, 2, 2, 2, 2, 2, 2, 2, 2, 2, 2, 2, 2, 2, 2, 2, 2, 2, 2, 2, 2, 2,
+        2, 2, 2, 2, 2, 2, 2, 2, 2, 2, 2, 2, 2, 2, 2, 2, 2, 2, 2, 2, 2, 2, 2, 2, 2, 2, 2, 2, 2, 2, 2, 2,
+        2, 2, 2, 2, 2, 2, 2, 2, 2, 2, 2, 2, 2, 2, 2, 2, 2, 2, 2, 2, 2, 2, 2, 2, 2, 2, 2, 2, 2, 2, 2, 2,
+    ],
+];
 
 const INSTANCE_INITIALIZER: &[u8] = b"<init>";
 

@@ -200,9 +200,19 @@ impl<'v, 'a> Texts<'v, 'a> {
         ensures answer { result ≡ option_map descriptor_of (utf8_at self.old index) }
     {
         let known = self.known(index);
-        if known.descriptor.is_some() {
-            return known.descriptor;
+        match known.descriptor {
+            Some(descriptor) => Some(descriptor),
+            None => self.read_descriptor(index, known),
         }
+    }
+
+    /// Reads the text at `index` as a descriptor, and notes what it is.
+    #[inline(never)]
+    fn read_descriptor(&mut self, index: ConstantIndex, known: Known) -> Option<Descriptor>
+        requires { IsKnown self.old index known }
+        ensures same { self.new ≡ self.old }
+        ensures answer { result ≡ option_map descriptor_of (utf8_at self.old index) }
+    {
         let descriptor = Some(descriptor_of(self.class.utf8(index)?));
         self.note(
             index,

@@ -1,10 +1,10 @@
 -- What is told as a plain class name is a class name.
-use Rattle.std.proofs.Common.{◌≡◌, ◌∙◌, inl, inr, ℕ, ◌+◌, ◌<◌, Bool, true, false, cond, not, ◌&&◌, ◌||◌, eqb, List, [], ◌∷◌, length, drop, get_or, refl, sym, ap, subst, arith, add-one, drop-cons}
+use Rattle.std.proofs.Common.{◌≡◌, ◌∙◌, inl, inr, ℕ, zero, suc, ◌+◌, ◌<◌, Bool, true, false, cond, not, ◌&&◌, ◌||◌, ◌==◌, eqb, List, [], ◌∷◌, length, drop, get_or, refl, sym, ap, subst, arith, add-one, drop-cons}
 use Rattle.std.specs.List.{list_all, list_any, AllByRecursion, onto_first, slice_split}
 use Rattle.std.proofs.lemmas.Bool.{cases_Bool, eqb-false, false≢true, and_parts, ne_eqb}
 use Rattle.std.proofs.lemmas.List.Elements.{All-from_recursion}
 use Rattle.jc_base.specs.Names.{name_stops, IsClassName, IsUnqualifiedName}
-use Rattle.jc_base.specs.inside.PlainNames.{are_plain_parts, is_plain_byte, may_follow}
+use Rattle.jc_base.specs.inside.PlainNames.{are_plain_parts, is_plain_byte, may_follow, place_behind}
 use Rattle.jc_base.proofs.texts.Names.{class_name_by_split, name_by_test}
 use Rattle.jc_base.proofs.texts.WellSpelledFronts.{is_ascii}
 
@@ -46,7 +46,7 @@ lacking_bytes (c ∷ b) e =
     let parts = and_parts (is_plain_byte c) (list_all is_plain_byte b) e in
     both (not (list_any (λ s. eqb s c) name_stops)) (list_all (λ c. not (list_any (λ s. eqb s c) name_stops)) b) (plain_byte c parts.0).1 (lacking_bytes b parts.1)
 
-plain_part : (b : List ℕ) → 0 < length b → list_all is_plain_byte b ≡ true → IsUnqualifiedName b
+pub plain_part : (b : List ℕ) → 0 < length b → list_all is_plain_byte b ≡ true → IsUnqualifiedName b
 plain_part b some plain = name_by_test b some (ascii_bytes b plain) (lacking_bytes b plain)
 
 -- the parts into which a text is cut: the first is plain, and not empty where a part begins, and the others are names
@@ -97,3 +97,54 @@ pub parts_left : (b : List ℕ) (i : ℕ) (d : ℕ) (begins : Bool) → i < leng
 parts_left b i d begins within =
     let e : drop i b ≡ get_or b i d ∷ drop (i + 1) b = rw add-one (drop-cons b i d within) in
     ap (are_plain_parts begins) e
+
+-- ---- places
+
+step : (begins slash plain : Bool) (left : Bool → Bool)
+    → let next : ℕ = cond (not (cond slash (not begins) plain)) 2 (cond slash 0 1) in
+    (not (next == 2) && left (next == 0)) ≡ (cond slash (not begins) plain && left slash)
+step true true plain left = refl
+step false true plain left = refl
+step begins false true left = refl
+step begins false false left = refl
+
+-- one byte on
+pub place_step : (place c : ℕ) (left : Bool → Bool) → place < 3
+    → (not (place_behind place c == 2) && left (place_behind place c == 0)) ≡ (not (place == 2) && (may_follow (place == 0) c && left (c == 47)))
+place_step zero c left l = step true (c == 47) (is_plain_byte c) left
+place_step (suc zero) c left l = step false (c == 47) (is_plain_byte c) left
+place_step (suc (suc zero)) c left l = refl
+place_step (suc (suc (suc place))) c left l = absurd (omega (arith, l))
+
+below_three : (x y : Bool) → cond x 2 (cond y 0 1) < 3
+below_three true y = omega arith
+below_three false true = omega arith
+below_three false false = omega arith
+
+pub place_within : (place c : ℕ) → place_behind place c < 3
+place_within place c = below_three _ _
+
+-- a name ends within a part
+pub ends_within : (place : ℕ) → place < 3 → (place == 1) ≡ (not (place == 2) && not (place == 0))
+ends_within zero l = refl
+ends_within (suc zero) l = refl
+ends_within (suc (suc zero)) l = refl
+ends_within (suc (suc (suc place))) l = absurd (omega (arith, l))
+
+-- a plain character is within a part that begins with it
+pub plain_place : (c : ℕ) → (place_behind 0 c == 1) ≡ is_plain_byte c
+plain_place c = elim (cases_Bool (c == 47)) [
+  | inl slash ↦ ap (λ s. (cond (not (cond s false (is_plain_byte c))) 2 (cond s 0 1)) == 1) slash ∙ sym (no_slash slash)
+  | inr other ↦ ap (λ s. (cond (not (cond s false (is_plain_byte c))) 2 (cond s 0 1)) == 1) other ∙ by (is_plain_byte c)
+]
+  where
+    and_none : (b : Bool) → (b && false) ≡ false
+    and_none true = refl
+    and_none false = refl
+
+    no_slash : (c == 47) ≡ true → is_plain_byte c ≡ false
+    no_slash e = ap (λ s. is_ascii c && not (eqb c 46) && not (eqb c 59) && not (eqb c 91) && not s) e ∙ and_none _
+
+    by : (plain : Bool) → ((cond (not plain) 2 1) == 1) ≡ plain
+    by true = refl
+    by false = refl

@@ -1,5 +1,5 @@
 -- Names of classes in which each character is below 0x80.
-use Rattle.std.specs.Prelude.{ℕ, Bool, not, ◌&&◌, ◌==◌, nat_lt, List, [], ◌∷◌, if◌then◌else◌}
+use Rattle.std.specs.Prelude.{ℕ, Bool, not, ◌&&◌, ◌||◌, ◌==◌, nat_lt, List, [], ◌∷◌, if◌then◌else◌}
 
 -- a character that an unqualified name may have, none of `.;[/`
 abbrev pub is_plain_byte : ℕ → Bool
@@ -13,3 +13,7 @@ may_follow begins c = if c == 47 then not begins else is_plain_byte c
 abbrev pub are_plain_parts : Bool → List ℕ → Bool
 are_plain_parts begins [] = not begins
 are_plain_parts begins (c ∷ rest) = may_follow begins c && are_plain_parts (c == 47) rest
+
+-- the place after a byte: 0 where a part begins, 1 within one, 2 after bytes with which no such name begins
+abbrev pub place_behind : ℕ → ℕ → ℕ
+place_behind place c = if place == 2 || not (may_follow (place == 0) c) then 2 else if c == 47 then 0 else 1

@@ -5,9 +5,8 @@ use Rattle.std.specs.List.{flat_map, list_any, range_with_len}
 use Rattle.std.specs.Option.{option_map_or, option_to_list}
 use Rattle.std.specs.Prelude.{option_and_then}
 use Rattle.std.proofs.lemmas.Grind.{flat_map-append}
-use Rattle.std.proofs.lemmas.List.{append-nil, get_or_past}
+use Rattle.std.proofs.lemmas.List.{append-nil}
 use Rattle.std.proofs.lemmas.List.Folds.{list_any-append}
-use Rattle.std.proofs.lemmas.List.FromFn.{get_or-map-range_with_len, length-map-range_with_len}
 use Rattle.jc_base.specs.Bytes.{bytes_cmp}
 use Rattle.jc_base.proofs.maps.FiniteMaps.{bytes_cmp_total}
 use Rattle.jc_view.specs.declared.constant_pool.ConstantIndex.{ConstantIndex}
