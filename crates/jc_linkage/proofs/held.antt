@@ -8,7 +8,6 @@ pub mod Required
 pub mod Holders
 pub mod Changed
 pub mod KeptMaps
-pub mod KeysOfRows
 pub mod UserNames
 pub mod UsersFound
 pub mod LinksLeft

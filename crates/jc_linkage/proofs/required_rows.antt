@@ -1,1 +1,3 @@
 pub mod RowLists
+pub mod NumberedRows
+pub mod Marked

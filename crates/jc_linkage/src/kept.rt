@@ -7,6 +7,7 @@ ghost use Rattle.jc_classes.specs.Numbers.{name_at};
 ghost use Rattle.jc_classes.specs.Worlds.{World};
 ghost use Rattle.jc_link.specs.Meters.{counted};
 ghost use Rattle.jc_link.specs.Graphs.{IsIn};
+ghost use Rattle.jc_report.specs.RequiredRows.{spelled_all};
 ghost use Rattle.jc_linkage.specs.inside.Kept.{AllFresh, AreKeys, IsClassAt, IsKeptOf, fresh_names, required_by};
 
 use crate::row_list::RowList;
@@ -14,7 +15,6 @@ use jc_base::{ByteMap, NoMemory};
 use jc_classes::Facts;
 use jc_index::PackedNames;
 use jc_link::{Meter, Part, PartMaker};
-use jc_report::required_of;
 use std::alloc::Global;
 
 /// The part of a class, and the names that it depends on.
@@ -100,13 +100,10 @@ fn required_by(
     part: &Part,
     before: Option<&Kept>,
 ) -> Result<RowList, NoMemory>
-    ensures { IfOk result (λ keys. AreKeys keys (required_by (option_copied own.entry) part.now)) }
+    ensures { IfOk result (λ rows. AreKeys (spelled_all rows) (required_by (option_copied own.entry) part.now)) }
 {
     match own {
-        Some(facts) => {
-            let required = required_of(alloc, facts, part)?;
-            Ok(RowList::of(alloc, required, rows_kept(before))?)
-        }
+        Some(facts) => RowList::of(alloc, facts, part, rows_kept(before)),
         None => Ok(RowList::new(alloc)),
     }
 }

@@ -1,13 +1,13 @@
 //! An index holds for each row the classes that require it.
 
-ghost use Rattle.std.specs.Prelude.{◌≡◌, ◌&&◌, not, [], OnErr, OnOk, map as map_each, slice_get};
+ghost use Rattle.std.specs.Prelude.{◌≡◌, ◌&&◌, not, true, [], OnErr, OnOk, map as map_each, slice_get};
 ghost use Rattle.std.specs.FinMap as map;
 ghost use Rattle.std.specs.Iterator.{YieldsFirstBy, item_count};
 ghost use Rattle.std.specs.Option.{option_copied, option_map};
 ghost use Rattle.jc_classes.specs.NameLists.{has};
 ghost use Rattle.jc_classes.specs.Names.{Name, same_name};
 ghost use Rattle.jc_index.specs.Indexes.{HaveUsers, Linked, LinkedAt, LinkedAtSome, Unlinked, UnlinkedAt, has_but, users_of};
-ghost use Rattle.jc_report.specs.RequiredRows.{spelled};
+ghost use Rattle.jc_report.specs.RequiredRows.{AreOf, spelled, spelled_all};
 ghost use Rattle.jc_report.specs.RowKeys.{row_key};
 ghost use Rattle.jc_report.specs.RowView.{row_lent};
 
@@ -109,8 +109,8 @@ impl RowIndex {
 
     /// Adds a user at each of some rows. At want of memory it may be added at some of them.
     pub fn link_all(&mut self, rows: &RowList, user: &[u8]) -> Result<(), NoMemory>
-        ensures ok { OnOk result (LinkedAt self.old self.new (has rows.now) user.now) }
-        ensures err { OnErr result (LinkedAtSome self.old self.new (has rows.now) user.now) }
+        ensures ok { OnOk result (LinkedAt self.old self.new (has (spelled_all rows.now)) user.now) }
+        ensures err { OnErr result (LinkedAtSome self.old self.new (has (spelled_all rows.now)) user.now) }
     {
         let none = RowList::new(self.alloc);
         self.link_all_but(rows, &none, user)
@@ -123,32 +123,32 @@ impl RowIndex {
         others: &RowList,
         user: &[u8],
     ) -> Result<(), NoMemory>
-        ensures ok { OnOk result (LinkedAt self.old self.new (has_but rows.now others.now) user.now) }
-        ensures err { OnErr result (LinkedAtSome self.old self.new (has_but rows.now others.now) user.now) }
+        ensures ok { OnOk result (LinkedAt self.old self.new (has_but (spelled_all rows.now) (spelled_all others.now)) user.now) }
+        ensures err { OnErr result (LinkedAtSome self.old self.new (has_but (spelled_all rows.now) (spelled_all others.now)) user.now) }
     {
-        if rows.is_same(others) {
-            return Ok(());
-        }
+        let is_like = rows.is_like(others);
         let mut near = 0;
         for row in rows.rows() {
-            near = self.link_unless(row, near, others, user)?;
+            near = self.link_unless(row, near, others, is_like, user)?;
         }
         Ok(())
     }
 
-    /// Adds a user at a row, unless others have it, most likely near a place. Answers the place near which they have
-    /// the next.
+    /// Adds a user at a row, unless others have it, most likely near a place. Its number tells there if they are of its
+    /// references. Answers the place near which they have the next.
     fn link_unless(
         &mut self,
         row: &RequiredRow,
         near: usize,
         others: &RowList,
+        is_like: bool,
         user: &[u8],
     ) -> Result<usize, NoMemory>
-        ensures ok { OnOk result (LinkedAt self.old self.new (λ n. same_name n (spelled row.now) && not (has others.now n)) user.now) }
+        requires { is_like ≡ true → AreOf row.now.references others.now }
+        ensures ok { OnOk result (LinkedAt self.old self.new (λ n. same_name n (spelled row.now) && not (has (spelled_all others.now) n)) user.now) }
         ensures err { OnErr result (self.new ≡ self.old) }
     {
-        match others.find_near(near, row) {
+        match others.find_near(near, row, is_like) {
             Ok(at) => Ok(at.saturating_add(1)),
             Err(at) => {
                 self.link(row, user)?;
@@ -159,7 +159,7 @@ impl RowIndex {
 
     /// Takes a user out at each of some rows. No memory.
     pub fn unlink_all(&mut self, rows: &RowList, user: &[u8])
-        ensures { UnlinkedAt self.old self.new (has rows.now) user.now }
+        ensures { UnlinkedAt self.old self.new (has (spelled_all rows.now)) user.now }
     {
         for row in rows.rows() {
             self.unlink(row, user);
@@ -168,14 +168,12 @@ impl RowIndex {
 
     /// Takes a user out at each of some rows that others lack. No memory.
     pub fn unlink_all_but(&mut self, rows: &RowList, others: &RowList, user: &[u8])
-        ensures { UnlinkedAt self.old self.new (has_but rows.now others.now) user.now }
+        ensures { UnlinkedAt self.old self.new (has_but (spelled_all rows.now) (spelled_all others.now)) user.now }
     {
-        if rows.is_same(others) {
-            return;
-        }
+        let is_like = rows.is_like(others);
         let mut near = 0;
         for row in rows.rows() {
-            near = self.unlink_unless(row, near, others, user);
+            near = self.unlink_unless(row, near, others, is_like, user);
         }
     }
 
@@ -185,11 +183,13 @@ impl RowIndex {
         row: &RequiredRow,
         near: usize,
         others: &RowList,
+        is_like: bool,
         user: &[u8],
     ) -> usize
-        ensures { UnlinkedAt self.old self.new (λ n. same_name n (spelled row.now) && not (has others.now n)) user.now }
+        requires { is_like ≡ true → AreOf row.now.references others.now }
+        ensures { UnlinkedAt self.old self.new (λ n. same_name n (spelled row.now) && not (has (spelled_all others.now) n)) user.now }
     {
-        match others.find_near(near, row) {
+        match others.find_near(near, row, is_like) {
             Ok(at) => at.saturating_add(1),
             Err(at) => {
                 self.unlink(row, user);

@@ -1,134 +1,293 @@
-//! Rows in their order, each once.
+//! The rows that a class requires, in their order, each once.
 
-ghost use Rattle.std.specs.Prelude.{◌≡◌, [], IfOk, IsTrue, is_ok, map};
+ghost use Rattle.std.specs.Prelude.{◌≡◌, ℕ, ◌⊎◌, ◌++◌, ◌∷◌, [], List, true, IfOk, IsTrue, OnOk, cond, is_ok, map, not};
+ghost use Rattle.std.specs.List.{Contains, filter};
 ghost use Rattle.std.specs.List.Sorted.{IsStrictlySortedBy};
+ghost use Rattle.jc_classes.specs.Facts.{Reference};
 ghost use Rattle.jc_classes.specs.NameLists.{has};
 ghost use Rattle.jc_classes.specs.Names.{Name, name_cmp};
-ghost use Rattle.jc_report.specs.RequiredRows.{spelled, spelled_all};
+ghost use Rattle.jc_report.specs.ClassRows.{required_rows};
+ghost use Rattle.jc_report.specs.RequiredRows.{AreOf, spelled, spelled_all};
 ghost use Rattle.jc_report.specs.RowKeys.{row_key};
+ghost use Rattle.jc_report.specs.declared.required_row.RequiredRow.{RequiredRow as RowValue};
+ghost use Rattle.jc_linkage.specs.inside.RowLists.{AreInOrder, AreMarks, IsThere, ShareReferences, Stay, is_marked};
 
 use jc_base::NoMemory;
-use jc_report::{RequiredReferences, RequiredRow};
+use jc_classes::{Facts, References};
+use jc_link::Part;
+use jc_report::{RequiredRow, required_numbers, rows_of};
 use std::alloc::Global;
 use std::marker::Model;
 
-/// The rows that a class requires, in their order, each once, seen as the list of their keys.
+/// The rows that a class requires, in their order, each once, seen as the list of them.
 #[derive(Drop)]
 pub struct RowList {
-    /// The references whose rows they are.
-    given: Option<RequiredReferences>,
+    /// The references whose rows they are, if the class has a record.
+    references: Option<References>,
     rows: Vec<RequiredRow>,
 }
 
 impl Model for RowList {
     ghost use Rattle.std.specs.Prelude.{List};
-    ghost use Rattle.std.specs.Coded.{coded_list, coded_ℕ};
-    ghost use Rattle.jc_classes.specs.Names.{Name};
-    ghost use Rattle.jc_report.specs.RequiredRows.{spelled_all};
-    ghost use Rattle.jc_linkage.specs.inside.RowLists.{AreGiven};
+    ghost use Rattle.jc_report.specs.declared.required_row.RequiredRow.{RequiredRow as RowValue};
+    ghost use Rattle.jc_linkage.specs.inside.RowLists.{IsRowList};
 
-    ghost Value = { List Name };
+    ghost Value = { List RowValue };
 
-    ghost coded = { coded_list (coded_list coded_ℕ) };
+    ghost view = { λ a. a.rows.items };
 
-    ghost view = { λ a. spelled_all a.rows.items };
-
-    ghost invariant = { λ a. AreGiven a.given (spelled_all a.rows.items) };
+    ghost invariant = { λ a. IsRowList a.references a.rows.items };
 }
 
 impl RowList {
-    /// No rows. No memory.
+    /// No rows. Does not allocate.
     pub fn new(alloc: Global) -> RowList
         ensures { result ≡ [] }
     {
         RowList {
-            given: None,
+            references: None,
             rows: Vec::new(alloc),
         }
     }
 
-    /// The rows of some references, put in order. Where another list has those of the same references, it is shared
-    /// and not put in order again; where it has some of them, these are in order already.
+    /// Returns the rows that a class requires by its part. Rows that it required before are in order already.
     pub fn of(
         alloc: Global,
-        given: RequiredReferences,
+        facts: &Facts,
+        part: &Part,
         before: Option<&RowList>,
     ) -> Result<RowList, NoMemory>
-        ensures same { IfOk result (λ list. (key : Name) → has list key ≡ has (map row_key given) key) }
-        ensures rises { IfOk result (λ list. IsStrictlySortedBy name_cmp list) }
+        ensures { IfOk result (λ list. (key : Name) → has (spelled_all list) key ≡ has (map row_key (required_rows facts.now part.now)) key) }
     {
-        let rows = match before {
-            Some(before) if before.is_of(&given) => before.share_rows(alloc)?,
-            _ => in_order(given.rows_like(alloc, rows_in(before))?),
-        };
+        let references = facts.shared_references()?;
+        let numbers = required_numbers(alloc, &references, part)?;
+        let rows = rows_after(alloc, before, &references, &numbers)?;
         Ok(RowList {
-            given: Some(given),
+            references: Some(references),
             rows,
         })
     }
 
-    /// Whether these are known to be the rows of some references. No memory.
-    fn is_of(&self, given: &RequiredReferences) -> bool
-        ensures { IsTrue result → (key : Name) → has self.now key ≡ has (map row_key given.now) key }
+    /// Returns whether the rows are known to be of these references. Does not allocate.
+    fn is_of(&self, references: &References) -> bool
+        ensures { IsTrue result → AreOf references.now self.now }
     {
-        match &self.given {
-            Some(own) => own.is_same(given),
+        match &self.references {
+            Some(own) => own.is_same(references),
             None => false,
         }
     }
 
-    /// Whether another list is known to have the same rows. No memory.
-    pub fn is_same(&self, other: &RowList) -> bool
-        ensures { IsTrue result → (key : Name) → has self.now key ≡ has other.now key }
+    /// Returns whether another list is known to have rows of the same references: then rows of one number are the same.
+    /// Does not allocate.
+    pub(crate) fn is_like(&self, other: &RowList) -> bool
+        ensures { IsTrue result → ShareReferences self.now other.now }
     {
-        match &other.given {
-            Some(given) => self.is_of(given),
+        match &other.references {
+            Some(references) => self.is_of(references),
             None => false,
         }
     }
 
-    /// The rows, shared.
-    fn share_rows(&self, alloc: Global) -> Result<Vec<RequiredRow>, NoMemory>
-        ensures keys { IfOk result (λ rows. spelled_all rows.items ≡ self.now) }
-        ensures rises { IsStrictlySortedBy name_cmp self.now }
-    {
-        let mut rows = Vec::with_capacity(alloc, self.rows.len())?;
-        for row in &self.rows {
-            rows.push(row.share()?)?;
-        }
-        Ok(rows)
-    }
-
-    /// The rows. No memory.
+    /// Returns the rows. Does not allocate.
     pub fn rows(&self) -> &[RequiredRow]
-        ensures { spelled_all result.now ≡ self.now }
+        ensures rows { result.now ≡ self.now }
+        ensures rises { IsStrictlySortedBy name_cmp (spelled_all self.now) }
     {
         self.rows.as_slice()
     }
 
-    /// Where a row stands, or else the place that it would have. It is looked for at a place first. No memory.
-    pub(crate) fn find_near(&self, place: usize, row: &RequiredRow) -> Result<usize, usize>
-        ensures { is_ok result ≡ has self.now (spelled row.now) }
+    /// Returns the place of a row, or else the place that it would have. It is looked for at a place first, where its
+    /// number tells if the rows are of its references. Does not allocate.
+    pub(crate) fn find_near(
+        &self,
+        place: usize,
+        row: &RequiredRow,
+        is_like: bool,
+    ) -> Result<usize, usize>
+        requires { is_like ≡ true → AreOf row.now.references self.now }
+        ensures { is_ok result ≡ has (spelled_all self.now) (spelled row.now) }
     {
         match self.rows.get(place) {
-            Some(near) if near == row => Ok(place),
+            Some(near) if is_same(near, row, is_like) => Ok(place),
             _ => self.rows.binary_search(row),
         }
     }
 }
 
-/// The rows of a list, if there is one. No memory.
-fn rows_in(list: Option<&RowList>) -> &[RequiredRow] {
-    match list {
-        Some(list) => list.rows(),
-        None => &[],
+/// Returns whether two rows are the same, which their numbers tell if they are of the same references. Does not
+/// allocate.
+fn is_same(one: &RequiredRow, other: &RequiredRow, is_like: bool) -> bool
+    requires { is_like ≡ true → one.now.references ≡ other.now.references }
+    ensures { IsTrue result → spelled one.now ≡ spelled other.now }
+{
+    if is_like {
+        one.number() == other.number()
+    } else {
+        one == other
     }
 }
 
-/// Rows put in order, each once. No memory.
+/// Returns the rows of some numbers, in their order, each once, after those of a list.
+fn rows_after(
+    alloc: Global,
+    before: Option<&RowList>,
+    references: &References,
+    numbers: &[usize],
+) -> Result<Vec<RequiredRow>, NoMemory>
+    ensures { IfOk result (λ rows. AreInOrder references.now numbers.now rows.items) }
+{
+    match before {
+        Some(before) if before.is_of(references) => {
+            changed(alloc, before.rows(), references, numbers)
+        }
+        _ => Ok(in_order(rows_of(alloc, references, numbers)?)),
+    }
+}
+
+/// Returns the rows of some numbers, in their order, each once. Those that are among rows of the same references are in
+/// order already, and only others are put among them.
+fn changed(
+    alloc: Global,
+    before: &[RequiredRow],
+    references: &References,
+    numbers: &[usize],
+) -> Result<Vec<RequiredRow>, NoMemory>
+    requires of { AreOf references.now before.now }
+    requires rises { IsStrictlySortedBy name_cmp (spelled_all before.now) }
+    ensures { IfOk result (λ rows. AreInOrder references.now numbers.now rows.items) }
+{
+    let rows = staying(alloc, before, numbers, references.len())?;
+    let comes = coming(alloc, numbers, &rows, references.len())?;
+    if comes.is_empty() {
+        return Ok(rows);
+    }
+    let more = rows_of(alloc, references, &comes)?;
+    Ok(in_order(joined(rows, more)?))
+}
+
+/// Returns those of the rows that have one of some numbers below a count.
+fn staying(
+    alloc: Global,
+    rows: &[RequiredRow],
+    numbers: &[usize],
+    count: usize,
+) -> Result<Vec<RequiredRow>, NoMemory>
+    ensures { IfOk result (λ kept. Stay rows.now numbers.now kept.items) }
+{
+    let marks = marks_of(alloc, numbers, count)?;
+    marked_rows(alloc, rows, &marks)
+}
+
+/// Returns those of some numbers below a count that no row has.
+fn coming(
+    alloc: Global,
+    numbers: &[usize],
+    rows: &[RequiredRow],
+    count: usize,
+) -> Result<Vec<usize>, NoMemory>
+    ensures sound { IfOk result (λ comes. (n : ℕ) → Contains comes.items n → Contains numbers.now n) }
+    ensures complete { IfOk result (λ comes. (n : ℕ) → Contains numbers.now n → Contains comes.items n ⊎ IsThere rows.now n) }
+{
+    let there = numbers_of(alloc, rows)?;
+    let marks = marks_of(alloc, &there, count)?;
+    unmarked(alloc, numbers, &marks)
+}
+
+/// Returns the numbers of rows.
+fn numbers_of(alloc: Global, rows: &[RequiredRow]) -> Result<Vec<usize>, NoMemory>
+    ensures { IfOk result (λ numbers. numbers.items ≡ map (λ (row : RowValue). row.number) rows.now) }
+{
+    let mut numbers = Vec::with_capacity(alloc, rows.len())?;
+    for row in rows {
+        numbers.push(row.number())?;
+    }
+    Ok(numbers)
+}
+
+/// Returns a mark for each number below a count: it is set for those of these numbers.
+fn marks_of(alloc: Global, numbers: &[usize], count: usize) -> Result<Vec<bool>, NoMemory>
+    ensures { IfOk result (λ marks. AreMarks numbers.now marks.items) }
+{
+    let mut marks = vec![in alloc; false; count]?;
+    for number in numbers {
+        mark(&mut marks, *number);
+    }
+    Ok(marks)
+}
+
+/// Sets the mark of a number, if it has one. Does not allocate.
+fn mark(marks: &mut Vec<bool>, number: usize)
+    ensures { (n : ℕ) → is_marked marks.new.items n ≡ true → (is_marked marks.old.items n ≡ true) ⊎ (n ≡ number) }
+{
+    if number < marks.len() {
+        marks[number] = true;
+    }
+}
+
+/// Returns whether the mark of a number is set. Does not allocate.
+fn is_marked(marks: &[bool], number: usize) -> bool
+    ensures { result ≡ is_marked marks.now number }
+{
+    match marks.get(number) {
+        Some(mark) => *mark,
+        None => false,
+    }
+}
+
+/// Returns the rows whose numbers are marked.
+fn marked_rows(
+    alloc: Global,
+    rows: &[RequiredRow],
+    marks: &[bool],
+) -> Result<Vec<RequiredRow>, NoMemory>
+    ensures { IfOk result (λ kept. kept.items ≡ filter (λ (row : RowValue). is_marked marks.now row.number) rows.now) }
+{
+    let mut kept = Vec::with_capacity(alloc, rows.len())?;
+    for row in rows {
+        push_if(&mut kept, row, is_marked(marks, row.number()))?;
+    }
+    Ok(kept)
+}
+
+/// Adds a row, if it is wanted.
+fn push_if(rows: &mut Vec<RequiredRow>, row: &RequiredRow, is_wanted: bool) -> Result<(), NoMemory>
+    ensures { OnOk result (rows.new.items ≡ rows.old.items ++ cond is_wanted (row.now ∷ []) []) }
+{
+    if is_wanted {
+        rows.push(row.share()?)?;
+    }
+    Ok(())
+}
+
+/// Returns the numbers that are not marked.
+fn unmarked(alloc: Global, numbers: &[usize], marks: &[bool]) -> Result<Vec<usize>, NoMemory>
+    ensures { IfOk result (λ left. left.items ≡ filter (λ n. not (is_marked marks.now n)) numbers.now) }
+{
+    let mut left = Vec::new(alloc);
+    for number in numbers {
+        if !is_marked(marks, *number) {
+            left.push(*number)?;
+        }
+    }
+    Ok(left)
+}
+
+/// Returns the rows of two lists.
+fn joined(rows: Vec<RequiredRow>, more: Vec<RequiredRow>) -> Result<Vec<RequiredRow>, NoMemory>
+    ensures { IfOk result (λ all. all.items ≡ rows.items ++ more.items) }
+{
+    let mut rows = rows;
+    let mut more = more;
+    rows.append(&mut more)?;
+    Ok(rows)
+}
+
+/// Puts rows in order, each once. Does not allocate.
 fn in_order(rows: Vec<RequiredRow>) -> Vec<RequiredRow>
     ensures same { (key : Name) → has (spelled_all result.items) key ≡ has (spelled_all rows.items) key }
     ensures rises { IsStrictlySortedBy name_cmp (spelled_all result.items) }
+    ensures of { (references : List Reference) → AreOf references rows.items → AreOf references result.items }
 {
     let mut rows = rows;
     rows.sort_unstable();

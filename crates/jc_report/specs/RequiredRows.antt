@@ -1,5 +1,6 @@
 -- The rows that a class requires, lent from its references.
-use Rattle.std.specs.Prelude.{ℕ, List, [], map, Option, None, Some, slice_get}
+use Rattle.std.specs.Prelude.{◌≡◌, ℕ, List, [], map, Option, None, Some, slice_get}
+use Rattle.std.specs.List.{All}
 use Rattle.jc_classes.specs.Facts.{Reference}
 use Rattle.jc_classes.specs.Names.{Name}
 use Rattle.jc_report.specs.ClassRows.{class_row, reference_row}
@@ -15,8 +16,15 @@ row_of_some None = class_row []
 abbrev pub row_numbered : List Reference → ℕ → rows.Row
 row_numbered references number = row_of_some (slice_get references number)
 
+abbrev pub rows_numbered : List Reference → List ℕ → List rows.Row
+rows_numbered references numbers = map (row_numbered references) numbers
+
 abbrev pub row_required : RequiredRow → rows.Row
 row_required row = row_numbered row.references row.number
+
+-- each is the row of one of these references
+abbrev pub AreOf : List Reference → List RequiredRow → Type 0
+AreOf references required = All (λ (row : RequiredRow). row.references ≡ references) required
 
 -- the key of its row
 abbrev pub spelled : RequiredRow → Name

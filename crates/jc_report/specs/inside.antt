@@ -5,11 +5,11 @@ pub mod Made
 pub mod MemberRows
 pub mod Members
 pub mod Naming
-pub mod NumberedRows
 pub mod Outcomes
 pub mod ProvidedInOrder
 pub mod ReferencePlaces
 pub mod ReportShown
 pub mod RequiredLeft
 pub mod RowSets
+pub mod RowsOfClass
 pub mod TreeCode

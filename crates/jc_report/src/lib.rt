@@ -44,7 +44,7 @@ pub use provided_rows::{ProvidedRows, provided_in_order};
 pub use report::{TreeReport, is_any_wrong};
 pub use report_lists::ReportLists;
 pub use report_text::{write_lists, write_name, write_report};
-pub use required_references::{RequiredReferences, required_of};
+pub use required_references::{required_numbers, rows_of};
 pub use required_row::RequiredRow;
 pub use required_rows::RequiredRows;
 pub use row::Row;

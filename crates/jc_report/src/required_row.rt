@@ -35,7 +35,7 @@ impl RequiredRow {
     }
 
     /// The number of its reference.
-    pub(crate) fn number(&self) -> usize
+    pub fn number(&self) -> usize
         ensures { result ≡ self.now.number }
     {
         self.number
@@ -55,7 +55,7 @@ impl RequiredRow {
     ///
     /// Answers `NoMemory` only where it is shared as often as can be counted.
     pub fn share(&self) -> Result<RequiredRow, NoMemory>
-        ensures { IfOk result (λ row. row_required row ≡ row_required self.now) }
+        ensures { IfOk result (λ row. row ≡ self.now) }
     {
         Ok(RequiredRow {
             references: self.references.share()?,
@@ -101,7 +101,7 @@ impl Ord for RequiredRow {
     fn cmp(&self, other: &RequiredRow) -> Ordering {
         match self.class().cmp(other.class()) {
             Ordering::Less => Ordering::Less,
-            Ordering::Equal => self.row().cmp(&other.row()),
+            Ordering::Equal => self.row().cmp_in_class(&other.row()),
             Ordering::Greater => Ordering::Greater,
         }
     }
@@ -109,7 +109,8 @@ impl Ord for RequiredRow {
 
 /// The row of the reference of a number.
 pub(crate) fn numbered(references: &References, number: usize) -> Result<RequiredRow, NoMemory>
-    ensures { IfOk result (λ row. row_required row ≡ row_numbered references.now number) }
+    ensures row { IfOk result (λ row. row_required row ≡ row_numbered references.now number) }
+    ensures of { IfOk result (λ row. row.references ≡ references.now) }
 {
     Ok(RequiredRow {
         references: references.share()?,

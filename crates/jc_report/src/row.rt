@@ -1,6 +1,11 @@
 //! What a report says is provided or required.
 
+ghost use Rattle.std.specs.Prelude.{◌≡◌};
+ghost use Rattle.jc_report.specs.RowView.{row_lent};
+ghost use Rattle.jc_report.specs.inside.RowsOfClass.{cmp_in_class};
+
 use jc_classes::ReferenceKind;
+use std::cmp::Ordering;
 
 /// A class, whose name and descriptor are empty, or a member that is named in it. Rows are ordered by
 /// class, then by kind, then by name, then by descriptor.
@@ -10,4 +15,20 @@ pub struct Row<'a> {
     pub kind: ReferenceKind,
     pub name: &'a [u8],
     pub descriptor: &'a [u8],
+}
+
+impl<'a> Row<'a> {
+    /// Compares the rows as rows of one class: by kind, then by name, then by descriptor. Does not allocate.
+    pub(crate) fn cmp_in_class(&self, other: &Row<'_>) -> Ordering
+        ensures { result ≡ cmp_in_class (row_lent self.now) (row_lent other.now) }
+    {
+        match self.kind.cmp(&other.kind) {
+            Ordering::Equal => {}
+            order => return order,
+        }
+        match self.name.cmp(other.name) {
+            Ordering::Equal => self.descriptor.cmp(other.descriptor),
+            order => order,
+        }
+    }
 }

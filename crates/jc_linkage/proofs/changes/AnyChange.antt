@@ -13,7 +13,7 @@ use Rattle.jc_link.specs.Closures.{facts_standing}
 use Rattle.jc_linkage.specs.Affected.{IsAffected}
 use Rattle.jc_linkage.specs.declared.kept.Fresh.{Fresh}
 use Rattle.jc_linkage.specs.declared.kept.Kept.{Kept}
-use Rattle.jc_linkage.specs.inside.Kept.{AllFresh, AreKeys, IsKept, IsKeptOf, KeptHits, KeptMap, fresh_at, fresh_names, held_in, names_kept, required_by}
+use Rattle.jc_linkage.specs.inside.Kept.{AllFresh, AreKeys, IsKept, IsKeptOf, KeptHits, KeptMap, fresh_at, fresh_names, held_in, keys_of, names_kept, required_by}
 use Rattle.jc_linkage.specs.inside.Kept.Relation.{Reaches}
 use Rattle.jc_linkage.proofs.equations.Booleans.{or_split, or_join, and_split, and_join}
 use Rattle.jc_linkage.proofs.equations.Options.{some_by, none_some}
@@ -76,7 +76,7 @@ module _ (touched g h : Name → Bool) (w v : World) (kept : KeptMap) (differ : 
           sound = λ n e. reach_there touched w v d differ avoids (of.reach.sound n e);
           complete = λ n r. of.reach.complete n (reach_back touched w v d differ avoids r);
         };
-        required = subst (λ o. AreKeys k.required (required_by (facts_standing o) k.part)) there of.required;
+        required = subst (λ o. AreKeys (keys_of k) (required_by (facts_standing o) k.part)) there of.required;
       }
 
   -- with the affected classes made afresh, and those that are no longer given left out, what is kept is right

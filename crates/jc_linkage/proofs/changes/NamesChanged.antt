@@ -23,7 +23,7 @@ use Rattle.jc_linkage.specs.inside.Kept.{AllFresh, AreLinked, KeptHits, KeptMap,
 use Rattle.jc_linkage.specs.inside.Kept.Relation.{Reaches}
 use Rattle.jc_linkage.specs.inside.Prepared.{HasAskedFor, IsPrepared}
 use Rattle.jc_linkage.specs.inside.Users.{is_name, users_at}
-use Rattle.jc_linkage.proofs.equations.Booleans.{or_right, or_left, or_split, and_no, and_not, not_and}
+use Rattle.jc_linkage.proofs.equations.Booleans.{or_right, or_left, or_split, and_no, and_not, not_and, same_test}
 use Rattle.jc_linkage.proofs.equations.Options.{some_by, not_some}
 use Rattle.jc_linkage.proofs.fresh.FreshLists.{names_append, fresh_at_append, fresh_at_absent}
 use Rattle.jc_linkage.proofs.fresh.NewcomersReady.{one_has, one_once}
@@ -34,12 +34,6 @@ use Rattle.jc_linkage.proofs.changes.AnyChange.{holds_after, listed}
 use Rattle.jc_linkage.proofs.changes.PartsCounted.{counted_after}
 
 -- ---- tests
-
-same_test : (a b : Bool) → (a ≡ true → b ≡ true) → (b ≡ true → a ≡ true) → a ≡ b
-same_test true true f g = refl
-same_test true false f g = sym (f refl)
-same_test false true f g = g refl
-same_test false false f g = refl
 
 turn : (x : Bool) → (true && not x) ≡ (not x && true)
 turn true = refl

@@ -20,6 +20,13 @@ pub or_no : (a b : Bool) → (a || b) ≡ false → (a ≡ false) × (b ≡ fals
 or_no true b e = absurd (false≢true (sym e))
 or_no false b e = (refl, e)
 
+-- tests that hold in the same cases
+pub same_test : (a b : Bool) → (a ≡ true → b ≡ true) → (b ≡ true → a ≡ true) → a ≡ b
+same_test true true f g = refl
+same_test true false f g = sym (f refl)
+same_test false true f g = g refl
+same_test false false f g = refl
+
 pub or_assoc : (a b c : Bool) → ((a || b) || c) ≡ (a || (b || c))
 or_assoc true b c = refl
 or_assoc false b c = refl

@@ -18,10 +18,9 @@ use Rattle.jc_report.proofs.row_keys.KeyOrder.{row_back, row_of}
 use Rattle.jc_report.proofs.rows.RowsAreOne.{are_rows_one}
 use Rattle.jc_linkage.specs.Holders.{CountsHolders, IsHolder}
 use Rattle.jc_linkage.specs.Linkages.{AreHeldClasses, Linkage}
-use Rattle.jc_linkage.specs.declared.kept.Kept.{Kept}
 use Rattle.jc_linkage.specs.declared.links.Links.{Links}
 use Rattle.jc_linkage.specs.inside.Holding.{IsHeld}
-use Rattle.jc_linkage.specs.inside.Kept.{KeptMap, names_kept}
+use Rattle.jc_linkage.specs.inside.Kept.{KeptMap, keys_of, names_kept}
 use Rattle.jc_linkage.specs.inside.Kept.Relation.{Requires}
 use Rattle.jc_linkage.proofs.held.Places.{kept_by}
 use Rattle.jc_linkage.proofs.held.Required.{keys_required, required_keys}
@@ -41,7 +40,7 @@ module _ (a : Linkage) (kept : KeptMap) (links : Links) (held : IsHeld a.classes
   user_holds : (key user : Name) → has (users_of links.required key) user ≡ true → Uses key user
   user_holds key user there =
       let k = kept_by Requires (fin.get kept user) key (sym (held.linked Requires key user) ∙ there) in
-      let found = class_given a kept held.parts required_rows (λ (k : Kept). k.required) (keys_required a) classes h user k.0 k.1 key k.2 in
+      let found = class_given a kept held.parts required_rows keys_of (keys_required a) classes h user k.0 k.1 key k.2 in
       let c = found.0 in
       let row = found.1 in
       let same : row ≡ row_of key = sym (row_back row) ∙ ap row_of found.5 in
@@ -52,10 +51,10 @@ module _ (a : Linkage) (kept : KeptMap) (links : Links) (held : IsHeld a.classes
 
   holder_uses : (key : Name) → row_key (row_of key) ≡ key → (n : Name) → IsHolder classes (row_of key) n → has (users_of links.required key) n ≡ true
   holder_uses key back n g =
-      let k = key_given a kept held.parts required_rows (λ (k : Kept). k.required) (keys_required a) classes h (row_of key) (record { class = g.class; among = g.among; gives = g.gives }) in
+      let k = key_given a kept held.parts required_rows keys_of (keys_required a) classes h (row_of key) (record { class = g.class; among = g.among; gives = g.gives }) in
       held.linked Requires key n
       ∙ ap (λ o. has (names_kept Requires o) key) (ap (fin.get kept) (sym g.named) ∙ k.1)
-      ∙ ap (has k.0.required) (sym back)
+      ∙ ap (has (keys_of k.0)) (sym back)
       ∙ k.2
 
   holders_listed : (key user : Name) (list : List Name) → has (users_of links.required key) user ≡ true → fin.get links.required key ≡ Some list → IsStrictlySortedBy name_cmp list → Lists list (IsHolder classes (row_of key))

@@ -18,7 +18,7 @@ use Rattle.jc_linkage.specs.Linkages.{AreHeldClasses, Linkage, world_held}
 use Rattle.jc_linkage.specs.declared.kept.Kept.{Kept}
 use Rattle.jc_linkage.specs.declared.links.Links.{Links}
 use Rattle.jc_linkage.specs.inside.Holding.{IsHeld}
-use Rattle.jc_linkage.specs.inside.Kept.{AreKeys, IsKeptOf, KeptMap, names_kept, required_by}
+use Rattle.jc_linkage.specs.inside.Kept.{AreKeys, IsKeptOf, KeptMap, keys_of, names_kept, required_by}
 use Rattle.jc_linkage.specs.inside.Kept.Relation.{Requires}
 use Rattle.jc_linkage.proofs.held.Places.{kept_by}
 use Rattle.jc_linkage.proofs.held.Rows.{rows_of_kept}
@@ -27,8 +27,8 @@ rows_back : (rows : List Row) → map row_of (map row_key rows) ≡ rows
 rows_back [] = refl
 rows_back (row ∷ rows) = (λ i. row_back row i ∷ rows_back rows i)
 
-pub keys_required : (a : Linkage) (d : Name) (f : Facts) (k : Kept) → IsKeptOf (world_held a) d k → facts_standing (world_held a d) ≡ Some f → AreKeys k.required (required_rows f k.part)
-keys_required a d f k of e = subst (λ o. AreKeys k.required (required_by o k.part)) e of.required
+pub keys_required : (a : Linkage) (d : Name) (f : Facts) (k : Kept) → IsKeptOf (world_held a) d k → facts_standing (world_held a d) ≡ Some f → AreKeys (keys_of k) (required_rows f k.part)
+keys_required a d f k of e = subst (λ o. AreKeys (keys_of k) (required_by o k.part)) e of.required
 
 module _ (a : Linkage) (kept : KeptMap) (links : Links) (held : IsHeld a.classes a.prefixes kept links) (classes : List Class) (h : AreHeldClasses a classes) where
   key_used : (lists : UserLists) (key user : Name) → has (users_of lists key) user ≡ true → is_key lists key ≡ true
@@ -41,7 +41,7 @@ module _ (a : Linkage) (kept : KeptMap) (links : Links) (held : IsHeld a.classes
   pub required_keys : (keys : List Name) → Lists keys (λ name. is_key links.required name ≡ true)
       → HaveUsers links.required → AreRows (map row_of keys) (GivesRow required_rows classes)
   required_keys keys lists used =
-      rows_of_kept a kept held.parts required_rows (λ (k : Kept). k.required) (keys_required a) classes h keys lists.rises
+      rows_of_kept a kept held.parts required_rows keys_of (keys_required a) classes h keys lists.rises
       (λ key there.
       let user = used key (lists.sound key there) in
       let found = kept_by Requires (fin.get kept user.0) key (sym (held.linked Requires key user.0) ∙ user.1) in

@@ -48,7 +48,7 @@ module _ (a : Linkage) (kept : KeptMap) (held : IsKept (given a) (world_held a) 
       let f = facts_of a kept held d k e in
       let ks = are d f.0 k (held.sound d k e) (record_given a d f.0 f.1) in
       let all = map row_key (rows f.0 k.part) in
-      (f.0, f.1, has-from_map row_key (rows f.0 k.part) key (has_from all key (contains_of all key (sym (ks.same key) ∙ there))))
+      (f.0, f.1, has-from_map row_key (rows f.0 k.part) key (has_from all key (contains_of all key (sym (ks key) ∙ there))))
 
   module _ (classes : List Class) (h : AreHeldClasses a classes) where
     -- a key that is kept with a name is that of a row that the class of the name gives
@@ -79,7 +79,7 @@ module _ (a : Linkage) (kept : KeptMap) (held : IsKept (given a) (world_held a) 
         let there : Has (rows c.facts k.0.part) row = subst (λ (p : Part). Has (rows c.facts p) row) same (has_from (rows c.facts c.part) row g.gives) in (
           k.0,
           k.1,
-          ks.same (row_key row) ∙ has_of all (row_key row) (from_has all (row_key row) (has-map row_key (rows c.facts k.0.part) row there)),
+          ks (row_key row) ∙ has_of all (row_key row) (from_has all (row_key row) (has-map row_key (rows c.facts k.0.part) row there)),
         )
 
     pub rows_of_kept : (all : List Name) → IsStrictlySortedBy name_cmp all

@@ -2,21 +2,24 @@
 use Rattle.std.proofs.Common.{◌≡◌, ◌∙◌, ℕ, ◌<◌, ◌≤◌, true, List, [], ◌∷◌, length, map, get_or, slice_get, Some, Result, Ok, Err, refl, sym, ap, subst, arith}
 use Rattle.std.proofs.lemmas.Option.{get_or_from_slice_get, slice_get_within}
 use Rattle.std.proofs.lemmas.List.{get_or-map, length-map}
+use Rattle.std.proofs.lemmas.List.Elements.{All-contains}
 use Rattle.std.specs.Cmp.{Equal-is}
 use Rattle.std.specs.Prelude.{is_ok}
 use Rattle.std.specs.List.Sorted.{IsBinarySearchResult, IsNonDecreasingBy, IsSearchInRange, IsStrictlySortedBy}
 use Rattle.std.specs.Ordering.{eq_by_cmp, on, ordering_index}
 use Rattle.jc_base.specs.Bytes.{bytes_cmp}
 use Rattle.jc_base.proofs.maps.FiniteMaps.{bytes_cmp-IsAntisymmetric}
+use Rattle.jc_classes.specs.Facts.{Reference}
 use Rattle.jc_classes.specs.NameLists.{has}
 use Rattle.jc_classes.specs.Names.{Name, name_cmp}
 use Rattle.jc_classes.specs.Numbers.{name_at}
 use Rattle.jc_index.specs.inside.Places.{IsGapFor}
 use Rattle.jc_index.proofs.lists.Edited.{gap_lacks, stands_has}
 use Rattle.jc_index.proofs.lists.Searching.{falls_never}
-use Rattle.jc_report.specs.RequiredRows.{row_required, spelled, spelled_all}
+use Rattle.jc_report.specs.RequiredRows.{AreOf, row_required, spelled, spelled_all}
 use Rattle.jc_report.specs.RowKeys.{row_key}
 use Rattle.jc_report.specs.declared.required_row.RequiredRow.{RequiredRow}
+use Rattle.jc_linkage.specs.inside.RowLists.{ShareReferences}
 
 pub keys_of_rows : (xs : List RequiredRow) → map row_key (map row_required xs) ≡ spelled_all xs
 keys_of_rows [] = refl
@@ -66,3 +69,10 @@ pub near_has : (xs : List RequiredRow) (i : ℕ) (x : RequiredRow) (key : Name) 
 near_has xs i x key e same =
     let within = slice_get_within xs i x e in
     stands_has (spelled_all xs) key i (omega (arith, within, length-map xs spelled), held_row xs i x within (sym (get_or_from_slice_get xs i x x e)) ∙ same)
+
+-- ---- rows of the same references
+
+pub of_each : (rows others : List RequiredRow) → ShareReferences rows others → (items : List RequiredRow) → items ≡ rows → (i : ℕ) (x : RequiredRow) → i < length items → x ≡ get_or items i x → AreOf x.references others
+of_each rows others share items same i x l e =
+    let of = subst (AreOf share.references) (sym same) share.own in
+    subst (λ (refs : List Reference). AreOf refs others) (sym (All-contains (λ (row : RequiredRow). row.references ≡ share.references) items x of (i, l, sym e))) share.other

@@ -2,7 +2,6 @@
 use Rattle.std.specs.Prelude.{◌≡◌, Bool, true, false, ◌&&◌, ◌||◌, if◌then◌else◌}
 use Rattle.std.specs.Prelude.{ℕ, ◌<◌, List, [], ◌∷◌, length, map, Option, Some, None, IsSome}
 use Rattle.std.specs.FinMap as fin
-use Rattle.std.specs.List.Sorted.{IsStrictlySortedBy}
 use Rattle.jc_classes.specs.Facts.{Facts}
 use Rattle.jc_classes.specs.NameLists.{has, Lists}
 use Rattle.jc_classes.specs.Names.{Name, name_cmp, same_name}
@@ -13,6 +12,7 @@ use Rattle.jc_index.specs.Indexes.{UserLists, users_of}
 use Rattle.jc_link.specs.Closures.{facts_standing}
 use Rattle.jc_link.specs.Graphs.{ClassGraph}
 use Rattle.jc_report.specs.ClassRows.{required_rows}
+use Rattle.jc_report.specs.RequiredRows.{spelled_all}
 use Rattle.jc_report.specs.RowKeys.{row_key}
 use Rattle.jc_report.specs.Rows.{Row}
 use Rattle.jc_linkage.specs.declared.kept.Kept.{Kept}
@@ -25,10 +25,13 @@ abbrev pub required_by : Option Facts → Part → List Row
 required_by (Some f) p = required_rows f p
 required_by None p = []
 
--- the keys of the rows, rising
-pub record AreKeys (keys : List Name) (rows : List Row) : Type 0 where
-  pub rises : IsStrictlySortedBy name_cmp keys
-  pub same : (key : Name) → has keys key ≡ has (map row_key rows) key
+-- the keys of the rows, and no others
+abbrev pub AreKeys : (keys : List Name) → List Row → Type 0
+AreKeys keys rows = (key : Name) → has keys key ≡ has (map row_key rows) key
+
+-- of the rows that are kept
+abbrev pub keys_of : Kept → List Name
+keys_of k = spelled_all k.required
 
 -- of the rows that the class requires by its part
 abbrev pub HasKeysOf : World → Name → (keys : List Name) → Part → Type 0
@@ -37,7 +40,7 @@ HasKeysOf m d keys part = AreKeys keys (required_by (facts_standing (m d)) part)
 pub record IsKeptOf (m : World) (d : Name) (k : Kept) : Type 0 where
   pub part : IsPart m d k.part
   pub reach : Lists k.reach (Reach m d)
-  pub required : HasKeysOf m d k.required k.part
+  pub required : HasKeysOf m d (keys_of k) k.part
 
 abbrev pub KeptMap : Type 0
 KeptMap = fin.FinMap name_cmp Kept
@@ -57,7 +60,7 @@ pub data Relation : Type 0 where
 
 abbrev pub names_by : Relation → Kept → List Name
 names_by Reaches k = k.reach
-names_by Requires k = k.required
+names_by Requires k = keys_of k
 
 abbrev pub names_kept : Relation → Option Kept → List Name
 names_kept r None = []

@@ -4,7 +4,7 @@ use Rattle.std.proofs.lemmas.List.{drop_all}
 use Rattle.jc_classes.specs.Lent.{reference_lent}
 use Rattle.jc_report.specs.ClassRows.{reference_row, rows_required}
 use Rattle.jc_report.specs.RequiredRows.{row_numbered, row_of_some}
-use Rattle.jc_report.specs.inside.NumberedRows.{rows_numbered}
+use Rattle.jc_report.specs.RequiredRows.{rows_numbered}
 use Rattle.jc_report.proofs.reports.AnswersLeft.{next_of_kind}
 use Rattle.jc_report.proofs.rows.ReferenceRows.{added, left_required, left_resolved, no_answers, past_references}
 use Rattle.jc_report.proofs.required_references.required_numbers.Goals as goal

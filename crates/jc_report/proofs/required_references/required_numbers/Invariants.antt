@@ -1,7 +1,7 @@
 -- The rows so far and those of the references that are left are all.
 use Rattle.std.proofs.Common.{◌≡◌, ◌++◌, drop}
 use Rattle.jc_report.specs.ClassRows.{rows_required}
-use Rattle.jc_report.specs.inside.NumberedRows.{rows_numbered}
+use Rattle.jc_report.specs.RequiredRows.{rows_numbered}
 use Rattle.jc_report.proofs.required_references.required_numbers.Given as goal
 
 abbrev pub invariant-loop-number : goal.invariant-loop-number

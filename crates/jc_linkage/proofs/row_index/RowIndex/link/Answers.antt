@@ -6,7 +6,6 @@ use Rattle.jc_index.specs.Indexes.{users_of}
 use Rattle.jc_index.specs.inside.IsIndex.{IsIndex}
 use Rattle.jc_index.proofs.indexes.Lists.{on_err_any, linked_by, is_index-insert, not_empty, has_added, has_one, put_back}
 use Rattle.jc_report.specs.RequiredRows.{spelled}
-use Rattle.jc_report.specs.RowKeys.{row_key}
 use Rattle.jc_linkage.proofs.row_index.RowIndex.link.Goals as goal
 
 pub returns-in_err-add-clause-err : goal.returns-in_err-add-clause-err
@@ -33,7 +32,7 @@ returns-clause-ok c =
     let list = c.in_ok-list.list in
     let more : (d : Name) → has list d ≡ (has [] d || same_name d user) =
     λ d. ap (λ l. has l d) c.in_ok-list.ensures ∙ has_one c.in_ok-user.user.items d ∙ ap (same_name d) c.in_ok-user.ensures.items in
-    λ n d. ap (λ lists. has (users_of lists n) d) (c.in_ok-insert.ensures.ok ∙ ap (λ x. fin.insert old x list) (ap row_key c.in_ok-shared.ensures))
+    λ n d. ap (λ lists. has (users_of lists n) d) (c.in_ok-insert.ensures.ok ∙ ap (λ x. fin.insert old x list) (ap spelled c.in_ok-shared.ensures))
     ∙ linked_by old name user None list (sym c.in_default.ensures.value) more n d
     ∙ ap (λ lists. has (users_of lists n) d || (same_name n name && same_name d user)) c.self.view_is
 

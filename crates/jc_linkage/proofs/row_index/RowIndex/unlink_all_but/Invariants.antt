@@ -5,4 +5,4 @@ use Rattle.jc_report.specs.RequiredRows.{spelled_all}
 use Rattle.jc_linkage.proofs.row_index.RowIndex.unlink_all_but.Given as goal
 
 abbrev pub invariant-loop-row : goal.invariant-loop-row
-invariant-loop-row l = UnlinkedTo l.initial.self l.self (spelled_all l.row-items) (λ n. not (has l.others n)) l.row-index l.user
+invariant-loop-row l = UnlinkedTo l.initial.self l.self (spelled_all l.row-items) (λ n. not (has (spelled_all l.others) n)) l.row-index l.user
