@@ -72,7 +72,7 @@ fn is_final_overridden(
         && is_final (overridable_at (indexed_of classes.now) (key_lent key.entry) above))) }
     ensures added { OnOk result ((p : Name) → map.contains_key packages.new p ≡ (map.contains_key packages.old p
         || (opens (indexed_of classes.now) packages.old class above (overridable_at (indexed_of classes.now) (key_lent key.entry) above)
-            && same_name p (package_at (indexed_of classes.now) above)))) }
+        && same_name p (package_at (indexed_of classes.now) above)))) }
 {
     let Some(method) = overridable(classes, above, key) else {
         return Ok(false);
@@ -111,8 +111,7 @@ fn is_open(
         return true;
     }
     method.is_package_private()
-        && (classes.are_together(class, above)
-            || packages.contains_key(classes.package(above)))
+        && (classes.are_together(class, above) || packages.contains_key(classes.package(above)))
 }
 
 /// Adds the package of a class.

@@ -9,7 +9,7 @@ use crate::errors_text::write_front;
 use crate::part_text::write_member;
 use jc_base::Output;
 use jc_classes::Facts;
-use jc_resolve::{Inherited, InheritanceErrors};
+use jc_resolve::{InheritanceErrors, Inherited};
 use jc_text::TextWriter;
 
 /// Writes a line if the superclass is FINAL, and one for each FINAL method that is overridden.

@@ -48,7 +48,7 @@ pub use required_references::{required_numbers, rows_of};
 pub use required_row::RequiredRow;
 pub use required_rows::RequiredRows;
 pub use row::Row;
-pub use tree_errors::TreeErrors;
 pub use tree::{AddError, Tree};
 pub use tree_circular::TreeCircular;
+pub use tree_errors::TreeErrors;
 pub use tree_provided::TreeProvided;

@@ -30,7 +30,7 @@ pub struct TreeErrors<'t> {
 
 impl<'t> Model for TreeErrors<'t> {
     ghost use Rattle.jc_report.specs.Reports.{name_of};
-ghost use Rattle.jc_report.specs.TreeErrors as specs;
+    ghost use Rattle.jc_report.specs.TreeErrors as specs;
 
     ghost Value = { specs.TreeErrors };
 

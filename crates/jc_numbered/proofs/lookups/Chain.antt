@@ -95,7 +95,7 @@ module _ (count : ℕ) (x : Indexed) (graph : IsGraph count x) (m : World) (inde
   super_above v n l e =
       let a : v < length x.names = let q = graph.names in omega arith in
       super_numbered (indexed_name x) (superclass_of (standing_of x v)) (interfaces_of (standing_of x v)) (x.supertypes v) n (index.supertypes v a)
-          (ap superclass_of (sym (index.standing v a)) ∙ e)
+      (ap superclass_of (sym (index.standing v a)) ∙ e)
 
   pub extends_numbered : (n c : Name) → Extends m n c → (v w : ℕ) → v < count → w < count → indexed_name x v ≡ n → indexed_name x w ≡ c → ExtendsNode x v w
   extends_numbered n c extends.itself v w l k e f =

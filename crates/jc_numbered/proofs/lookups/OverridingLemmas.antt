@@ -154,14 +154,14 @@ module _ (count : ℕ) (x : Indexed) (graph : IsGraph count x) (m : World) (inde
         by (Some y) e h =
             let d : overridable m k (indexed_name x s) ≡ Some y = overridable_is k s s_node ∙ e in
             let direct : is_open_to (indexed_name x c) (indexed_name x s) y ≡ true → Overrides m k (indexed_name x c) (indexed_name x s)
-                = λ o. overrides.directly (snoc m passed.chain above) own.1 d o in
+            = λ o. overrides.directly (snoc m passed.chain above) own.1 d o in
             ⊎_elim
-                (λ a. direct (or_left _ _ a))
-                (λ a. let q = and_parts _ _ a in ⊎_elim
-                    (λ t. direct (or_right (has y.flags public || has y.flags protected) _ (and_from _ _ q.0 t)))
-                    (λ t. let f = passed.sound (package_at x s) t in from_package f.0 y f.1 f.2 f.3 d q.0)
-                    (or_cases _ _ q.1))
-                (or_cases _ _ h)
+            (λ a. direct (or_left _ _ a))
+            (λ a. let q = and_parts _ _ a in ⊎_elim
+            (λ t. direct (or_right (has y.flags public || has y.flags protected) _ (and_from _ _ q.0 t)))
+            (λ t. let f = passed.sound (package_at x s) t in from_package f.0 y f.1 f.2 f.3 d q.0)
+            (or_cases _ _ q.1))
+            (or_cases _ _ h)
 
     overrides_opens : Overrides m k (indexed_name x c) (indexed_name x s) → opens x packages c s (overridable_at x k s) ≡ true
     overrides_opens o =
@@ -169,9 +169,9 @@ module _ (count : ℕ) (x : Indexed) (graph : IsGraph count x) (m : World) (inde
         let y = l.method in
         let d : overridable_at x k s ≡ Some y = sym (overridable_is k s s_node) ∙ l.declared in
         ap (opens x packages c s) d ∙ ⊎_elim
-            (λ a. or_left _ _ a)
-            (λ a. let q = and_parts _ _ a in or_right (has y.flags public || has y.flags protected) _ (and_from _ _ q.0 (by l.above l.from q.1)))
-            (or_cases _ _ l.opened)
+        (λ a. or_left _ _ a)
+        (λ a. let q = and_parts _ _ a in or_right (has y.flags public || has y.flags protected) _ (and_from _ _ q.0 (by l.above l.from q.1)))
+        (or_cases _ _ l.opened)
       where
         by : {b : Name} → IsSuperclass m b (indexed_name x s) → (b ≡ indexed_name x c) ⊎ Overrides m k (indexed_name x c) b
             → same_name (package_of b) (package_at x s) ≡ true
@@ -185,40 +185,40 @@ module _ (count : ℕ) (x : Indexed) (graph : IsGraph count x) (m : World) (inde
     -- ---- the next superclass is passed
 
     module _ (new : Packages) (added : (p : Name) → map.contains_key new p
-            ≡ (map.contains_key packages p || (opens x packages c s (overridable_at x k s) && same_name p (package_at x s))))
-        where
-      stays : (p : Name) → map.contains_key packages p ≡ true → map.contains_key new p ≡ true
-      stays p h = added p ∙ or_left _ _ h
+        ≡ (map.contains_key packages p || (opens x packages c s (overridable_at x k s) && same_name p (package_at x s))))
+      where
+        stays : (p : Name) → map.contains_key packages p ≡ true → map.contains_key new p ≡ true
+        stays p h = added p ∙ or_left _ _ h
 
-      comes : Overrides m k (indexed_name x c) (indexed_name x s) → map.contains_key new (package_at x s) ≡ true
-      comes o = added (package_at x s) ∙ or_right (map.contains_key packages (package_at x s)) _
-          (and_from _ _ (overrides_opens o) (same_self (package_at x s)))
+        comes : Overrides m k (indexed_name x c) (indexed_name x s) → map.contains_key new (package_at x s) ≡ true
+        comes o = added (package_at x s) ∙ or_right (map.contains_key packages (package_at x s)) _
+            (and_from _ _ (overrides_opens o) (same_self (package_at x s)))
 
-      final_at : (b : Name) → IsFinalAbove m k (indexed_name x c) b → b ≡ indexed_name x s
-          → (opens x packages c s (overridable_at x k s) && is_final (overridable_at x k s)) ≡ true
-      final_at b f e = and_from _ _
-          (overrides_opens (subst (λ z. Overrides m k (indexed_name x c) z) e f.overrides))
-          (ap is_final (sym (overridable_is k s s_node) ∙ ap (overridable m k) (sym e) ∙ f.declared) ∙ f.final)
+        final_at : (b : Name) → IsFinalAbove m k (indexed_name x c) b → b ≡ indexed_name x s
+            → (opens x packages c s (overridable_at x k s) && is_final (overridable_at x k s)) ≡ true
+        final_at b f e = and_from _ _
+            (overrides_opens (subst (λ z. Overrides m k (indexed_name x c) z) e f.overrides))
+            (ap is_final (sym (overridable_is k s s_node) ∙ ap (overridable m k) (sym e) ∙ f.declared) ∙ f.final)
 
-      pub passed_on : (opens x packages c s (overridable_at x k s) && is_final (overridable_at x k s)) ≡ false → IsPassed m x k c s new
-      passed_on stays_open = record {
-        chain = weaken m (snoc m passed.chain above);
-        sound = λ p h. ⊎_elim
-            (λ a. let f = passed.sound p a in (f.0, f.1, weaken m (snoc m f.2 above), f.3))
-            (λ a. let q = and_parts _ _ a in (indexed_name x s, opens_overrides q.0, extends.itself, sym (same_is _ _ q.1)))
-            (or_cases _ _ (sym (added p) ∙ h));
-        complete = λ b o. ⊎_elim
-            (λ a. inl (stays (package_of b) a))
-            (λ q. ⊎_elim
-                (λ e. inl (ap (λ z. map.contains_key new (package_of z)) e ∙ comes (subst (λ z. Overrides m k (indexed_name x c) z) e o)))
-                (λ t. inr t)
-                (behind m (indexed_name x v) above q))
-            (passed.complete b o);
-        not_final = λ b f. ⊎_elim
-            (λ e. absurd (false≢true (sym stays_open ∙ final_at b f e)))
-            (λ t. t)
-            (behind m (indexed_name x v) above (passed.not_final b f));
-      }
+        pub passed_on : (opens x packages c s (overridable_at x k s) && is_final (overridable_at x k s)) ≡ false → IsPassed m x k c s new
+        passed_on stays_open = record {
+          chain = weaken m (snoc m passed.chain above);
+          sound = λ p h. ⊎_elim
+              (λ a. let f = passed.sound p a in (f.0, f.1, weaken m (snoc m f.2 above), f.3))
+              (λ a. let q = and_parts _ _ a in (indexed_name x s, opens_overrides q.0, extends.itself, sym (same_is _ _ q.1)))
+              (or_cases _ _ (sym (added p) ∙ h));
+          complete = λ b o. ⊎_elim
+              (λ a. inl (stays (package_of b) a))
+              (λ q. ⊎_elim
+              (λ e. inl (ap (λ z. map.contains_key new (package_of z)) e ∙ comes (subst (λ z. Overrides m k (indexed_name x c) z) e o)))
+              (λ t. inr t)
+              (behind m (indexed_name x v) above q))
+              (passed.complete b o);
+          not_final = λ b f. ⊎_elim
+              (λ e. absurd (false≢true (sym stays_open ∙ final_at b f e)))
+              (λ t. t)
+              (behind m (indexed_name x v) above (passed.not_final b f));
+        }
 
     pub passed_final : (opens x packages c s (overridable_at x k s) && is_final (overridable_at x k s)) ≡ true
         → OverridesFinal m k (indexed_name x c) (indexed_name x s)

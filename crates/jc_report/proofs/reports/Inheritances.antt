@@ -58,7 +58,7 @@ no_more asked (c ∷ cs) = refl
 
 pub any_next : (asked : Asked) (cs : List Class) (rest : List InheritanceErrors) (n : ℕ) (c : Class) (e : InheritanceErrors) → slice_get cs n ≡ Some c
     → has_inheritance_error asked (drop n cs) (e ∷ rest)
-        ≡ ((is_asked asked (name_of c) && is_any e) || has_inheritance_error asked (drop (n + 1) cs) rest)
+    ≡ ((is_asked asked (name_of c) && is_any e) || has_inheritance_error asked (drop (n + 1) cs) rest)
 any_next asked cs rest n c e at = ap (λ left. has_inheritance_error asked left (e ∷ rest)) (next_class cs n c at)
 
 pub any_past : (asked : Asked) (cs : List Class) (es : List InheritanceErrors) (n : ℕ) → slice_get cs n ≡ None → has_inheritance_error asked (drop n cs) es ≡ false

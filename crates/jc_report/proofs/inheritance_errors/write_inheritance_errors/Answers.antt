@@ -9,5 +9,5 @@ returns g c =
     let name = c.args.facts.now.name in
     c.write_final_superclass.ensures
     ⟫ sends_equal
-        (ap (λ n. flat_map (overridden_error n) c.overridden.result.now) c.name.ensures ∙ ap (flat_map (overridden_error name)) c.overridden.ensures)
-        c.write_overridden.ensures
+    (ap (λ n. flat_map (overridden_error n) c.overridden.result.now) c.name.ensures ∙ ap (flat_map (overridden_error name)) c.overridden.ensures)
+    c.write_overridden.ensures

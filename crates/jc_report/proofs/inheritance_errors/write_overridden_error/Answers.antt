@@ -9,5 +9,5 @@ returns g c =
     c.write_member.ensures i.key (ap (λ k. k.name) (sym c.key-key.ensures)) (ap (λ k. k.descriptor) (sym c.key-key.ensures))
     ⟫ c.text.ensures
     ⟫ sends_equal (ap (λ n. member_text n i.key) c.class.ensures)
-        (c.write_member-2.ensures i.key (ap (λ k. k.name) (sym c.key-key.ensures)) (ap (λ k. k.descriptor) (sym c.key-key.ensures)))
+    (c.write_member-2.ensures i.key (ap (λ k. k.name) (sym c.key-key.ensures)) (ap (λ k. k.descriptor) (sym c.key-key.ensures)))
     ⟫ c.text-2.ensures
