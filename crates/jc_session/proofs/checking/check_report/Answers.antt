@@ -8,7 +8,7 @@ returns-in-Ok-clause-tells g c = λ f is.
     let r = c.in_ok-report.report in
     (f, report_text r, refl, (r, c.in_ok-report.ensures.report f is, refl, c.wrong.ensures), c.in-Ok.ensures.ok)
 
-pub returns-in-Err-clause-tells : goal.returns-in-Err-clause-tells
-returns-in-Err-clause-tells g c = λ f is.
+pub returns-clause-tells : goal.returns-clause-tells
+returns-clause-tells g c = λ f is.
     let r = c.in_ok-report.report in
     (f, report_text r, is_wrong r, refl, (r, c.in_ok-report.ensures.report f is, refl, refl), c.in-Err.ensures.front)
