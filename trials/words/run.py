@@ -1,8 +1,8 @@
 #!/usr/bin/env python3
 """Finds prose that is hard to read: phrases of this project's own, long sentences and long paragraphs.
 
-Usage: run.py [FILE..]. Without a FILE it reads the documents, the comments and help texts of the scripts, the comments and
-doc strings of the trials, and the output of `jclink --help`.
+Usage: run.py [FILE..]. Without a FILE it reads the documents, the comments of the sources and of their definitions, the
+comments and help texts of the scripts, the comments and doc strings of the trials, and the output of `jclink --help`.
 
 It prints a line for each finding, then totals. The status is 1 if there is a finding or if an entry of ALLOWED matches
 nothing. A code span counts as one word, and code blocks are skipped. A table cell and a list item are paragraphs.
@@ -24,7 +24,10 @@ import common
 SENTENCE, PARAGRAPH = 30, 110
 HELP = "jclink --help"
 MARKDOWN = ("README.md", "CONTRIBUTING.md", "docs/*.md", "trials/RESULTS.md")
+SOURCES = ("crates/*/src/**/*.rt", "crates/*/specs/**/*.antt")
 SCRIPTS = ("jclink", ".ci/run", "dist/update", "examples/*.sh", "examples/*.py", "scripts/*", "trials/**/*.py")
+# What begins a comment, by the ending of a file's name; `#` in scripts.
+BEGINNINGS = {".rt": r"//[/!]?", ".antt": r"--(?: ----)?"}
 # A placeholder for a code span.
 SPAN = "CODE"
 # Each phrase, as a regular expression, and what to write in its place.
@@ -109,12 +112,12 @@ def paragraphs(lines):
     yield text
 
 
-def comments(source):
-    """Yields the comments of a shell script, each block as numbered lines."""
+def comments(source, begin=r"#(?!!)"):
+    """Yields the comments on lines of their own, each block as numbered lines."""
     block = []
     for number, line in enumerate(source.splitlines(), 1):
-        if re.match(r"\s*#(?!!)", line):
-            block.append((number, re.sub(r"^\s*# ?", "", line)))
+        if re.match(rf"\s*{begin}", line):
+            block.append((number, re.sub(rf"^\s*{begin} ?", "", line)))
         elif block:
             yield block
             block = []
@@ -165,7 +168,7 @@ def blocks_of(name):
         return [list(enumerate(source.splitlines(), 1))]
     if name.endswith(".py"):
         return [*doc_strings(source), *python_comments(source)]
-    return list(comments(source))
+    return list(comments(source, BEGINNINGS.get(pathlib.PurePath(name).suffix, r"#(?!!)")))
 
 
 def phrases_in(text):
@@ -197,7 +200,7 @@ def findings(name):
 
 
 def default_names():
-    paths = [path for pattern in MARKDOWN + SCRIPTS for path in sorted(common.TOP.glob(pattern)) if path.is_file()]
+    paths = [path for pattern in MARKDOWN + SOURCES + SCRIPTS for path in sorted(common.TOP.glob(pattern)) if path.is_file()]
     return [*(str(path.relative_to(common.TOP)) for path in paths), HELP]
 
 

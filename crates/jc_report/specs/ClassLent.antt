@@ -1,4 +1,4 @@
--- A class that is lent, as data.
+-- A borrowed class, as data.
 use Rattle.jc_report.specs.Reports as reports
 use Rattle.jc_report.specs.declared.lent_class.LentClass.{LentClass}
 

@@ -1,4 +1,4 @@
--- The rows that a class gives.
+-- The rows that a class provides and requires.
 use Rattle.std.specs.Prelude.{Bool, true, false, ◌&&◌, ◌||◌, not, List, [], ◌∷◌, ◌++◌, map, codes, if◌then◌else◌}
 use Rattle.std.specs.List.{filter}
 use Rattle.jc_file.specs.AccessFlags.{has, protected, public}
@@ -18,11 +18,11 @@ use Rattle.jc_report.specs.Rows.{Row}
 
 -- ---- what a class provides
 
--- a member is seen outside its package (JVMS 5.4.4)
+-- a member is PUBLIC or PROTECTED, so other packages have access to it (JVMS 5.4.4)
 abbrev pub is_open : Member → Bool
 is_open m = has m.flags public || has m.flags protected
 
--- the class's initializer is called by the virtual machine alone (JVMS 2.9)
+-- the same for a method that is not the class's initializer, which only the virtual machine calls (JVMS 2.9)
 abbrev pub is_open_method : Member → Bool
 is_open_method m = is_open m && not (same_name m.name (codes "<clinit>"))
 
@@ -42,7 +42,7 @@ open_rows f =
     class_row f.name ∷ map (member_row f.name kinds.Field) (filter is_open f.fields)
     ++ map (member_row f.name kinds.Method) (filter is_open_method f.methods)
 
--- a public class that loads provides itself and its open members
+-- a PUBLIC class that loads provides itself and its PUBLIC and PROTECTED members
 abbrev pub provided_rows : Facts → Part → List Row
 provided_rows f p = if is_loaded p.load && has f.flags public then open_rows f else []
 
@@ -58,7 +58,7 @@ is_missing errors.NoField = true
 is_missing errors.NoMethod = true
 is_missing errors.Instantiation = false
 
--- the answer says that what is referred to is outside, or that nothing gives it
+-- the reference resolves outside, or its class or member is missing
 abbrev pub is_required : Answer → Bool
 is_required (answer.ToClass c flags) = false
 is_required (answer.ToMember c x) = false

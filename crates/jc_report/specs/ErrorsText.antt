@@ -1,4 +1,4 @@
--- What makes a report wrong: a line for each, which stands for itself.
+-- The text of the errors of a report: one line for each.
 use Rattle.std.specs.Prelude.{ℕ, Bool, true, false, ◌==◌, ◌+◌, ◌||◌, ◌&&◌, not, cond, List, [], ◌∷◌, ◌++◌, length, find, Option, Some, None, codes, decimal, option_map, slice_get, unwrap_or}
 use Rattle.std.specs.Borrow.{Bor}
 use Rattle.std.specs.List.{flat_map, list_any}
@@ -31,8 +31,8 @@ use Rattle.jc_report.specs.TreeErrors.{TreeErrors, is_any}
 
 -- ---- what is asked for
 
--- of the files and classes whose paths and names begin with one of the prefixes, or of all; and whether references that
--- nothing uses are left out
+-- Which errors are asked for: those of files and classes whose paths and names begin with one of the prefixes, or all.
+-- With `used_only`, the errors of references that nothing uses are left out.
 pub record Asked : Type 0 where
   pub only : Option (List Name)
   pub used_only : Bool
@@ -43,7 +43,7 @@ asked_lent asked = record { only = option_map (λ (o : Bor (List Name)). o.now) 
 abbrev pub all_errors : Asked
 all_errors = record { only = None; used_only = false }
 
--- what begins with one of the prefixes; all where none are given
+-- the text begins with one of the prefixes, if any are given
 abbrev pub begins : Option (List Name) → List ℕ → Bool
 begins None text = true
 begins (Some prefixes) text = is_covered prefixes text
@@ -57,11 +57,11 @@ is_asked asked text = begins asked.only text
 abbrev pub of_class : Name → List ℕ → List ℕ
 of_class name text = shown name ++ codes ": " ++ text
 
--- the method of a number: its class, its name and its descriptor; the class alone where it has no such method
+-- a method, by its number: its class, its name and its descriptor; only the class if it has no such method
 abbrev pub method_text : Facts → ℕ → List ℕ
 method_text f number = option_map_or (λ m. member_text f.name (key_of m)) (slice_get f.methods number) (shown f.name)
 
--- a text after the method
+-- a text after the class, name and descriptor of a method
 abbrev pub of_method : Facts → ℕ → List ℕ → List ℕ
 of_method f number text = method_text f number ++ codes ": " ++ text
 
@@ -75,7 +75,7 @@ load_error name (loading.Fails error fault) = of_class name (error_text error fa
 abbrev pub code_text : CodeFault → List ℕ
 code_text fault = codes "code S" ++ decimal (rule_number fault.rule) ++ codes " " ++ decimal fault.place ++ codes "\n"
 
--- a fault of the code of the method of a number
+-- a fault of the code of a method, which is given by its number
 abbrev pub code_error : Facts → ℕ × CodeFault → List ℕ
 code_error f fault = of_method f fault.0 (code_text fault.1)
 
@@ -103,7 +103,7 @@ use_at uses method place = find (is_at method place) uses
 abbrev pub reference_at : List Reference → ℕ → Option Reference
 reference_at references index = find (λ r. r.index == index) references
 
--- the instruction and its reference
+-- the mnemonic of an instruction, and its reference
 abbrev pub use_text : Facts → MethodUse → List ℕ
 use_text f u = mnemonic u.kind ++ codes " " ++ option_map_or reference_text (reference_at f.references u.index) []
 
@@ -120,16 +120,16 @@ link_error f link =
 abbrev pub final_superclass_error : Facts → List ℕ
 final_superclass_error f = of_class f.name (codes "extends FINAL " ++ shown (unwrap_or f.superclass []) ++ codes "\n")
 
--- a method overrides that of another class, with the same name and descriptor
+-- a method of the class overrides the FINAL method of the same name and descriptor
 abbrev pub overridden_error : Name → Inherited → List ℕ
 overridden_error name i = member_text name i.key ++ codes ": overrides FINAL " ++ member_text i.home i.key ++ codes "\n"
 
 abbrev pub inheritance_errors : Facts → InheritanceErrors → List ℕ
 inheritance_errors f e = cond e.extends_final (final_superclass_error f) [] ++ flat_map (overridden_error f.name) e.overridden
 
--- ---- references that errors answer
+-- ---- references that do not resolve
 
--- what uses the reference of a number
+-- what uses a reference, which is given by its number
 abbrev pub user_at : Facts → ℕ → User
 user_at f number = unwrap_or (slice_get f.users number) user.Nothing
 
@@ -138,18 +138,18 @@ is_used (user.Method number) = true
 is_used user.Other = true
 is_used user.Nothing = false
 
--- an error that is listed: with `used_only`, only if something uses the reference
+-- the answer is an error that is listed; with `used_only`, only if something uses the reference
 abbrev pub is_listed : (used_only : Bool) → User → Answer → Bool
 is_listed false u a = is_error a
 is_listed true u a = is_error a && is_used u
 
--- the method that uses the reference first, else the class
+-- the first method that uses the reference, or the class if no method does
 abbrev pub user_text : Facts → User → List ℕ
 user_text f (user.Method number) = method_text f number
 user_text f user.Other = shown f.name
 user_text f user.Nothing = shown f.name
 
--- the mark of a reference that nothing uses, so that no code resolves it
+-- the mark of a reference that nothing uses, and that no code resolves therefore
 abbrev pub use_mark : User → List ℕ
 use_mark u = cond (is_used u) [] (codes " (unused)")
 
@@ -160,7 +160,7 @@ answered_text f r u a =
 abbrev pub answer_error : (used_only : Bool) → Facts → Reference → User → Answer → List ℕ
 answer_error used_only f r u a = cond (is_listed used_only u a) (answered_text f r u a) []
 
--- of references, the first of which has a number
+-- the lines of references that do not resolve; the first of these references has this number
 abbrev pub answer_errors : (used_only : Bool) → Facts → ℕ → List Reference → List Answer → List ℕ
 answer_errors used_only f number [] answers = []
 answer_errors used_only f number (r ∷ rs) [] = []
@@ -169,7 +169,7 @@ answer_errors used_only f number (r ∷ rs) (a ∷ answers) =
 
 -- ---- all of a report
 
--- of a class, in the order of the lines of its part; the errors of inheritance before the references
+-- the lines of a class in the order of the lines of its part; the errors of inheritance are before the references
 unfoldable pub part_errors : (used_only : Bool) → Facts → Part → InheritanceErrors → List ℕ
 part_errors used_only f p e =
     load_error f.name p.load
@@ -182,7 +182,7 @@ part_errors used_only f p e =
 abbrev pub class_errors : Asked → Class → InheritanceErrors → List ℕ
 class_errors asked c e = cond (is_asked asked (name_of c)) (part_errors asked.used_only c.facts c.part e) []
 
--- of each class, with its errors of inheritance
+-- the lines of each class, with its errors of inheritance
 abbrev pub classes_errors : Asked → List Class → List InheritanceErrors → List ℕ
 classes_errors asked [] es = []
 classes_errors asked (c ∷ cs) [] = []
@@ -192,17 +192,17 @@ classes_errors asked (c ∷ cs) (e ∷ es) = class_errors asked c e ++ classes_e
 abbrev pub is_wrong_file : Asked → FileRow → Bool
 is_wrong_file asked row = is_asked asked row.path && is_unreadable row
 
--- of such a file its row
+-- the row of such a file
 abbrev pub file_error : Asked → FileRow → List ℕ
 file_error asked row = cond (is_wrong_file asked row) (row_text row) []
 
--- the errors that are asked for
+-- the whole text of the errors that are asked for
 unfoldable pub errors_text : Asked → TreeErrors → List ℕ
 errors_text asked e = flat_map (file_error asked) e.report.files ++ classes_errors asked e.report.classes e.inheritance
 
 -- ---- whether there are any
 
--- one of the answers is an error that is listed; the first of them is that to the reference of a number
+-- one of the answers is an error that is listed; the first answer is that to the reference of this number
 abbrev pub has_listed_error : (used_only : Bool) → Facts → ℕ → List Answer → Bool
 has_listed_error used_only f number [] = false
 has_listed_error used_only f number (a ∷ answers) = is_listed used_only (user_at f number) a || has_listed_error used_only f (number + 1) answers
@@ -212,7 +212,7 @@ is_wrong_listed used_only f p =
     not (length p.format_faults == 0) || not (length p.code_faults == 0) || is_load_error p.load
     || not (length p.links == 0) || has_listed_error used_only f 0 p.answers
 
--- a class that is asked for, with a fault or a listed error
+-- the class is asked for, and has a fault or a listed error
 abbrev pub is_wrong_class : Asked → Class → Bool
 is_wrong_class asked c = is_asked asked (name_of c) && is_wrong_listed asked.used_only c.facts c.part
 

@@ -1,4 +1,4 @@
--- What a borrowed row is as rows.
+-- The row that a borrowed row shows.
 use Rattle.jc_report.specs.declared.file_row.FileRow.{FileRow}
 use Rattle.jc_report.specs.declared.file_row.FileState.{FileState}
 use Rattle.jc_report.specs.declared.file_row.FileState.TheVariants as lent

@@ -21,7 +21,7 @@ use Rattle.jc_classes.specs.Parts.{Part}
 
 -- ---- references
 
--- a member: its class, its name and its descriptor
+-- a field or method: its class, its name and its descriptor
 abbrev pub member_text : Name → Key → List ℕ
 member_text class key = shown class ++ codes "." ++ shown key.name ++ codes ":" ++ shown key.descriptor
 
@@ -31,7 +31,7 @@ kind_text kinds.Field = codes "field"
 kind_text kinds.Method = codes "method"
 kind_text kinds.InterfaceMethod = codes "imethod"
 
--- a class is named alone
+-- a class by its name, a member with its name and descriptor
 abbrev pub named_text : ReferenceKind → Name → Key → List ℕ
 named_text kinds.Class class key = shown class
 named_text kinds.Field class key = member_text class key
@@ -90,7 +90,7 @@ answer_lines [] answers = []
 answer_lines (r ∷ rs) [] = []
 answer_lines (r ∷ rs) (a ∷ answers) = answer_line r a ++ answer_lines rs answers
 
--- the part of the class that the facts are of
+-- the part of the class with these facts
 unfoldable pub part_text : Facts → Part → List ℕ
 part_text f p =
     load_line f.name p.load ++ flat_map format_fault_line p.format_faults ++ flat_map method_fault_line p.code_faults

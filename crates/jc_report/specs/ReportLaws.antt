@@ -8,12 +8,12 @@ use Rattle.jc_report.specs.Files.{Files}
 use Rattle.jc_report.specs.Reports.{IsReport, Report, facts_at, is_wrong}
 use Rattle.jc_report.specs.TreeErrors.{IsTreeErrors, TreeErrors}
 
--- files and prefixes have one report
+-- the report is determined by the files and the prefixes
 abbrev pub ReportIsOne : Type 0
 ReportIsOne = (f : Files) (prefixes : List Name) (r s : Report) → IsReport f prefixes r → IsReport f prefixes s → r ≡ s
 
--- for each choice of what is asked for, there is a line exactly if something that is asked for is wrong, or a class that is
--- asked for has an error of inheritance
+-- For each choice of what is asked for, there is a line exactly if one of two things is there: something wrong that is
+-- asked for, or a class that is asked for and has an error of inheritance.
 abbrev pub ErrorsAreTold : Type 0
 ErrorsAreTold =
     (f : Files) (prefixes : List Name) (asked : Asked) (e : TreeErrors) → IsTreeErrors f prefixes e
@@ -23,6 +23,6 @@ ErrorsAreTold =
 abbrev pub WrongAmongAll : Type 0
 WrongAmongAll = (r : Report) → is_wrong_among all_errors r ≡ is_wrong r
 
--- the references of a class that files give are in ascending order of index
+-- the references of a class from a file are in ascending order of index
 abbrev pub ReferencesAreByIndex : Type 0
 ReferencesAreByIndex = (f : Files) (name : Name) (c : Facts) → facts_at f name ≡ Some c → AreByIndex c.references

@@ -1,4 +1,4 @@
--- Which report has the lists that are lent to be gone over.
+-- The report whose lists some iterators return.
 use Rattle.std.specs.Prelude.{◌≡◌, ℕ, List, Option}
 use Rattle.std.specs.Iterator.{AlwaysYields}
 use Rattle.jc_text.specs.Sends.{Sends}
@@ -13,7 +13,7 @@ use Rattle.jc_report.specs.declared.lent_class.LentClass.{LentClass}
 use Rattle.jc_report.specs.declared.report_lists.ReportLists.{ReportLists}
 use Rattle.jc_report.specs.declared.row.Row.{Row}
 
--- each gives what the report has, where these relations say what the next of each is
+-- The iterators return the lists of the report. The relations say what each iterator returns next.
 pub record AreListsOf {F C P Q : Type 0} (next_file : F → Option FileRow → F → Type 0) (next_class : C → Option LentClass → C → Type 0)
     (next_provided : P → Option Row → P → Type 0) (next_required : Q → Option Row → Q → Type 0)
     (lists : ReportLists F C P Q) (r : Report) : Type 0 where
@@ -24,13 +24,13 @@ pub record AreListsOf {F C P Q : Type 0} (next_file : F → Option FileRow → F
   pub provided : AlwaysYields next_provided row_lent lists.provided r.provided
   pub required : AlwaysYields next_required row_lent lists.required r.required
 
--- the files and classes alone are those of the report
+-- two iterators return the files and the classes of the report
 pub record AreListedIn {F C : Type 0} (next_file : F → Option FileRow → F → Type 0) (next_class : C → Option LentClass → C → Type 0)
     (files : F) (classes : C) (r : Report) : Type 0 where
   pub by_path : AlwaysYields next_file lent.row_lent files r.files
   pub by_name : AlwaysYields next_class class_lent classes r.classes
 
--- the text of the report that is meant was handed over
+-- the text of the report was written
 abbrev pub SendsReport : {W : Type 0} (written : W → Option (List ℕ)) (failures : W → ℕ) (old new : TextWriter W)
     → (Report → Type 0) → Type 0
 SendsReport written failures old new IsMeant = (r : Report) → IsMeant r → Sends written failures old new (report_text r)

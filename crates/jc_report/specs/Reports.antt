@@ -23,7 +23,7 @@ use Rattle.jc_report.specs.FileRows.{FileRow, is_unreadable, rows, winner}
 use Rattle.jc_report.specs.Rows.{Row, AreRows}
 use Rattle.jc_report.specs.ClassRows.{provided_rows, required_rows}
 
--- ---- the world that files and outside prefixes give
+-- ---- the world of files and outside prefixes
 
 abbrev pub facts_by : List ℕ → Result ClassFile ParseError → Option Facts
 facts_by path (Ok c) = Some (facts_of path c)
@@ -32,17 +32,17 @@ facts_by path (Err refusal) = None
 abbrev pub facts_there : List ℕ → Option (List ℕ) → Option Facts
 facts_there path bytes = option_and_then (λ b. facts_by path (class_read b)) bytes
 
--- the class of a name, from the file that wins it
+-- the facts of the class of a name, from the file with the least path that has it
 abbrev pub facts_at : Files → Name → Option Facts
 facts_at f name = option_and_then (λ path. facts_there path (fin.get f path)) (winner f name)
 
--- a file's class, else the built-in one, else what is outside
+-- at each name: the class of a file, or the built-in class, or else whether the name is outside
 abbrev pub world_of : Files → List Name → World
 world_of f prefixes name = stands_by (or_built_in (facts_at f name) name) (is_covered prefixes name)
 
 -- ---- reports
 
--- a class that files give
+-- a class of the tree, with its part
 pub record Class : Type 0 where
   pub facts : Facts
   pub part : Part
@@ -60,16 +60,16 @@ pub record Report : Type 0 where
 abbrev pub name_of : Class → Name
 name_of c = c.facts.name
 
--- of those that are circular
+-- the names of the circular ones among some classes
 abbrev pub circular_names : List Class → List Name
 circular_names classes = map name_of (filter (λ c. c.part.circular) classes)
 
--- the class is what the files give of its name, with the part that it has over all of them
+-- the class is that of the files, with its part in the world of all of them
 pub record IsClassOf (f : Files) (prefixes : List Name) (c : Class) : Type 0 where
   pub facts : facts_at f (name_of c) ≡ Some c.facts
   pub part : IsPart (world_of f prefixes) (name_of c) c.part
 
--- one of the classes gives the row
+-- the row is one of those of these classes
 pub record GivesRow (rows : Facts → Part → List Row) (classes : List Class) (row : Row) : Type 0 where
   pub class : Class
   pub among : Contains classes class
@@ -98,12 +98,12 @@ is_error (answer.Outside n) = false
 is_error answer.NotLoaded = false
 is_error (answer.Error e n) = true
 
--- a format or code fault, a load error, an instruction that does not link or an error answer
+-- a format fault, a code fault, a load error, an instruction that does not link or a reference that does not resolve
 abbrev pub is_wrong_part : Part → Bool
 is_wrong_part p =
     not (length p.format_faults == 0) || not (length p.code_faults == 0) || is_load_error p.load
     || not (length p.links == 0) || list_any is_error p.answers
 
--- an unreadable file, or a class with one of these
+-- there is an unreadable file, or a class with one of these
 abbrev pub is_wrong : Report → Bool
 is_wrong r = list_any is_unreadable r.files || list_any (λ c. is_wrong_part c.part) r.classes

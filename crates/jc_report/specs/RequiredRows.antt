@@ -1,4 +1,4 @@
--- The rows that a class requires, lent from its references.
+-- The rows that a class requires, borrowed from its references.
 use Rattle.std.specs.Prelude.{◌≡◌, ℕ, List, [], map, Option, None, Some, slice_get}
 use Rattle.std.specs.List.{All}
 use Rattle.jc_classes.specs.Facts.{Reference}
@@ -12,7 +12,7 @@ abbrev pub row_of_some : Option Reference → rows.Row
 row_of_some (Some reference) = reference_row reference
 row_of_some None = class_row []
 
--- the row of the reference of a number
+-- the row of a reference, which is given by its number
 abbrev pub row_numbered : List Reference → ℕ → rows.Row
 row_numbered references number = row_of_some (slice_get references number)
 
@@ -22,11 +22,11 @@ rows_numbered references numbers = map (row_numbered references) numbers
 abbrev pub row_required : RequiredRow → rows.Row
 row_required row = row_numbered row.references row.number
 
--- each is the row of one of these references
+-- each of the rows is that of one of these references
 abbrev pub AreOf : List Reference → List RequiredRow → Type 0
 AreOf references required = All (λ (row : RequiredRow). row.references ≡ references) required
 
--- the key of its row
+-- the key of the row
 abbrev pub spelled : RequiredRow → Name
 spelled row = row_key (row_required row)
 

@@ -1,8 +1,8 @@
--- A row as one list of numbers, whose order is that of rows.
+-- A row as a list of numbers. The lists are in the order of the rows.
 use Rattle.std.specs.Prelude.{ℕ, ◌+◌, List, ◌∷◌, ◌++◌, map}
 use Rattle.jc_report.specs.Rows.{Row, kind_number}
 
--- each number is one more, so that 0 comes before all of them
+-- each number plus one, so that 0 is less than all of them
 abbrev pub raised : List ℕ → List ℕ
 raised bytes = map (λ b. b + 1) bytes
 

@@ -1,4 +1,4 @@
--- What a borrowed row is as a row.
+-- The row that a borrowed row shows.
 use Rattle.jc_report.specs.Rows as rows
 use Rattle.jc_report.specs.declared.row.Row.{Row}
 

@@ -9,7 +9,7 @@ use Rattle.jc_classes.specs.Names.{Name, name_cmp}
 use Rattle.jc_classes.specs.declared.reference_kind.ReferenceKind.{ReferenceKind}
 use Rattle.jc_classes.specs.declared.reference_kind.ReferenceKind.TheVariants as kinds
 
--- a class, which has an empty key, or a member that is named in it
+-- a class, with an empty key, or a field or method with its class
 pub record Row : Type 0 where
   pub class : Name
   pub kind : ReferenceKind
@@ -21,14 +21,14 @@ kind_number kinds.Field = 1
 kind_number kinds.Method = 2
 kind_number kinds.InterfaceMethod = 3
 
--- by class, then by kind, then by name, then by descriptor
+-- rows are ordered by class, then by kind, then by name, then by descriptor
 abbrev pub row_cmp : Row → Row → Ordering
 row_cmp a b =
     ordering_then (name_cmp a.class b.class)
     (ordering_then (nat_cmp (kind_number a.kind) (kind_number b.kind))
     (ordering_then (name_cmp a.key.name b.key.name) (name_cmp a.key.descriptor b.key.descriptor)))
 
--- the rows of which P holds, in their order, each once
+-- the list has exactly the rows of which P holds, sorted, each once
 pub record AreRows (rows : List Row) (P : Row → Type 0) : Type 0 where
   pub rises : IsStrictlySortedBy row_cmp rows
   pub sound : (row : Row) → Contains rows row → P row

@@ -8,10 +8,10 @@ use Rattle.jc_report.specs.Reports.{Class, IsReport, Report, name_of, world_of}
 
 pub record TreeErrors : Type 0 where
   pub report : Report
-  -- of each class, in their order
+  -- the errors of each class, in the order of the classes
   pub inheritance : List InheritanceErrors
 
--- of each class its own
+-- each class has its own errors
 abbrev pub AreInheritances : World → List Class → List InheritanceErrors → Type 0
 AreInheritances m [] [] = Unit {0}
 AreInheritances m (c ∷ cs) (e ∷ es) = IsInheritance m (name_of c) e × AreInheritances m cs es
@@ -22,6 +22,6 @@ pub record IsTreeErrors (f : Files) (prefixes : List Name) (e : TreeErrors) : Ty
   pub report : IsReport f prefixes e.report
   pub inheritance : AreInheritances (world_of f prefixes) e.report.classes e.inheritance
 
--- there is one
+-- the class has an error of inheritance
 abbrev pub is_any : InheritanceErrors → Bool
 is_any e = e.extends_final || not (length e.overridden == 0)

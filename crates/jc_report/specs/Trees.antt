@@ -1,4 +1,4 @@
--- What is kept of the files of a tree.
+-- The class files of a tree, as they are kept.
 use Rattle.std.specs.Prelude.{◌≡◌, ℕ, Bool, true, false, List, map, Result}
 use Rattle.std.specs.FinMap as fin
 use Rattle.jc_base.specs.Bytes.{bytes_cmp}
@@ -11,28 +11,28 @@ use Rattle.jc_report.specs.Reports.{facts_at}
 use Rattle.jc_report.specs.declared.tree.AddError.{AddError}
 use Rattle.jc_report.specs.declared.tree.AddError.TheVariants as errors
 
--- the class that each file names, or why it names none, by path
+-- the name of the class in each file, or why the file cannot be read, by path
 abbrev pub Outcomes : Type 0
 Outcomes = fin.FinMap bytes_cmp (Result Name ParseError)
 
 pub record Tree : Type 0 where
   pub outcomes : Outcomes
-  -- the classes, from the files that win them
+  -- the facts of each class, from the file with the least path that has it
   pub classes : Places
 
 abbrev pub outcome : List ℕ × List ℕ → List ℕ × Result Name ParseError
 outcome file = (file.0, class_named file.1)
 
--- it is kept of these files
+-- the tree is that of these files
 pub record IsTree (f : Files) (t : Tree) : Type 0 where
   pub outcomes : fin.entries t.outcomes ≡ map outcome (fin.entries f)
   pub classes : (name : Name) → class_at t.classes name ≡ facts_at f name
 
--- it is kept of these files and of one more, where none stood
+-- the tree is that of these files and of one more, at a path that had no file
 abbrev pub HasOneMore : Files → (path bytes : List ℕ) → Tree → Type 0
 HasOneMore f path bytes t = (fin.contains_key f path ≡ false) × IsTree (fin.insert f path bytes) t
 
--- a file is refused where one stands at its path, and else only for memory
+-- the error says that there is a file at the path; the other error is out of memory
 abbrev pub is_there : AddError → Bool
 is_there errors.AlreadyThere = true
 is_there errors.NoMemory = false

@@ -1,4 +1,4 @@
--- Of several files that name one class the one whose path is least wins.
+-- The file from which a class is taken, if several files have a class of its name.
 use Rattle.std.specs.Prelude.{◌≡◌, ◌≢◌, ℕ, List, Some, Ok}
 use Rattle.std.specs.FinMap as map
 use Rattle.std.specs.declared.cmp.Ordering.TheVariants.{Less}
@@ -6,11 +6,11 @@ use Rattle.jc_base.specs.Bytes.{bytes_cmp}
 use Rattle.jc_view.specs.Outcome.{class_named}
 use Rattle.jc_report.specs.Files.{Files}
 
--- there is a file at the path, and its bytes name the class
+-- there is a file at the path, and its class has this name
 abbrev pub NamesAt : Files → List ℕ → List ℕ → Type 0
 NamesAt f path name = (bytes : List ℕ) × (map.get f path ≡ Some bytes) × (class_named bytes ≡ Ok name)
 
--- the file at the path names the class, and each other that does has a greater path
+-- the file at the path has the class, and each other file that has it has a greater path
 abbrev pub IsWinner : Files → List ℕ → List ℕ → Type 0
 IsWinner f name path =
     NamesAt f path name × ((other : List ℕ) → NamesAt f other name → other ≢ path → bytes_cmp path other ≡ Less)

@@ -1,4 +1,4 @@
-//! The rows that a class gives.
+//! The rows that a class provides and requires.
 
 ghost use Rattle.std.specs.Prelude.{◌≡◌, ◌&&◌, ◌++◌, OnOk};
 ghost use Rattle.jc_file.specs.AccessFlags.{has, public};
@@ -18,7 +18,7 @@ use jc_file::AccessFlag;
 use jc_link::Part;
 use jc_resolve::{AnswerKind, Loading};
 
-/// Whether a class provides rows: it is public and loads.
+/// Returns whether a class provides rows: it is PUBLIC and loads.
 pub(crate) fn provides(facts: &Facts, part: &Part) -> bool
     ensures { result ≡ (is_loaded part.now.load && has facts.now.flags public) }
 {
@@ -45,21 +45,21 @@ pub(crate) fn class_row(class: &[u8]) -> Row<'_>
     }
 }
 
-/// Whether a member is seen outside its package.
+/// Returns whether a member is PUBLIC or PROTECTED.
 pub(crate) fn is_open(member: Member<'_>) -> bool
     ensures { result ≡ is_open (member_lent member.entry) }
 {
     member.has(AccessFlag::Public) || member.has(AccessFlag::Protected)
 }
 
-/// The same of a method that is not `<clinit>`.
+/// Returns whether a method is PUBLIC or PROTECTED, and is not `<clinit>`.
 pub(crate) fn is_open_method(method: Member<'_>) -> bool
     ensures { result ≡ is_open_method (member_lent method.entry) }
 {
     is_open(method) && !same(method.name, b"<clinit>")
 }
 
-/// Adds what a class requires, by its references.
+/// Adds the rows that a class requires, in the order of its references.
 pub(crate) fn push_required<'t>(
     rows: &mut RowSet<'t>,
     facts: &'t Facts,
@@ -79,7 +79,7 @@ pub(crate) fn push_required<'t>(
     Ok(())
 }
 
-/// Whether an answer says that what is referred to is outside, or that nothing gives it.
+/// Returns whether a reference with such an answer is required: it resolves outside, or its class or member is missing.
 pub(crate) fn is_required(kind: AnswerKind) -> bool
     ensures { (a : Answer) → kind_of a ≡ kind → class_rows.is_required a ≡ result }
 {

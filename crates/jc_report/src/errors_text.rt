@@ -1,4 +1,4 @@
-//! What makes a report wrong, a line each.
+//! The text of the errors of a tree: one line for each.
 
 ghost use Rattle.std.specs.Prelude.{◌≡◌, ◌++◌, codes, map, OnErr, OnOk};
 ghost use Rattle.std.specs.Io.KnownBytes.{Appends};
@@ -29,12 +29,18 @@ use jc_list::write_format_line;
 use jc_resolve::{InheritanceErrors, Loading};
 use jc_text::TextWriter;
 
-/// Writes what makes a report wrong, as far as it is asked for, in one line each.
+/// Writes one line for each error that is asked for.
 ///
-/// Unreadable files are first, by path. Then follow the classes by name: the load error or the format faults of each, its
-/// code faults by method, its instructions that do not link by method and offset, its FINAL superclass and the FINAL methods
-/// that it overrides, and its references by index. An output
-/// that fails has a beginning of this text.
+/// Unreadable files are first, in the order of their paths. The classes follow, in the order of their names. The lines of
+/// a class are:
+///
+/// - its load error or its format faults,
+/// - its code faults, by method,
+/// - its instructions that do not link, by method and offset,
+/// - its FINAL superclass, and the FINAL methods that it overrides,
+/// - its references that do not resolve, by index.
+///
+/// If the output fails, it has a beginning of this text.
 pub fn write_errors<W: Output>(
     errors: &TreeErrors<'_>,
     asked: Asked<'_>,
@@ -66,7 +72,7 @@ fn write_files<W: Output>(text: &mut TextWriter<'_, W>, files: &[FileRow<'_>], a
     }
 }
 
-/// The row of a file that is asked for and unreadable.
+/// Writes the row of a file if it is asked for and unreadable.
 fn write_file<W: Output>(text: &mut TextWriter<'_, W>, row: &FileRow<'_>, asked: Asked<'_>)
     ensures { Sends W.written W.failures text.old text.new (file_error (asked_lent asked.entry) (lent.row_lent row.now)) }
 {
@@ -75,7 +81,7 @@ fn write_file<W: Output>(text: &mut TextWriter<'_, W>, row: &FileRow<'_>, asked:
     }
 }
 
-/// The errors of classes, each with its errors of inheritance.
+/// Writes the errors of classes, each with its errors of inheritance.
 fn write_classes<W: Output>(
     text: &mut TextWriter<'_, W>,
     classes: &[Class<'_>],
@@ -92,7 +98,7 @@ fn write_classes<W: Output>(
     }
 }
 
-/// The errors of a class that is asked for.
+/// Writes the errors of a class if it is asked for.
 fn write_class<W: Output>(
     text: &mut TextWriter<'_, W>,
     class: &Class<'_>,
@@ -129,7 +135,7 @@ fn write_part_errors<W: Output>(
     write_answer_errors(text, facts, part.answers(), used_only);
 }
 
-/// The name of the class that what follows is told of.
+/// Writes the name of the class that the rest of the line is about.
 pub(crate) fn write_front<W: Output>(text: &mut TextWriter<'_, W>, name: &[u8])
     ensures { Sends W.written W.failures text.old text.new (shown name.now ++ codes ": ") }
 {

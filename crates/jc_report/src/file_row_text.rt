@@ -12,7 +12,7 @@ use jc_base::Output;
 use jc_text::TextWriter;
 use jc_view::ParseError;
 
-/// The line of a file: its path and what it is.
+/// Writes the line of a file: its path and its state.
 pub fn write_file_row<W: Output>(text: &mut TextWriter<'_, W>, row: &FileRow)
     ensures { Sends W.written W.failures text.old text.new (row_text (row_lent row.now)) }
 {
@@ -48,7 +48,7 @@ fn write_unreadable<W: Output>(text: &mut TextWriter<'_, W>, refusal: ParseError
     write_refusal(text, refusal);
 }
 
-/// A refusal: its number, its name and its place, if it has one.
+/// Writes a refusal: its number, its name and its place, if it has one.
 pub fn write_refusal<W: Output>(text: &mut TextWriter<'_, W>, refusal: ParseError)
     ensures { Sends W.written W.failures text.old text.new (refusal_text refusal) }
 {
@@ -84,7 +84,7 @@ fn name_and_place(refusal: ParseError) -> (&'static [u8], Option<usize>)
     }
 }
 
-/// A place behind a name, as in `Tag(10)`.
+/// Writes a place after a name, for example `(10)` of `Tag(10)`.
 fn write_place<W: Output>(text: &mut TextWriter<'_, W>, place: usize)
     ensures { Sends W.written W.failures text.old text.new (at_text place) }
 {

@@ -1,4 +1,4 @@
-//! Classes with their parts, lent.
+//! Borrowed classes with their parts.
 
 ghost use Rattle.std.specs.Prelude.{◌≡◌, ◌↔◌, Some, option_map, slice_get};
 ghost use Rattle.std.specs.Iterator.{YieldsFirstBy, item_count};
@@ -21,7 +21,7 @@ use jc_resolve::{Answer, Answers};
 use std::marker::Model;
 use std::slice;
 
-/// A class that files give: what is kept of its file, and what is found of it.
+/// A class of a tree: the facts of its file, and its part.
 #[derive(Clone, Copy)]
 pub struct LentClass<'a> {
     pub facts: &'a Facts,
@@ -71,7 +71,8 @@ fn numbered(answers: &Answers, number: usize) -> Option<Answer<'_>>
     }
 }
 
-/// The classes of a [`crate::TreeReport`] in the order of their names, seen as the list of those that are left.
+/// An iterator over the classes of a [`crate::TreeReport`], in the order of their names. Contracts see the list of the
+/// classes that are left.
 #[derive(Drop)]
 pub struct LentClasses<'a, 't> {
     pub(crate) classes: slice::Iter<'a, Class<'t>>,

@@ -1,5 +1,12 @@
-//! The report over a tree of class files: which class each file gives, how it links, and what the tree
-//! provides and requires.
+//! The report over a tree of class files.
+//!
+//! A [`Tree`] keeps the facts of the files that are added to it, but not their bytes. [`TreeReport`] has the state of each
+//! file and the part of each class: how it loads, its faults, and what its references resolve to. It also has the circular
+//! classes, and the rows that the tree provides and requires. [`TreeErrors`] adds the errors of inheritance, which a report
+//! does not have. `write_report` and `write_errors` print them.
+//!
+//! By the contracts, the report is the one that `specs/` defines for the files and the outside prefixes, and what is
+//! written is its text.
 #![tactic(auto)]
 
 mod asked;

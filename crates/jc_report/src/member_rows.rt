@@ -1,4 +1,4 @@
-//! The rows of the open members of a class, in their order.
+//! The rows of the PUBLIC and PROTECTED members of a class, sorted.
 
 ghost use Rattle.std.specs.Prelude.{◌≡◌, slice_get};
 ghost use Rattle.std.specs.Iterator.{YieldsFirstBy, item_count};
@@ -14,8 +14,9 @@ use jc_classes::{Facts, Key, Member, ReferenceKind, same};
 use std::marker::Model;
 use std::slice;
 
-/// The rows of the open fields or of the open methods of a class by their numbers in order, seen as the list of
-/// those that are left. Of members side by side with one name and descriptor the first gives a row.
+/// An iterator over the rows of the PUBLIC and PROTECTED fields, or methods, of a class. It follows an order of the members'
+/// numbers. If adjacent members have the same name and descriptor, only the first has a row. Contracts see the list of the
+/// rows that are left.
 #[derive(Drop)]
 pub(crate) struct MemberRows<'a> {
     facts: &'a Facts,
@@ -38,7 +39,8 @@ impl<'a> Model for MemberRows<'a> {
 }
 
 impl<'a> MemberRows<'a> {
-    /// The rows of the fields, or else of the methods, by their numbers in order.
+    /// Returns the rows of the fields or of the methods, by `kind`. `order` has the numbers of the members, sorted by name and
+    /// descriptor.
     pub(crate) fn of(facts: &'a Facts, kind: ReferenceKind, order: &'a [u16]) -> MemberRows<'a>
         ensures { result ≡ rows_by kind facts.now order.now }
     {
@@ -71,7 +73,7 @@ impl<'a> Iterator for MemberRows<'a> {
     }
 }
 
-/// The key of the field, or else of the method, of a number, where it is open.
+/// Returns the name and the descriptor of a field or a method, by its number, if it is PUBLIC or PROTECTED.
 fn open_key(facts: &Facts, kind: ReferenceKind, number: usize) -> Option<Key<'_>>
     ensures { option_map key_lent result ≡ open_key kind facts.now number }
 {
@@ -104,7 +106,7 @@ fn is_open_by(kind: ReferenceKind, member: Member<'_>) -> bool
     }
 }
 
-/// Whether the key is the one that a row was given of last.
+/// Returns whether the last row has this name and descriptor.
 fn is_last(last: Option<Key<'_>>, key: Key<'_>) -> bool
     ensures { result ≡ member_rows.is_last (option_map key_lent last.entry) (key_lent key.entry) }
 {

@@ -1,4 +1,4 @@
-//! Which class a file names.
+//! The class that a file has.
 
 ghost use Rattle.std.specs.Prelude.{◌≡◌, IfOk};
 ghost use Rattle.jc_report.specs.inside.Outcomes.{outcome_lent};
@@ -8,7 +8,7 @@ use jc_view::{ClassView, ParseError};
 use std::alloc::Global;
 use std::marker::Model;
 
-/// The name of the class that a file names, or why it names none.
+/// The name of the class that a file has, or why the file cannot be read.
 #[derive(Drop)]
 pub(crate) struct FileOutcome {
     class: Result<Vec<u8>, ParseError>,
@@ -25,7 +25,7 @@ impl Model for FileOutcome {
 }
 
 impl FileOutcome {
-    /// A class's name.
+    /// Copies the name of a class.
     pub(crate) fn named(alloc: Global, name: &[u8]) -> Result<FileOutcome, NoMemory>
         ensures { IfOk result (λ outcome. outcome ≡ Ok name.now) }
     {
@@ -33,7 +33,7 @@ impl FileOutcome {
         Ok(FileOutcome { class })
     }
 
-    /// The refusal of a file that names no class.
+    /// Returns the outcome of a file that cannot be read.
     pub(crate) fn refused(refusal: ParseError) -> FileOutcome
         ensures { result ≡ Err refusal }
     {

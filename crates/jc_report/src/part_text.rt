@@ -1,4 +1,4 @@
-//! The lines of a class's part.
+//! The text of the part of a class.
 
 ghost use Rattle.std.specs.Prelude.{◌≡◌, ◌++◌};
 ghost use Rattle.std.specs.List.{flat_map};
@@ -21,7 +21,7 @@ use jc_list::{write_code_fault_line, write_format_line};
 use jc_resolve::{Answer, Answers, Link, Links, Loading};
 use jc_text::TextWriter;
 
-/// The part of the class that the facts are of: how it loads, its faults, the instructions that do not link, and the
+/// Writes the part of the class with these facts: how it loads, its faults, its instructions that do not link, and the
 /// answer to each of its references.
 pub fn write_part<W: Output>(out: &mut TextWriter<'_, W>, facts: &Facts, part: &Part)
     ensures { Sends W.written W.failures out.old out.new (part_text facts.now part.now) }
@@ -52,7 +52,7 @@ fn write_load<W: Output>(out: &mut TextWriter<'_, W>, load: &Loading)
     }
 }
 
-/// An error, and the name of the class at fault.
+/// Writes an error, and the name of the class at fault.
 pub(crate) fn write_error<W: Output>(out: &mut TextWriter<'_, W>, error: LinkageError, name: &[u8])
     ensures { Sends W.written W.failures out.old out.new (error_text error name.now) }
 {
@@ -63,7 +63,7 @@ pub(crate) fn write_error<W: Output>(out: &mut TextWriter<'_, W>, error: Linkage
     write_shown(out, b" ", name);
 }
 
-/// A name behind a word.
+/// Writes a word and a name. Bytes of the name that are not plain ASCII are escaped.
 pub(crate) fn write_shown<W: Output>(out: &mut TextWriter<'_, W>, word: &[u8], name: &[u8])
     ensures { Sends W.written W.failures out.old out.new (word.now ++ shown name.now) }
 {
@@ -116,7 +116,7 @@ fn write_link<W: Output>(out: &mut TextWriter<'_, W>, link: Link<'_>)
     write_link_text(out, link);
 }
 
-/// An instruction that does not link, and LF.
+/// Writes an instruction that does not link, and LF.
 fn write_link_text<W: Output>(out: &mut TextWriter<'_, W>, link: Link<'_>)
     ensures { Sends W.written W.failures out.old out.new (link_text (link_lent link.entry)) }
 {
@@ -129,7 +129,7 @@ fn write_link_text<W: Output>(out: &mut TextWriter<'_, W>, link: Link<'_>)
     out.text(b"\n");
 }
 
-/// The answer to each reference.
+/// Writes the answer to each reference.
 fn write_answers<W: Output>(out: &mut TextWriter<'_, W>, facts: &Facts, answers: &Answers)
     ensures { Sends W.written W.failures out.old out.new (answer_lines facts.now.references answers.now) }
 {
@@ -153,7 +153,7 @@ fn write_answer_line<W: Output>(
     out.text(b"\n");
 }
 
-/// A reference and the answer to it.
+/// Writes a reference and the answer to it.
 fn write_answered<W: Output>(
     out: &mut TextWriter<'_, W>,
     reference: Reference<'_>,
@@ -188,7 +188,7 @@ pub(crate) fn kind_word(kind: ReferenceKind) -> &'static [u8]
     }
 }
 
-/// What a reference of a kind names.
+/// Writes the class of a reference and, for a field or method, the name and the descriptor.
 pub(crate) fn write_named<W: Output>(
     out: &mut TextWriter<'_, W>,
     kind: ReferenceKind,

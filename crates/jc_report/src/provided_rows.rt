@@ -1,4 +1,4 @@
-//! The rows that a class provides, in their order.
+//! The rows that a class provides, sorted.
 
 ghost use Rattle.std.specs.Prelude.{◌≡◌, ◌++◌, map};
 ghost use Rattle.std.specs.Iterator.{YieldsFirstBy, item_count};
@@ -16,7 +16,8 @@ use jc_classes::{Facts, ReferenceKind};
 use jc_link::Part;
 use std::marker::Model;
 
-/// The rows that a class provides, lent from its facts, seen as the list of those that are left.
+/// An iterator over the rows that a class provides, borrowed from its facts. Contracts see the list of the rows that are
+/// left.
 #[derive(Drop)]
 pub struct ProvidedRows<'a> {
     class: Option<Row<'a>>,
@@ -35,7 +36,7 @@ impl<'a> Model for ProvidedRows<'a> {
     ghost view = { λ a. map row_lent (option_to_list a.class) ++ a.fields ++ a.methods };
 }
 
-/// The rows that a class provides, in their order, each once. No memory.
+/// Returns the rows that a class provides, sorted, each once. Does not allocate.
 pub fn provided_in_order<'a>(facts: &'a Facts, part: &Part) -> ProvidedRows<'a>
     ensures { AreRows result (Contains (provided_rows facts.now part.now)) }
 {
@@ -51,7 +52,7 @@ pub fn provided_in_order<'a>(facts: &'a Facts, part: &Part) -> ProvidedRows<'a>
     }
 }
 
-/// A class's own row, if it is given, and those of its open members by their numbers in order.
+/// Returns the row of the class itself, if there is one, followed by the rows of its PUBLIC and PROTECTED members.
 fn rows_by<'a>(
     facts: &'a Facts,
     class: Option<Row<'a>>,

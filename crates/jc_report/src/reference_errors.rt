@@ -1,4 +1,4 @@
-//! The lines of references that errors answer.
+//! The lines of references that do not resolve.
 
 ghost use Rattle.std.specs.Prelude.{◌≡◌};
 ghost use Rattle.jc_text.specs.Sends.{Sends};
@@ -14,7 +14,7 @@ use jc_classes::{Facts, Reference, User};
 use jc_resolve::{Answer, Answers};
 use jc_text::TextWriter;
 
-/// Writes a line for each reference that an error answers. With `used_only`, only if something uses the reference.
+/// Writes a line for each reference that does not resolve. With `used_only`, only if something uses the reference.
 pub(crate) fn write_answer_errors<W: Output>(
     text: &mut TextWriter<'_, W>,
     facts: &Facts,

@@ -42,15 +42,15 @@ use jc_resolve::{Answers, Links, Loading};
 use std::alloc::Global;
 use std::marker::Model;
 
-/// A class that a file of a tree gives, with its part.
+/// A class of a tree, with its part.
 #[derive(Drop)]
 pub(crate) struct Class<'t> {
     facts: &'t Facts,
     part: Part,
 }
 
-/// The report of a tree: what each file is, the part of each class, which of these are circular, and what
-/// they provide and require.
+/// The report of a tree: the state of each file, the part of each class, the circular classes, and the rows that the
+/// classes provide and require.
 #[derive(Drop)]
 pub struct TreeReport<'t> {
     files: Vec<FileRow<'t>>,
@@ -77,21 +77,21 @@ impl<'t> Model for TreeReport<'t> {
 }
 
 impl<'t> Class<'t> {
-    /// What is kept of its file.
+    /// Returns the facts of its file.
     pub(crate) fn facts(&self) -> &'t Facts
         ensures { result.now ≡ self.now.facts }
     {
         self.facts
     }
 
-    /// What is found of it.
+    /// Returns its part.
     pub(crate) fn part(&self) -> &Part
         ensures { result.now ≡ self.now.part }
     {
         &self.part
     }
 
-    /// Both.
+    /// Returns the facts and the part, borrowed.
     pub(crate) fn lent(&self) -> LentClass<'_>
         ensures { class_lent result ≡ self.now }
     {
@@ -103,7 +103,10 @@ impl<'t> Class<'t> {
 }
 
 impl<'t> TreeReport<'t> {
-    /// Makes the part of each class of a tree, once, by name, and the report of all.
+    /// Makes the report of a tree.
+    ///
+    /// Each class gets its part once, in the order of the names; the meter counts the parts and the look-ups. Returns
+    /// `NoMemory` only when an allocation fails.
     pub fn make(
         alloc: Global,
         tree: &'t Tree,
@@ -120,7 +123,7 @@ impl<'t> TreeReport<'t> {
         TreeReport::over(alloc, tree, &mut maker, meter)
     }
 
-    /// Makes the report over the graph of the tree's classes.
+    /// Makes the report of a tree over the graph of its classes.
     pub(crate) fn over(
         alloc: Global,
         tree: &'t Tree,
@@ -141,7 +144,7 @@ impl<'t> TreeReport<'t> {
         Ok(report)
     }
 
-    /// A report of nothing.
+    /// Returns the report of a tree without files.
     fn empty(alloc: Global) -> TreeReport<'t>
         ensures files { result.files ≡ [] }
         ensures classes { result.classes ≡ [] }
@@ -154,7 +157,7 @@ impl<'t> TreeReport<'t> {
         }
     }
 
-    /// Fills an empty report. After an error nothing is said of it.
+    /// Fills an empty report. After an error its content is unspecified.
     fn fill(
         &mut self,
         alloc: Global,
@@ -180,8 +183,8 @@ impl<'t> TreeReport<'t> {
         fill_required(&mut self.required, alloc, &self.classes)
     }
 
-    /// Whether a file is unreadable, a class has a fault or does not load, an instruction does not link, or a
-    /// reference is answered by an error.
+    /// Returns whether a file is unreadable, a class has a fault or does not load, an instruction does not link, or a
+    /// reference does not resolve.
     pub fn wrong(&self) -> bool
         ensures { result ≡ is_wrong self.now }
     {
@@ -195,21 +198,21 @@ impl<'t> TreeReport<'t> {
         is_any_wrong(self.files().iter().copied(), self.lent_classes(), asked)
     }
 
-    /// What each file is, by path.
+    /// Returns the state of each file, in the order of the paths.
     pub fn files(&self) -> &[FileRow<'t>]
         ensures { map lent.row_lent result.now ≡ self.now.files }
     {
         self.files.as_slice()
     }
 
-    /// The classes that the files give, by name.
+    /// Returns the classes of the tree, in the order of their names.
     pub(crate) fn classes(&self) -> &[Class<'t>]
         ensures by_name { result.now ≡ self.now.classes }
     {
         self.classes.as_slice()
     }
 
-    /// The classes that the files give, by name, lent.
+    /// Returns the classes of the tree, borrowed, in the order of their names.
     pub fn lent_classes(&self) -> LentClasses<'_, 't>
         ensures by_name { result ≡ self.now.classes }
         ensures circular { self.now.circular ≡ circular_names result }
@@ -228,7 +231,7 @@ impl<'t> TreeReport<'t> {
         }
     }
 
-    /// The public classes that load, with their public and protected members.
+    /// Returns the rows of the PUBLIC classes that load and of their PUBLIC and PROTECTED members, sorted.
     pub fn provided(&self) -> TreeProvided<'_, 't>
         ensures { result ≡ self.now.provided }
     {
@@ -240,7 +243,7 @@ impl<'t> TreeReport<'t> {
         }
     }
 
-    /// What is referred to and is outside, or given by nothing.
+    /// Returns the rows of the classes and members that references name and that are outside or missing, sorted, each once.
     pub fn required(&self) -> &[Row<'t>]
         ensures { map row_lent result.now ≡ self.now.required }
     {
@@ -248,7 +251,7 @@ impl<'t> TreeReport<'t> {
     }
 }
 
-/// What each file of a tree is, by path.
+/// Adds the state of each file of a tree, in the order of the paths.
 fn fill_files<'t>(
     files: &mut Vec<FileRow<'t>>,
     tree: &'t Tree,
@@ -266,7 +269,7 @@ fn fill_files<'t>(
     Ok(())
 }
 
-/// The classes that the files of a tree give, by name, each with its part.
+/// Adds the classes of a tree, in the order of their names, each with its part.
 fn fill_classes<'t>(
     classes: &mut Vec<Class<'t>>,
     alloc: Global,
@@ -287,7 +290,7 @@ fn fill_classes<'t>(
     push_classes(classes, alloc, &tree.table, maker, meter)
 }
 
-/// The classes of a table, each with its part, which a maker makes.
+/// Adds the classes of a table, each with its part.
 fn push_classes<'t>(
     classes: &mut Vec<Class<'t>>,
     alloc: Global,
@@ -312,12 +315,12 @@ fn push_classes<'t>(
     Ok(())
 }
 
-/// What classes provide that rise by name, one behind another, rises.
+/// If classes are sorted by name, the rows that they provide, one class after another, are sorted.
 fn provided_by_name(classes: &[Class<'_>])
     ensures { AreByName classes.now → AreRows (provided_in classes.now) (GivesRow provided_rows classes.now) }
 {}
 
-/// What the classes require.
+/// Adds the rows that the classes require.
 fn fill_required<'t>(
     rows: &mut Vec<Row<'t>>,
     alloc: Global,
@@ -377,22 +380,22 @@ fn has_wrong_part<'a, I: Iterator<Item = LentClass<'a>> + Drop>(
     false
 }
 
-/// Whether a file is asked for and unreadable.
+/// Returns whether a file is asked for and unreadable.
 pub(crate) fn is_wrong_file(row: &FileRow<'_>, asked: Asked<'_>) -> bool
     ensures { result ≡ is_wrong_file (asked_lent asked.entry) (lent.row_lent row.now) }
 {
     is_asked(asked, row.path) && is_unreadable(row)
 }
 
-/// Whether a class is asked for and wrong.
+/// Returns whether a class is asked for and wrong.
 fn is_wrong_class(class: LentClass<'_>, asked: Asked<'_>) -> bool
     ensures { result ≡ is_wrong_class (asked_lent asked.entry) (class_lent class.entry) }
 {
     is_asked(asked, class.facts.name()) && is_wrong_part(class.facts, class.part, asked.used_only)
 }
 
-/// Returns whether a class has a fault or does not load, an instruction does not link, or a reference is answered by an
-/// error. With `used_only`, references that nothing uses do not count.
+/// Returns whether a class has a fault or does not load, an instruction does not link, or a reference does not resolve.
+/// With `used_only`, references that nothing uses do not count.
 fn is_wrong_part(facts: &Facts, part: &Part, used_only: bool) -> bool
     ensures { result ≡ is_wrong_listed used_only facts.now part.now }
 {

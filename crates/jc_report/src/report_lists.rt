@@ -1,13 +1,13 @@
-//! The lists that a report is made of.
+//! The lists of a report.
 
-/// The lists of a report, each to be gone over once.
+/// The lists of a report, as iterators. Each is passed over once.
 #[derive(Drop)]
 pub struct ReportLists<F, C, P, Q> {
-    /// What each file is, by path.
+    /// The state of each file, in the order of the paths.
     pub files: F,
-    /// The classes that the files give, by name.
+    /// The classes, in the order of their names.
     pub classes: C,
-    /// The same classes, of which some are circular.
+    /// The same classes once more, for the circular ones among them.
     pub again: C,
     pub provided: P,
     pub required: Q,

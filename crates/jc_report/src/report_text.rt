@@ -26,7 +26,7 @@ use jc_classes::Key;
 use jc_text::TextWriter;
 
 /// Writes a report: `[files]` and the files by path, `[parts]` and the classes by name, `[circular]`,
-/// `[provided]` and `[required]`. An output that fails has a beginning of this text.
+/// `[provided]` and `[required]`. If the output fails, it has a beginning of this text.
 pub fn write_report<W: Output>(report: &TreeReport<'_>, out: &mut W) -> Result<(), DeviceFault>
     ensures ok { OnOk result (Appends (W.written out.old) (W.written out.new) (report_text report.now)) }
     ensures front { OnErr result (WritesFront (W.written out.old) (W.written out.new) (report_text report.now)) }
@@ -50,7 +50,7 @@ fn write_held<W: Output>(text: &mut TextWriter<'_, W>, report: &TreeReport<'_>)
     write_lists(text, lists);
 }
 
-/// Writes the report that has these lists.
+/// Writes the report with these lists. If the output fails, it has a beginning of this text.
 pub fn write_lists<'a, W: Output, F, C, P, Q>(
     text: &mut TextWriter<'_, W>,
     lists: ReportLists<F, C, P, Q>,

@@ -32,7 +32,7 @@ pub fn required_numbers(
     Ok(numbers)
 }
 
-/// Returns the rows of the references of some numbers, each sharing its texts with the class.
+/// Returns the rows of the references with these numbers. Each row shares its texts with the class.
 pub fn rows_of(
     alloc: Global,
     references: &References,

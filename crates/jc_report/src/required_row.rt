@@ -1,4 +1,4 @@
-//! A row that a class requires, which shares its texts with it.
+//! A row that a class requires, with texts that it shares with the class.
 
 ghost use Rattle.std.specs.Prelude.{◌≡◌, IfOk};
 ghost use Rattle.std.specs.Cmp.{eq_by_cmp_equiv, on_total, partial_equiv_from_equiv, partial_order_from_agreeing_total};
@@ -15,8 +15,8 @@ use jc_base::NoMemory;
 use jc_classes::References;
 use std::cmp::Ordering;
 
-/// A row that a class requires, as the number of one of its references, with which it shares its texts, so that it
-/// may outlive the class. It compares as its [`Row`] does.
+/// A row that a class requires. It is the number of a reference and a shared owner of the class's texts, so it may outlive
+/// the class. Rows are compared by their [`Row`]s.
 #[derive(Drop)]
 pub struct RequiredRow {
     references: References,
@@ -24,7 +24,7 @@ pub struct RequiredRow {
 }
 
 impl RequiredRow {
-    /// The row. No memory.
+    /// Returns the row. Does not allocate.
     pub fn row(&self) -> Row<'_>
         ensures { row_lent result ≡ row_required self.now }
     {
@@ -34,14 +34,14 @@ impl RequiredRow {
         }
     }
 
-    /// The number of its reference.
+    /// Returns the number of its reference.
     pub fn number(&self) -> usize
         ensures { result ≡ self.now.number }
     {
         self.number
     }
 
-    /// The class of the row.
+    /// Returns the class of the row.
     fn class(&self) -> &[u8]
         ensures { result.now ≡ (row_required self.now).class }
     {
@@ -51,9 +51,9 @@ impl RequiredRow {
         }
     }
 
-    /// The same row, shared.
+    /// Returns the same row, as one more owner of the texts. Does not allocate.
     ///
-    /// Answers `NoMemory` only where it is shared as often as can be counted.
+    /// Returns `NoMemory` only if the texts have as many owners as can be counted.
     pub fn share(&self) -> Result<RequiredRow, NoMemory>
         ensures { IfOk result (λ row. row ≡ self.now) }
     {
@@ -97,7 +97,7 @@ impl Ord for RequiredRow {
 
     ghost matches_eq = { λ x y. refl };
 
-    // Most rows differ in their class: the other texts are looked up only where it is the same.
+    // Most rows differ in their class, and then the other texts are not looked up.
     fn cmp(&self, other: &RequiredRow) -> Ordering {
         match self.class().cmp(other.class()) {
             Ordering::Less => Ordering::Less,
@@ -107,7 +107,7 @@ impl Ord for RequiredRow {
     }
 }
 
-/// The row of the reference of a number.
+/// Returns the row of a reference, by its number.
 pub(crate) fn numbered(references: &References, number: usize) -> Result<RequiredRow, NoMemory>
     ensures row { IfOk result (λ row. row_required row ≡ row_numbered references.now number) }
     ensures of { IfOk result (λ row. row.references ≡ references.now) }

@@ -13,7 +13,8 @@ use jc_link::Part;
 use jc_resolve::Answers;
 use std::marker::Model;
 
-/// The rows that a class requires, lent from its facts, seen as the list of those that are left.
+/// An iterator over the rows that a class requires, borrowed from its facts. Contracts see the list of the rows that are
+/// left.
 #[derive(Drop)]
 pub struct RequiredRows<'a> {
     facts: &'a Facts,

@@ -1,4 +1,4 @@
-//! What a report says is provided or required.
+//! The rows that a report lists as provided or required.
 
 ghost use Rattle.std.specs.Prelude.{◌≡◌};
 ghost use Rattle.jc_report.specs.RowView.{row_lent};
@@ -7,8 +7,8 @@ ghost use Rattle.jc_report.specs.inside.RowsOfClass.{cmp_in_class};
 use jc_classes::ReferenceKind;
 use std::cmp::Ordering;
 
-/// A class, whose name and descriptor are empty, or a member that is named in it. Rows are ordered by
-/// class, then by kind, then by name, then by descriptor.
+/// A class, with an empty name and descriptor, or a field or method and the class that a reference names or that declares
+/// it. Rows are ordered by class, then by kind, then by name, then by descriptor.
 #[derive(Clone, Copy, PartialEq, Eq, PartialOrd, Ord)]
 pub struct Row<'a> {
     pub class: &'a [u8],
@@ -18,7 +18,7 @@ pub struct Row<'a> {
 }
 
 impl<'a> Row<'a> {
-    /// Compares the rows as rows of one class: by kind, then by name, then by descriptor. Does not allocate.
+    /// Compares two rows of one class: by kind, then by name, then by descriptor. Does not allocate.
     pub(crate) fn cmp_in_class(&self, other: &Row<'_>) -> Ordering
         ensures { result ≡ cmp_in_class (row_lent self.now) (row_lent other.now) }
     {

@@ -1,4 +1,4 @@
-//! Rows that are kept once each, in their order.
+//! A sorted set of rows.
 
 ghost use Rattle.std.specs.Prelude.{◌≡◌, ◌++◌, ◌∷◌, [], OnOk, map};
 ghost use Rattle.std.specs.List.{Contains};
@@ -12,7 +12,7 @@ use std::alloc::Global;
 use std::collections::BTreeSet;
 use std::marker::Model;
 
-/// Rows, each once, in their order.
+/// A sorted set of rows.
 #[derive(Drop)]
 pub(crate) struct RowSet<'t> {
     rows: BTreeSet<Row<'t>>,
@@ -37,7 +37,7 @@ impl<'t> RowSet<'t> {
         }
     }
 
-    /// Adds a row, unless it is there.
+    /// Adds a row.
     pub(crate) fn insert(&mut self, row: Row<'t>) -> Result<(), NoMemory>
         ensures { OnOk result (HoldSameRows self.new (self.old ++ row_lent row.entry ∷ [])) }
     {
@@ -45,7 +45,7 @@ impl<'t> RowSet<'t> {
         Ok(())
     }
 
-    /// Copies the rows into an empty list, in their order.
+    /// Copies the rows into an empty list, sorted.
     pub(crate) fn copy_into(&self, rows: &mut Vec<Row<'t>>) -> Result<(), NoMemory>
         requires { map row_lent rows.old.items ≡ [] }
         ensures { OnOk result (AreRows (map row_lent rows.new.items) (Contains self.now)) }

@@ -1,4 +1,4 @@
-//! What is kept of the files of a tree.
+//! The class files of a tree.
 
 ghost use Rattle.std.specs.Prelude.{◌≡◌, ◌≤◌, IfErr, IfOk, List, OnOk, Some, ℕ};
 ghost use Rattle.std.specs.FinMap as map;
@@ -24,8 +24,8 @@ use jc_view::outcomes_are_exact;
 use std::alloc::{AllocError, AllocFailed, Global};
 use std::marker::Model;
 
-/// What is kept of the files of a tree: which class each names, and of the file that gives a class what
-/// linking asks of it. Their bytes are not kept.
+/// The class files of a tree: the name of the class in each file, and the facts of each class. The bytes of the files are
+/// not kept. If several files have a class of one name, the tree takes it from the one with the least path.
 #[derive(Drop)]
 pub struct Tree {
     alloc: Global,
@@ -33,12 +33,12 @@ pub struct Tree {
     pub(crate) table: Table,
 }
 
-/// Why a file is not added to a tree.
+/// Why a file was not added to a tree.
 #[derive(Clone, Copy, Debug, PartialEq, Eq)]
 pub enum AddError {
-    /// A file stands at the path.
+    /// The tree already has a file at this path.
     AlreadyThere,
-    /// Memory was refused.
+    /// An allocation failed.
     NoMemory,
 }
 
@@ -56,7 +56,7 @@ impl Model for Tree {
 }
 
 impl Tree {
-    /// A tree without files, and the meter that counts what is asked of its classes.
+    /// Returns a tree without files, and the meter that counts the look-ups of its classes.
     pub fn new(alloc: Global) -> Result<(Tree, Meter), NoMemory>
         ensures empty { IfOk result (λ made. IsTree map.empty made.0) }
         ensures asks { IfOk result (λ made. made.1.asks ≡ 0) }
@@ -71,22 +71,22 @@ impl Tree {
         Ok((tree, meter))
     }
 
-    /// How many files there are.
+    /// Returns the number of files.
     pub fn len(&self) -> usize
         ensures { (f : Files) → IsTree f self.now → result ≡ map.len f }
     {
         self.outcomes.len()
     }
 
-    /// Whether a file stands at the path.
+    /// Returns whether the tree has a file at this path.
     pub fn contains(&self, path: &[u8]) -> bool
         ensures { (f : Files) → IsTree f self.now → result ≡ map.contains_key f path.now }
     {
         self.outcomes.contains_key(path)
     }
 
-    /// The tree with one more file. Of several files that name one class the one whose path is least gives
-    /// it, in whatever order they are added.
+    /// Adds a file, and returns the tree. The order in which files are added does not matter. Returns `NoMemory` only when an
+    /// allocation fails.
     pub fn add(self, path: &[u8], bytes: &[u8]) -> Result<Tree, AddError>
         ensures ok { (f : Files) → IsTree f self → IfOk result (HasOneMore f path.now bytes.now) }
         ensures err { (f : Files) → IsTree f self → IfErr result (λ e. map.contains_key f path.now ≡ is_there e) }
@@ -96,7 +96,7 @@ impl Tree {
         Ok(tree)
     }
 
-    /// Takes a file in. After an error nothing is said of the tree.
+    /// Adds a file in place. After an error the content of the tree is unspecified.
     fn take_in(&mut self, path: &[u8], bytes: &[u8]) -> Result<(), AddError>
         ensures ok { (f : Files) → IsTree f self.old → OnOk result (HasOneMore f path.now bytes.now self.new) }
         ensures err { (f : Files) → IsTree f self.old → IfErr result (λ e. map.contains_key f path.now ≡ is_there e) }
@@ -110,7 +110,7 @@ impl Tree {
         Ok(())
     }
 
-    /// Reads a file, and keeps its class where no lesser path gives it.
+    /// Reads a file. Keeps its class, unless a file with a lesser path has the class of that name.
     fn read(&mut self, path: &[u8], bytes: &[u8]) -> Result<FileOutcome, NoMemory>
         ensures outcomes { self.new.outcomes ≡ self.old.outcomes }
         ensures classes { OnOk result (self.new.classes ≡ kept_read self.old.classes path.now (class_read bytes.now)) }
@@ -124,7 +124,7 @@ impl Tree {
         }
     }
 
-    /// Keeps the class of a file, unless one with a lesser path gives it.
+    /// Keeps the class of a file, unless a file with a lesser path has the class of that name.
     fn read_class(&mut self, path: &[u8], view: &ClassView<'_>) -> Result<FileOutcome, NoMemory>
         ensures outcomes { self.new.outcomes ≡ self.old.outcomes }
         ensures classes { OnOk result (self.new.classes ≡ kept self.old.classes path.now (facts_of path.now view.now)) }
@@ -137,7 +137,7 @@ impl Tree {
         FileOutcome::named(self.alloc, view.name())
     }
 
-    /// Puts a class back that was taken out for one from this path, where its own path is less.
+    /// Puts a class back that the class from this path replaced, if its own path is less.
     fn put_lesser(&mut self, before: Facts, path: &[u8]) -> Result<(), NoMemory>
         ensures outcomes { self.new.outcomes ≡ self.old.outcomes }
         ensures classes { OnOk result (self.new.classes ≡ put_back (Some before) path.now self.old.classes) }
@@ -149,7 +149,7 @@ impl Tree {
         }
     }
 
-    /// Puts a class in its place, and answers the one that stood there.
+    /// Puts a class into the table, and returns the one that it replaces.
     fn put(&mut self, facts: Facts) -> Result<Option<Facts>, NoMemory>
         ensures outcomes { self.new.outcomes ≡ self.old.outcomes }
         ensures classes { OnOk result (self.new.classes ≡ map.insert self.old.classes facts.name (Some facts)) }
@@ -158,7 +158,7 @@ impl Tree {
         self.table.put(facts).or(Err(NoMemory))
     }
 
-    /// What a file of the tree is, by the class that it names.
+    /// Returns the state of a file of the tree, by its outcome.
     pub(crate) fn state<'t>(
         &'t self,
         path: &'t [u8],
@@ -175,7 +175,7 @@ impl Tree {
         }
     }
 
-    /// What a file is that names a class.
+    /// Returns the state of a file that has a class of this name.
     fn class_state<'t>(&'t self, path: &'t [u8], name: &'t [u8], meter: &mut Meter) -> FileState<'t>
         ensures state { state_lent result ≡ state_by path.now name.now (path_kept self.now.classes name.now) }
         ensures made { meter.new.made ≡ meter.old.made }

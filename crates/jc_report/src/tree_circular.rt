@@ -5,7 +5,8 @@ ghost use Rattle.std.specs.Iterator.{YieldsFirstRef, item_count};
 use crate::lent_class::LentClasses;
 use std::marker::Model;
 
-/// The names of the circular classes of a [`crate::TreeReport`], sorted, seen as the list of those that are left.
+/// An iterator over the names of the circular classes of a [`crate::TreeReport`], sorted. Contracts see the list of the
+/// names that are left.
 #[derive(Drop)]
 pub struct TreeCircular<'a, 't> {
     pub(crate) classes: LentClasses<'a, 't>,

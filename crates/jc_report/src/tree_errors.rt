@@ -24,7 +24,7 @@ use std::marker::Model;
 #[derive(Drop)]
 pub struct TreeErrors<'t> {
     report: TreeReport<'t>,
-    /// Those of each class, in the order of the classes.
+    /// The errors of inheritance of each class, in the order of the classes.
     inheritance: Vec<InheritanceErrors>,
 }
 
@@ -38,7 +38,8 @@ impl<'t> Model for TreeErrors<'t> {
 }
 
 impl<'t> TreeErrors<'t> {
-    /// Makes the report of a tree, and finds the errors of inheritance of each class.
+    /// Makes the report of a tree, and finds the errors of inheritance of each class. Returns `NoMemory` only when an
+    /// allocation fails.
     pub fn make(
         alloc: Global,
         tree: &'t Tree,

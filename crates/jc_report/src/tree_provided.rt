@@ -9,12 +9,12 @@ use crate::provided_rows::{ProvidedRows, provided_in_order};
 use crate::row::Row;
 use std::marker::Model;
 
-/// The rows that the classes of a [`crate::TreeReport`] provide, in their order, lent from what is kept of their
-/// files, seen as the list of those that are left.
+/// An iterator over the rows that the classes of a [`crate::TreeReport`] provide, sorted, borrowed from the facts of the
+/// classes. Contracts see the list of the rows that are left.
 #[derive(Drop)]
 pub struct TreeProvided<'a, 't> {
     pub(crate) classes: LentClasses<'a, 't>,
-    /// Those of one class.
+    /// The rows of the current class that are left.
     pub(crate) rows: Option<ProvidedRows<'a>>,
 }
 
@@ -46,7 +46,7 @@ impl<'a, 't> Iterator for TreeProvided<'a, 't> {
     }
 }
 
-/// The next of some rows, if there are any.
+/// Returns the next row of the current class, if there is one.
 fn next_row<'a>(rows: &mut Option<ProvidedRows<'a>>) -> Option<Row<'a>>
     ensures { YieldsFirstBy row_lent rows_left rows.old result rows.new }
 {

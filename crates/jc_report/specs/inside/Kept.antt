@@ -8,16 +8,16 @@ use Rattle.jc_classes.specs.FactsOf.{facts_of}
 use Rattle.jc_classes.specs.Names.{Name, name_less}
 use Rattle.jc_link.specs.Tables.{Places, class_at, class_found}
 
--- the path of the file that the class of a name is taken from
+-- the path of the file from which the class of a name is taken
 abbrev pub path_kept : Places → Name → Option (List ℕ)
 path_kept places name = option_map (λ facts. facts.path) (class_found places name)
 
--- a class that was taken out for one from the path is put back where its own path is less
+-- a class that the one from the path replaced is put back if its own path is less
 abbrev pub put_back : Option Facts → List ℕ → Places → Places
 put_back None path places = places
 put_back (Some before) path places = cond (name_less before.path path) (map.insert places before.name (Some before)) places
 
--- with a class from the path, unless one from a lesser path stands
+-- the classes with that from the path added, unless the class of its name is from a lesser path
 abbrev pub kept : Places → List ℕ → Facts → Places
 kept places path facts = put_back (class_at places facts.name) path (map.insert places facts.name (Some facts))
 
@@ -25,7 +25,7 @@ abbrev pub kept_read : Places → List ℕ → Result ClassFile ParseError → P
 kept_read places path (Ok c) = kept places path (facts_of path c)
 kept_read places path (Err refusal) = places
 
--- of two classes of one name the one that stays
+-- the one of two classes of one name that is kept
 abbrev pub stays : List ℕ → Facts → Option Facts → Facts
 stays path facts None = facts
 stays path facts (Some before) = cond (name_less before.path path) before facts

@@ -1,4 +1,4 @@
--- Classes that are made of a table, one after another.
+-- The classes of a table, made one after another.
 use Rattle.std.specs.Prelude.{◌≡◌, List, [], ◌∷◌, ◌++◌, map}
 use Rattle.std.specs.List.{Contains}
 use Rattle.jc_classes.specs.Facts.{Facts}
@@ -9,19 +9,19 @@ use Rattle.jc_classes.specs.Worlds.{World}
 use Rattle.jc_link.specs.Tables.{Places, classes_of, world}
 use Rattle.jc_report.specs.Reports.{Class, name_of}
 
--- classes are made of the first of a table; the others are left
+-- the first classes of a table are made, and the others are left
 abbrev pub IsSplit : Places → List Class → List Facts → Type 0
 IsSplit places made left = map (λ (c : Class). c.facts) made ++ left ≡ classes_of places
 
--- each has its part
+-- each class has its part
 abbrev pub HaveParts : Places → List Name → List Class → Type 0
 HaveParts places prefixes made = (c : Class) → Contains made c → IsPart (world places prefixes) (name_of c) c.part
 
--- all of the table are made
+-- all classes of the table are made
 abbrev pub AreMadeOf : Places → List Name → List Class → Type 0
 AreMadeOf places prefixes made = IsSplit places made [] × HaveParts places prefixes made
 
--- errors of inheritance, of each of these classes its own
+-- each of these classes has its own errors of inheritance
 abbrev pub AreInherited : World → List Name → List InheritanceErrors → Type 0
 AreInherited m [] [] = Unit {0}
 AreInherited m (n ∷ ns) (e ∷ es) = IsInheritance m n e × AreInherited m ns es

@@ -1,4 +1,4 @@
--- A member that is handed over by its texts.
+-- A member that is written.
 use Rattle.std.specs.Prelude.{◌≡◌, ℕ, List, Option}
 use Rattle.jc_text.specs.Sends.{Sends}
 use Rattle.jc_text.specs.declared.text_writer.TextWriter.{TextWriter}
@@ -6,7 +6,7 @@ use Rattle.jc_classes.specs.Facts.{Key}
 use Rattle.jc_classes.specs.Names.{Name}
 use Rattle.jc_report.specs.PartText.{member_text}
 
--- the text of the key that has this name and this descriptor was handed over
+-- the text of the class, the name and the descriptor was written
 abbrev pub SendsMember : {W : Type 0} (written : W → Option (List ℕ)) (failures : W → ℕ) (old new : TextWriter W)
     (class : Name) (name descriptor : List ℕ) → Type 0
 SendsMember written failures old new class name descriptor =

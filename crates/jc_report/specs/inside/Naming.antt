@@ -1,4 +1,4 @@
--- Whether the file at a path names a class.
+-- Whether the file at a path has a class of a name.
 use Rattle.std.specs.Prelude.{ℕ, Bool, false, List, Option, Some, None}
 use Rattle.std.specs.FinMap as map
 use Rattle.jc_report.specs.Files.{Files}
@@ -8,6 +8,6 @@ abbrev pub names_there : Option (List ℕ) → List ℕ → Bool
 names_there None name = false
 names_there (Some bytes) name = names bytes name
 
--- whether there is a file at the path that names the class
+-- there is a file at the path, and its class has this name
 abbrev pub names_at : Files → List ℕ → List ℕ → Bool
 names_at f path name = names_there (map.get f path) name

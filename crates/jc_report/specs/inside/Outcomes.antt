@@ -1,4 +1,4 @@
--- The class that a file names, or its refusal, without vectors and references.
+-- The name of the class in a file, or its refusal, without vectors and references.
 use Rattle.std.specs.Prelude.{ℕ, List, Result, Ok, Err}
 use Rattle.std.specs.Borrow.{Bor}
 use Rattle.std.specs.declared.vec.Vec.{Vec}

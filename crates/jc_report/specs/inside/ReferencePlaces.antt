@@ -4,7 +4,7 @@ use Rattle.std.specs.Option.{option_map_or}
 use Rattle.jc_classes.specs.Facts.{Reference}
 use Rattle.jc_classes.specs.Resolution.{Answer}
 
--- the reference of a number has a lesser index
+-- the reference, which is given by its number, has a lesser index
 abbrev pub is_below : List Reference → (index number : ℕ) → Bool
 is_below references index number = option_map_or (λ r. nat_lt r.index index) (slice_get references number) false
 

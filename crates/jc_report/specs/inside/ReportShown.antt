@@ -1,4 +1,4 @@
--- A report as it is held, and its classes.
+-- A report in memory, and its classes.
 use Rattle.std.specs.Prelude.{◌≡◌, List, map, Some}
 use Rattle.std.specs.List.{All, Contains}
 use Rattle.std.specs.List.Sorted.{IsStrictlySortedBy}
@@ -20,11 +20,11 @@ report_shown a = record {
   required = map row_lent a.required.items;
 }
 
--- the names rise
+-- the classes are sorted by name
 abbrev pub AreByName : List Class → Type 0
 AreByName classes = IsStrictlySortedBy name_cmp (map name_of classes)
 
--- the classes that files give, by name
+-- the classes of the files, in the order of their names
 pub record AreClasses (f : Files) (prefixes : List Name) (classes : List Class) : Type 0 where
   pub rises : AreByName classes
   pub sound : All (IsClassOf f prefixes) classes

@@ -10,7 +10,7 @@ row_if None answer = None
 row_if (Some r) None = None
 row_if (Some r) (Some a) = if is_required a then Some (reference_row r) else None
 
--- the row of the reference of a number, if it is required
+-- the row of a reference, which is given by its number, if it is required
 abbrev pub row_at : List Reference → List Answer → ℕ → Option Row
 row_at references answers number = row_if (slice_get references number) (slice_get answers number)
 

@@ -1,4 +1,4 @@
--- Lists that hold the same rows, however often and in whatever order.
+-- Lists with the same rows, in any order and with any repetitions.
 use Rattle.std.specs.Prelude.{◌↔◌, List}
 use Rattle.std.specs.List.{Contains}
 use Rattle.jc_report.specs.Rows.{Row}
