@@ -1,4 +1,4 @@
--- Edits of the files and of the outside prefixes of a session: why one is refused, and what stands after one.
+-- Edits of the files and of the outside prefixes of a session: why one is refused, and the files and prefixes after it.
 use Rattle.std.specs.Prelude.{nat_lt, List, length, ℕ, Option, Some, None, if◌then◌else◌}
 use Rattle.jc_classes.specs.Names.{Name}
 use Rattle.jc_input.specs.Changes.{PrefixChange, AddsPrefix, DropsPrefix, EditChange, OfFiles, OfPrefixes}

@@ -1,4 +1,4 @@
--- What is told of the report that files have by the prefixes of outside names.
+-- What a session returns of its report.
 use Rattle.std.specs.Prelude.{◌≡◌, ℕ, true, slice_get}
 use Rattle.jc_classes.specs.Names.{Name}
 use Rattle.jc_classes.specs.Parts.{Reach}
@@ -10,10 +10,10 @@ use Rattle.jc_edits.specs.Touched.{gives}
 abbrev pub IsReportOf : Contents → Report → Type 0
 IsReportOf h r = IsReport h.files h.prefixes r
 
--- so many classes require the row at this place of those that are required
+-- n classes require the row at this place of the required rows
 abbrev pub CountsHoldersAt : Contents → (place n : ℕ) → Type 0
 CountsHoldersAt h place n = (r : Report) → IsReportOf h r → CountsHolders r.classes (slice_get r.required place) n
 
--- files give the class, and its reach holds the name
+-- the files have the class, and its reach has the name
 abbrev pub IsDependant : Contents → (name class : Name) → Type 0
 IsDependant h name class = (gives h.files class ≡ true) × Reach (world_of h.files h.prefixes) class name

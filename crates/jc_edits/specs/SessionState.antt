@@ -4,19 +4,19 @@ use Rattle.jc_classes.specs.Names.{Name}
 use Rattle.jc_link.specs.Meters.{Counts}
 use Rattle.jc_report.specs.Files.{Files}
 
--- what a session holds: files, and the prefixes of outside names
+-- the contents of a session: its files and its outside prefixes
 pub record Contents : Type 0 where
   pub files : Files
   pub prefixes : List Name
 
--- with the counts of the session's meter
+-- the contents of a session, with the counts of its meter
 pub record SessionState : Type 0 where
   pub files : Files
   pub prefixes : List Name
   pub asks : ℕ
   pub made : ℕ
 
--- without the counts
+-- the contents without the counts
 abbrev pub contents_of : SessionState → Contents
 contents_of s = record { files = s.files; prefixes = s.prefixes }
 

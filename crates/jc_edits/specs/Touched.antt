@@ -1,4 +1,4 @@
--- What an edit touches, and what it costs.
+-- The names that an edit touches, and what the edit costs.
 use Rattle.std.specs.Prelude.{◌≡◌, ◌↔◌, ℕ, Bool, Decides, true, false, ◌&&◌, ◌||◌, not, List, Option, Some, None, is_some}
 use Rattle.jc_base.specs.Bytes.{same_bytes}
 use Rattle.jc_classes.specs.Laws.{Differ, Hits}
@@ -18,7 +18,7 @@ use Rattle.jc_link.specs.Tables.{or_built_in}
 use Rattle.jc_edits.specs.Edits.{after_edit}
 use Rattle.jc_edits.specs.SessionState.{Contents, SessionState, counts_in, contents_of}
 
--- whether files give a class of the name
+-- the files have a class of this name
 abbrev pub gives : Files → Name → Bool
 gives f name = is_some (facts_at f name)
 
@@ -26,49 +26,49 @@ abbrev pub is_path : Option (List ℕ) → List ℕ → Bool
 is_path None path = false
 is_path (Some p) path = same_bytes p path
 
--- the name's class is taken from the file at the path, before the edit or after it
+-- the class of this name is taken from the file at the path, before the edit or after it
 abbrev pub is_taken : (old new : Files) (path : List ℕ) → Name → Bool
 is_taken old new path name = is_path (winner old name) path || is_path (winner new name) path
 
--- a name for which there is no class becomes outside or inside
+-- the files have no class of this name, and the name becomes outside or inside
 abbrev pub switches : Files → (old new : List Name) → Name → Bool
 switches f old new name =
     not (is_some (or_built_in (facts_at f name) name)) && not (same_bool (is_covered old name) (is_covered new name))
 
--- the class that files give of the name is the same before and after, and it does not become outside or inside
+-- the name has the same class before and after the edit, and does not become outside or inside
 abbrev pub IsSameAt : (old new : Contents) → Name → Type 0
 IsSameAt old new name = (facts_at old.files name ≡ facts_at new.files name) × (switches new.files old.prefixes new.prefixes name ≡ false)
 
--- a test tells at which names it is not so: these the edit from the one state to the other touches
+-- the test is true at the other names: those are the names that the edit touches
 abbrev pub TellsTouched : (old new : Contents) → (touched : Name → Bool) → Type 0
 TellsTouched old new touched = (name : Name) → Decides (not (touched name)) (IsSameAt old new name)
 
 abbrev pub world_at : Contents → World
 world_at h = world_of h.files h.prefixes
 
--- a part was made of each class that files give after the edit and whose reach holds a touched name, and each name that these classes
--- reach was asked for once
+-- A part was made for each class of the files after the edit whose reach has a touched name. Each name that these classes
+-- reach was looked up once.
 pub record IsCountedChange (old new : Contents) (before behind : Counts) : Type 0 where
   pub touched : Name → Bool
   pub tells : TellsTouched old new touched
   pub counted : IsCounted (gives new.files) (world_at new) touched before behind
 
--- the same by the counts of a session
+-- the same, by the counts of a session
 abbrev pub IsCountedStep : (old new : SessionState) → Type 0
 IsCountedStep old new = IsCountedChange (contents_of old) (contents_of new) (counts_in old) (counts_in new)
 
 -- ---- laws
 
--- an edit changes nothing at a name that it does not touch
+-- an edit changes nothing at names that it does not touch
 abbrev pub EditsDiffer : Type 0
 EditsDiffer = (h : Contents) (e : EditChange) (touched : Name → Bool) → TellsTouched h (after_edit h e) touched → Differ touched (world_at h) (world_at (after_edit h e))
 
--- the reach of a class holds a touched name before the edit if and only if it holds one after it
+-- the reach of a class has a touched name before the edit if and only if it has one after the edit
 abbrev pub AffectedEitherWay : Type 0
 AffectedEitherWay = (h : Contents) (e : EditChange) (touched : Name → Bool) → TellsTouched h (after_edit h e) touched
     → (d : Name) → Hits touched (world_at h) d ↔ Hits touched (world_at (after_edit h e)) d
 
--- if an edit of files touches a name, the name's class is taken from the file at the edit's path before or after it
+-- if an edit of a file touches a name, the class of the name is taken from that file before or after the edit
 abbrev pub TouchedAreTaken : Type 0
 TouchedAreTaken = (h : Contents) (change : Change) (touched : Name → Bool) → TellsTouched h (after_edit h (OfFiles change)) touched
     → (name : Name) → touched name ≡ true → is_taken h.files (after h.files change) (path_of change) name ≡ true

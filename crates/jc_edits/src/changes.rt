@@ -1,4 +1,4 @@
-//! What an edit of files changes of the classes that they give.
+//! The classes that an edit of a file changes.
 
 ghost use Rattle.std.specs.Prelude.{◌≡◌, IfOk, Ok, Some, option_map};
 ghost use Rattle.std.specs.FinMap as map;
@@ -21,28 +21,27 @@ use jc_linkage::Step;
 use jc_view::{ClassView, ParseError, outcomes_are_exact, parse};
 use std::alloc::Global;
 
-/// What an edit changes of the classes that files give.
+/// What an edit of a file changes.
 #[derive(Drop)]
 pub(crate) struct Changes {
-    /// The file that is to stand at the path, if one is.
+    /// The new file at the path, or `None` if the file is removed.
     pub(crate) file: Option<File>,
-    /// What stands at the name of the class that the file at the path gave, once no file is there.
+    /// The change at the name of the class that was taken from the file at the path.
     pub(crate) first: Option<Step>,
-    /// The class that the bytes give that are to stand there.
+    /// The class that is taken from the new file.
     pub(crate) put: Option<Facts>,
 }
 
-/// What is read of the bytes of a file.
+/// The class in the bytes of a file.
 #[derive(Drop)]
 struct Outcome {
-    /// The name of the class that they name, or why they name none.
+    /// The name of the class, or why the bytes cannot be read.
     class: Result<Vec<u8>, ParseError>,
-    /// The facts of the class, if the file gives it.
+    /// The facts of the class, if it is taken from the file.
     put: Option<Facts>,
 }
 
-/// Returns the file that these bytes are, if there are any, and what changes where it, or none, stands at the path
-/// from now on. The bytes are parsed once.
+/// Returns what changes if the file at a path gets these bytes, or is removed. The bytes are parsed once.
 pub(crate) fn changes_of(
     alloc: Global,
     held: &ClaimedFiles,
@@ -69,7 +68,7 @@ pub(crate) fn changes_of(
     })
 }
 
-/// Parses bytes that are to stand at the path.
+/// Parses the new bytes of the file at the path.
 fn read(alloc: Global, claims: &Claims, path: &[u8], bytes: &[u8]) -> Result<Outcome, NoMemory>
     ensures class { IfOk result (λ read. class_held read.class ≡ class_named bytes.now) }
     ensures put { (f : Files) → AreClaims claims.now f → IfOk result (λ read. IsWon f path.now (Some bytes.now) read.put) }
@@ -85,7 +84,7 @@ fn read(alloc: Global, claims: &Claims, path: &[u8], bytes: &[u8]) -> Result<Out
     }
 }
 
-/// Reads the class of this name, which a file at the path names.
+/// Reads the class of this name from the file at the path.
 fn read_class(
     alloc: Global,
     claims: &Claims,
@@ -104,7 +103,7 @@ fn read_class(
     })
 }
 
-/// Returns the facts of the class of this name, which a file at the path names, if the file gives it.
+/// Returns the facts of the class of this name, which the file at the path has, if the class is taken from this file.
 fn won(
     alloc: Global,
     claims: &Claims,
@@ -130,7 +129,7 @@ fn is_before(path: &[u8], other: Option<&[u8]>) -> bool
     }
 }
 
-/// What stands at the name of the class that the file at the path gives, once it gives it no longer.
+/// Returns the change at the name of the class that is taken from the file at the path, if this file is gone.
 fn lost_step(alloc: Global, held: &ClaimedFiles, path: &[u8]) -> Result<Option<Step>, NoMemory>
     requires { AreClaims held.now.claims held.now.files }
     ensures name { IfOk result (λ first. option_map step_name first ≡ changing.lost held.now.files path.now) }
@@ -142,7 +141,7 @@ fn lost_step(alloc: Global, held: &ClaimedFiles, path: &[u8]) -> Result<Option<S
     Ok(Some(uncovered(alloc, held, path, name)?))
 }
 
-/// The name of the class that the file at the path gives.
+/// Returns the name of the class that is taken from the file at the path.
 fn lost<'h>(held: &'h ClaimedFiles, path: &[u8]) -> Option<&'h [u8]>
     requires { AreClaims held.now.claims held.now.files }
     ensures { option_copied result ≡ changing.lost held.now.files path.now }
@@ -154,8 +153,8 @@ fn lost<'h>(held: &'h ClaimedFiles, path: &[u8]) -> Option<&'h [u8]>
     if winner == path { Some(name) } else { None }
 }
 
-/// What stands at the name of a class when the file at the path gives it no longer: the class of the next
-/// file that names it.
+/// Returns the change at the name of a class if the file at the path is gone. The class is taken from the file with the next
+/// path that has it, or there is none.
 fn uncovered(alloc: Global, held: &ClaimedFiles, path: &[u8], name: &[u8]) -> Result<Step, NoMemory>
     requires { AreClaims held.now.claims held.now.files }
     ensures name { IfOk result (λ step. step_name step ≡ name.now) }
@@ -173,7 +172,7 @@ fn uncovered(alloc: Global, held: &ClaimedFiles, path: &[u8], name: &[u8]) -> Re
     }
 }
 
-/// What linking asks of the class file that bytes at a path are.
+/// Returns the facts of the class file at a path.
 fn read_facts(alloc: Global, path: &[u8], bytes: &[u8]) -> Result<Option<Facts>, NoMemory>
     ensures { IfOk result (λ facts. facts ≡ facts_there path.now (Some bytes.now)) }
 {

@@ -1,5 +1,5 @@
-//! The files with their claims, and how an edit changes them: what can be refused is grown first, and
-//! is then committed or undone by steps that can't fail.
+//! The files of a session, with the names of their classes. An edit first allocates all that it needs. Then it is committed
+//! or undone, and neither can fail.
 
 ghost use Rattle.std.specs.Prelude.{◌≡◌, [], IfOk, None, OnErr, OnOk, Some, false, true};
 ghost use Rattle.std.specs.FinMap as map;
@@ -11,26 +11,26 @@ use crate::file::File;
 use jc_base::{ByteMap, NoMemory};
 use std::alloc::Global;
 
-/// Files by their paths, and which of them name a class.
+/// The files by path, and for each class the paths of the files that have it.
 #[derive(Drop)]
 pub(crate) struct ClaimedFiles {
     pub(crate) files: ByteMap<File>,
     pub(crate) claims: Claims,
 }
 
-/// What an edit has grown. Until it is committed nothing is taken away: the file at the path and its
-/// claim stand, so what wins without the edit can still be told.
+/// What an edit has allocated. Nothing is removed before the edit is committed. The old file at the path and its claim stay,
+/// so the class can still be found as it was.
 #[derive(Drop)]
 pub(crate) struct Grown<'a> {
     path: &'a [u8],
-    /// The file that is to stand at the path, if one is. It has its claim already.
+    /// The new file at the path, if there is one. Its claim is already there.
     file: Option<File>,
-    /// Whether an empty file keeps a new place at the path.
+    /// Whether the path is new, and an empty file reserves its place.
     is_new: bool,
 }
 
 impl ClaimedFiles {
-    /// No files.
+    /// Returns a session's files without any file. Does not allocate.
     pub(crate) fn new(alloc: Global) -> ClaimedFiles
         ensures files { result.files ≡ map.empty }
         ensures claims { AreClaims result.claims result.files }
@@ -42,7 +42,7 @@ impl ClaimedFiles {
     }
 }
 
-/// Grows what an edit needs by which this file, or none, is to stand at the path.
+/// Allocates what an edit needs that puts this file at the path, or removes the file there.
 pub(crate) fn grow<'a>(
     held: &mut ClaimedFiles,
     alloc: Global,
@@ -71,7 +71,7 @@ pub(crate) fn grow<'a>(
     }
 }
 
-/// Takes back what was grown.
+/// Undoes an edit that was not committed. Does not allocate.
 pub(crate) fn undo(held: &mut ClaimedFiles, grown: Grown<'_>)
     requires { IsGrown held.old.claims held.old.files grown }
     ensures files { held.new.files ≡ undone held.old.files grown.entry }
@@ -83,7 +83,7 @@ pub(crate) fn undo(held: &mut ClaimedFiles, grown: Grown<'_>)
     }
 }
 
-/// Changes the files by what was grown.
+/// Commits an edit. Does not allocate.
 pub(crate) fn commit(held: &mut ClaimedFiles, grown: Grown<'_>)
     requires grown { IsGrown held.old.claims held.old.files grown }
     requires place { HasPlace held.old.files grown.path.now grown.file }
@@ -97,7 +97,7 @@ pub(crate) fn commit(held: &mut ClaimedFiles, grown: Grown<'_>)
     }
 }
 
-/// Claims the class that a file names.
+/// Adds the claim of a new file at a path that has a file.
 fn grow_file<'a>(held: &mut ClaimedFiles, path: &'a [u8], file: File) -> Result<Grown<'a>, NoMemory>
     requires { AreClaims held.old.claims held.old.files }
     ensures files { held.new.files ≡ held.old.files }
@@ -115,7 +115,7 @@ fn grow_file<'a>(held: &mut ClaimedFiles, path: &'a [u8], file: File) -> Result<
     })
 }
 
-/// The same at a path that is new, whose place an empty file keeps.
+/// Adds the claim of a new file at a new path, whose place an empty file reserves.
 fn grow_new<'a>(
     held: &mut ClaimedFiles,
     alloc: Global,
@@ -144,7 +144,7 @@ fn grow_new<'a>(
     }
 }
 
-/// Puts an empty file at a path that is new.
+/// Puts an empty file at a new path.
 fn keep_place(files: &mut ByteMap<File>, alloc: Global, path: &[u8]) -> Result<(), NoMemory>
     ensures ok { OnOk result (files.new ≡ map.insert files.old path.now []) }
     ensures err { OnErr result (files.new ≡ files.old) }
@@ -154,7 +154,7 @@ fn keep_place(files: &mut ByteMap<File>, alloc: Global, path: &[u8]) -> Result<(
     Ok(())
 }
 
-/// Withdraws the claim of a file that was to stand at the path, unless the file there has it too.
+/// Removes the claim of the new file at the path, unless the old file there has the same class.
 fn unclaim(held: &mut ClaimedFiles, file: &Option<File>, path: &[u8])
     requires { AreClaimsBesides held.old.claims held.old.files path.now file.now }
     ensures files { held.new.files ≡ held.old.files }
@@ -169,7 +169,7 @@ fn unclaim(held: &mut ClaimedFiles, file: &Option<File>, path: &[u8])
     }
 }
 
-/// Gives up the place that an empty file keeps.
+/// Removes the empty file that reserves a place.
 fn give_up(held: &mut ClaimedFiles, path: &[u8])
     requires claims { AreClaims held.old.claims held.old.files }
     requires empty { map.get held.old.files path.now ≡ Some [] }
@@ -179,7 +179,7 @@ fn give_up(held: &mut ClaimedFiles, path: &[u8])
     held.files.remove(path);
 }
 
-/// Puts a file that has its claim in the place of the one at the path.
+/// Replaces the file at the path by one whose claim is already there.
 fn put(held: &mut ClaimedFiles, path: &[u8], file: File)
     requires claims { AreClaimsBesides held.old.claims held.old.files path.now (Some file) }
     requires place { map.contains_key held.old.files path.now ≡ true }
@@ -195,7 +195,7 @@ fn put(held: &mut ClaimedFiles, path: &[u8], file: File)
     };
 }
 
-/// Takes out the file at the path, with its claim.
+/// Removes the file at the path, and its claim.
 fn take_out(held: &mut ClaimedFiles, path: &[u8])
     requires { AreClaims held.old.claims held.old.files }
     ensures files { held.new.files ≡ map.remove held.old.files path.now }

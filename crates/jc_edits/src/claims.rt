@@ -1,4 +1,4 @@
-//! Which files name a class.
+//! The files that have a class.
 
 ghost use Rattle.std.specs.Prelude.{◌≡◌, false, ℕ, List, OnOk, OnErr};
 ghost use Rattle.std.specs.Option.{option_map};
@@ -16,7 +16,7 @@ use jc_report::FileState;
 use std::alloc::Global;
 use std::marker::Model;
 
-/// From the names of classes to the paths of the files that name them.
+/// For each name of a class the paths of the files that have it. A *claim* is a name with such a path.
 #[derive(Drop)]
 pub(crate) struct Claims {
     alloc: Global,
@@ -39,7 +39,7 @@ impl Model for Claims {
 }
 
 impl Claims {
-    /// No claims.
+    /// Returns no claims. Does not allocate.
     pub(crate) fn new(alloc: Global) -> Claims
         ensures { (name path : List ℕ) → has_claim result name path ≡ false }
     {
@@ -49,7 +49,7 @@ impl Claims {
         }
     }
 
-    /// Adds that the file at the path names the class.
+    /// Adds a claim: the file at the path has the class.
     pub(crate) fn add(&mut self, name: &[u8], path: &[u8]) -> Result<(), NoMemory>
         ensures ok { OnOk result (AddsClaim (claim_of name.now path.now) self.old self.new) }
         ensures err { OnErr result (self.new ≡ self.old) }
@@ -66,7 +66,7 @@ impl Claims {
         Ok(())
     }
 
-    /// Takes out that the file at the path names the class.
+    /// Removes a claim. Does not allocate.
     pub(crate) fn remove(&mut self, name: &[u8], path: &[u8])
         ensures { TakesClaim (claim_of name.now path.now) self.old self.new }
     {
@@ -78,7 +78,7 @@ impl Claims {
         }
     }
 
-    /// The least of the paths of the files that name the class.
+    /// Returns the least path of the files that have the class.
     pub(crate) fn first(&self, name: &[u8]) -> Option<&[u8]>
         ensures { option_map (λ path. path.now) result ≡ first_claim self.now name.now }
     {
@@ -86,7 +86,7 @@ impl Claims {
         paths.keys().next()
     }
 
-    /// The least of the paths but this one of the files that name the class.
+    /// Returns the least path, without this one, of the files that have the class.
     pub(crate) fn other(&self, name: &[u8], path: &[u8]) -> Option<&[u8]>
         ensures { (f : Files) → AreClaims self.now f → option_map (λ other. other.now) result ≡ winner_but f path.now name.now }
     {
@@ -100,7 +100,7 @@ impl Claims {
     }
 }
 
-/// Adds the class that the file at the path names, if it names one.
+/// Adds the claim of the file at the path, if it has a class.
 pub(crate) fn claim(claims: &mut Claims, file: &File, path: &[u8]) -> Result<(), NoMemory>
     ensures ok { OnOk result (AddsClaim (claim_at path.now file.now) claims.old claims.new) }
     ensures err { OnErr result (claims.new ≡ claims.old) }
@@ -111,7 +111,7 @@ pub(crate) fn claim(claims: &mut Claims, file: &File, path: &[u8]) -> Result<(),
     }
 }
 
-/// Takes out the class that the file at the path names, if it names one.
+/// Removes the claim of the file at the path, if it has a class.
 pub(crate) fn withdraw(claims: &mut Claims, file: &File, path: &[u8])
     ensures { TakesClaim (claim_at path.now file.now) claims.old claims.new }
 {
@@ -120,7 +120,7 @@ pub(crate) fn withdraw(claims: &mut Claims, file: &File, path: &[u8])
     }
 }
 
-/// Takes out the class that the file at the path named before, unless it names it now too.
+/// Removes the claim of the old file at the path, unless the new one has the same class.
 pub(crate) fn withdraw_stale(claims: &mut Claims, before: &File, now: &File, path: &[u8])
     ensures { TakesClaim (stale_claim path.now before.now now.now) claims.old claims.new }
 {
@@ -131,7 +131,7 @@ pub(crate) fn withdraw_stale(claims: &mut Claims, before: &File, now: &File, pat
     }
 }
 
-/// What the file at the path is, by the claims of all files.
+/// Returns the state of the file at the path, by the claims of all files.
 pub(crate) fn state<'a>(claims: &'a Claims, file: &'a File, path: &'a [u8]) -> FileState<'a>
     ensures { state_lent result ≡ claimed_state claims.now path.now (class_named file.now) }
 {

@@ -1,4 +1,4 @@
-//! A file as a session holds it.
+//! A file of a session.
 
 ghost use Rattle.std.specs.Prelude.{◌≡◌, []};
 ghost use Rattle.jc_view.specs.Outcome.{class_named};
@@ -9,7 +9,7 @@ use jc_view::ParseError;
 use std::alloc::Global;
 use std::marker::Model;
 
-/// The bytes of a file, with the name of the class that they name, or why they name none.
+/// The bytes of a file, and the name of its class, or why it cannot be read as a class file.
 #[derive(Drop)]
 pub(crate) struct File {
     bytes: Vec<u8>,
@@ -30,7 +30,7 @@ impl Model for File {
 }
 
 impl File {
-    /// The file of no bytes, which takes no memory.
+    /// Returns a file without bytes. Does not allocate.
     pub(crate) fn empty(alloc: Global) -> File
         ensures { result ≡ [] }
     {
@@ -40,7 +40,7 @@ impl File {
         }
     }
 
-    /// Returns the file of these bytes, which were parsed: they name this class, or this is why they name none.
+    /// Returns a file with these bytes, which have this class or this refusal.
     pub(crate) fn of(bytes: Vec<u8>, class: Result<Vec<u8>, ParseError>) -> File
         requires { class_held class ≡ class_named bytes.items }
         ensures { result ≡ bytes.items }
@@ -54,7 +54,7 @@ impl File {
         &self.bytes
     }
 
-    /// The name of the class, or the first refusal that applies.
+    /// Returns the name of the class, or the first refusal that applies.
     pub(crate) fn class(&self) -> Result<&[u8], ParseError>
         ensures { class_lent result ≡ class_named self.now }
     {
@@ -64,7 +64,7 @@ impl File {
         }
     }
 
-    /// Whether the bytes name the class of this name.
+    /// Returns whether the file has the class of this name.
     pub(crate) fn names(&self, name: &[u8]) -> bool
         ensures { result ≡ names self.now name.now }
     {

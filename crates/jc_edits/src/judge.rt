@@ -1,4 +1,4 @@
-//! Whether an edit is refused.
+//! The refusals of edits.
 
 ghost use Rattle.std.specs.Prelude.{◌≡◌};
 ghost use Rattle.jc_edits.specs.Edits as edits;
@@ -10,7 +10,7 @@ use jc_base::ByteMap;
 use jc_input::{EditError, LentEdit, PrefixEdit, path_fault, room_fault, size_fault};
 use jc_link::{MOST_PREFIXES, Outside, is_bad_prefix};
 
-/// The first refusal of the edit that applies, but for memory.
+/// Returns the first refusal of an edit of files that applies, apart from `NoMemory`.
 pub(crate) fn judge(files: &ByteMap<File>, edit: &LentEdit<'_>) -> Option<EditError>
     ensures { result ≡ files_of.judge files.now (change_lent edit.now) }
 {
@@ -58,7 +58,7 @@ fn missing_fault(files: &ByteMap<File>, path: &[u8]) -> Option<EditError>
     }
 }
 
-/// The first refusal of an edit of the outside prefixes that applies, but for memory.
+/// Returns the first refusal of an edit of the outside prefixes that applies, apart from `NoMemory`.
 pub(crate) fn judge_prefix(outside: &Outside, edit: PrefixEdit<'_>) -> Option<EditError>
     ensures { result ≡ edits.judge_prefix outside.now (prefix_change edit.entry) }
 {

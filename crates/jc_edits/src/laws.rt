@@ -1,17 +1,17 @@
-//! Laws over the definitions alone.
+//! Laws of the definitions. A law is a function that does nothing, and its contract is the statement.
 ghost use Rattle.jc_edits.specs.Touched.{AffectedEitherWay, EditsDiffer, ReachStays, TouchedAreTaken};
 
-/// An edit changes nothing at a name that it does not touch.
+/// An edit changes nothing at names that it does not touch.
 pub fn edits_differ()
     ensures { EditsDiffer }
 {}
 
-/// The reach of a class holds a touched name before an edit if and only if it holds one after it.
+/// The reach of a class has a touched name before an edit if and only if it has one after the edit.
 pub fn affected_either_way()
     ensures { AffectedEitherWay }
 {}
 
-/// If an edit of files touches a name, the name's class is taken from the file at the edit's path before or after it.
+/// If an edit of a file touches a name, the class of the name is taken from that file before or after the edit.
 pub fn touched_are_taken()
     ensures { TouchedAreTaken }
 {}

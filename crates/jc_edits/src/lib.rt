@@ -1,5 +1,10 @@
-//! Class files under edits: files are added, replaced and removed one by one, and outside prefixes added and dropped,
-//! and the report held is that of the files and prefixes as they stand.
+//! Sessions: class files under edits.
+//!
+//! A [`Session`] has files and outside prefixes, and keeps their [`Report`] up to date while files are added, replaced and
+//! removed, and prefixes added and dropped. It recomputes only the classes whose reach has a name that the edit touches.
+//!
+//! By the contracts, the report of a session is the one that `specs/` defines for the files and prefixes after any list of
+//! edits. A refused edit changes nothing. The numbers of parts and look-ups of an accepted edit are exact.
 #![tactic(auto)]
 
 mod changes;

@@ -1,4 +1,4 @@
-//! The report that a session holds.
+//! The report of a session.
 
 ghost use Rattle.std.specs.Prelude.{◌≡◌, ◌≤◌, IfOk, IfSome, IsTrue, None, OnErr, OnOk, is_some, option_and_then};
 ghost use Rattle.std.specs.Option.{option_map};
@@ -26,8 +26,7 @@ use jc_report::{Asked, LentClass, is_any_wrong};
 use std::alloc::Global;
 use std::marker::Model;
 
-/// What is said of the files of a session, seen as these files and the prefixes of outside names: they
-/// have one report.
+/// The report of the files of a session. Contracts see the files and the outside prefixes, which determine the report.
 #[derive(Drop)]
 pub struct Report {
     pub(crate) held: ClaimedFiles,
@@ -49,7 +48,7 @@ impl Model for Report {
 }
 
 impl Report {
-    /// The report of no files, and the meter that counts what its edits cost.
+    /// Returns the report of no files, and the meter that counts the parts and look-ups of its edits.
     pub(crate) fn new(alloc: Global, outside: Outside) -> Result<(Report, Meter), NoMemory>
         ensures held { IfOk result (λ made. made.0 ≡ record { files = map.empty; prefixes = outside }) }
         ensures asks { IfOk result (λ made. made.1.asks ≡ 0) }
@@ -60,8 +59,8 @@ impl Report {
         Ok((Report { held, linkage }, meter))
     }
 
-    /// Makes an edit that is not refused, or changes nothing for want of memory. If the bytes stand at the path already,
-    /// nothing is parsed, asked for or made.
+    /// Makes an edit of files that is not refused. If an allocation fails, nothing has changed. If the file at the path has these
+    /// bytes already, nothing is parsed, looked up or made.
     pub(crate) fn make(
         &mut self,
         alloc: Global,
@@ -94,7 +93,7 @@ impl Report {
         }
     }
 
-    /// Returns whether an edit leaves the files as they are: the bytes stand at the path already. Does not allocate.
+    /// Returns whether an edit leaves the files as they are: the file at the path has these bytes already. Does not allocate.
     fn is_unchanged(&self, edit: &LentEdit<'_>) -> bool
         ensures { IsTrue result → after self.now.files (change_lent edit.now) ≡ self.now.files }
     {
@@ -104,7 +103,7 @@ impl Report {
         }
     }
 
-    /// Makes an edit of the outside prefixes, or changes nothing for want of memory.
+    /// Makes an edit of the outside prefixes that is not refused. If an allocation fails, nothing has changed.
     pub(crate) fn make_prefix(
         &mut self,
         alloc: Global,
@@ -125,15 +124,15 @@ impl Report {
         self.linkage.change_outside(outside, meter)
     }
 
-    /// Returns whether a file is unreadable, a class has a fault or does not load, a reference is answered by an error,
-    /// or an instruction does not link.
+    /// Returns whether a file is unreadable, a class has a fault or does not load, a reference does not resolve, or an
+    /// instruction does not link. Does not allocate.
     pub fn wrong(&self) -> bool
         ensures { (r : reports.Report) × IsReportOf self.now r × (result ≡ is_wrong r) }
     {
         is_any_wrong(self.files(), self.classes(), Asked::all())
     }
 
-    /// What each file is, in the order of the paths.
+    /// Returns the state of each file, in the order of the paths. Does not allocate.
     pub fn files(&self) -> Rows<'_>
         ensures { result ≡ rows self.now.files }
     {
@@ -143,14 +142,14 @@ impl Report {
         }
     }
 
-    /// The classes that files give, in the order of their names, with their parts.
+    /// Returns the classes of the files with their parts, in the order of their names. Does not allocate.
     pub fn classes(&self) -> HeldClasses<'_>
         ensures { (r : reports.Report) × IsReportOf self.now r × (result ≡ r.classes) }
     {
         self.linkage.classes()
     }
 
-    /// Returns the class of a name, if files give it, with its part. No ask is counted. Does not allocate.
+    /// Returns the class of a name with its part, if the files have it. The meter counts no look-up. Does not allocate.
     pub fn class(&self, name: &[u8]) -> Option<LentClass<'_>>
         ensures given { is_some result ≡ gives self.now.files name.now }
         ensures facts { option_map (λ class. class.facts.now) result ≡ facts_at self.now.files name.now }
@@ -166,35 +165,36 @@ impl Report {
         self.linkage.circular()
     }
 
-    /// What the classes provide, in order.
+    /// Returns the rows that the classes provide, sorted. Does not allocate.
     pub fn provided(&self) -> Provided<'_>
         ensures { (r : reports.Report) → IsReportOf self.now r → result ≡ r.provided }
     {
         self.linkage.provided()
     }
 
-    /// What the classes require, in order.
+    /// Returns the rows that the classes require, sorted, each once. Does not allocate.
     pub fn required(&self) -> Required<'_>
         ensures { (r : reports.Report) → IsReportOf self.now r → result ≡ r.required }
     {
         self.linkage.required()
     }
 
-    /// How many classes require the row at a place of [`Report::required`], from 0; 0 beyond the last. No memory.
+    /// Returns the number of classes that require the row at a place of [`Report::required`]. Places are counted from 0; beyond
+    /// the last row the number is 0. Does not allocate.
     pub(crate) fn holders(&self, place: usize) -> usize
         ensures { CountsHoldersAt self.now place result }
     {
         self.linkage.holders(place)
     }
 
-    /// The bytes of the file that a class is taken from.
+    /// Returns the bytes of the file from which a class is taken.
     pub(crate) fn winning_file(&self, name: &[u8]) -> Option<&[u8]>
         ensures { option_map (λ bytes. bytes.now) result ≡ option_and_then (map.get self.now.files) (winner self.now.files name.now) }
     {
         self.file(self.held.claims.first(name)?)
     }
 
-    /// The bytes of the file at the path.
+    /// Returns the bytes of the file at the path.
     pub(crate) fn file(&self, path: &[u8]) -> Option<&[u8]>
         ensures { option_map (λ bytes. bytes.now) result ≡ map.get self.now.files path.now }
     {
@@ -203,7 +203,7 @@ impl Report {
     }
 }
 
-/// Returns the path of an edit, and the bytes that are to stand there.
+/// Returns the path of an edit, and the new bytes of the file there.
 fn parts_of<'a>(edit: LentEdit<'a>) -> (&'a [u8], Option<Vec<u8>>)
     ensures path { result.0.now ≡ path_of (change_lent edit.entry) }
     ensures bytes { bytes_held result.1 ≡ bytes_of (change_lent edit.entry) }

@@ -1,4 +1,4 @@
-//! The text of the report that a session holds, and of one part.
+//! The text of a session's report, and of one part.
 
 ghost use Rattle.jc_base.specs.Device.{CountsFault};
 ghost use Rattle.jc_report.specs.ReportText.{report_text};
@@ -20,7 +20,7 @@ use thiserror::Error;
 pub struct WriteError;
 
 /// Writes a report: `[files]` and the files by path, `[parts]` and the classes by name, `[circular]`,
-/// `[provided]` and `[required]`. An output that fails has a beginning of this text.
+/// `[provided]` and `[required]`. If the output fails, it has a beginning of this text. Does not allocate.
 pub fn write_report<W: Output>(report: &Report, out: &mut W) -> Result<(), WriteError>
     ensures text { WritesReport result (W.written out.old) (W.written out.new) report.now }
     ensures failures { CountsFault result (W.failures out.old) (W.failures out.new) }
@@ -46,7 +46,8 @@ fn write_held<W: Output>(text: &mut TextWriter<'_, W>, report: &Report)
     write_lists(text, lists);
 }
 
-/// Writes the part of a class that files give, or `none`.
+/// Writes the part of a class, or `none` if the files do not have the class. If the output fails, it has a beginning of
+/// this text. Does not allocate.
 pub fn write_part_of<W: Output>(report: &Report, name: &[u8], out: &mut W) -> Result<(), WriteError>
     ensures text { WritesPart result (W.written out.old) (W.written out.new) report.now name.now }
     ensures failures { CountsFault result (W.failures out.old) (W.failures out.new) }

@@ -1,4 +1,4 @@
-//! The rows of a report.
+//! The rows of the files of a report.
 
 ghost use Rattle.std.specs.Iterator.{YieldsFirstBy, item_count};
 ghost use Rattle.jc_report.specs.FileRowView.{row_lent};
@@ -9,7 +9,8 @@ use jc_base::byte_map;
 use jc_report::FileRow;
 use std::marker::Model;
 
-/// The rows of a report in the order of their paths, seen as the list of those that are left.
+/// An iterator over the rows of the files of a report, in the order of the paths. Contracts see the list of the rows that
+/// are left.
 #[derive(Drop)]
 pub struct Rows<'a> {
     pub(crate) files: byte_map::Iter<'a, File>,

@@ -24,8 +24,8 @@ use jc_link::{Meter, Outside, Part};
 use std::alloc::Global;
 use std::marker::Model;
 
-/// Class files by their paths, with the report of them as they stand, seen as a record of the files, the
-/// prefixes of outside names, and how many classes were asked for and parts made.
+/// A session: class files by path, outside prefixes, and the report of them. Contracts see a record of the files, the
+/// prefixes, and the numbers of look-ups and of parts that were made.
 #[derive(Drop)]
 pub struct Session {
     alloc: Global,
@@ -45,7 +45,7 @@ impl Model for Session {
 }
 
 impl Session {
-    /// A session with no files. Names with these prefixes that no file gives are outside.
+    /// Returns a session without files. A name is outside if it begins with one of these prefixes and no file has its class.
     pub fn new(alloc: Global, outside: Outside) -> Result<Session, NoMemory>
         ensures { IfOk result (λ session. session ≡ record { files = map.empty; prefixes = outside; asks = 0; made = 0 }) }
     {
@@ -57,8 +57,10 @@ impl Session {
         })
     }
 
-    /// Makes an edit, or refuses it and changes neither a file nor a prefix. Recomputes only the parts of the classes
-    /// whose reach holds a name that the edit touches: one whose class changes, or that becomes outside or inside.
+    /// Makes an edit. A refused edit changes neither a file nor a prefix.
+    ///
+    /// Recomputes only the parts of the classes whose reach has a name that the edit touches: a name whose class changes, or
+    /// that becomes outside or inside.
     pub fn edit(&mut self, edit: Edit) -> Result<Done, EditError>
         ensures judged { IsAnswered result (judge_edit (contents_of self.old) (change_of edit)) }
         ensures ok { OnOk result (contents_of self.new ≡ after_edit (contents_of self.old) (change_of edit)) }
@@ -78,7 +80,7 @@ impl Session {
         }
     }
 
-    /// The same of the outside prefixes, by a borrowed one.
+    /// Makes an edit of the outside prefixes, with a borrowed prefix, as [`Session::edit`] does.
     pub fn make_prefix(&mut self, edit: PrefixEdit<'_>) -> Result<Done, EditError>
         ensures judged { IsAnswered result (judge_prefix self.old.prefixes (prefix_change edit.entry)) }
         ensures ok { OnOk result (self.new.prefixes ≡ after_prefix self.old.prefixes (prefix_change edit.entry)) }
@@ -102,14 +104,14 @@ impl Session {
         })
     }
 
-    /// The prefixes of the names that are outside. No memory.
+    /// Returns the outside prefixes. Does not allocate.
     pub fn outside(&self) -> &Outside
         ensures { result.now ≡ self.now.prefixes }
     {
         self.report.linkage.outside()
     }
 
-    /// The same of the files, by a borrowed path.
+    /// Makes an edit of the files, with a borrowed path, as [`Session::edit`] does.
     pub fn make(&mut self, edit: LentEdit<'_>) -> Result<Done, EditError>
         ensures judged { IsAnswered result (judge self.old.files (change_lent edit.entry)) }
         ensures ok { OnOk result (self.new.files ≡ after self.old.files (change_lent edit.entry)) }
@@ -133,7 +135,7 @@ impl Session {
         })
     }
 
-    /// What is said of the files as they stand. No memory.
+    /// Returns the report. Does not allocate.
     pub fn report(&self) -> &Report
         ensures files { result.now.files ≡ self.now.files }
         ensures prefixes { result.now.prefixes ≡ self.now.prefixes }
@@ -141,7 +143,7 @@ impl Session {
         &self.report
     }
 
-    /// The part of a class that files give. No memory.
+    /// Returns the part of a class, if the files have it. Does not allocate.
     pub fn part(&self, name: &[u8]) -> Option<&Part>
         ensures given { is_some result ≡ gives self.now.files name.now }
         ensures part { IfSome result (λ part. IsPart (world_of self.now.files self.now.prefixes) name.now part.now) }
@@ -149,23 +151,22 @@ impl Session {
         self.report.linkage.part(name)
     }
 
-    /// The classes that files give whose reach holds a name, rising, also of a name that no file gives.
-    /// No memory.
+    /// Returns the classes of the files whose reach has a name, sorted. The name may be one that no file has. Does not allocate.
     pub fn dependants(&self, name: &[u8]) -> &[Vec<u8>]
         ensures { Lists (names_of result.now) (IsDependant (contents_of self.now) name.now) }
     {
         self.report.linkage.dependants(name)
     }
 
-    /// How many classes that files give require the row at a place of [`Report::required`], from 0; 0 beyond the
-    /// last. No memory.
+    /// Returns the number of classes that require the row at a place of [`Report::required`]. Places are counted from 0; beyond
+    /// the last row the number is 0. Does not allocate.
     pub fn holders(&self, place: usize) -> usize
         ensures { CountsHoldersAt (contents_of self.now) place result }
     {
         self.report.holders(place)
     }
 
-    /// How often a class was asked for, and how many parts were made. No memory.
+    /// Returns the meter, which counts look-ups of classes and parts that were made. Does not allocate.
     pub fn meter(&self) -> &Meter
         ensures asks { result.now.asks ≡ self.now.asks }
         ensures made { result.now.made ≡ self.now.made }
@@ -173,14 +174,14 @@ impl Session {
         &self.meter
     }
 
-    /// The bytes of the file that a class is taken from. No memory.
+    /// Returns the bytes of the file from which a class is taken. Does not allocate.
     pub fn winning_file(&self, name: &[u8]) -> Option<&[u8]>
         ensures { option_map (λ bytes. bytes.now) result ≡ option_and_then (map.get self.now.files) (winner self.now.files name.now) }
     {
         self.report.winning_file(name)
     }
 
-    /// The bytes of the file at the path. No memory.
+    /// Returns the bytes of the file at the path. Does not allocate.
     pub fn file(&self, path: &[u8]) -> Option<&[u8]>
         ensures { option_map (λ bytes. bytes.now) result ≡ map.get self.now.files path.now }
     {

@@ -7,13 +7,13 @@ use Rattle.jc_input.specs.declared.edit.LentEdit.TheVariants as lent
 use Rattle.jc_input.specs.declared.edit.PrefixEdit.{PrefixEdit}
 use Rattle.jc_input.specs.declared.edit.PrefixEdit.TheVariants as by_prefix
 
--- of files
+-- an edit of the files
 pub data Change : Type 0 where
   Adds : (path bytes : List ℕ) → Change
   Replaces : (path bytes : List ℕ) → Change
   Removes : (path : List ℕ) → Change
 
--- of the prefixes of outside names
+-- an edit of the outside prefixes
 pub data PrefixChange : Type 0 where
   AddsPrefix : (prefix : List ℕ) → PrefixChange
   DropsPrefix : (prefix : List ℕ) → PrefixChange
@@ -29,12 +29,12 @@ change_of (edits.Remove path) = OfFiles (Removes path.items)
 change_of (edits.AddPrefix prefix) = OfPrefixes (AddsPrefix prefix.items)
 change_of (edits.DropPrefix prefix) = OfPrefixes (DropsPrefix prefix.items)
 
--- an edit by a borrowed prefix
+-- an edit with a borrowed prefix, as data
 abbrev pub prefix_change : PrefixEdit → PrefixChange
 prefix_change (by_prefix.Add prefix) = AddsPrefix prefix.now
 prefix_change (by_prefix.Drop prefix) = DropsPrefix prefix.now
 
--- an edit by a borrowed path
+-- an edit with a borrowed path, as data
 abbrev pub change_lent : LentEdit → Change
 change_lent (lent.Add path bytes) = Adds path.now bytes.items
 change_lent (lent.Replace path bytes) = Replaces path.now bytes.items
@@ -45,7 +45,7 @@ path_of (Adds path bytes) = path
 path_of (Replaces path bytes) = path
 path_of (Removes path) = path
 
--- the bytes that are to stand at the path
+-- the new bytes of the file, or none if it is removed
 abbrev pub bytes_of : Change → Option (List ℕ)
 bytes_of (Adds path bytes) = Some bytes
 bytes_of (Replaces path bytes) = Some bytes

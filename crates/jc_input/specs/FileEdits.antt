@@ -1,4 +1,4 @@
--- Edits of files: why one is refused, and which files stand after one.
+-- Edits of files: why one is refused, and the files after it.
 use Rattle.std.specs.Prelude.{ℕ, ◌==◌, nat_lt, ◌||◌, List, length, Option, Some, None, if◌then◌else◌}
 use Rattle.std.specs.FinMap as map
 use Rattle.jc_report.specs.Files.{Files}
@@ -24,7 +24,7 @@ room_beside count = if nat_lt count 65535 then None else Some errors.TooMany
 abbrev pub room_fault : Files → Option EditError
 room_fault f = room_beside (map.len f)
 
--- the first of the two that applies
+-- the first of two refusals that applies
 infixr 10 ◌or_else◌
 abbrev pub ◌or_else◌ : Option EditError → Option EditError → Option EditError
 None or_else second = second
@@ -36,7 +36,7 @@ judge f (Adds path bytes) = path_fault path or_else (there_fault f path or_else 
 judge f (Replaces path bytes) = path_fault path or_else (missing_fault f path or_else size_fault bytes)
 judge f (Removes path) = path_fault path or_else missing_fault f path
 
--- the files after an edit that is not refused
+-- the files after an edit that was not refused
 abbrev pub after : Files → Change → Files
 after f (Adds path bytes) = map.insert f path bytes
 after f (Replaces path bytes) = map.insert f path bytes

@@ -1,9 +1,9 @@
--- What a line asks for, from what the code holds.
+-- Borrowed commands, as data.
 use Rattle.jc_input.specs.declared.command.Command.{Command as LentCommand}
 use Rattle.jc_input.specs.declared.command.Command.TheVariants as lent
 use Rattle.jc_input.specs.Lines.{Command, Add, Replace, Remove, AddPrefix, DropPrefix, Report, Part, Listing, Dependants, End, Bad}
 
--- a borrowed command, with its path, prefix or name as bytes
+-- the command that a borrowed one shows, with its path, prefix or name as bytes
 abbrev pub command_lent : LentCommand → Command
 command_lent (lent.Add path) = Add path.now
 command_lent (lent.Replace path) = Replace path.now

@@ -1,4 +1,4 @@
--- What is taken from an input that is partly read.
+-- Lines of an input that is partly read.
 use Rattle.std.specs.Prelude.{◌≡◌, ℕ, ◌==◌, Bool, true, false, List, [], ◌∷◌, ◌++◌, take, Option, Some, None, ⊤}
 use Rattle.std.specs.List.{list_any}
 use Rattle.std.specs.Io.KnownBytes.{prepend_known}
@@ -9,22 +9,22 @@ is_line_feed byte = byte == 10
 abbrev pub LacksFeed : List ℕ → Type 0
 LacksFeed xs = list_any is_line_feed xs ≡ false
 
--- what is kept of a line
+-- the bytes of a line that are kept
 abbrev pub kept_of : List ℕ → List ℕ
 kept_of line = take 8193 line
 
--- the bytes held and those still to come, where these are known
+-- the bytes that were read ahead and those that the input still has, if these are known
 abbrev pub bytes_left : List ℕ → Option (List ℕ) → Option (List ℕ)
 bytes_left held coming = prepend_known held coming
 
--- of the bytes that were left the first line was taken that an LF ends, or all of them, in which there is none
+-- the first line was taken from the bytes that were left: up to an LF, or all of them if there is no LF
 abbrev pub TakesLine : Option (List ℕ) → Bool → (kept : List ℕ) → Option (List ℕ) → Type 0
 TakesLine None is_whole kept new = ⊤
 TakesLine (Some old) is_whole kept None = ⊥
 TakesLine (Some old) true kept (Some new) = (line : List ℕ) × LacksFeed line × (old ≡ line ++ 10 ∷ new) × (kept ≡ kept_of line)
 TakesLine (Some old) false kept (Some new) = LacksFeed old × (new ≡ []) × (kept ≡ kept_of old)
 
--- a part of a line was taken
+-- the beginning of a line was taken
 abbrev pub LosesPart : Option (List ℕ) → Option (List ℕ) → Type 0
 LosesPart None new = ⊤
 LosesPart (Some old) None = ⊥

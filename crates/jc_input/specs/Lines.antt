@@ -1,4 +1,4 @@
--- How input is cut into lines, and what a line asks for.
+-- The lines of an input, and their commands.
 use Rattle.std.specs.Prelude.{ℕ, ◌==◌, nat_eq, nat_lt, List, [], ◌∷◌, length, drop, Bool, if◌then◌else◌, codes}
 use Rattle.std.specs.List.{starts_with}
 use Rattle.jc_base.specs.Bytes.{same_bytes}
@@ -7,12 +7,12 @@ abbrev pub onto_first : ℕ → List (List ℕ) → List (List ℕ)
 onto_first x [] = (x ∷ []) ∷ []
 onto_first x (line ∷ lines) = (x ∷ line) ∷ lines
 
--- the lines of an input, without the LF that ends each; a last line without it counts if it has a byte
+-- The lines of an input, without the LF that ends each. A last line without an LF counts if it has a byte.
 abbrev pub lines_of : List ℕ → List (List ℕ)
 lines_of [] = []
 lines_of (x ∷ input) = if x == 10 then [] ∷ lines_of input else onto_first x (lines_of input)
 
--- the same, without a last line that no LF ends
+-- a byte before the first line; a last line without an LF is left out
 abbrev pub onto_whole : ℕ → List (List ℕ) → List (List ℕ)
 onto_whole x [] = []
 onto_whole x (line ∷ lines) = (x ∷ line) ∷ lines
@@ -21,7 +21,7 @@ abbrev pub whole_lines : List ℕ → List (List ℕ)
 whole_lines [] = []
 whole_lines (x ∷ input) = if x == 10 then [] ∷ whole_lines input else onto_whole x (whole_lines input)
 
--- what a line asks for
+-- the command of a line
 pub data Command : Type 0 where
   Add : (path : List ℕ) → Command
   Replace : (path : List ℕ) → Command
@@ -38,7 +38,7 @@ pub data Command : Type 0 where
 abbrev pub begins_with_word : List ℕ → List ℕ → Bool
 begins_with_word word line = starts_with nat_eq line word
 
--- all bytes after the last space of the words are the path, the prefix or the name; a line over 8,192 bytes is bad
+-- The path, the prefix or the name is all that follows the command and a space. A line over 8,192 bytes is bad.
 abbrev pub command_of : List ℕ → Command
 command_of line =
     if nat_lt 8192 (length line) then Bad

@@ -1,39 +1,39 @@
-//! What a line asks for.
+//! The commands of a session's lines.
 ghost use Rattle.std.specs.Prelude.{◌≡◌, MatchOption, drop, false, length, true};
 ghost use Rattle.jc_input.specs.Lines.{begins_with_word, command_of};
 ghost use Rattle.jc_input.specs.LentCommands.{command_lent};
 
-/// The most bytes that a line may have, its LF aside.
+/// The largest number of bytes of a line, without its LF.
 const LONGEST_LINE: usize = 8192;
 
-/// What a line asks for. Paths, prefixes and names are borrowed from the line.
+/// The command of a line. Paths, prefixes and names are borrowed from the line.
 #[derive(Clone, Copy)]
 pub enum Command<'a> {
-    /// A new file at a path.
+    /// `add PATH`: adds a file.
     Add(&'a [u8]),
-    /// Other bytes at the path of a file.
+    /// `replace PATH`: replaces the bytes of a file.
     Replace(&'a [u8]),
-    /// No file at a path.
+    /// `remove PATH`: removes a file.
     Remove(&'a [u8]),
-    /// One more outside prefix.
+    /// `outside add PREFIX`: adds an outside prefix.
     AddPrefix(&'a [u8]),
-    /// One outside prefix less.
+    /// `outside drop PREFIX`: drops an outside prefix.
     DropPrefix(&'a [u8]),
-    /// The report.
+    /// `report`: writes the report.
     Report,
-    /// The part of the class of a name.
+    /// `part NAME`: writes the part of a class.
     Part(&'a [u8]),
-    /// The listing of the file that the class of a name is taken from.
+    /// `list NAME`: lists the file from which a class is taken.
     List(&'a [u8]),
-    /// The names of the classes whose report depends on a name.
+    /// `dependants NAME`: writes the names of the classes whose reach has a name.
     Dependants(&'a [u8]),
-    /// The end of the session.
+    /// `end`: ends the session.
     End,
-    /// Nothing that is known.
+    /// Any other line, and a line over 8,192 bytes.
     Bad,
 }
 
-/// What a line without its LF asks for.
+/// Returns the command of a line, which is given without its LF. Does not allocate.
 pub fn parse_line(line: &[u8]) -> Command<'_>
     ensures { command_lent result ≡ command_of line.now }
 {
@@ -64,7 +64,7 @@ pub fn parse_line(line: &[u8]) -> Command<'_>
     }
 }
 
-/// What follows the word at the front of a line that begins with it.
+/// Returns the rest of a line that begins with a word.
 fn after<'a>(line: &'a [u8], word: &[u8]) -> Option<&'a [u8]>
     ensures { MatchOption result
         (begins_with_word word.now line.now ≡ false)

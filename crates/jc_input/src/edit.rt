@@ -1,4 +1,4 @@
-//! Edits of the files and of the outside prefixes, and why one is refused.
+//! Edits of files and of outside prefixes, and their refusals.
 
 ghost use Rattle.std.specs.Prelude.{◌≡◌};
 ghost use Rattle.std.specs.Option.{option_copied};
@@ -9,43 +9,43 @@ use jc_base::NoMemory;
 use std::alloc::{AllocError, AllocFailed};
 use thiserror::Error;
 
-/// An edit of the files, by paths, or of the prefixes of outside names. What it holds is owned; a refusal drops it.
+/// An edit of the files or of the outside prefixes. It owns its paths, bytes and prefixes; a refusal drops them.
 #[derive(Drop)]
 pub enum Edit {
-    /// A new file at a path, with its bytes.
+    /// Adds a file: its path and its bytes.
     Add(Vec<u8>, Vec<u8>),
-    /// Other bytes at the path of a file.
+    /// Replaces the bytes of a file: its path and the new bytes.
     Replace(Vec<u8>, Vec<u8>),
-    /// No file at a path.
+    /// Removes a file: its path.
     Remove(Vec<u8>),
-    /// One more prefix of outside names.
+    /// Adds an outside prefix.
     AddPrefix(Vec<u8>),
-    /// One prefix of outside names less.
+    /// Drops an outside prefix.
     DropPrefix(Vec<u8>),
 }
 
-/// An edit of the prefixes of outside names, by a borrowed one.
+/// An edit of the outside prefixes, with a borrowed prefix.
 #[derive(Clone, Copy)]
 pub enum PrefixEdit<'a> {
-    /// One more.
+    /// Adds a prefix.
     Add(&'a [u8]),
-    /// One less.
+    /// Drops a prefix.
     Drop(&'a [u8]),
 }
 
-/// An edit of the files by a borrowed path.
+/// An edit of the files, with a borrowed path.
 #[derive(Drop)]
 pub enum LentEdit<'a> {
-    /// A new file at a path, with its bytes.
+    /// Adds a file: its path and its bytes.
     Add(&'a [u8], Vec<u8>),
-    /// Other bytes at the path of a file.
+    /// Replaces the bytes of a file: its path and the new bytes.
     Replace(&'a [u8], Vec<u8>),
-    /// No file at a path.
+    /// Removes a file: its path.
     Remove(&'a [u8]),
 }
 
 impl LentEdit<'_> {
-    /// The path that is edited.
+    /// Returns the path of the edited file.
     pub fn path(&self) -> &[u8]
         ensures { result.now ≡ path_of (change_lent self.now) }
     {
@@ -54,7 +54,7 @@ impl LentEdit<'_> {
         }
     }
 
-    /// The bytes that are to stand at the path.
+    /// Returns the new bytes of the file, or `None` if it is removed.
     pub fn bytes(&self) -> Option<&[u8]>
         ensures { option_copied result ≡ bytes_of (change_lent self.now) }
     {
@@ -65,46 +65,48 @@ impl LentEdit<'_> {
     }
 }
 
-/// What an accepted edit cost: class parts made, and classes asked for.
+/// The cost of an accepted edit: the number of parts that were made, and of names that were looked up.
 #[derive(Clone, Copy)]
 pub struct Done {
     pub made: u64,
     pub asks: u64,
 }
 
-/// Why an edit is refused: the first that applies, of files in the order `BadPath`, `AlreadyThere` or
-/// `NoSuchFile`, `TooLarge`, `TooMany`, of prefixes in the order `BadPrefix`, `PrefixThere` or `NoSuchPrefix`,
-/// `TooManyPrefixes`, and `NoMemory` only where none of them does.
+/// Why an edit is refused.
+///
+/// It is the first refusal that applies. The order for files is `BadPath`, `AlreadyThere` or `NoSuchFile`, `TooLarge`,
+/// `TooMany`. The order for prefixes is `BadPrefix`, `PrefixThere` or `NoSuchPrefix`, `TooManyPrefixes`. `NoMemory` is
+/// returned only if none of the others applies and an allocation fails.
 #[derive(Clone, Copy, Debug, PartialEq, Eq, Error)]
 pub enum EditError {
-    /// `Add`: a file stands at the path.
+    /// `Add`: there is a file at the path.
     #[error("a file stands at the path")]
     AlreadyThere,
-    /// `Replace` and `Remove`: no file stands at the path.
+    /// `Replace` and `Remove`: there is no file at the path.
     #[error("no file stands at the path")]
     NoSuchFile,
-    /// The bytes are more than 16,777,216.
+    /// `Add` and `Replace`: there are more than 16,777,216 bytes.
     #[error("the file is larger than 16,777,216 bytes")]
     TooLarge,
-    /// `Add`: there are 65,535 files.
+    /// `Add`: there are 65,535 files already.
     #[error("there are 65,535 files")]
     TooMany,
     /// The path is empty or longer than 4,096 bytes.
     #[error("the path is empty or longer than 4,096 bytes")]
     BadPath,
-    /// Memory was refused.
+    /// An allocation failed.
     #[error("memory was refused")]
     NoMemory,
     /// The prefix is empty or longer than 256 bytes.
     #[error("the prefix is empty or longer than 256 bytes")]
     BadPrefix,
-    /// `AddPrefix`: the prefix is held.
+    /// `AddPrefix`: the prefix is one of the outside prefixes.
     #[error("the prefix is held")]
     PrefixThere,
-    /// `DropPrefix`: the prefix is not held.
+    /// `DropPrefix`: the prefix is none of the outside prefixes.
     #[error("the prefix is not held")]
     NoSuchPrefix,
-    /// `AddPrefix`: 64 prefixes are held.
+    /// `AddPrefix`: there are 64 outside prefixes already.
     #[error("64 prefixes are held")]
     TooManyPrefixes,
 }
@@ -112,7 +114,7 @@ pub enum EditError {
 impl EditError {
     ghost use Rattle.jc_input.specs.EditErrors.{edit_code, edit_error_name};
 
-    /// The number of the refusal, from 1, in the order of the variants.
+    /// Returns the number of the refusal, from 1, in the order of the variants.
     pub fn code(&self) -> u8
         ensures { result ≡ edit_code self.now }
     {
@@ -130,7 +132,7 @@ impl EditError {
         }
     }
 
-    /// The name of the variant.
+    /// Returns the name of the variant.
     pub fn name(&self) -> &'static [u8]
         ensures { result.now ≡ edit_error_name self.now }
     {

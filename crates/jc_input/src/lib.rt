@@ -1,5 +1,11 @@
-//! What is asked of a session: edits and the limits of files, the lines of an input with their commands, and where the bytes
-//! of a file come from.
+//! The input of a session.
+//!
+//! [`Edit`] is an edit of the files or of the outside prefixes, and [`EditError`] its refusal. `read_line` reads a line of an
+//! input, and `parse_line` finds its [`Command`]. A [`Source`] returns the bytes of files. A [`FileSource`] reads them, and a
+//! [`MemSource`] has them in memory.
+//!
+//! The contracts define each refusal and the order of the refusals. They say how an input is cut into lines, and how many
+//! bytes are kept of a line that is too long.
 #![tactic(auto)]
 
 mod command;

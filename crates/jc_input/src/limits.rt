@@ -1,4 +1,4 @@
-//! The limits of a file by itself, and of how many there are.
+//! The limits of paths, of files, and of the number of files.
 
 ghost use Rattle.std.specs.Prelude.{◌≡◌};
 ghost use Rattle.jc_input.specs.FileEdits as files_of;
@@ -7,12 +7,12 @@ use crate::edit::EditError;
 
 const LONGEST_PATH: usize = 4_096;
 
-/// The most bytes that a file may have.
+/// The largest number of bytes of a file.
 pub const LARGEST_FILE: usize = 16_777_216;
 
 const MOST_FILES: usize = 65_535;
 
-/// The fault of a path by itself.
+/// Returns the refusal of a path that is empty or too long.
 pub fn path_fault(path: &[u8]) -> Option<EditError>
     ensures { result ≡ files_of.path_fault path.now }
 {
@@ -23,7 +23,7 @@ pub fn path_fault(path: &[u8]) -> Option<EditError>
     }
 }
 
-/// The fault of a file's bytes by themselves.
+/// Returns the refusal of a file that is too large.
 pub fn size_fault(bytes: &[u8]) -> Option<EditError>
     ensures { result ≡ files_of.size_fault bytes.now }
 {
@@ -34,7 +34,7 @@ pub fn size_fault(bytes: &[u8]) -> Option<EditError>
     }
 }
 
-/// The fault of one more file beside so many.
+/// Returns the refusal of one more file if there are as many as allowed.
 pub fn room_fault(count: usize) -> Option<EditError>
     ensures { result ≡ files_of.room_beside count }
 {

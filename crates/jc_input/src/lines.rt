@@ -1,4 +1,4 @@
-//! An input, line by line.
+//! Reads an input line by line.
 ghost use Rattle.std.specs.Prelude.{◌≡◌, ◌+◌, ◌<◌, ◌≤◌, ◌++◌, [], false, true, IfErr, IfOk, IsSome, IsTrue, OnErr, OnOk, drop, is_some, length, position, take};
 ghost use Rattle.std.specs.List.{after_first, before_first};
 ghost use Rattle.std.specs.Io.KnownBytes.{Consumes, IsAtEnd, Keeps};
@@ -12,19 +12,19 @@ use jc_base::{DeviceFault, Input, NoMemory};
 use std::alloc::Global;
 use std::marker::Model;
 
-/// So many bytes of a line are kept: one more than a line may have.
+/// The number of bytes of a line that are kept: one more than a line may have.
 const KEPT: usize = 8193;
 
-/// So many bytes are asked for at a time.
+/// The number of bytes that one read asks for.
 const CHUNK: usize = 4096;
 
-/// The bytes of one line so far, without its LF: all of them, or the first 8,193.
+/// A buffer for one line, without its LF. It keeps the first 8,193 bytes.
 #[derive(Drop)]
 pub struct Line {
     bytes: Vec<u8>,
 }
 
-/// The bytes that were read and are part of no line yet.
+/// The bytes that were read ahead and do not belong to a line yet.
 #[derive(Drop)]
 pub struct Ahead {
     chunk: [u8; CHUNK],
@@ -43,7 +43,7 @@ impl Model for Line {
 }
 
 impl Line {
-    /// An empty line. It takes all the memory that lines need.
+    /// Returns an empty line, with all the memory that lines need.
     pub fn new(alloc: Global) -> Result<Line, NoMemory>
         ensures { IfOk result (λ line. line ≡ []) }
     {
@@ -52,21 +52,21 @@ impl Line {
         })
     }
 
-    /// The bytes that are kept.
+    /// Returns the bytes of the line, at most 8,193.
     pub fn bytes(&self) -> &[u8]
         ensures { result.now ≡ self.now }
     {
         self.bytes.as_slice()
     }
 
-    /// Drops all bytes.
+    /// Empties the line.
     fn clear(&mut self)
         ensures { self.new ≡ [] }
     {
         self.bytes.clear();
     }
 
-    /// Adds bytes, and drops those past the first 8,193.
+    /// Appends bytes. Those after the first 8,193 of the line are dropped.
     fn keep(&mut self, bytes: &[u8])
         ensures { self.new ≡ take 8193 (self.old ++ bytes.now) }
     {
@@ -86,7 +86,7 @@ impl Model for Ahead {
 }
 
 impl Ahead {
-    /// Nothing is read yet.
+    /// Returns an empty buffer.
     pub fn new() -> Ahead
         ensures { result ≡ [] }
     {
@@ -97,14 +97,14 @@ impl Ahead {
         }
     }
 
-    /// The bytes ahead.
+    /// Returns the bytes that were read ahead.
     fn bytes(&self) -> &[u8]
         ensures { result.now ≡ self.now }
     {
         &self.chunk[self.start..self.end]
     }
 
-    /// Leaves out the first bytes.
+    /// Removes the first bytes.
     fn consume(&mut self, count: usize)
         requires { count ≤ length self.old }
         ensures { self.new ≡ drop count self.old }
@@ -112,7 +112,7 @@ impl Ahead {
         self.start += count;
     }
 
-    /// Reads what is there, and tells how many bytes came.
+    /// Reads once, and returns the number of bytes that were read.
     fn refill<R: Input>(&mut self, input: &mut R) -> Result<usize, DeviceFault>
         requires empty { self.old ≡ [] }
         requires goes_on { R.ended input.old ≡ false }
@@ -131,10 +131,10 @@ impl Ahead {
     }
 }
 
-/// Reads the next line, and tells whether an LF ended it: else it is what stands behind the last LF.
-/// What a read hands over stays ahead past the end of the line, and nothing is read while a whole line
-/// is ahead, nor once the input has ended. After an error the front of the line that was not whole is
-/// lost, and nothing is ahead.
+/// Reads the next line, and returns whether an LF ended it. If not, it is what follows the last LF of the input.
+///
+/// Bytes that were read after the end of the line stay in `ahead`. Nothing is read while `ahead` has a whole line, nor after
+/// the input has ended. After an error `ahead` is empty, and the beginning of the unfinished line is lost.
 pub fn read_line<R: Input>(
     line: &mut Line,
     ahead: &mut Ahead,
@@ -154,7 +154,7 @@ pub fn read_line<R: Input>(
     ensures failures { CountsReads result (R.failures input.old) (R.failures input.new) }
     ensures err { IfErr result (λ e. e ≡ Read) }
 
-    // A line that is ahead is handed over with no read, and an input that has ended is not read again.
+    // If `ahead` has a line, nothing is read. An input that has ended is not read again.
     ensures ahead { IsSome (position is_line_feed ahead.old) → input.new ≡ input.old }
     ensures ended { R.ended input.old ≡ true → input.new ≡ input.old }
 {
@@ -172,8 +172,8 @@ pub fn read_line<R: Input>(
     Ok(true)
 }
 
-/// Moves what is ahead up to the first LF, or all of it, to the line, and tells whether an LF ended
-/// it. The LF is dropped.
+/// Moves the bytes before the first LF, or all of them, from `ahead` to the line. Returns whether there was an LF, which is
+/// dropped.
 fn take_front(line: &mut Line, ahead: &mut Ahead) -> bool
     ensures found { result ≡ is_some (position is_line_feed ahead.old) }
     ensures line { line.new ≡ take 8193 (line.old ++ before_first is_line_feed ahead.old) }
@@ -195,7 +195,7 @@ fn take_front(line: &mut Line, ahead: &mut Ahead) -> bool
     }
 }
 
-/// Where the first LF is.
+/// Returns the place of the first LF.
 fn line_feed(bytes: &[u8]) -> Option<usize>
     ensures { result ≡ position is_line_feed bytes.now }
 {

@@ -1,4 +1,4 @@
-//! How a run ends.
+//! How a run of a session ends.
 ghost use Rattle.std.specs.Prelude.{◌≡◌};
 ghost use Rattle.jc_input.specs.declared.run_error.RunError.TheVariants as errors;
 ghost use Rattle.jc_input.specs.RunErrors.{run_code};
@@ -6,16 +6,16 @@ ghost use Rattle.jc_input.specs.RunErrors.{run_code};
 use jc_base::NoMemory;
 use thiserror::Error;
 
-/// How a run ends that has answered all that it was asked.
+/// How a run ends that has answered all its lines.
 #[derive(Clone, Copy, Debug, PartialEq, Eq)]
 pub enum Ended {
-    /// By the line `end`.
+    /// With the line `end`.
     End,
-    /// By the end of the input.
+    /// With the end of the input.
     Eof,
 }
 
-/// Why a run stops before its end.
+/// Why a run stops early.
 #[derive(Clone, Copy, Debug, PartialEq, Eq, Error)]
 pub enum RunError {
     /// The input failed.
@@ -24,13 +24,13 @@ pub enum RunError {
     /// The output failed.
     #[error("the output failed")]
     Write,
-    /// Memory was refused, for a line or to the source.
+    /// An allocation failed, for a line or in the source.
     #[error("memory was refused")]
     NoMemory,
 }
 
 impl RunError {
-    /// The number of the error: 1, 2 or 3.
+    /// Returns the number of the error: 1, 2 or 3.
     pub fn code(&self) -> u8
         ensures { result ≡ run_code self.now }
     {

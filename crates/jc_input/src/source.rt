@@ -1,4 +1,4 @@
-//! Where the bytes of a file come from.
+//! Sources of the bytes of files.
 ghost use Rattle.std.specs.Prelude.{◌≡◌, ◌↔◌, Option, map};
 ghost use Rattle.std.specs.declared.option.Option.TheVariants.{None, Some};
 ghost use Rattle.std.specs.IoError.{error_kind};
@@ -12,13 +12,13 @@ use std::marker::Model;
 use std::rt::Files;
 use thiserror::Error;
 
-/// Why a source hands over no bytes.
+/// Why a source does not return the bytes of a file.
 #[derive(Clone, Copy, Debug, PartialEq, Eq, Error)]
 pub enum SourceError {
-    /// The file can't be read.
+    /// The file cannot be read.
     #[error("the file can't be read")]
     Unread,
-    /// Memory was refused.
+    /// An allocation failed.
     #[error("memory was refused")]
     NoMemory,
 }
@@ -37,20 +37,20 @@ impl SourceError {
     }
 }
 
-/// Hands over the bytes of files.
+/// A source of the bytes of files.
 pub trait Source {
-    /// What the calls from here on are answered, each by its path, where that is known.
+    /// The answers to the next calls, as functions of their paths, if they are known.
     ghost answers: { Self → Option SourceAnswers };
 
-    /// The bytes of the file at the path.
+    /// Returns the bytes of the file at the path.
     fn read(&mut self, path: &[u8]) -> Result<Vec<u8>, SourceError>
         ensures { TakesAnswer (answers self.old) path.now (answer_of result) (answers self.new) };
 }
 
-/// A source that gives the answers that it was made with, one at each call, and then `Unread`.
+/// A source that returns given answers, one at each call, and then `Unread`.
 #[derive(Drop)]
 pub struct MemSource {
-    // The last comes first.
+    // In reverse order.
     answers: Vec<Result<Vec<u8>, SourceError>>,
 }
 
@@ -65,7 +65,7 @@ impl Model for MemSource {
 }
 
 impl MemSource {
-    /// A source that gives these answers in their order.
+    /// Returns a source with these answers, in their order.
     pub fn new(answers: Vec<Result<Vec<u8>, SourceError>>) -> MemSource
         ensures { result ≡ map answer_of answers.items }
     {
@@ -83,24 +83,24 @@ impl Source for MemSource {
     }
 }
 
-/// So many bytes of a file are read at most: one more than a file may have.
+/// The largest number of bytes that are read of a file: one more than a file may have.
 const MOST_BYTES: u64 = 16_777_217;
 
-/// So many bytes of a file are read at once. Most class files have fewer.
+/// The number of bytes that one read of a file asks for. Most class files have fewer.
 const ROOM: usize = 16_384;
 
-/// A source that reads files. Nothing is known of what it answers.
+/// A source that reads files. Contracts say nothing of what it returns.
 #[derive(Drop)]
 pub struct FileSource<'a, R> {
     rt: &'a R,
-    /// Room to read into, once a file was read.
+    /// A buffer for reads; empty before the first file is read.
     room: Vec<u8>,
 }
 
 impl<'a, R: Files + AllocGlobal> FileSource<'a, R> {
     ghost use Rattle.jc_input.specs.FileSource.{runtime_of};
 
-    /// A source over the files of a runtime.
+    /// Returns a source of the files of a runtime.
     pub fn new(rt: &'a R) -> FileSource<'a, R>
         ensures { runtime_of result ≡ rt.now }
     {
@@ -110,7 +110,7 @@ impl<'a, R: Files + AllocGlobal> FileSource<'a, R> {
         }
     }
 
-    /// The bytes of a file, or the first 16,777,217 of them, with no room to spare.
+    /// Reads a file, or its first 16,777,217 bytes. The list has no spare capacity.
     fn read_file(&mut self, path: &str) -> io::Result<Vec<u8>> {
         if self.room.is_empty() {
             self.room.resize(ROOM, 0)?;
@@ -123,7 +123,7 @@ impl<'a, R: Files + AllocGlobal> FileSource<'a, R> {
 impl<R: Files + AllocGlobal> Source for FileSource<'_, R> {
     ghost answers = { λ _. None };
 
-    /// The bytes of the file, or the first 16,777,217 of them. A path that is not UTF-8 is `Unread`.
+    /// Returns the bytes of the file, or the first 16,777,217 of them. A path that is not UTF-8 is `Unread`.
     fn read(&mut self, path: &[u8]) -> Result<Vec<u8>, SourceError> {
         match str::from_utf8(path) {
             Ok(path) => match self.read_file(path) {
@@ -135,7 +135,8 @@ impl<R: Files + AllocGlobal> Source for FileSource<'_, R> {
     }
 }
 
-/// All bytes of a reader, with no room to spare. They are read by way of the room, which no read has to clear.
+/// Returns all bytes of a reader, without spare capacity. They are read into the buffer `room`, which is used again by the
+/// next file.
 fn read_all<R: Read>(alloc: Global, reader: &mut R, room: &mut [u8]) -> io::Result<Vec<u8>> {
     let mut bytes = Vec::new(alloc);
     for _ in 0..u64::MAX {
@@ -150,7 +151,7 @@ fn read_all<R: Read>(alloc: Global, reader: &mut R, room: &mut [u8]) -> io::Resu
     Ok(bytes)
 }
 
-/// What an error of a file is to a session.
+/// Returns the error of a source for an error of a file.
 fn refusal(error: &io::Error) -> SourceError
     ensures { (result ≡ NoMemory) ↔ (error_kind error.now ≡ ErrorKind.OutOfMemory) }
 {

@@ -1,4 +1,4 @@
--- What an edit of files changes of the classes that they give.
+-- The classes that an edit of a file changes.
 use Rattle.std.specs.Prelude.{◌≡◌, ℕ, Bool, true, List, Option, Some, None, option_map, option_and_then}
 use Rattle.std.specs.Prelude.{Result, Ok, Err, if◌then◌else◌}
 use Rattle.std.specs.FinMap as map
@@ -19,7 +19,7 @@ abbrev pub before : List ℕ → Option (List ℕ) → Bool
 before path None = true
 before path (Some other) = name_less path other
 
--- the class of a file at a path that names it so, if it wins there
+-- the facts of the class of this name in the file at a path, if the class is taken from there
 abbrev pub won_as : Files → (path name : List ℕ) → ClassFile → Option Facts
 won_as others path name c = if before path (winner others name) then Some (facts_of path c) else None
 
@@ -27,7 +27,7 @@ abbrev pub won_by : Files → List ℕ → Result ClassFile ParseError → Optio
 won_by others path (Ok c) = won_as others path (class_name c) c
 won_by others path (Err refusal) = None
 
--- the class that bytes at a path give beside other files
+-- the facts of the class that is taken from these bytes at a path, beside the other files
 abbrev pub won : Files → List ℕ → Option (List ℕ) → Option Facts
 won others path bytes = option_and_then (λ b. won_by others path (class_read b)) bytes
 
@@ -35,23 +35,23 @@ abbrev pub lost_by : Files → List ℕ → Result (List ℕ) ParseError → Opt
 lost_by f path (Ok name) = if is_path (winner f name) path then Some name else None
 lost_by f path (Err refusal) = None
 
--- the name of the class that the file at a path gives
+-- the name of the class that is taken from the file at a path
 abbrev pub lost : Files → List ℕ → Option Name
 lost f path = option_and_then (λ b. lost_by f path (class_named b)) (map.get f path)
 
--- the facts of the class that bytes give, or none, at a path
+-- the facts are those of the class that is taken from these bytes at the path, if there are bytes
 abbrev pub IsWon : Files → (path : List ℕ) → (bytes : Option (List ℕ)) → Option Facts → Type 0
 IsWon f path bytes facts = facts ≡ won (map.remove f path) path bytes
 
--- a step leaves at its name the class that the files but the one at the path give
+-- after the change, the name has its class from the files other than the one at the path
 abbrev pub Uncovers : Files → (path : List ℕ) → Option Step → Type 0
 Uncovers f path step = (name : Name) → option_map step_name step ≡ Some name → class_by step ≡ facts_at (map.remove f path) name
 
--- the winner among the files but the one at the path
+-- the path from which the class is taken, among the files other than the one at the path
 abbrev pub winner_but : Files → (path : List ℕ) → Name → Option (List ℕ)
 winner_but f path name = winner (map.remove f path) name
 
--- these bytes, or none, are to stand at the path
+-- what changes if the file at the path gets these bytes, or is removed
 pub record AreChanges (f : Files) (path : List ℕ) (bytes : Option (List ℕ)) (step : Option Step) (facts : Option Facts) : Type 0 where
   pub put : IsWon f path bytes facts
   pub name : option_map step_name step ≡ lost f path

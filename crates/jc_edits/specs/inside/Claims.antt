@@ -1,4 +1,4 @@
--- Which files name a class, as a map from names to the paths of the files.
+-- The files that have a class, as a map from names of classes to paths.
 use Rattle.std.specs.Prelude.{◌≡◌, ◌≢◌, ℕ, Bool, false, ◌&&◌, ◌||◌, not, List, [], ◌∷◌}
 use Rattle.std.specs.Prelude.{Option, Some, None, Result, Ok, Err}
 use Rattle.std.specs.FinMap as map
@@ -10,15 +10,15 @@ use Rattle.jc_report.specs.Files.{Files}
 use Rattle.jc_report.specs.FileRows.{FileState, Unreadable, FileRow, names, state_by}
 use Rattle.jc_report.specs.inside.Naming.{names_at}
 
--- the paths of the files that name a class
+-- the paths of the files that have a class
 abbrev pub Paths : Type 0
 Paths = set.FinSet bytes_cmp
 
--- from the names of classes
+-- these paths, by the name of the class
 abbrev pub PathsByName : Type 0
 PathsByName = map.FinMap bytes_cmp Paths
 
--- a name stands only with a path
+-- each name has at least one path
 abbrev pub NoneEmpty : PathsByName → Type 0
 NoneEmpty claims = (name : List ℕ) → map.get claims name ≢ Some map.empty
 
@@ -26,7 +26,7 @@ abbrev pub has_path : Option Paths → List ℕ → Bool
 has_path None path = false
 has_path (Some paths) path = map.contains_key paths path
 
--- whether the file at the path is said to name the class
+-- the map says that the file at the path has the class
 abbrev pub has_claim : PathsByName → List ℕ → List ℕ → Bool
 has_claim claims name path = has_path (map.get claims name) path
 
@@ -38,7 +38,7 @@ abbrev pub first_path : Option Paths → Option (List ℕ)
 first_path None = None
 first_path (Some paths) = first_of (map.keys paths)
 
--- the least of the paths that name a class
+-- the least of the paths of a class
 abbrev pub first_claim : PathsByName → List ℕ → Option (List ℕ)
 first_claim claims name = first_path (map.get claims name)
 
@@ -46,16 +46,16 @@ first_claim claims name = first_path (map.get claims name)
 abbrev pub AreClaims : PathsByName → Files → Type 0
 AreClaims claims f = (name path : List ℕ) → has_claim claims name path ≡ names_at f path name
 
--- ---- claims that are added, and that are taken out
+-- ---- claims that are added, and that are removed
 
 abbrev pub claim_of : (name path : List ℕ) → (n p : List ℕ) → Bool
 claim_of name path n p = same_bytes n name && same_bytes p path
 
--- of the class that the bytes at a path name
+-- the claim of the class in these bytes
 abbrev pub claim_at : (path bytes : List ℕ) → (n p : List ℕ) → Bool
 claim_at path bytes n p = same_bytes p path && names bytes n
 
--- of the class that the bytes before name, and these do not
+-- the claim of the class in the old bytes, if the new ones do not have the class
 abbrev pub stale_claim : (path before now : List ℕ) → (n p : List ℕ) → Bool
 stale_claim path before now n p = same_bytes p path && (names before n && not (names now n))
 

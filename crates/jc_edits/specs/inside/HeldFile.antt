@@ -1,4 +1,4 @@
--- The class that a held file names, or its refusal, without vectors and references.
+-- The name of the class in a file of a session, or its refusal, without vectors and references.
 use Rattle.std.specs.Prelude.{ℕ, List, Option, Some, None, Result, Ok, Err}
 use Rattle.std.specs.Borrow.{Bor}
 use Rattle.std.specs.declared.vec.Vec.{Vec}
@@ -12,7 +12,7 @@ abbrev pub class_lent : Result (Bor (List ℕ)) ParseError → Result (List ℕ)
 class_lent (Ok name) = Ok name.now
 class_lent (Err refusal) = Err refusal
 
--- the bytes that are to stand at a path
+-- the bytes of a list, if there is one
 abbrev pub bytes_held : {A : Type 0} → Option (Vec ℕ A) → Option (List ℕ)
 bytes_held None = None
 bytes_held (Some bytes) = Some bytes.items

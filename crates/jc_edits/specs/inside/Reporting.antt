@@ -1,4 +1,4 @@
--- What holds of a report that is held.
+-- The invariant of a session's report.
 use Rattle.std.specs.Prelude.{◌≡◌, ℕ, List, Option, Some, None, codes}
 use Rattle.jc_classes.specs.Names.{Name}
 use Rattle.jc_link.specs.Tables.{class_at}

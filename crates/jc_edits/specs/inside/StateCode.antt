@@ -1,4 +1,4 @@
--- How a session's state is stored.
+-- The code of the state of a session.
 use Rattle.std.specs.Prelude.{ℕ, List, refl}
 use Rattle.std.specs.Coded.{Coded, code_by, coded_list, coded×, coded_ℕ}
 use Rattle.std.specs.FinMap as map
