@@ -12,8 +12,8 @@ use Rattle.jc_report.specs.TreeErrors.{IsTreeErrors, TreeErrors}
 abbrev pub ReportIsOne : Type 0
 ReportIsOne = (f : Files) (prefixes : List Name) (r s : Report) → IsReport f prefixes r → IsReport f prefixes s → r ≡ s
 
--- For each choice of what is asked for, there is a line exactly if one of two things is there: something wrong that is
--- asked for, or a class that is asked for and has an error of inheritance.
+-- There is a line for what is asked for exactly if something of it is wrong or one of its classes has an error of
+-- inheritance.
 abbrev pub ErrorsAreTold : Type 0
 ErrorsAreTold =
     (f : Files) (prefixes : List Name) (asked : Asked) (e : TreeErrors) → IsTreeErrors f prefixes e
