@@ -87,7 +87,7 @@ with_tag tag (kind ∷ kinds) = if tag == tag_of kind then Some kind else with_t
 abbrev pub kind_of_tag : ℕ → Option ConstantKind
 kind_of_tag tag = with_tag tag all_kinds
 
--- a Long or a Double takes two indexes, and the second is unusable
+-- a Long or a Double takes two indexes, the second of which is unusable
 abbrev pub is_wide : ConstantKind → Bool
 is_wide kinds.Long = true
 is_wide kinds.Double = true
@@ -96,7 +96,7 @@ is_wide _ = false
 abbrev pub index_bytes : ConstantIndex → List ℕ
 index_bytes index = big_bytes 2 index.0
 
--- what stands behind the tag
+-- the bytes after the tag
 abbrev pub body_bytes : Constant → List ℕ
 body_bytes (Utf8 text) = big_bytes 2 (length text) ++ text
 body_bytes (Integer bits) = big_bytes 4 bits
@@ -123,7 +123,7 @@ IsIndex index = index.0 < 2 ^ 16
 abbrev pub index_value : List ℕ → ConstantIndex
 index_value xs = record { 0 = big_number 2 xs }
 
--- what has a spelling
+-- the numbers and texts of the constant fit their bytes
 abbrev pub FitsConstant : Constant → Type 0
 FitsConstant (Utf8 text) = length text < 2 ^ 16
 FitsConstant (Integer bits) = bits < 2 ^ 32

@@ -16,7 +16,7 @@ use Rattle.jc_view.specs.inside.Entries.{placed_members, placed_attributes}
 abbrev pub class_shown : Inside → ClassFile
 class_shown v = class_value v.bytes.now v.offsets.items v.tail
 
--- the tables are those of a class file
+-- the tables are those of this class file
 pub record AreTables (c : ClassFile) (t : ClassTables) : Type 0 where
   pub whole_interfaces : IsWhole (after 2) t.interfaces
   pub whole_fields : IsWhole after_member t.fields
