@@ -1,10 +1,10 @@
--- A class file of 53 bytes, and others near it.
+-- Class files that differ a little from a class file of 53 bytes.
 use Rattle.std.specs.Prelude.{[], ◌∷◌, ◌++◌, codes}
 use Rattle.jc_view.specs.ConstantPool as pool
 use Rattle.jc_view.specs.ClassFile.{ClassFile}
 use Rattle.jc_view.specs.Examples.{class_a_data}
 
--- with a fifth constant, a Class whose name is no constant
+-- with a fifth constant: a Class whose name_index is not that of a constant
 abbrev pub with_nameless_class : ClassFile
 with_nameless_class = record class_a_data { constants = class_a_data.constants ++ pool.Class (record { 0 = 9 }) ∷ [] }
 

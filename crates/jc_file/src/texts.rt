@@ -1,5 +1,5 @@
-//! The texts of a class file, and what each was found to be. Any number of constants and members may name the same
-//! long text, and no text is read twice for the same question.
+//! The texts of a class file, and what is known about each. Many constants and members may name the same long text, but
+//! no text is read twice for the same question.
 
 ghost use Rattle.std.specs.Prelude.{◌≡◌, IfOk, option_map, slice_get, true};
 ghost use Rattle.jc_base.specs.TextTests.{is_class_text, is_method_name_text, is_unqualified_text};
@@ -13,14 +13,14 @@ use jc_view::{ClassView, ConstantIndex};
 use std::alloc::Global;
 use std::marker::Model;
 
-/// What a text is as a descriptor (JVMS 4.3).
+/// Which descriptor a text is (JVMS 4.3).
 #[derive(Clone, Copy)]
 pub(crate) enum Descriptor {
-    /// That of a field, with this number of dimensions.
+    /// A field descriptor with this number of dimensions.
     Field(u8),
-    /// That of a method. The parameters take this number of slots, without the receiver.
+    /// A method descriptor. The parameters take this number of slots, without the receiver.
     Method { slots: u8, returns_value: bool },
-    /// None.
+    /// The text is not a descriptor.
     Other,
 }
 
@@ -55,8 +55,8 @@ impl Descriptor {
         }
     }
 
-    /// Returns whether it is that of a method whose parameters take at most 255 slots, with the receiver unless the
-    /// method is static.
+    /// Returns whether this is a method descriptor whose parameters take at most 255 slots, with the receiver unless
+    /// the method is static.
     pub(crate) fn fits(self, is_static: bool) -> bool
         ensures { result ≡ fits is_static self }
     {
@@ -67,7 +67,7 @@ impl Descriptor {
     }
 }
 
-/// The answers about a text that are known.
+/// What is known about a text.
 #[derive(Clone, Copy)]
 struct Known {
     is_class: Option<bool>,
@@ -100,7 +100,7 @@ impl Known {
     }
 }
 
-/// A class file, and what is known of its texts.
+/// A class file, and what is known about its texts.
 #[derive(Drop)]
 pub(crate) struct Texts<'v, 'a> {
     class: &'v ClassView<'a>,
@@ -194,7 +194,7 @@ impl<'v, 'a> Texts<'v, 'a> {
         is_method_name
     }
 
-    /// Returns what the text at `index` is as a descriptor (JVMS 4.3).
+    /// Returns which descriptor the text at `index` is (JVMS 4.3).
     pub(crate) fn descriptor(&mut self, index: ConstantIndex) -> Option<Descriptor>
         ensures same { self.new ≡ self.old }
         ensures answer { result ≡ option_map descriptor_of (utf8_at self.old index) }
@@ -206,7 +206,7 @@ impl<'v, 'a> Texts<'v, 'a> {
         }
     }
 
-    /// Reads the text at `index` as a descriptor, and notes what it is.
+    /// Reads the text at `index` as a descriptor, and notes the result.
     #[inline(never)]
     fn read_descriptor(&mut self, index: ConstantIndex, known: Known) -> Option<Descriptor>
         requires { IsKnown self.old index known }
@@ -244,7 +244,7 @@ impl<'v, 'a> Texts<'v, 'a> {
     }
 }
 
-/// Returns what is known at an index.
+/// Returns what is known about the text at an index.
 fn known_at(known: &[Known], index: ConstantIndex) -> Option<Known>
     ensures { result ≡ slice_get known.now index.0 }
 {

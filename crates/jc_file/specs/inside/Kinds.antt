@@ -1,4 +1,4 @@
--- What the kind of an attribute says of its bytes.
+-- What the kind of an attribute requires of its bytes.
 use Rattle.std.specs.Prelude.{ℕ, Bool, false, not, ◌&&◌, ◌||◌, ◌==◌, length, Option, Some, None}
 use Rattle.std.specs.Option.{option_map_or}
 use Rattle.jc_view.specs.declared.attribute_kind.AttributeKind.{AttributeKind}
