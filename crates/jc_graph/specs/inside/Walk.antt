@@ -50,8 +50,8 @@ pub record Source (next : Successors) (s : State) (i : ℕ) : Type 0 where
   pub after : All (λ g. g.steps_from ≤ i → g.path_from ≤ at) s.segments
   pub before : All (λ g. i < g.steps_from → at < g.path_from) s.segments
 
--- the step from the place p of the path to w is pending, or it was taken; if taken, w is done, or on the path and not
--- before the segment of p
+-- The step from the place p of the path to w is pending, or it was taken. If it was taken, w is done, or it is on the
+-- path and not before the segment of p.
 pub data Told (s : State) (p w : ℕ) : Type 0 where
   waits : (i : ℕ) → i < length s.steps → node_at s.steps i ≡ w
       → All (λ g. g.path_from ≤ p → g.steps_from ≤ i) s.segments → Told s p w
