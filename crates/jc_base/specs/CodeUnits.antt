@@ -1,4 +1,4 @@
--- The code units that bytes spell, up to the first bytes that spell none. The law
+-- The code units that bytes encode, up to the first bytes that encode none. The law
 -- `units_end_at_the_first_wrong_spelling` says so.
 use Rattle.std.specs.Prelude.{ℕ, zero, suc, List, [], ◌∷◌, length, drop}
 use Rattle.std.specs.Option.{option_map_or}

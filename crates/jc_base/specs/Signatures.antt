@@ -71,8 +71,8 @@ pub data Produces : Symbol → List Symbol → Type 0 where
   param : Produces Param (Identifier ∷ Mark 58 ∷ Maybe ReferenceType ∷ Many Bound ∷ [])
   bound : Produces Bound (Mark 58 ∷ ReferenceType ∷ [])
 
--- the text that the symbols derive; it is read from the left, and the first symbol is replaced by what it produces
--- unless it is a mark or an identifier
+-- The symbols derive the text, which is read from the left. The first symbol is replaced by what it produces, unless it
+-- is a mark or an identifier.
 pub data Derives : List Symbol → List ℕ → Type 0 where
   ends : Derives [] []
   reads : (c : ℕ) (owed : List Symbol) (b : List ℕ) → Derives owed b → Derives (Mark c ∷ owed) (c ∷ b)

@@ -31,7 +31,7 @@ impl<'a> Units<'a> {
         Units { rest: text }
     }
 
-    /// Returns the bytes that encode the units that are left.
+    /// Returns the bytes after the units that the iterator has returned.
     pub fn rest(&self) -> &'a [u8]
         ensures { units_before result.now ≡ self.now }
     {

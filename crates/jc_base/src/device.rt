@@ -8,7 +8,7 @@ ghost use Rattle.jc_base.specs.Device.{CountsFault, MoreFaults};
 #[derive(Clone, Copy, Debug, PartialEq, Eq)]
 pub struct DeviceFault;
 
-/// A source of bytes.
+/// A device from which bytes are read.
 pub trait Input {
     /// The bytes that reads return from here on if none fails, or `None` if they are not known.
     ghost remaining: { Self → Option (List ℕ) };
@@ -46,7 +46,7 @@ pub trait Input {
     ghost ended_at_end: { (device : Self) → ended device ≡ true → IsAtEnd (remaining device) };
 }
 
-/// A destination of bytes.
+/// A device to which bytes are written.
 pub trait Output {
     /// All bytes that were written, or `None` if they are not known.
     ghost written: { Self → Option (List ℕ) };

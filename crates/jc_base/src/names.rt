@@ -19,7 +19,7 @@ pub fn is_unqualified(text: &[u8]) -> bool
     is_plain_name(text) || is_spelled_name(text)
 }
 
-// Returns the same, by the code units of the text.
+// Returns whether `text` is an unqualified name, by its code units.
 fn is_spelled_name(text: &[u8]) -> bool
     ensures name { IsTrue result ↔ IsUnqualifiedName text.now }
     ensures computed { result ≡ is_unqualified_text text.now }

@@ -125,7 +125,7 @@ abbrev pub BreaksF5 : ClassFile → Constant → Type 0
 BreaksF5 c (NameAndType name descriptor) = HasText c (MisfitsName c name) descriptor
 BreaksF5 c constant = ⊥
 
--- a Fieldref has a descriptor that is not that of a field, or another reference has one that is not that of a method
+-- a Fieldref has a descriptor other than that of a field, or another reference has one other than that of a method
 -- (JVMS 4.4.2, 4.4.10)
 abbrev pub BreaksF6 : ClassFile → Constant → Type 0
 BreaksF6 c (Fieldref class entry) = GivesDescriptor c (λ text. ¬ IsFieldDescriptor text) entry

@@ -15,8 +15,8 @@ pub enum FormatRule {
     F3,
     /// The descriptor of a `NameAndType` is a field descriptor or a method descriptor (JVMS 4.4.6).
     F4,
-    /// The name of a `NameAndType` fits its descriptor: an unqualified name, or with a method descriptor, a method name
-    /// (JVMS 4.4.6, 4.2.2).
+    /// The name of a `NameAndType` fits its descriptor. With a field descriptor it is an unqualified name, and with a
+    /// method descriptor a method name (JVMS 4.4.6, 4.2.2).
     F5,
     /// A `Fieldref` has a field descriptor. A `Methodref`, an `InterfaceMethodref` and an `InvokeDynamic` have a method
     /// descriptor (JVMS 4.4.2, 4.4.10).

@@ -89,7 +89,7 @@ fn is_of(found: Option<AttributeKind>, kind: AttributeKind) -> bool
     }
 }
 
-/// Returns whether the bytes are not a count and a list of classes (JVMS 4.7.5).
+/// Returns whether the bytes are not a count and a list of `Class` indexes (JVMS 4.7.5).
 fn lacks_classes(class: &ClassView, bytes: &[u8]) -> bool
     ensures { result ≡ lacks_classes class.now bytes.now }
 {

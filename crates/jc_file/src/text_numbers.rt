@@ -62,7 +62,7 @@ fn known(numbers: &[Option<ConstantIndex>], index: ConstantIndex) -> Option<Cons
     *numbers.get(index.0 as usize)?
 }
 
-/// Keeps a number for an index.
+/// Keeps the number of the text at an index.
 fn keep(numbers: &mut Vec<Option<ConstantIndex>>, index: ConstantIndex, number: ConstantIndex)
     ensures { numbers.new.items ≡ slice_set numbers.old.items index.0 (Some number) }
 {

@@ -140,7 +140,8 @@ impl<'v, 'a> Texts<'v, 'a> {
         self.known(index).is_name_or_descriptor()
     }
 
-    /// Returns whether the text at `index` is the name of a class or interface (JVMS 4.2.1).
+    /// Returns whether the text at `index` is the name of a class or interface (JVMS 4.2.1). Returns `None` if the
+    /// index does not name a `Utf8`.
     pub(crate) fn is_class(&mut self, index: ConstantIndex) -> Option<bool>
         ensures same { self.new ≡ self.old }
         ensures answer { result ≡ option_map is_class_text (utf8_at self.old index) }
@@ -154,7 +155,8 @@ impl<'v, 'a> Texts<'v, 'a> {
         is_class
     }
 
-    /// Returns whether the text at `index` is an unqualified name (JVMS 4.2.2).
+    /// Returns whether the text at `index` is an unqualified name (JVMS 4.2.2). Returns `None` if the index does not
+    /// name a `Utf8`.
     pub(crate) fn is_unqualified(&mut self, index: ConstantIndex) -> Option<bool>
         ensures same { self.new ≡ self.old }
         ensures answer { result ≡ option_map is_unqualified_text (utf8_at self.old index) }
@@ -174,7 +176,8 @@ impl<'v, 'a> Texts<'v, 'a> {
         is_unqualified
     }
 
-    /// Returns whether the text at `index` is the name of a method (JVMS 4.2.2).
+    /// Returns whether the text at `index` is the name of a method (JVMS 4.2.2). Returns `None` if the index does not
+    /// name a `Utf8`.
     pub(crate) fn is_method_name(&mut self, index: ConstantIndex) -> Option<bool>
         ensures same { self.new ≡ self.old }
         ensures answer { result ≡ option_map is_method_name_text (utf8_at self.old index) }
@@ -194,7 +197,7 @@ impl<'v, 'a> Texts<'v, 'a> {
         is_method_name
     }
 
-    /// Returns which descriptor the text at `index` is (JVMS 4.3).
+    /// Returns which descriptor the text at `index` is (JVMS 4.3). Returns `None` if the index does not name a `Utf8`.
     pub(crate) fn descriptor(&mut self, index: ConstantIndex) -> Option<Descriptor>
         ensures same { self.new ≡ self.old }
         ensures answer { result ≡ option_map descriptor_of (utf8_at self.old index) }

@@ -1,4 +1,4 @@
-//! Graphs of numbered nodes, as the list of the nodes that one step from each node leads to.
+//! Graphs of numbered nodes. A graph has, for each node, the list of the nodes that one step leads to.
 //!
 //! A node is circular if it can be reached from itself. [`sort_nodes`] finds the circular nodes, and an order in which
 //! every other node comes after the nodes that its steps lead to. [`mark_above`] marks the nodes that can be reached

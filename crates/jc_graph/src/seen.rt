@@ -47,7 +47,8 @@ impl Seen {
         self.flags[node]
     }
 
-    /// Adds a node that was not seen. Returns `NoMemory` only when an allocation fails.
+    /// Adds a node at the end of the list, even if the list has it already. Returns `NoMemory` only when an allocation
+    /// fails.
     pub fn add(&mut self, node: usize) -> Result<(), NoMemory>
         requires { node < length self.old.flags }
         ensures flags { OnOk result (self.new.flags ≡ slice_set self.old.flags node true) }

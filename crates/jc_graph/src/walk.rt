@@ -162,7 +162,7 @@ impl Walk {
         }
     }
 
-    /// Visits a node that was not seen, and all nodes that can be reached from it.
+    /// Visits a node and all nodes that can be reached from it, except those that were seen.
     pub(crate) fn see(&mut self, graph: &[Vec<usize>], node: usize) -> Result<(), NoMemory>
         requires nodes { AreNodes (successors_of graph.now) (length graph.now) }
         requires walk { IsWalk (successors_of graph.now) (length graph.now) (state_of self.old) }

@@ -151,8 +151,8 @@ impl Index {
         Ok(())
     }
 
-    /// Adds a user to the list of a name, unless the name is one of `others`. The search in `others` begins at the
-    /// place `near`. Returns the place where the search for the next name begins.
+    /// Adds a user to the list of a name, unless the name is one of `others`. The search in `others` compares the name
+    /// at the place `near` first. Returns the place to compare first for the next name.
     fn link_unless(
         &mut self,
         name: &[u8],

@@ -78,8 +78,8 @@ impl PackedNames {
         self.names.text(place)
     }
 
-    /// Returns the place of a name, or as an error, the place where it can be inserted. The search begins at `place`.
-    /// Does not allocate.
+    /// Returns the place of a name, or as an error, the place where it can be inserted. Compares the name at `place`
+    /// first. Does not allocate.
     pub(crate) fn find_near(&self, place: usize, name: &[u8]) -> Result<usize, usize>
         ensures { is_ok result ≡ has self.now name.now }
     {
@@ -89,7 +89,7 @@ impl PackedNames {
         self.find(name)
     }
 
-    /// Returns the same by a binary search.
+    /// Returns the place of a name by a binary search, or as an error, the place where it can be inserted.
     fn find(&self, name: &[u8]) -> Result<usize, usize>
         ensures { is_ok result ≡ has self.now name.now }
     {

@@ -1,7 +1,7 @@
 //! A buffered writer of text.
 //!
 //! [`TextWriter`] has a buffer of fixed size before an output. It writes numbers, names and paths as printable ASCII.
-//! The contract of each of its functions says which text was sent. After a failed write, it drops all later text.
+//! The contract of each function that writes says which text is sent. After a failed write, all later text is dropped.
 #![tactic(auto)]
 
 mod escapes;

@@ -6,7 +6,7 @@ use Rattle.jc_base.specs.Cursor.{Reading}
 abbrev pub KeepsEnd : Reading → Reading → Type 0
 KeepsEnd old new = new.place + length new.rest ≡ old.place + length old.rest
 
--- Some: the value of the part, and the cursor is at its end; None: the bytes end before the part does
+-- Some: the value of the part, and the cursor is at its end; None: the bytes do not begin with such a part
 abbrev pub Lends : {X Y : Type 0} → (X → Y) → (List ℕ → Option (List ℕ)) → (List ℕ → Y)
     → Reading → Option X → Reading → Type 0
 Lends view after_part value old None new = after_part old.rest ≡ None

@@ -61,7 +61,7 @@ member_attributes m = attributes_from m.holder (m.place + 8) m.member.attributes
 
 -- ---- constants
 
--- the second index of a wide constant is unusable
+-- the indexes that a constant takes after its own: a Long or a Double takes one, which is unusable
 abbrev pub unusable_index : Bool → List (Option ℕ)
 unusable_index true = None ∷ []
 unusable_index false = []
@@ -75,8 +75,7 @@ places_of place (constant ∷ constants) =
 abbrev pub place_at : List (Option ℕ) → ConstantIndex → Option ℕ
 place_at places index = option_and_then (λ place. place) (slice_get places index.0)
 
--- the text of the Utf8 constant at an index is the part of the layout at its place, after the tag and the two bytes of
--- the length
+-- the text of the Utf8 constant at an index is a part of the layout, after the tag and the two bytes of its length
 pub record IsLent (c : ClassFile) (index : ConstantIndex) (text : List ℕ) : Type 0 where
   pub place : ℕ
   pub begins : place_at (None ∷ places_of 10 c.constants) index ≡ Some place
@@ -86,7 +85,7 @@ pub record IsLent (c : ClassFile) (index : ConstantIndex) (text : List ℕ) : Ty
 abbrev pub HasBytesAt : List ℕ → PlacedAttribute → Type 0
 HasBytesAt bytes a = take (length a.attribute.bytes) (drop (a.place + 6) bytes) ≡ a.attribute.bytes
 
--- the instructions of a Code are the part of these bytes after the attribute's name and length, max_stack, max_locals
--- and code_length; the attribute begins at this place
+-- the instructions of the Code at this place are a part of these bytes: they follow attribute_name_index,
+-- attribute_length, max_stack, max_locals and code_length
 abbrev pub HasInstructionsAt : List ℕ → ℕ → List ℕ → Type 0
 HasInstructionsAt bytes place code = take (length code) (drop (place + 14) bytes) ≡ code

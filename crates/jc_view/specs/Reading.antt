@@ -130,7 +130,7 @@ body_value kinds.InvokeDynamic xs = pool.InvokeDynamic (big_number 2 xs) (index_
 abbrev pub constant_value : List ℕ → Constant
 constant_value xs = option_map_or (λ kind. body_value kind (drop 1 xs)) (kind_of_tag (big_number 1 xs)) (pool.Utf8 [])
 
--- a reading from which these bytes are left
+-- the reading that has these bytes left
 abbrev pub moved_to : Reading → List ℕ → Reading
 moved_to reading rest = record { place = reading.place + length reading.rest - length rest; rest = rest }
 

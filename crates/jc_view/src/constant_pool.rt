@@ -29,19 +29,29 @@ pub enum ConstantKind {
 /// A constant, whose text is a slice of the file (JVMS 4.4). A number is its bits, as they are in the file.
 #[derive(Clone, Copy)]
 pub enum Constant<'a> {
+    /// The bytes of the text.
     Utf8(&'a [u8]),
     Integer(u32),
     Float(u32),
     Long(u64),
     Double(u64),
+    /// `name_index`.
     Class(ConstantIndex),
+    /// `string_index`.
     String(ConstantIndex),
+    /// `class_index` and `name_and_type_index`.
     Fieldref(ConstantIndex, ConstantIndex),
+    /// `class_index` and `name_and_type_index`.
     Methodref(ConstantIndex, ConstantIndex),
+    /// `class_index` and `name_and_type_index`.
     InterfaceMethodref(ConstantIndex, ConstantIndex),
+    /// `name_index` and `descriptor_index`.
     NameAndType(ConstantIndex, ConstantIndex),
+    /// `reference_kind` and `reference_index`.
     MethodHandle(u8, ConstantIndex),
+    /// `descriptor_index`.
     MethodType(ConstantIndex),
+    /// `bootstrap_method_attr_index` and `name_and_type_index`.
     InvokeDynamic(u16, ConstantIndex),
 }
 

@@ -2,10 +2,11 @@
 //!
 //! [`parse`] decides whether bytes are a readable class file. It returns a [`ClassView`], or a [`ParseError`] that says
 //! why the bytes are refused. A view, its [`Member`]s, [`Attribute`]s and [`Code`] refer to slices of the file and copy
-//! nothing.
+//! none of its bytes.
 //!
-//! The contract of `parse` is exact: a view is returned only for the layout of a class file, and a refusal is the first
-//! that applies. The contracts of the accessors refer to that class file, which is plain data.
+//! The contract of `parse` is exact. It returns a view only if the bytes are the layout of a class file, and otherwise
+//! the first refusal that applies, or `NoMemory`. The contracts of the accessors refer to that class file, which is
+//! plain data.
 #![tactic(auto)]
 
 mod attribute_kind;

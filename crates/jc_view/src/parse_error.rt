@@ -9,16 +9,16 @@ use std::alloc::{AllocError, AllocFailed};
 /// is a byte offset in the file.
 #[derive(Clone, Copy, Debug, PartialEq, Eq)]
 pub enum ParseError {
-    /// The first four bytes are not `cafebabe`.
+    /// The first four bytes are present and are not `cafebabe`.
     Magic,
-    /// The version is neither 51 with any minor version nor 52.0.
+    /// The version is present and is neither 51 with any minor version nor 52.0.
     Version,
-    /// `constant_pool_count` is 0.
+    /// `constant_pool_count` is present and is 0.
     Count,
     /// The constants before this place are whole and another must follow, but the byte at this place is not a tag.
     Tag(usize),
-    /// The constants before this place are whole and only one index is left, but the byte at this place is the tag of a
-    /// `Long` or a `Double`. The body of that constant may be missing.
+    /// The constants before this place are whole and leave only one index. The byte at this place is the tag of a
+    /// `Long` or a `Double`, which needs two. The body of that constant may be missing.
     Wide(usize),
     /// The bytes before this place are a class file, and more bytes follow.
     Trailing(usize),

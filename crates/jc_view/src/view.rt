@@ -261,11 +261,10 @@ impl<'a> ClassView<'a> {
     }
 }
 
-/// Parses a class file.
+/// Parses a class file. Reads the bytes in one pass, and copies none of them.
 ///
 /// If the bytes are not a readable class file, returns the first refusal that applies. Returns `NoMemory` only when an
-/// allocation fails, which is possible only after the version and `constant_pool_count` are read. One pass over the
-/// bytes; the view refers to slices of them.
+/// allocation fails, which is possible only after the version and `constant_pool_count` are read.
 pub fn parse<'a>(alloc: Global, bytes: &'a [u8]) -> Result<ClassView<'a>, ParseError>
     ensures ok { IfOk result (λ view. IsLayoutOf view bytes.now) }
     ensures named { IfOk result (λ view. (name : List ℕ) × IsNamed view name) }

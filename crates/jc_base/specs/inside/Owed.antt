@@ -61,8 +61,7 @@ Leaves symbols c after =
 abbrev pub Refuses : List Symbol → ℕ → Type 0
 Refuses symbols c = (owed : List Symbol) (rest : List ℕ) → Derives (symbols ++ owed) (c ∷ rest) → ⊥
 
--- the result for the byte c: the entry that is left of the symbols after c, or `None` if they derive no text that
--- begins with c
+-- the result for the byte c: the entry that is left after c, or `None` if the symbols derive no text that begins with c
 abbrev pub GivesEntry : List Symbol → ℕ → Option (Option Owed) → Type 0
 GivesEntry symbols c answer = MatchOption answer (Refuses symbols c) (λ entry. Leaves symbols c (before entry))
 
@@ -126,7 +125,7 @@ GivesStep symbols text answer =
     MatchOption answer ((owed : List Symbol) → ¬ Derives (symbols ++ owed) text)
     (λ step. LeavesRest symbols text step.after step.rest.now)
 
--- the result of the same step, before its two parts are put together
+-- the result of the same step, with its entries and the rest of the text given separately
 abbrev pub GivesRest : List Symbol → List ℕ → List ℕ → Option After → Type 0
 GivesRest symbols text rest answer =
     MatchOption answer ((owed : List Symbol) → ¬ Derives (symbols ++ owed) text)

@@ -66,7 +66,7 @@ is_descriptor answer = option_map_or (λ descriptor. is_field descriptor || is_m
 abbrev pub is_known_text : Known → Bool
 is_known_text k = is_yes k.is_class || is_yes k.is_unqualified || is_yes k.is_method_name || is_descriptor k.descriptor
 
--- a known answer is the one about the text at the index
+-- a result of `f` that is known is its result for the text at the index
 abbrev pub IsAnswer : {A : Type 0} → (List ℕ → A) → ClassFile → ConstantIndex → Option A → Type 0
 IsAnswer {A = A} f c index known = (a : A) → known ≡ Some a → option_map f (utf8_at c index) ≡ Some a
 

@@ -11,7 +11,7 @@ pub record Rooted (count : ℕ) (next : Successors) (starts : List ℕ) (flags :
   pub sound : (v : ℕ) → flag_at flags v ≡ true → AboveSome next starts v
   pub first : (j v : ℕ) → j < i → Contains (next (node_at starts j)) v → flag_at flags v ≡ true
 
--- the same for all starts, and all successors of the first nodes of the list were seen
+-- the same for all starts, and all successors of the first `at` nodes of the list were seen
 pub record Climbing (count : ℕ) (next : Successors) (starts : List ℕ) (flags : List Bool) (list : List ℕ) (at : ℕ) : Type 0 where
   pub rooted : Rooted count next starts flags list (length starts)
   pub closed : (j v : ℕ) → j < at → Contains (next (node_at list j)) v → flag_at flags v ≡ true

@@ -1,4 +1,4 @@
--- The class file that a view shows.
+-- The class file that a view is of, and the invariant of views.
 use Rattle.std.specs.Prelude.{◌≡◌}
 use Rattle.jc_view.specs.declared.attribute_kind.Holder.TheVariants as holders
 use Rattle.jc_view.specs.declared.layout_reader.ClassTables.{ClassTables}
