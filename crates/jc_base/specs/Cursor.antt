@@ -1,7 +1,7 @@
 -- Bytes that are read from front to back.
 use Rattle.std.specs.Prelude.{ℕ, ◌+◌, ◌≤◌, List, length, drop}
 
--- how many bytes lie behind, and the bytes that are left
+-- the number of bytes that were read, and the bytes that are left
 pub record Reading : Type 0 where
   pub place : ℕ
   pub rest : List ℕ
@@ -10,6 +10,6 @@ pub record Reading : Type 0 where
 abbrev pub HasLeft : ℕ → Reading → Type 0
 HasLeft n reading = n ≤ length reading.rest
 
--- n bytes further on
+-- the reading after n more bytes
 abbrev pub past : ℕ → Reading → Reading
 past n reading = record { place = reading.place + n; rest = drop n reading.rest }

@@ -1,4 +1,4 @@
--- Descriptors of fields and methods (JVMS 4.3), each with the tree that it stands for.
+-- Descriptors of fields and methods, and the types that they denote (JVMS 4.3).
 use Rattle.std.specs.Prelude.{◌≡◌, ℕ, ◌≤◌, ◌⊎◌, List, [], ◌∷◌, ◌++◌, All, Contains}
 use Rattle.std.specs.Prelude.{codes, replicate, sum_by, Option, Some, None, IfSome, if◌then◌else◌, ◌||◌}
 use Rattle.std.specs.List.{concat}
@@ -17,20 +17,20 @@ IsBaseType b = (letter : ℕ) × Contains base_types letter × (b ≡ letter ∷
 abbrev pub IsClassType : List ℕ → Type 0
 IsClassType b = (name : List ℕ) × IsClassName name × (b ≡ codes "L" ++ name ++ codes ";")
 
--- the descriptor of a type that is no array
+-- the descriptor of a type that is not an array
 abbrev pub IsElementType : List ℕ → Type 0
 IsElementType b = IsBaseType b ⊎ IsClassType b
 
--- a field's type: how many dimensions it has, and the descriptor of what its arrays hold in the end
+-- a field type: the number of its dimensions, and the descriptor of its element type
 pub record FieldType : Type 0 where
   pub dims : ℕ
   pub element : List ℕ
 
--- how the type is written
+-- the descriptor of the type
 abbrev pub field_text : FieldType → List ℕ
 field_text type = replicate type.dims 91 ++ type.element
 
--- this text is the descriptor of this field type (JVMS 4.3.2)
+-- the text is the descriptor of this field type (JVMS 4.3.2)
 pub record IsField (b : List ℕ) (type : FieldType) : Type 0 where
   pub few : type.dims ≤ 255
   pub element : IsElementType type.element
@@ -40,21 +40,21 @@ pub record IsField (b : List ℕ) (type : FieldType) : Type 0 where
 abbrev pub IsFieldDescriptor : List ℕ → Type 0
 IsFieldDescriptor b = (type : FieldType) × IsField b type
 
--- how many slots a parameter with this descriptor takes (JVMS 4.3.3)
+-- the number of slots that a parameter with this descriptor takes (JVMS 4.3.3)
 abbrev pub slots_of : List ℕ → ℕ
 slots_of b = if same_bytes b (codes "J") || same_bytes b (codes "D") then 2 else 1
 
--- a method's type: the descriptors of its parameters and of its result, which is `None` for `void`
+-- a method type: the descriptors of its parameters, and that of its result, which is `None` for `void`
 pub record MethodType : Type 0 where
   pub params : List (List ℕ)
   pub result : Option (List ℕ)
 
--- how the result is written
+-- the descriptor of the result
 abbrev pub result_text : Option (List ℕ) → List ℕ
 result_text (Some b) = b
 result_text None = codes "V"
 
--- this text is the descriptor of this method type (JVMS 4.3.3)
+-- the text is the descriptor of this method type (JVMS 4.3.3)
 pub record IsMethod (b : List ℕ) (type : MethodType) : Type 0 where
   pub params : All IsFieldDescriptor type.params
   pub result : IfSome type.result IsFieldDescriptor

@@ -1,5 +1,5 @@
--- A test that decides signatures, for definitions that compute. `signatures_are_decided` says that it does.
--- It tries each production of each symbol, and each text that an identifier may be.
+-- A function that decides whether a text is a signature. The law `signatures_are_decided` says that it does. It tries
+-- each production of each symbol, and each prefix that may be an identifier.
 use Rattle.std.specs.Prelude.{ℕ, zero, suc, ◌+◌, ◌*◌, Bool, false, ◌&&◌, ◌==◌}
 use Rattle.std.specs.Prelude.{not, List, [], ◌∷◌, ◌++◌, length, take, drop, map, is_some}
 use Rattle.std.specs.List.{list_any, range_with_len}
@@ -11,11 +11,11 @@ use Rattle.jc_base.specs.Signatures.{Result, Throws, Thrown, JavaType, Reference
 use Rattle.jc_base.specs.Signatures.{SimpleClass, Suffix, Arguments, Argument, Params, Param, Bound, start}
 use Rattle.jc_base.specs.TextTests.{units_of, has_none_of}
 
--- a name of a class, a type variable or a package, within a signature
+-- the name of a class, a type variable or a package in a signature
 abbrev pub is_identifier : List ℕ → Bool
 is_identifier b = is_some (units_of b) && (not (length b == 0) && has_none_of identifier_stops b)
 
--- what a symbol may be replaced by: the right hand sides of its productions
+-- the right-hand sides of the productions of a symbol
 abbrev pub productions : Symbol → List (List Symbol)
 productions (Mark c) = []
 productions Identifier = []
@@ -40,8 +40,8 @@ productions Params = (Mark 60 ∷ Param ∷ Many Param ∷ Mark 62 ∷ []) ∷ [
 productions Param = (Identifier ∷ Mark 58 ∷ Maybe ReferenceType ∷ Many Bound ∷ []) ∷ []
 productions Bound = (Mark 58 ∷ ReferenceType ∷ []) ∷ []
 
--- the symbols derive the text in at most so many steps, each of which reads or replaces the first
--- symbol, or finds nothing left
+-- the symbols derive the text in at most n steps. A step reads or replaces the first symbol, or finds that nothing is
+-- left.
 unfoldable pub derives_within : ℕ → List Symbol → List ℕ → Bool
 derives_within zero owed b = false
 derives_within (suc fuel) [] b = length b == 0
@@ -50,6 +50,6 @@ derives_within (suc fuel) (Identifier ∷ owed) b =
     list_any (λ n. is_identifier (take n b) && derives_within fuel owed (drop n b)) (range_with_len 0 (length b + 1))
 derives_within (suc fuel) (s ∷ owed) b = list_any (λ made. derives_within fuel (made ++ owed) b) (productions s)
 
--- a signature of this kind: no derivation of one has more than four steps for each byte
+-- a signature of this kind; its derivation has at most four steps for each byte
 unfoldable pub is_signature : SigKind → List ℕ → Bool
 is_signature kind b = derives_within (4 * length b) (start kind ∷ []) b

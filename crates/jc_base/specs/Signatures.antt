@@ -6,16 +6,16 @@ use Rattle.jc_base.specs.ModifiedUtf8.{IsWellSpelled}
 use Rattle.jc_base.specs.Names.{Lacks}
 use Rattle.jc_base.specs.Descriptors.{base_types}
 
--- the characters that no identifier has
+-- the characters that an identifier must not contain
 abbrev pub identifier_stops : List ℕ
 identifier_stops = codes ".;[/<>:"
 
--- a name of a class, a type variable or a package, within a signature
+-- the name of a class, a type variable or a package in a signature
 abbrev pub IsIdentifier : List ℕ → Type 0
 IsIdentifier b = IsWellSpelled b × (b ≢ []) × Lacks b identifier_stops
 
--- The symbols of the grammar. `Mark` is a character that stands for itself, `Maybe` is [ ] and
--- `Many` is { } in the standard's notation.
+-- The symbols of the grammar. `Mark` is a character that denotes itself. `Maybe` is [ ] and `Many` is { } in the
+-- notation of the standard.
 pub data Symbol : Type 0 where
   Mark : ℕ → Symbol
   Identifier : Symbol
@@ -39,7 +39,7 @@ pub data Symbol : Type 0 where
   Param : Symbol
   Bound : Symbol
 
--- the productions
+-- the productions of the grammar
 pub data Produces : Symbol → List Symbol → Type 0 where
   absent : (s : Symbol) → Produces (Maybe s) []
   present : (s : Symbol) → Produces (Maybe s) (s ∷ [])
@@ -71,8 +71,8 @@ pub data Produces : Symbol → List Symbol → Type 0 where
   param : Produces Param (Identifier ∷ Mark 58 ∷ Maybe ReferenceType ∷ Many Bound ∷ [])
   bound : Produces Bound (Mark 58 ∷ ReferenceType ∷ [])
 
--- what the symbols derive, one after another: the text is read from the left, and the first symbol
--- that is no mark and no identifier is replaced by what it produces
+-- The symbols derive the text, which is read from the left. The first symbol is replaced by what it produces, unless it
+-- is a mark or an identifier.
 pub data Derives : List Symbol → List ℕ → Type 0 where
   ends : Derives [] []
   reads : (c : ℕ) (owed : List Symbol) (b : List ℕ) → Derives owed b → Derives (Mark c ∷ owed) (c ∷ b)
@@ -81,7 +81,7 @@ pub data Derives : List Symbol → List ℕ → Type 0 where
   expands : (s : Symbol) (made owed : List Symbol) (b : List ℕ) → Produces s made
       → Derives (made ++ owed) b → Derives (s ∷ owed) b
 
--- the symbol that a kind's signatures are derived from
+-- the start symbol of signatures of a kind
 abbrev pub start : SigKind → Symbol
 start kind.Class = ClassSignature
 start kind.Method = MethodSignature

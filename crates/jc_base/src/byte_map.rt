@@ -1,4 +1,4 @@
-//! An ordered map keyed by byte strings, seen as a finite map from lists of bytes.
+//! An ordered map with byte strings as keys. Its model is a finite map from lists of bytes.
 ghost use Rattle.std.specs.Prelude.{◌≡◌, ◌^◌, ◌<◌, ◌↔◌, IsTrue, IfOk, IfErr, OnOk, OnErr, length, map as map_each};
 ghost use Rattle.std.specs.declared.option.Option.TheVariants.{None, Some};
 ghost use Rattle.std.specs.Option.{option_copied, option_copied_mut};
@@ -14,7 +14,7 @@ use std::collections::{BTreeMap, btree_map};
 use std::marker::Model;
 use std::mem;
 
-/// A map from byte strings to values, in the order of the keys' bytes.
+/// A map from byte strings to values, in the order of the bytes of its keys.
 #[derive(Drop)]
 pub struct ByteMap<V> {
     entries: BTreeMap<Vec<u8>, V>,
@@ -36,7 +36,7 @@ impl<V> Model for ByteMap<V> {
 }
 
 impl<V> ByteMap<V> {
-    /// An empty map, which takes no memory.
+    /// Creates an empty map. Does not allocate.
     pub fn new(alloc: Global) -> ByteMap<V>
         ensures { result ≡ map.empty }
     {
@@ -45,7 +45,7 @@ impl<V> ByteMap<V> {
         }
     }
 
-    /// How many keys the map has.
+    /// Returns the number of keys.
     pub fn len(&self) -> usize
         ensures len { result ≡ map.len self.now }
         ensures small { result < 2 ^ 63 }
@@ -53,30 +53,31 @@ impl<V> ByteMap<V> {
         self.entries.len()
     }
 
-    /// Whether the map has no key.
+    /// Returns whether the map has no keys.
     pub fn is_empty(&self) -> bool
         ensures { IsTrue result ↔ (self.now ≡ map.empty) }
     {
         self.len() == 0
     }
 
-    /// The value at the key.
+    /// Returns the value at the key.
     pub fn get(&self, key: &[u8]) -> Option<&V>
         ensures { option_copied result ≡ map.get self.now key.now }
     {
         self.entries.get(key)
     }
 
-    /// Whether the map has the key.
+    /// Returns whether the map has the key.
     pub fn contains_key(&self, key: &[u8]) -> bool
         ensures { result ≡ map.contains_key self.now key.now }
     {
         self.entries.contains_key(key)
     }
 
-    /// Puts the value at the key, and answers the value that stood there. A key that is there stays,
-    /// and the new one is let go. Fails only for want of memory at a new key, and then gives the key
-    /// and the value back.
+    /// Inserts the value at the key, and returns the previous value.
+    ///
+    /// If the map has the key already, the map keeps its own key and drops the new one. Fails only when an allocation
+    /// for a new key fails, and then returns the key and the value.
     pub fn insert(&mut self, key: Vec<u8>, value: V) -> Result<Option<V>, AllocFailed<(Vec<u8>, V)>>
         ensures before { IfOk result (λ before. before ≡ map.get self.old key.items) }
         ensures ok { OnOk result (self.new ≡ map.insert self.old key.items value) }
@@ -87,7 +88,7 @@ impl<V> ByteMap<V> {
         self.entries.insert(key, value)
     }
 
-    /// Takes the key out, and answers the value that stood there. Takes no memory.
+    /// Removes the key, and returns its value. Does not allocate.
     pub fn remove(&mut self, key: &[u8]) -> Option<V>
         ensures before { result ≡ map.get self.old key.now }
         ensures removed { self.new ≡ map.remove self.old key.now }
@@ -95,7 +96,7 @@ impl<V> ByteMap<V> {
         self.entries.remove(key)
     }
 
-    /// The value at the key, to be read and written in place. Takes no memory.
+    /// Returns a mutable reference to the value at the key. Does not allocate.
     pub fn get_mut(&mut self, key: &[u8]) -> Option<&mut V>
         ensures value { option_copied_mut result ≡ map.get self.old key.now }
         ensures* writes_back { sem 𝓛 (LendsIf (the_row V.row) V.row self.entry result
@@ -104,8 +105,8 @@ impl<V> ByteMap<V> {
         self.entries.get_mut(key)
     }
 
-    /// Puts the value at a key that is there, and answers the value that stood there. Gives the
-    /// value back at any other key. Takes no memory.
+    /// Replaces the value at a key that the map has, and returns the previous value. If the map does not have the key,
+    /// returns the new value. Does not allocate.
     pub fn replace(&mut self, key: &[u8], value: V) -> Result<V, V>
         ensures before { IfOk result (λ before. map.get self.old key.now ≡ Some before) }
         ensures ok { OnOk result (self.new ≡ map.insert self.old key.now value) }
@@ -119,7 +120,7 @@ impl<V> ByteMap<V> {
         }
     }
 
-    /// The entries in the order of their keys.
+    /// Returns an iterator over the entries, in the order of their keys.
     pub fn iter(&self) -> Iter<'_, V>
         ensures entries { result ≡ map.entries self.now }
         ensures len { length result ≡ map.len self.now }
@@ -130,7 +131,7 @@ impl<V> ByteMap<V> {
         }
     }
 
-    /// The keys in their order.
+    /// Returns an iterator over the keys, in their order.
     pub fn keys(&self) -> Keys<'_, V>
         ensures keys { result ≡ map.keys self.now }
         ensures len { length result ≡ map.len self.now }
@@ -141,7 +142,8 @@ impl<V> ByteMap<V> {
         }
     }
 
-    /// The keys in their order, moved out of the map. Memory is taken for the list alone.
+    /// Moves the keys out of the map, in their order. Allocates only the list. Returns `NoMemory` only when an
+    /// allocation fails.
     pub fn into_keys(self, alloc: Global) -> Result<Vec<Vec<u8>>, NoMemory>
     where
         V: Drop,
@@ -168,7 +170,8 @@ impl<'a, V> IntoIterator for &'a ByteMap<V> {
     }
 }
 
-/// The entries of a [`ByteMap`] in the order of their keys, seen as the list of those that are left.
+/// An iterator over the entries of a [`ByteMap`], in the order of their keys. Its model is the list of those that are
+/// left.
 #[derive(Drop)]
 pub struct Iter<'a, V> {
     entries: btree_map::Iter<'a, Vec<u8>, V>,
@@ -196,7 +199,7 @@ impl<'a, V> Iterator for Iter<'a, V> {
     }
 }
 
-/// The keys of a [`ByteMap`] in their order, seen as the list of those that are left.
+/// An iterator over the keys of a [`ByteMap`], in their order. Its model is the list of those that are left.
 #[derive(Drop)]
 pub struct Keys<'a, V> {
     keys: btree_map::Keys<'a, Vec<u8>, V>,

@@ -1,4 +1,4 @@
-//! The code units of a text, one by one.
+//! An iterator over the code units of a text.
 
 ghost use Rattle.std.specs.Prelude.{◌≡◌, ℕ, List, take};
 ghost use Rattle.jc_base.specs.CodeUnits.{units_before};
@@ -7,8 +7,8 @@ ghost use Rattle.jc_base.specs.ModifiedUtf8.{Spells, IsLongestFront};
 use crate::modified_utf8::unit_at;
 use std::marker::Model;
 
-/// The UTF-16 code units that a text of modified UTF-8 spells (JVMS 4.4.7), without memory. In other
-/// bytes it ends before the first that spell no unit.
+/// An iterator over the UTF-16 code units that a text of modified UTF-8 encodes (JVMS 4.4.7). If the bytes are not
+/// modified UTF-8, it ends before the first bytes that encode no unit. Does not allocate.
 #[derive(Drop)]
 pub struct Units<'a> {
     rest: &'a [u8],
@@ -24,13 +24,14 @@ impl<'a> Model for Units<'a> {
 }
 
 impl<'a> Units<'a> {
+    /// Creates an iterator over the code units of `text`.
     pub fn new(text: &'a [u8]) -> Units<'a>
         ensures { result ≡ units_before text.now }
     {
         Units { rest: text }
     }
 
-    /// The bytes that spell the units that are left.
+    /// Returns the bytes after the units that the iterator has returned.
     pub fn rest(&self) -> &'a [u8]
         ensures { units_before result.now ≡ self.now }
     {
@@ -54,8 +55,8 @@ impl<'a> Iterator for Units<'a> {
     }
 }
 
-/// The units of a text are all that it spells, and those of other bytes are what their longest well
-/// spelled front spells.
+/// States that the units of a text are all that it encodes. The units of other bytes are those of their longest prefix
+/// that is modified UTF-8.
 pub fn units_end_at_the_first_wrong_spelling()
     ensures text { (us bytes : List ℕ) → Spells us bytes → units_before bytes ≡ us }
     ensures front { (us bytes : List ℕ) (n : ℕ) →

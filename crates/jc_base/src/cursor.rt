@@ -1,4 +1,4 @@
-//! Reading bytes from front to back, numbers big-endian (JVMS 4: "in big-endian order").
+//! A cursor over bytes that reads numbers and slices (JVMS 4: "in big-endian order").
 
 ghost use Rattle.std.specs.Prelude.{◌≡◌, ◌==◌, ◌+◌, ◌<◌, ◌↔◌};
 ghost use Rattle.std.specs.Prelude.{◌^◌, not, length, take, drop, IsSome, IfSome, IfNone};
@@ -8,9 +8,9 @@ ghost use Rattle.jc_base.specs.Cursor.{HasLeft, past};
 use byteorder::{BigEndian, ByteOrder};
 use std::marker::Model;
 
-/// A place in bytes, from which numbers and slices are read.
+/// A position in bytes, from which numbers and slices are read.
 ///
-/// A read that wants more bytes than are left answers `None` and changes nothing.
+/// If fewer bytes are left than a read needs, the read returns `None` and changes nothing.
 #[derive(Drop)]
 pub struct Cursor<'a> {
     place: usize,
@@ -29,7 +29,7 @@ impl<'a> Model for Cursor<'a> {
 }
 
 impl<'a> Cursor<'a> {
-    /// At the front of the bytes.
+    /// Creates a cursor at the front of the bytes.
     pub fn new(bytes: &'a [u8]) -> Cursor<'a>
         ensures place { result.place ≡ 0 }
         ensures rest { result.rest ≡ bytes.now }
@@ -40,28 +40,28 @@ impl<'a> Cursor<'a> {
         }
     }
 
-    /// How many bytes lie behind.
+    /// Returns the number of bytes before the cursor.
     pub fn place(&self) -> usize
         ensures { result ≡ self.now.place }
     {
         self.place
     }
 
-    /// Whether bytes are left.
+    /// Returns whether bytes are left.
     pub fn has_left(&self) -> bool
         ensures { result ≡ not (length self.now.rest == 0) }
     {
         !self.rest.is_empty()
     }
 
-    /// The bytes that are left, as the slice of the input that they are.
+    /// Returns the bytes that are left, as a slice of the input.
     pub fn rest(&self) -> &'a [u8]
         ensures { result.now ≡ self.now.rest }
     {
         self.rest
     }
 
-    /// Another cursor at this place.
+    /// Returns another cursor at the same position.
     pub fn fork(&self) -> Cursor<'a>
         ensures { result ≡ self.now }
     {
@@ -71,7 +71,7 @@ impl<'a> Cursor<'a> {
         }
     }
 
-    /// The next `count` bytes, as a cursor at their front that ends with them.
+    /// Reads the next `count` bytes, and returns a cursor over them. It begins at the current place.
     pub fn part(&mut self, count: usize) -> Option<Cursor<'a>>
         ensures some { IsSome result ↔ HasLeft count self.old }
         ensures place { IfSome result (λ part. part.place ≡ self.old.place) }
@@ -84,7 +84,7 @@ impl<'a> Cursor<'a> {
         Some(Cursor { place, rest })
     }
 
-    /// The next `count` bytes, as the slice of the input that they are.
+    /// Reads the next `count` bytes, and returns them as a slice of the input.
     pub fn take(&mut self, count: usize) -> Option<&'a [u8]>
         ensures some { IsSome result ↔ HasLeft count self.old }
         ensures slice { IfSome result (λ bytes. bytes.now ≡ take count self.old.rest) }
@@ -100,7 +100,7 @@ impl<'a> Cursor<'a> {
         Some(front)
     }
 
-    /// The next byte.
+    /// Reads the next byte.
     pub fn u1(&mut self) -> Option<u8>
         ensures some { IsSome result ↔ HasLeft 1 self.old }
         ensures number { IfSome result (λ n. n ≡ big_number 1 self.old.rest) }
@@ -111,7 +111,7 @@ impl<'a> Cursor<'a> {
         Some(front[0])
     }
 
-    /// The next two bytes as a number.
+    /// Reads the next two bytes as a big-endian number.
     pub fn u2(&mut self) -> Option<u16>
         ensures some { IsSome result ↔ HasLeft 2 self.old }
         ensures number { IfSome result (λ n. n ≡ big_number 2 self.old.rest) }
@@ -122,7 +122,7 @@ impl<'a> Cursor<'a> {
         Some(BigEndian::read_u16(front))
     }
 
-    /// The next four bytes as a number.
+    /// Reads the next four bytes as a big-endian number.
     pub fn u4(&mut self) -> Option<u32>
         ensures some { IsSome result ↔ HasLeft 4 self.old }
         ensures number { IfSome result (λ n. n ≡ big_number 4 self.old.rest) }

@@ -1,4 +1,4 @@
-//! Descriptors of fields and methods, the forms in which class files write types (JVMS 4.3).
+//! Descriptors of fields and methods (JVMS 4.3).
 
 ghost use Rattle.std.specs.Prelude.{◌≡◌, ◌≢◌, ◌∷◌, [], ◌+◌, ◌<◌, ◌≤◌, ◌++◌, ◌↔◌};
 ghost use Rattle.std.specs.Prelude.{◌==◌, ◌||◌, ℕ, List, All, Option, Some, replicate, slice_index, position};
@@ -18,7 +18,7 @@ use std::marker::Model;
 
 const MOST_DIMS: usize = 255;
 
-/// A field descriptor, read: the type of a field, a local variable or a parameter (JVMS 4.3.2).
+/// A parsed field descriptor: the type of a field, a local variable or a parameter (JVMS 4.3.2).
 #[derive(Drop)]
 pub struct FieldDesc<'a> {
     dims: u8,
@@ -36,7 +36,8 @@ impl<'a> Model for FieldDesc<'a> {
 }
 
 impl<'a> FieldDesc<'a> {
-    /// Reads a whole text. `None` where it is no field descriptor, as with 256 dimensions.
+    /// Parses a whole text. Returns `None` if it is not a field descriptor. One with 256 dimensions, for example, is
+    /// not.
     pub fn read(text: &'a [u8]) -> Option<FieldDesc<'a>>
         ensures some { IsSome result ↔ IsFieldDescriptor text.now }
         ensures tree { IfSome result (IsField text.now) }
@@ -54,14 +55,14 @@ impl<'a> FieldDesc<'a> {
         }
     }
 
-    /// How many dimensions the type has: 0 where it is no array.
+    /// Returns the number of dimensions, which is 0 if the type is not an array.
     pub fn dims(&self) -> u8
         ensures { result ≡ self.now.dims }
     {
         self.dims
     }
 
-    /// The descriptor without its `[`: a primitive type's letter, or `L`, a class name and `;`.
+    /// Returns the descriptor without its `[`: the letter of a primitive type, or `L`, a class name and `;`.
     pub fn element(&self) -> &'a [u8]
         ensures element { result.now ≡ self.now.element }
         ensures no_array { IsElementType result.now }
@@ -69,7 +70,7 @@ impl<'a> FieldDesc<'a> {
         self.element
     }
 
-    /// How many slots a parameter of this type takes: two where it is a `long` or a `double`.
+    /// Returns the number of slots that a parameter of this type takes: two for a `long` or a `double`, otherwise one.
     pub fn slots(&self) -> u8
         ensures { result ≡ slots_of (field_text self.now) }
     {
@@ -81,7 +82,7 @@ impl<'a> FieldDesc<'a> {
     }
 }
 
-/// A method descriptor, read: the types of a method's parameters and of its result (JVMS 4.3.3).
+/// A parsed method descriptor: the types of the parameters and of the result of a method (JVMS 4.3.3).
 #[derive(Drop)]
 pub struct MethodDesc<'a> {
     params: &'a [u8],
@@ -105,8 +106,8 @@ impl<'a> Model for MethodDesc<'a> {
 impl<'a> MethodDesc<'a> {
     ghost use Rattle.jc_base.specs.Params.{params_left};
 
-    /// Reads a whole text. `None` where it is no method descriptor, as with parameters that take
-    /// 256 slots.
+    /// Parses a whole text. Returns `None` if it is not a method descriptor. One whose parameters take 256 slots, for
+    /// example, is not.
     pub fn read(text: &'a [u8]) -> Option<MethodDesc<'a>>
         ensures some { IsSome result ↔ IsMethodDescriptor text.now }
         ensures tree { IfSome result (IsMethod text.now) }
@@ -123,7 +124,7 @@ impl<'a> MethodDesc<'a> {
         })
     }
 
-    /// The parameters from left to right, each a field descriptor.
+    /// Returns the field descriptors of the parameters, from left to right.
     pub fn params(&self) -> Params<'a>
         ensures items { params_left result ≡ self.now.params }
         ensures each { All IsFieldDescriptor self.now.params }
@@ -132,7 +133,7 @@ impl<'a> MethodDesc<'a> {
         Params { rest: self.params }
     }
 
-    /// The result's field descriptor, or `None` for `V`.
+    /// Returns the field descriptor of the result, or `None` for `V`.
     pub fn result(&self) -> Option<&'a [u8]>
         ensures value { option_copied result ≡ self.now.result }
         ensures field { IfSome result (λ b. IsFieldDescriptor b.now) }
@@ -140,7 +141,7 @@ impl<'a> MethodDesc<'a> {
         self.result
     }
 
-    /// How many slots the parameters take, without the receiver of an instance method.
+    /// Returns the number of slots that the parameters take, without the receiver of an instance method.
     pub fn slots(&self) -> u8
         ensures { result ≡ sum_by slots_of self.now.params }
     {
@@ -148,11 +149,11 @@ impl<'a> MethodDesc<'a> {
     }
 }
 
-/// The parameters of a method descriptor, each a field descriptor.
+/// An iterator over the field descriptors of the parameters of a method.
 #[derive(Clone, Copy)]
 pub struct Params<'a> {
     rest: &'a [u8],
-    // Each takes a slot at least.
+    // Each parameter takes at least one slot.
     pub ghost few: { length (fields_of rest.now) ≤ 255 },
 }
 
@@ -173,26 +174,25 @@ impl<'a> Iterator for Params<'a> {
     }
 }
 
-/// A text is the descriptor of one type at most.
+/// States that a text is the descriptor of at most one type.
 pub fn descriptors_are_determined()
     ensures field { (b : List ℕ) (t u : FieldType) → IsField b t → IsField b u → t ≡ u }
     ensures method { (b : List ℕ) (t u : MethodType) → IsMethod b t → IsMethod b u → t ≡ u }
 {}
 
-/// The tests of descriptors that definitions compute with decide what the descriptors' definitions
-/// say.
+/// States that the functions `field_type_of` and `method_type_of` decide what the definitions of descriptors say.
 pub fn descriptors_are_decided()
     ensures field { (b : List ℕ) (t : FieldType) → (field_type_of b ≡ Some t) ↔ IsField b t }
     ensures method { (b : List ℕ) (t : MethodType) → (method_type_of b ≡ Some t) ↔ IsMethod b t }
 {}
 
-/// Descriptors are texts of modified UTF-8.
+/// States that descriptors are modified UTF-8.
 pub fn descriptors_are_well_spelled()
     ensures field { (b : List ℕ) → IsFieldDescriptor b → IsWellSpelled b }
     ensures method { (b : List ℕ) → IsMethodDescriptor b → IsWellSpelled b }
 {}
 
-/// Some descriptors with their types, and some texts that are none.
+/// States the types of some descriptors, and that some texts are not descriptors.
 pub fn descriptor_examples()
     ensures array { IsField (codes "[[Ljava/lang/String;")
         (record { dims = 2; element = codes "Ljava/lang/String;" }) }
@@ -219,8 +219,8 @@ const LONG: &[u8] = b"J";
 
 const DOUBLE: &[u8] = b"D";
 
-// The slots that the field descriptors in front take, and what comes after them. `None` where one
-// of them is none, or where they take too many slots.
+// Reads the field descriptors at the front of the text, and returns their slots and the text after them. Returns `None`
+// if one is not a field descriptor, or if they take more than 255 slots.
 fn read_params(text: &[u8]) -> Option<(u8, &[u8])>
     ensures found { IfSome result (λ r. ReadsParams text.now r.0 r.1.now) }
     ensures none { IfNone result (¬ AreParams (fields_of text.now)) }
@@ -234,7 +234,7 @@ fn read_params(text: &[u8]) -> Option<(u8, &[u8])>
     Some((slots, rest))
 }
 
-// A result's descriptor: `Some(None)` for `V`.
+// Returns the descriptor of the result: `Some(None)` for `V`.
 fn read_result(text: &[u8]) -> Option<Option<&[u8]>>
     ensures found { IfSome result (λ r. IsResult text.now (option_copied r)) }
     ensures none { IfNone result ((r : Option (List ℕ)) → ¬ IsResult text.now r) }
@@ -246,7 +246,7 @@ fn read_result(text: &[u8]) -> Option<Option<&[u8]>>
     Some(Some(text))
 }
 
-// The field descriptor in front, which is not judged, and what comes after it.
+// Splits the text after the field descriptor at its front. The name in the descriptor is not tested.
 fn split_field(text: &[u8]) -> Option<(&[u8], &[u8])>
     ensures found { IfSome result (λ r. HasInFront text.now r.0.now r.1.now) }
     ensures none { IfNone result (field_len text.now ≡ None) }
@@ -279,7 +279,7 @@ fn element_len(text: &[u8]) -> Option<usize>
     }
 }
 
-// Where the first `;` stands.
+// Returns the place of the first `;`.
 fn semicolon(text: &[u8]) -> Option<usize>
     ensures value { result ≡ position (λ c. c == 59) text.now }
     ensures within { IfSome result (λ place. place < length text.now) }
@@ -287,7 +287,7 @@ fn semicolon(text: &[u8]) -> Option<usize>
     text.iter().position(|byte| *byte == b';')
 }
 
-// How many `[` stand in front, and what comes after them.
+// Returns the number of `[` at the front of the text, and the text after them.
 fn split_dims(text: &[u8]) -> (usize, &[u8])
     ensures text { text.now ≡ replicate result.0 91 ++ result.1.now }
     ensures all { slice_index result.1.now 0 ≢ 91 }
@@ -320,7 +320,7 @@ fn is_class_type(text: &[u8]) -> bool
     }
 }
 
-// What stands between a first `L` and a last `;`.
+// Returns the text between `L` at the front and `;` at the end.
 fn name_within(text: &[u8]) -> Option<&[u8]>
     ensures { MatchOption result
         ((name : List ℕ) → text.now ≢ codes "L" ++ name ++ codes ";")

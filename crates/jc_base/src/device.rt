@@ -1,33 +1,36 @@
-//! The devices that a run reads and writes.
+//! The traits of the devices that a run reads and writes.
 ghost use Rattle.std.specs.Prelude.{◌≡◌, ◌+◌, ◌<◌, ◌≤◌, ◌^◌, Bool};
 ghost use Rattle.std.specs.Prelude.{ℕ, List, Option, length, false, true, IfOk, MatchResult};
 ghost use Rattle.std.specs.Io.KnownBytes.{IsAtEnd, ReadConsumes, WriteAppends};
 ghost use Rattle.jc_base.specs.Device.{CountsFault, MoreFaults};
 
-/// A call of a device failed. The cause is not kept, and no failed call is tried again.
+/// The error of a device call that failed. The cause is not kept, and no call that failed is tried again.
 #[derive(Clone, Copy, Debug, PartialEq, Eq)]
 pub struct DeviceFault;
 
-/// Bytes that come in.
+/// A device from which bytes are read.
 pub trait Input {
-    /// The bytes that reads hand over from here on unless one fails, where they are known.
+    /// The bytes that reads return from here on if none fails, or `None` if they are not known.
     ghost remaining: { Self → Option (List ℕ) };
 
-    /// How often a read has failed, up to the top of a `u64`.
+    /// The number of reads that failed, at most 2^64 - 1.
     ghost failures: { Self → ℕ };
 
-    /// At most so many bytes are still handed over.
+    /// An upper bound on the number of bytes that reads still return.
     ghost bound: { Self → ℕ };
 
     /// Whether it is known that the input has ended.
     ghost ended: { Self → Bool };
 
-    /// Whether it is known that the input has ended: it is not read again. No memory.
+    /// Returns whether it is known that the input has ended. An input that has ended is not read again. Does not
+    /// allocate.
     fn has_ended(&self) -> bool
         ensures { result ≡ ended self.now };
 
-    /// At `Ok(n)` the first `n` bytes of `buffer` are handed over. `Ok(0)` with some room means that
-    /// the input has ended. One that has ended is not read: a terminal would want its end twice.
+    /// Reads bytes into the front of `buffer`, and returns their number.
+    ///
+    /// `Ok(0)` for a buffer that is not empty means that the input has ended. An input that has ended must not be read:
+    /// a terminal would need a second end of file.
     fn read(&mut self, buffer: &mut [u8]) -> Result<usize, DeviceFault>
         requires { ended self.old ≡ false }
         ensures room { IfOk result (λ n. n ≤ length buffer.new) }
@@ -43,15 +46,15 @@ pub trait Input {
     ghost ended_at_end: { (device : Self) → ended device ≡ true → IsAtEnd (remaining device) };
 }
 
-/// Bytes that go out.
+/// A device to which bytes are written.
 pub trait Output {
-    /// All the bytes that were written, where they are known.
+    /// All bytes that were written, or `None` if they are not known.
     ghost written: { Self → Option (List ℕ) };
 
-    /// How often a write has failed, up to the top of a `u64`.
+    /// The number of writes that failed, at most 2^64 - 1.
     ghost failures: { Self → ℕ };
 
-    /// At `Ok(n)` the first `n` bytes are written, at least one of them if there are any.
+    /// Writes the first bytes, at least one of them if there are any, and returns their number.
     fn write(&mut self, bytes: &[u8]) -> Result<usize, DeviceFault>
         ensures room { IfOk result (λ n. n ≤ length bytes.now) }
         ensures some { 0 < length bytes.now → IfOk result (λ n. 0 < n) }
@@ -59,7 +62,7 @@ pub trait Output {
         ensures failures { CountsFault result (failures self.old) (failures self.new) };
 }
 
-/// Counts one more failure, up to the top of a `u64`, and tells it.
+/// Counts one more failure, up to 2^64 - 1, and returns the error.
 pub(crate) fn one_more(failures: &mut u64) -> DeviceFault
     ensures { MoreFaults failures.old failures.new × (failures.old ≤ failures.new) }
 {

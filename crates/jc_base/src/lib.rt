@@ -1,5 +1,11 @@
-//! What every layer of jclink stands on: a cursor over bytes, devices, modified UTF-8, the names of
-//! the Java Virtual Machine, and an ordered map keyed by byte strings.
+//! What all other crates use: bytes, devices, and the texts of the Java Virtual Machine.
+//!
+//! [`Cursor`] reads bytes. [`Input`] and [`Output`] are the traits of devices, over memory ([`MemInput`],
+//! [`MemOutput`]) or over std ([`StdInput`], [`StdOutput`]). [`ByteMap`] is an ordered map with byte strings as keys.
+//! Other modules decide modified UTF-8, names, descriptors ([`FieldDesc`], [`MethodDesc`]) and signatures.
+//!
+//! The contracts refer to the grammars of the JVMS (4.2, 4.3, 4.4.7, 4.7.9.1). [`NoMemory`] is the error of functions
+//! that fail only when an allocation fails.
 #![tactic(auto)]
 
 pub mod byte_map;

@@ -12,7 +12,7 @@ use crate::no_memory::NoMemory;
 use std::alloc::Global;
 use std::marker::Model;
 
-/// An input that hands over given bytes, and then ends or fails.
+/// An input over given bytes, after which it ends or fails.
 #[derive(Drop)]
 pub struct MemInput<'a> {
     rest: &'a [u8],
@@ -20,7 +20,7 @@ pub struct MemInput<'a> {
     failures: u64,
 }
 
-/// An output that keeps what is written, up to the room that it was made with.
+/// An output that keeps the bytes that are written, up to a fixed number.
 #[derive(Drop)]
 pub struct MemOutput {
     bytes: Vec<u8>,
@@ -37,7 +37,7 @@ impl<'a> Model for MemInput<'a> {
 }
 
 impl<'a> MemInput<'a> {
-    /// After its bytes the input fails at each further read if `fails`, and else it has ended.
+    /// Creates an input over these bytes. After them, each read fails if `fails` is set; otherwise the input ends.
     pub fn new(bytes: &'a [u8], fails: bool) -> MemInput<'a>
         ensures state { result ≡ record { remaining = bytes.now; fails = fails; failures = 0 } }
         ensures bound { ⟦<MemInput<'a> as Input>⟧.bound result ≡ length bytes.now }
@@ -59,7 +59,7 @@ impl<'a> Input for MemInput<'a> {
 
     ghost ended = { has_ended };
 
-    /// It ends with its bytes, unless it fails then.
+    /// Returns whether no bytes are left and reads do not fail.
     fn has_ended(&self) -> bool
         ensures { result ≡ has_ended self.now }
     {
@@ -76,10 +76,10 @@ impl<'a> Input for MemInput<'a> {
             (λ n. mem_allowance self.new + n ≤ mem_allowance self.old)
             (λ _. mem_allowance self.new ≤ mem_allowance self.old) }
 
-        // It fails only after its bytes, and only if it was made so.
+        // A read fails only after the last byte, and only if `fails` was set.
         ensures fails { IsErr result ↔ (IsTrue self.old.fails × (self.old.remaining ≡ []) × (0 < length buffer.old)) }
 
-        // It hands over what fits, and changes nothing else.
+        // A read returns as many bytes as fit, and changes nothing else.
         ensures most { IfOk result (λ n. n ≡ min (length buffer.old) (length self.old.remaining)) }
         ensures ok { IfOk result (λ n. self.new ≡ record self.old { remaining = drop n self.old.remaining }) }
         ensures err { OnErr result (self.new ≡ record self.old { failures = more self.old.failures 1 }) }
@@ -108,7 +108,8 @@ impl Model for MemOutput {
 }
 
 impl MemOutput {
-    /// Takes the memory for `room` bytes at once.
+    /// Creates an output for at most `room` bytes, which are allocated at once. Returns `NoMemory` only when an
+    /// allocation fails.
     pub fn new(alloc: Global, room: usize) -> Result<MemOutput, NoMemory>
         ensures ok { IfOk result (λ output. output ≡ record { written = []; room = room; failures = 0 }) }
         ensures none { room ≡ 0 → IsOk result }
@@ -120,7 +121,7 @@ impl MemOutput {
         })
     }
 
-    /// What was written.
+    /// Returns the bytes that were written.
     pub fn bytes(&self) -> &[u8]
         ensures { result.now ≡ self.now.written }
     {
@@ -139,10 +140,10 @@ impl Output for MemOutput {
         ensures bytes { WriteAppends (Some self.old.written) (Some self.new.written) result bytes.now }
         ensures failures { CountsFault result self.old.failures self.new.failures }
 
-        // It fails only where no room is left.
+        // A write fails only if no room is left.
         ensures full { IsErr result ↔ ((length self.old.written ≡ self.old.room) × (0 < length bytes.now)) }
 
-        // It takes what fits, and changes nothing else.
+        // A write takes as many bytes as fit, and changes nothing else.
         ensures most { IfOk result (λ n. n ≡ min (length bytes.now) (self.old.room - length self.old.written)) }
         ensures ok { IfOk result (λ n. self.new ≡ record self.old { written = self.old.written ++ take n bytes.now }) }
         ensures err { OnErr result (self.new ≡ record self.old { failures = more self.old.failures 1 }) }

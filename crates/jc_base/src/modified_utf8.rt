@@ -1,4 +1,4 @@
-//! Modified UTF-8, in which class files write their texts (JVMS 4.4.7).
+//! Modified UTF-8, the encoding of texts in class files (JVMS 4.4.7).
 
 ghost use Rattle.std.specs.Prelude.{◌≡◌, ℕ, ◌+◌, ◌*◌, ◌<◌, ◌≤◌, ◌↔◌, List, [], ◌∷◌, ◌++◌};
 ghost use Rattle.std.specs.Prelude.{◌&&◌, nat_lt, length, take, All, Contains, IsOk, IfOk, IfErr, IfSome, OnSome, is_ok, is_some};
@@ -10,9 +10,10 @@ ghost use Rattle.jc_base.specs.FirstUnit.{six_bits, two_byte_unit, three_byte_un
 
 use std::alloc::{AllocError, Global};
 
-/// Whether `text` is modified UTF-8: the error is the length of its longest well spelled front.
+/// Checks that `text` is modified UTF-8 (JVMS 4.4.7). If it is not, returns the length of its longest prefix that is.
 ///
-/// Surrogates may stand alone, and each unit has one spelling: an overlong one is an error.
+/// A surrogate does not need its pair. Each unit has one encoding, and an overlong encoding is an error. Does not
+/// allocate.
 pub fn check_units(text: &[u8]) -> Result<(), usize>
     ensures ok { IsOk result ↔ IsWellSpelled text.now }
     ensures computed { is_ok result ≡ is_some (units_of text.now) }
@@ -31,7 +32,7 @@ pub fn check_units(text: &[u8]) -> Result<(), usize>
     Ok(())
 }
 
-// Whether each byte is a unit by itself, as in nearly all texts.
+// Returns whether each byte is a unit by itself, which is true of most texts.
 fn is_plain(text: &[u8]) -> bool
     ensures { result ≡ list_all (λ byte. nat_lt 0 byte && nat_lt byte 0x80) text.now }
 {
@@ -48,8 +49,10 @@ fn is_plain_byte(byte: u8) -> bool
     0 < byte && byte < 0x80
 }
 
-/// The UTF-16 code units that `text` spells. A text that is not modified UTF-8 is told first: the
-/// memory for the units is asked for only after the whole text was checked.
+/// Returns the UTF-16 code units that `text` encodes.
+///
+/// Returns `Bad` whenever the text is not modified UTF-8: it is checked before anything is allocated. Returns
+/// `NoMemory` only when an allocation fails.
 pub fn units(alloc: Global, text: &[u8]) -> Result<Vec<u16>, UnitsError>
     ensures ok { IfOk result (λ units. Spells units.items text.now) }
     ensures bad { (place : ℕ) →
@@ -76,19 +79,19 @@ fn spelled_units(alloc: Global, text: &[u8]) -> Result<Vec<u16>, AllocError>
     Ok(units)
 }
 
-/// Why the units of a text were not given.
+/// The reason why a text has no units.
 #[derive(Clone, Copy, Debug, PartialEq, Eq)]
 pub enum UnitsError {
-    /// The text is not modified UTF-8: its longest well spelled front has so many bytes.
+    /// The text is not modified UTF-8. The number is the length of its longest prefix that is.
     Bad(usize),
-    /// Memory ran out.
+    /// An allocation failed.
     NoMemory,
 }
 
 impl UnitsError {
     ghost use Rattle.jc_base.specs.ModifiedUtf8.{units_error_code};
 
-    /// Returns the number of the error, from 1, in the order of the variants.
+    /// Returns the number of the error: 1 for `Bad`, 2 for `NoMemory`.
     pub fn code(&self) -> u8
         ensures { result ≡ units_error_code self.now }
     {
@@ -107,7 +110,7 @@ impl From<AllocError> for UnitsError {
     }
 }
 
-// The unit at the front of `text`, and how many bytes spell it.
+// Returns the unit at the front of `text`, and the number of bytes that encode it.
 #[tactic(auto, unfolding(crate::specs::FirstUnit::first_unit))]
 pub(crate) fn unit_at(text: &[u8]) -> Option<(u16, usize)>
     ensures value { result ≡ first_unit text.now }
@@ -122,7 +125,7 @@ pub(crate) fn unit_at(text: &[u8]) -> Option<(u16, usize)>
     }
 }
 
-// The unit that `110xxxxx 10xxxxxx` spells, unless it has a shorter spelling.
+// Returns the unit that `110xxxxx 10xxxxxx` encodes, unless it has a shorter encoding.
 #[tactic(auto, unfolding(crate::specs::FirstUnit::two_byte_unit))]
 fn two_byte_unit(first: u8, text: &[u8]) -> Option<u16>
     ensures value { result ≡ two_byte_unit first text.now }
@@ -136,7 +139,7 @@ fn two_byte_unit(first: u8, text: &[u8]) -> Option<u16>
     }
 }
 
-// The unit that `1110xxxx 10xxxxxx 10xxxxxx` spells, unless it has a shorter spelling.
+// Returns the unit that `1110xxxx 10xxxxxx 10xxxxxx` encodes, unless it has a shorter encoding.
 #[tactic(auto, unfolding(crate::specs::FirstUnit::three_byte_unit))]
 fn three_byte_unit(first: u8, text: &[u8]) -> Option<u16>
     ensures value { result ≡ three_byte_unit first text.now }
@@ -147,7 +150,7 @@ fn three_byte_unit(first: u8, text: &[u8]) -> Option<u16>
     if unit >= 0x800 { Some(unit) } else { None }
 }
 
-// The bits that the byte `10xxxxxx` at `place` adds to a unit.
+// Returns the six bits that the byte `10xxxxxx` at `place` adds to a unit.
 #[tactic(auto, unfolding(crate::specs::FirstUnit::six_bits))]
 fn six_bits(text: &[u8], place: usize) -> Option<u16>
     ensures value { result ≡ six_bits text.now place }
@@ -160,7 +163,7 @@ fn six_bits(text: &[u8], place: usize) -> Option<u16>
     }
 }
 
-// `high` with six more bits below it.
+// Returns `high` with six more bits after its own.
 fn with_six_bits(high: u16, low: u16) -> u16
     requires high { high < 1024 }
     requires low { low < 64 }
@@ -169,8 +172,7 @@ fn with_six_bits(high: u16, low: u16) -> u16
     (high << 6) | low
 }
 
-/// What the reader finds at the front of its bytes is what is spelled there, and it finds all that
-/// is spelled.
+/// States that the unit that `first_unit` finds is the one that is encoded at the front, and that it finds every unit.
 pub fn first_unit_is_spelled()
     ensures found { (bytes : List ℕ) (u n : ℕ) → first_unit bytes ≡ Some (u, n) →
         IsUnit u × (take n bytes ≡ spelling u) × (n ≡ length (spelling u)) }
@@ -178,25 +180,25 @@ pub fn first_unit_is_spelled()
         first_unit (spelling u ++ rest) ≡ Some (u, length (spelling u)) }
 {}
 
-/// No bytes spell two lists of units, and a text has one longest well spelled front at most.
+/// States that bytes encode at most one list of units. A text has at most one longest prefix that is modified UTF-8.
 pub fn units_are_determined()
     ensures units { (us vs bytes : List ℕ) → Spells us bytes → Spells vs bytes → us ≡ vs }
     ensures fronts { (bytes : List ℕ) (m n : ℕ) →
         IsLongestFront bytes m → IsLongestFront bytes n → m ≡ n }
 {}
 
-/// No byte of a text is 0 or lies from 0xf0 to 0xff (JVMS 4.4.7).
+/// States that the bytes of a text are from 0x01 to 0xef (JVMS 4.4.7).
 pub fn bytes_are_in_range()
     ensures { (bytes : List ℕ) → IsWellSpelled bytes → All (λ b. (0 < b) × (b < 0xf0)) bytes }
 {}
 
-/// A character from 0x01 to 0x7f stands among the units where its byte stands among the bytes.
+/// States that a text contains a character from 0x01 to 0x7f if and only if its bytes contain that byte.
 pub fn ascii_stands_for_itself()
     ensures { (us bytes : List ℕ) (c : ℕ) →
         Spells us bytes → 0 < c → c < 0x80 → (Contains us c ↔ Contains bytes c) }
 {}
 
-/// What some texts spell, and some bytes that are no texts.
+/// States the bytes of some texts, and that some bytes are not modified UTF-8.
 pub fn spelling_examples()
     ensures capital_a { spelled (0x41 ∷ []) ≡ 0x41 ∷ [] }
     ensures zero { spelled (0 ∷ []) ≡ 0xc0 ∷ 0x80 ∷ [] }

@@ -1,4 +1,4 @@
-//! Names of classes, interfaces, fields and methods, as class files write them (JVMS 4.2).
+//! Tests of the names of classes, interfaces, fields and methods (JVMS 4.2).
 
 ghost use Rattle.std.specs.Prelude.{◌≡◌, ◌↔◌, ◌<◌, true, ℕ, List, Some, Contains, IsTrue, codes};
 ghost use Rattle.std.specs.List.{list_all};
@@ -10,8 +10,8 @@ ghost use Rattle.jc_base.specs.TextTests.{units_of, is_unqualified_text, is_meth
 
 use crate::modified_utf8::check_units;
 
-/// Whether `text` is an unqualified name, as a field or a local variable has (JVMS 4.2.2): at least
-/// one character and none of `.`, `;`, `[` and `/`.
+/// Returns whether `text` is an unqualified name, for example of a field or a local variable (JVMS 4.2.2). Such a name
+/// has at least one character, and none of `.`, `;`, `[` and `/`. Does not allocate.
 pub fn is_unqualified(text: &[u8]) -> bool
     ensures name { IsTrue result ↔ IsUnqualifiedName text.now }
     ensures computed { result ≡ is_unqualified_text text.now }
@@ -19,7 +19,7 @@ pub fn is_unqualified(text: &[u8]) -> bool
     is_plain_name(text) || is_spelled_name(text)
 }
 
-// The same by the code units of the text.
+// Returns whether `text` is an unqualified name, by its code units.
 fn is_spelled_name(text: &[u8]) -> bool
     ensures name { IsTrue result ↔ IsUnqualifiedName text.now }
     ensures computed { result ≡ is_unqualified_text text.now }
@@ -27,7 +27,7 @@ fn is_spelled_name(text: &[u8]) -> bool
     !text.is_empty() && check_units(text).is_ok() && lacks_name_stops(text)
 }
 
-// Whether `text` is an unqualified name of characters below 0x80, as nearly all are.
+// Returns whether `text` is an unqualified name whose characters are below 0x80, as most are.
 fn is_plain_name(text: &[u8]) -> bool
     ensures { IsTrue result → IsUnqualifiedName text.now }
 {
@@ -44,15 +44,15 @@ fn are_plain(text: &[u8]) -> bool
     are_plain
 }
 
-// Whether the byte is a character below 0x80 that an unqualified name may have.
+// Returns whether the byte is a character below 0x80 that an unqualified name may contain.
 fn is_plain_byte(byte: u8) -> bool
     ensures { result ≡ is_plain_byte byte }
 {
     place_behind(BEGINS, byte) == WITHIN
 }
 
-/// Whether `text` is a method's name (JVMS 4.2.2): `<init>`, `<clinit>` or an unqualified name
-/// without `<` and `>`.
+/// Returns whether `text` is the name of a method (JVMS 4.2.2): `<init>`, `<clinit>` or an unqualified name without `<`
+/// and `>`. Does not allocate.
 pub fn is_method_name(text: &[u8]) -> bool
     ensures name { IsTrue result ↔ IsMethodName text.now }
     ensures computed { result ≡ is_method_name_text text.now }
@@ -60,8 +60,8 @@ pub fn is_method_name(text: &[u8]) -> bool
     is_special_method_name(text) || (is_unqualified(text) && lacks_method_name_stops(text))
 }
 
-/// Whether `text` is a class or interface name in its internal form (JVMS 4.2.1): unqualified names
-/// with `/` between them, as `java/lang/Object`.
+/// Returns whether `text` is a class or interface name in its internal form (JVMS 4.2.1). Such a name is one or more
+/// unqualified names, separated by `/`, for example `java/lang/Object`. Does not allocate.
 pub fn is_class_name(text: &[u8]) -> bool
     ensures name { IsTrue result ↔ IsClassName text.now }
     ensures computed { result ≡ is_class_text text.now }
@@ -69,7 +69,7 @@ pub fn is_class_name(text: &[u8]) -> bool
     is_plain_class_name(text) || text.split(|byte| *byte == b'/').all(is_unqualified)
 }
 
-// Whether `text` is a class name of characters below 0x80, as nearly all are.
+// Returns whether `text` is a class name whose characters are below 0x80, as most are.
 fn is_plain_class_name(text: &[u8]) -> bool
     ensures { result ≡ are_plain_parts true text.now }
 {
@@ -80,13 +80,13 @@ fn is_plain_class_name(text: &[u8]) -> bool
     place == WITHIN
 }
 
-// The places in a class name of characters below 0x80: where a part begins, within a part, and after bytes with which no
-// such name begins (2).
+// The states of a pass over a class name whose characters are below 0x80. In state 0 a part begins, and state 1 is
+// within a part. State 2 follows bytes with which no such name begins.
 const BEGINS: u8 = 0;
 
 const WITHIN: u8 = 1;
 
-// The place after a byte at a place.
+// Returns the state after a byte.
 fn place_behind(place: u8, byte: u8) -> u8
     requires { place < 3 }
     ensures { result ≡ place_behind place byte }
@@ -94,7 +94,7 @@ fn place_behind(place: u8, byte: u8) -> u8
     PLACES[place as usize][byte as usize]
 }
 
-// For each place, the place after each byte.
+// For each state, the state after each byte.
 #[rattlefmt::skip]
 static PLACES: [[u8; 256]; 3] = [
     [
@@ -163,13 +163,13 @@ fn is_method_name_byte(byte: &u8) -> bool
     !matches!(*byte, b'<' | b'>')
 }
 
-/// Names are texts of modified UTF-8.
+/// States that names are modified UTF-8.
 pub fn names_are_well_spelled()
     ensures class { (b : List ℕ) → IsClassName b → IsWellSpelled b }
     ensures method { (b : List ℕ) → IsMethodName b → IsWellSpelled b }
 {}
 
-/// The tests of texts that definitions compute with decide what the names' definitions say.
+/// States that the functions of `TextTests` decide what the definitions of names say.
 pub fn texts_are_decided()
     ensures units { (b us : List ℕ) → (units_of b ≡ Some us) ↔ Spells us b }
     ensures unqualified { (b : List ℕ) → IsTrue (is_unqualified_text b) ↔ IsUnqualifiedName b }
@@ -177,7 +177,7 @@ pub fn texts_are_decided()
     ensures class { (b : List ℕ) → IsTrue (is_class_text b) ↔ IsClassName b }
 {}
 
-/// Some names, and some texts that are none.
+/// States that some texts are names, and that some are not.
 pub fn name_examples()
     ensures word { IsUnqualifiedName (codes "word") }
     ensures bracketed { IsUnqualifiedName (codes "<x>") }

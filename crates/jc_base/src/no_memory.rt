@@ -1,10 +1,10 @@
-//! The error of what fails for want of memory alone.
+//! The error of functions that fail only when an allocation fails.
 ghost use Rattle.std.specs.Prelude.{◌≡◌};
 ghost use Rattle.jc_base.specs.declared.no_memory.NoMemory.{NoMemory};
 
 use std::alloc::{AllocError, AllocFailed};
 
-/// No memory was given. Nothing else makes such a call fail.
+/// The error of a failed allocation. A function with this error type fails for no other reason.
 #[derive(Clone, Copy, Debug, PartialEq, Eq)]
 pub struct NoMemory;
 

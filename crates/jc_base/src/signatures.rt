@@ -1,4 +1,4 @@
-//! Signatures, which tell of type variables and parameterized types (JVMS 4.7.9.1).
+//! Signatures of classes, methods and fields, which use type variables and parameterized types (JVMS 4.7.9.1).
 
 ghost use Rattle.std.specs.Prelude.{◌≡◌, ◌≢◌, ◌<◌, ◌++◌, ◌↔◌, ◌∷◌, [], ◌==◌, ℕ};
 ghost use Rattle.std.specs.Prelude.{codes, List, position, Option, length, IsOk, IsTrue, IfOk, OnOk, IfSome, MatchOption};
@@ -19,7 +19,7 @@ use crate::modified_utf8::check_units;
 use crate::no_memory::NoMemory;
 use std::alloc::Global;
 
-/// What a signature is of.
+/// The kind of element that a signature describes.
 #[derive(Clone, Copy)]
 pub enum SigKind {
     /// A class or an interface.
@@ -30,17 +30,17 @@ pub enum SigKind {
     Field,
 }
 
-/// Signatures are texts of modified UTF-8.
+/// States that signatures are modified UTF-8.
 pub fn signatures_are_well_spelled()
     ensures { (kind : SigKind) (b : List ℕ) → IsSignature kind b → IsWellSpelled b }
 {}
 
-/// The test of signatures that definitions compute with decides what the grammar says.
+/// States that the function `is_signature` decides what the grammar says.
 pub fn signatures_are_decided()
     ensures { (kind : SigKind) (b : List ℕ) → IsTrue (is_signature kind b) ↔ IsSignature kind b }
 {}
 
-/// Some signatures, and some texts that are none.
+/// States that some texts are signatures, and that some are not.
 pub fn signature_examples()
     ensures variable { IsSignature SigKind.Field (codes "TT;") }
     ensures empty_bound { IsSignature SigKind.Class (codes "<A:Tx:Lo;>Lb;") }
@@ -49,8 +49,8 @@ pub fn signature_examples()
     ensures bytes_left { ¬ IsSignature SigKind.Field (codes "TT;x") }
 {}
 
-// What is still owed of a signature: an entry of the stack. `specs/inside/Owed` says which symbols of the
-// grammar each stands for.
+// What must still follow in a signature: an entry of the parser's stack. `specs/inside/Owed` maps each entry to symbols
+// of the grammar.
 #[derive(Clone, Copy)]
 enum Owed {
     Class,
@@ -74,11 +74,11 @@ enum Owed {
     Bounds,
 }
 
-// What is owed in place of an entry once its beginning was read, the first before the second.
+// The entries that replace an entry after its beginning was read. The first must follow before the second.
 #[derive(Clone, Copy)]
 struct After(Option<Owed>, Option<Owed>);
 
-// A beginning of a text that was read: what is owed after it, and what is left.
+// The result of a step: the entries that must follow, and the text that is left.
 #[derive(Clone, Copy)]
 struct Step<'a> {
     after: After,
@@ -166,7 +166,7 @@ fn suffixes(first: u8) -> Option<Option<Owed>>
     }
 }
 
-// What follows the name of a class.
+// Reads what follows the name of a class.
 fn name_end(first: u8) -> Option<Option<Owed>>
     ensures { GivesEntry (Maybe Arguments ∷ Many Suffix ∷ Mark 59 ∷ []) first result }
 {
@@ -260,7 +260,7 @@ fn is_stop(byte: u8) -> bool
     b".;[/<>:".contains(&byte)
 }
 
-// The place of the first byte that no identifier has.
+// Returns the place of the first byte that no identifier contains.
 fn stop_place(text: &[u8]) -> Option<usize>
     ensures value { result ≡ position (λ c. list_any (λ stop. stop == c) identifier_stops) text.now }
     ensures within { IfSome result (λ place. place < length text.now) }
@@ -268,7 +268,8 @@ fn stop_place(text: &[u8]) -> Option<usize>
     text.iter().position(|byte| is_stop(*byte))
 }
 
-// What stands before the first byte that no identifier has, that byte, and what comes after it.
+// Splits the text at its first byte that no identifier contains. Returns the text before the byte, the byte, and the
+// text after it.
 fn cut_name(text: &[u8]) -> Option<(&[u8], u8, &[u8])>
     ensures { MatchOption result (Lacks text.now identifier_stops) (λ r. IsCut text.now r.0.now r.1 r.2.now) }
 {
@@ -282,7 +283,7 @@ fn is_text(name: &[u8]) -> bool
     !name.is_empty() && check_units(name).is_ok()
 }
 
-// The byte at which the identifier in front ends, and what comes after it.
+// Reads an identifier. Returns the byte that ends it, and the text after that byte.
 fn read_name(text: &[u8]) -> Option<(u8, &[u8])>
     ensures { MatchOption result (BeginsWithNoName text.now) (λ r. BeginsWithName text.now r.0 r.1.now) }
 {
@@ -390,7 +391,7 @@ fn bounds(text: &[u8]) -> Option<Step<'_>>
     }
 }
 
-// A name that ends at `:` is the next parameter's, also where it begins as a type does.
+// A name that ends at `:` is the name of the next type parameter, even if it begins as a type does.
 fn class_bound(text: &[u8]) -> Option<Step<'_>>
     ensures { GivesStep (symbols_of Owed.ClassBound) text.now result }
 {
@@ -407,8 +408,8 @@ fn class_bound(text: &[u8]) -> Option<Step<'_>>
     }
 }
 
-// Reads off the front of `text` what belongs to the entry, and says what it owes after that. Each
-// step reads a byte or more.
+// Reads the beginning of an entry from the front of `text`, and returns the entries that must follow. Each step reads
+// at least one byte.
 fn advance(entry: Owed, text: &[u8]) -> Option<Step<'_>>
     ensures { GivesStep (symbols_of entry) text.now result }
 {
@@ -447,7 +448,7 @@ fn start(kind: SigKind) -> Owed
     }
 }
 
-// What may follow any number of times.
+// Returns the entry that may follow any number of times when the stack is empty.
 fn repeated(kind: SigKind) -> Option<Owed>
     ensures { GivesRepeated kind result }
 {
@@ -467,7 +468,7 @@ fn next_entry(stack: &mut Vec<Owed>, kind: SigKind) -> Option<Owed>
     }
 }
 
-// Takes the entry at the top of the stack and goes one step on with it.
+// Pops the top of the stack, and takes one step with it.
 fn next_step<'a>(stack: &mut Vec<Owed>, kind: SigKind, text: &'a [u8]) -> Option<Step<'a>>
     requires { 0 < length text.now }
     ensures { GivesStackStep kind stack.old.items stack.new.items text.now result }
@@ -494,8 +495,8 @@ fn push_after(stack: &mut Vec<Owed>, after: After) -> Result<(), NoMemory>
     push(stack, after.0)
 }
 
-/// Whether `text` is a signature of this kind (JVMS 4.7.9.1). A text that is not modified UTF-8 is
-/// none.
+/// Returns whether `text` is a signature of this kind (JVMS 4.7.9.1). A signature is always modified UTF-8. Returns
+/// `NoMemory` only when an allocation fails.
 pub fn check_signature(alloc: Global, kind: SigKind, text: &[u8]) -> Result<bool, NoMemory>
     ensures ok { IfOk result (λ holds. IsTrue holds ↔ IsSignature kind text.now) }
     ensures test { IfOk result (λ holds. holds ≡ is_signature kind text.now) }
@@ -513,7 +514,7 @@ pub fn check_signature(alloc: Global, kind: SigKind, text: &[u8]) -> Result<bool
         };
         push_after(&mut stack, step.after)?;
         rest = step.rest;
-        // Each entry takes a byte or more.
+        // Each entry needs at least one byte.
         if stack.len() > rest.len() {
             return Ok(false);
         }

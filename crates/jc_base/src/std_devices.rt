@@ -1,4 +1,4 @@
-//! Devices over std's readers and writers.
+//! Devices over readers and writers of std.
 ghost use Rattle.std.specs.Prelude.{◌≡◌, ◌+◌, ◌<◌, ◌≤◌, ◌^◌, ◌==◌, ◌&&◌, []};
 ghost use Rattle.std.specs.Prelude.{nat_lt, false, true, IfOk, IsErr, MatchResult, OnErr, length, unwrap_or};
 ghost use Rattle.std.proofs.Common.{arith};
@@ -8,11 +8,13 @@ ghost use Rattle.jc_base.specs.Device.{CountsFault};
 use crate::device::{DeviceFault, Input, Output, one_more};
 use std::io::{Read, Write};
 
-/// So many bytes an input hands over at most.
+/// The maximum number of bytes that an input returns.
 const MOST_BYTES: u64 = 1 << 62;
 
-/// An input over a reader of std's. Each error of the reader is a failure, an interruption too, and
-/// so is a read into some room once 2^62 bytes were handed over.
+/// An input over a reader of std.
+///
+/// Each error of the reader is a failure, even an interruption. After 2^62 bytes, a read into a buffer that is not
+/// empty fails.
 #[derive(Drop)]
 pub struct StdInput<R: Read> {
     inner: R,
@@ -23,8 +25,10 @@ pub struct StdInput<R: Read> {
     ghost at_end: { ended ≡ true → unwrap_or (R.remaining inner) [] ≡ [] },
 }
 
-/// An output over a writer of std's. Each error of the writer is a failure, an interruption too, and
-/// so is a write of some bytes that takes none.
+/// An output over a writer of std.
+///
+/// Each error of the writer is a failure, even an interruption. A write of some bytes that takes none of them is a
+/// failure too.
 #[derive(Drop)]
 pub struct StdOutput<W> {
     inner: W,
@@ -34,7 +38,7 @@ pub struct StdOutput<W> {
 impl<R: Read> StdInput<R> {
     ghost use Rattle.jc_base.specs.StdDevices.{input_reader, input_allowance, input_ended, input_failures};
 
-    /// An input that has handed over nothing yet, and has neither failed nor ended.
+    /// Creates an input that has returned no bytes, and has neither failed nor ended.
     pub fn new(inner: R) -> StdInput<R>
         ensures reader { input_reader result ≡ inner }
         ensures allowance { input_allowance result ≡ 2 ^ 62 }
@@ -49,7 +53,7 @@ impl<R: Read> StdInput<R> {
         }
     }
 
-    /// The reader, where the reads so far have left it.
+    /// Returns the reader, in the state after the reads so far.
     pub fn into_inner(self) -> R
         ensures { result ≡ input_reader self }
     {
@@ -69,7 +73,7 @@ impl<R: Read + Drop> Input for StdInput<R> {
 
     ghost ended = { input_ended };
 
-    /// Whether a read into some room has handed over nothing.
+    /// Returns whether a read into a buffer that is not empty has returned no bytes.
     fn has_ended(&self) -> bool
         ensures { result ≡ input_ended self.now }
     {
@@ -81,7 +85,7 @@ impl<R: Read + Drop> Input for StdInput<R> {
         ensures room { IfOk result (λ n. n ≤ length buffer.new) }
         ensures bytes { ReadConsumes (R.remaining (input_reader self.old)) (R.remaining (input_reader self.new)) result buffer.new }
 
-        // It has ended where a read into some room hands over nothing, and nowhere else.
+        // The input ends when a read into a buffer that is not empty returns no bytes, and at no other read.
         ensures ended { IfOk result (λ n. input_ended self.new ≡ (n == 0 && nat_lt 0 (length buffer.new))) }
         ensures unended { OnErr result (input_ended self.new ≡ false) }
         ensures failures { CountsFault result (input_failures self.old) (input_failures self.new) }
@@ -89,7 +93,7 @@ impl<R: Read + Drop> Input for StdInput<R> {
             (λ n. input_allowance self.new + n ≡ input_allowance self.old)
             (λ _. input_allowance self.new ≡ input_allowance self.old) }
 
-        // Once all that it may hand over was handed over, it fails.
+        // After its maximum number of bytes, the input fails.
         ensures spent { input_allowance self.old ≡ 0 → 0 < length buffer.old → IsErr result }
     {
         let room = buffer.len().min(self.allowance as usize);
@@ -114,7 +118,7 @@ impl<R: Read + Drop> Input for StdInput<R> {
 impl<W> StdOutput<W> {
     ghost use Rattle.jc_base.specs.StdDevices.{output_writer, output_failures};
 
-    /// An output that has not failed.
+    /// Creates an output that has not failed.
     pub fn new(inner: W) -> StdOutput<W>
         ensures writer { output_writer result ≡ inner }
         ensures failures { output_failures result ≡ 0 }
@@ -122,7 +126,7 @@ impl<W> StdOutput<W> {
         StdOutput { inner, failures: 0 }
     }
 
-    /// The writer, with what was written. It is not flushed.
+    /// Returns the writer. It is not flushed.
     pub fn into_inner(self) -> W
         ensures { result ≡ output_writer self }
     {

@@ -1,4 +1,4 @@
--- Access flags (JVMS 4.1, 4.5, 4.6). Other bits mean nothing.
+-- Access flags (JVMS 4.1, 4.5, 4.6). Other bits have no meaning.
 use Rattle.std.specs.Prelude.{ℕ, Bool, not, ◌&&◌, ◌||◌, bit_and, ◌==◌, List, [], ◌∷◌, codes}
 use Rattle.jc_file.specs.declared.access_flag.AccessFlag.{AccessFlag}
 use Rattle.jc_file.specs.declared.access_flag.AccessFlag.TheVariants as flags
@@ -18,27 +18,27 @@ static = 0x0008
 abbrev pub final : ℕ
 final = 0x0010
 
--- of a class
+-- a flag of classes
 abbrev pub super : ℕ
 super = 0x0020
 
--- of a method
+-- a flag of methods
 abbrev pub synchronized : ℕ
 synchronized = 0x0020
 
--- of a field
+-- a flag of fields
 abbrev pub volatile : ℕ
 volatile = 0x0040
 
--- of a method
+-- a flag of methods
 abbrev pub bridge : ℕ
 bridge = 0x0040
 
--- of a field
+-- a flag of fields
 abbrev pub transient : ℕ
 transient = 0x0080
 
--- of a method
+-- a flag of methods
 abbrev pub varargs : ℕ
 varargs = 0x0080
 
@@ -107,29 +107,29 @@ flag_name flags.Enum = codes "ENUM"
 abbrev pub has : ℕ → ℕ → Bool
 has bits flag = not (bit_and bits flag == 0)
 
--- two or all of three
+-- at least two of the three hold
 abbrev pub two_of : Bool → Bool → Bool → Bool
 two_of a b c = a && b || a && c || b && c
 
--- more than one of the three kinds of access
+-- at least two of PUBLIC, PRIVATE and PROTECTED are set
 abbrev pub has_two_accesses : ℕ → Bool
 has_two_accesses bits = two_of (has bits public) (has bits private) (has bits protected)
 
--- ---- the flags that mean something, by rising bit
+-- ---- the flags that have a meaning, from the lowest bit to the highest
 
--- of a class (JVMS 4.1, table 4.1-B)
+-- the flags of a class (JVMS 4.1, table 4.1-B)
 abbrev pub class_flags : List AccessFlag
 class_flags =
     flags.Public ∷ flags.Final ∷ flags.Super ∷ flags.Interface ∷ flags.Abstract
     ∷ flags.Synthetic ∷ flags.Annotation ∷ flags.Enum ∷ []
 
--- of a field (JVMS 4.5, table 4.5-A)
+-- the flags of a field (JVMS 4.5, table 4.5-A)
 abbrev pub field_flags : List AccessFlag
 field_flags =
     flags.Public ∷ flags.Private ∷ flags.Protected ∷ flags.Static ∷ flags.Final
     ∷ flags.Volatile ∷ flags.Transient ∷ flags.Synthetic ∷ flags.Enum ∷ []
 
--- of a method (JVMS 4.6, table 4.6-A)
+-- the flags of a method (JVMS 4.6, table 4.6-A)
 abbrev pub method_flags : List AccessFlag
 method_flags =
     flags.Public ∷ flags.Private ∷ flags.Protected ∷ flags.Static ∷ flags.Final ∷ flags.Synchronized ∷ flags.Bridge

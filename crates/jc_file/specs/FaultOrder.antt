@@ -1,4 +1,4 @@
--- The order of faults.
+-- The order of the faults of a class file.
 use Rattle.std.specs.Prelude.{ℕ}
 use Rattle.std.specs.declared.cmp.Ordering.{Ordering}
 use Rattle.std.specs.Ordering.{nat_cmp, ordering_then}
@@ -38,6 +38,6 @@ rule_number rules.F28 = 28
 rule_number rules.F29 = 29
 rule_number rules.F30 = 30
 
--- by rule, and then by place
+-- faults are ordered by rule, then by place
 abbrev pub fault_cmp : Fault → Fault → Ordering
 fault_cmp a b = ordering_then (nat_cmp (rule_number a.rule) (rule_number b.rule)) (nat_cmp a.place b.place)

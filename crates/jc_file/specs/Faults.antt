@@ -19,32 +19,32 @@ use Rattle.jc_file.specs.FormatRules.{breaks_f8, breaks_f9, breaks_f10, breaks_f
 use Rattle.jc_file.specs.FormatRules.{breaks_f15, breaks_f16, breaks_f17, breaks_f19, breaks_f20, breaks_f21, breaks_f23}
 use Rattle.jc_file.specs.FormatRules.{breaks_f24, breaks_f25, breaks_f26, breaks_f27, breaks_f28, breaks_f29, breaks_f30}
 
--- ---- places, rising
+-- ---- places, in ascending order
 
--- of n numbers from first on, those that pass
+-- those of the n numbers from `first` on that pass the test
 abbrev pub passing : (ℕ → Bool) → ℕ → ℕ → List ℕ
 passing test first n = filter test (range_with_len first n)
 
--- the usable indexes whose constants pass
+-- the indexes of the constants that pass the test
 abbrev pub constants_with : ClassFile → (Constant → Bool) → List ℕ
 constants_with c test = passing (λ k. option_map_or test (constant_at c (record { 0 = k })) false) 1 (all_slots c.constants)
 
--- 0, if it holds
+-- the only place of the class, which is 0, if the condition holds
 abbrev pub only_if : Bool → List ℕ
 only_if true = 0 ∷ []
 only_if false = []
 
--- the numbers of those that pass
+-- the numbers of the elements that pass the test, counted from 0
 abbrev pub those_with : {X : Type 0} → (X → Bool) → List X → List ℕ
 those_with test xs = passing (λ n. option_map_or test (slice_get xs n) false) 0 (length xs)
 
--- the places of those that pass
+-- the places of the attributes that pass the test
 abbrev pub attributes_with : ClassFile → (PlacedAttribute → Bool) → List ℕ
 attributes_with c test = map (λ a. a.place) (filter test (all_attributes c))
 
--- ---- repeated members
+-- ---- members that repeat an earlier one
 
--- a member's name and descriptor, where both are there
+-- the name and the descriptor of a member, if both of its indexes name a Utf8
 abbrev pub key_of : ClassFile → Member → Option (List ℕ × List ℕ)
 key_of c m =
     option_map_or
@@ -54,11 +54,11 @@ key_of c m =
 abbrev pub same_key : List ℕ × List ℕ → List ℕ × List ℕ → Bool
 same_key a b = same_bytes a.0 b.0 && same_bytes a.1 b.1
 
--- one of the members has the key
+-- one of the members has this name and descriptor
 abbrev pub has_key : ClassFile → List Member → List ℕ × List ℕ → Bool
 has_key c members key = list_any (λ m. option_map_or (same_key key) (key_of c m) false) members
 
--- the numbers of those whose key an earlier one has
+-- the numbers of the members that have the name and descriptor of an earlier member
 abbrev pub repeated : ClassFile → List Member → List ℕ
 repeated c members =
     passing
@@ -67,7 +67,7 @@ repeated c members =
 
 -- ---- the faults
 
--- what a rule is about, and which of those things break it
+-- the elements that a rule is about, and the test of those that break it
 pub data About : Type 0 where
   OfClass : Bool → About
   OfConstants : (Constant → Bool) → About
@@ -110,7 +110,7 @@ about c rules.F28 = OfAttributes (breaks_f28 c)
 about c rules.F29 = OfAttributes (breaks_f29 c)
 about c rules.F30 = OfAttributes (breaks_f30 c)
 
--- the places of those that break it
+-- the places of the elements that break the rule
 abbrev pub places_of : ClassFile → About → List ℕ
 places_of c (OfClass is_broken) = only_if is_broken
 places_of c (OfConstants breaks) = constants_with c breaks
@@ -121,7 +121,7 @@ places_of c OfRepeatedFields = repeated c c.fields
 places_of c OfRepeatedMethods = repeated c c.methods
 places_of c (OfAttributes breaks) = attributes_with c breaks
 
--- where a rule is broken
+-- the places where a rule is broken
 abbrev pub places : ClassFile → FormatRule → List ℕ
 places c rule = places_of c (about c rule)
 
@@ -133,6 +133,6 @@ fault_at rule place = record { rule = rule; place = place }
 abbrev pub faults_against : ClassFile → FormatRule → List Fault
 faults_against c rule = map (fault_at rule) (places c rule)
 
--- all faults: by rule, in the order of the rules, and then by place
+-- all faults, in the order of the rules, then of the places
 unfoldable pub faults : ClassFile → List Fault
 faults c = flat_map (faults_against c) ALL

@@ -1,4 +1,4 @@
--- Which constants, classes, fields, methods and attributes break a rule of the format: a test for each rule.
+-- A test for each rule of the format: which constants, classes, fields, methods and attributes break it.
 use Rattle.std.specs.Prelude.{ℕ, Bool, true, false, not, ◌&&◌, ◌||◌, ◌==◌, nat_lt, nat_le, List, []}
 use Rattle.std.specs.Prelude.{◌∷◌, length, sum_by, Option, Some, None, is_some, is_none, if◌then◌else◌, codes}
 use Rattle.std.specs.List.{list_all, list_any}
@@ -27,7 +27,7 @@ use Rattle.jc_view.specs.AttributeReading.{code_in, exceptions_in, bootstraps_in
 
 -- ---- texts
 
--- a field descriptor of at least one dimension
+-- the text is a field descriptor with at least one dimension
 abbrev pub is_array_text : List ℕ → Bool
 is_array_text text = passes (λ type. nat_lt 0 type.dims) (field_type_of text)
 
@@ -69,7 +69,7 @@ abbrev pub breaks_f4 : ClassFile → Constant → Bool
 breaks_f4 c (NameAndType name descriptor) = fails (λ text. is_field_text text || is_method_text text) (utf8_at c descriptor)
 breaks_f4 c constant = false
 
--- the name that stands beside a descriptor
+-- the name in a NameAndType does not fit the descriptor there
 abbrev pub fails_beside : List ℕ → Option (List ℕ) → Bool
 fails_beside descriptor name =
     is_field_text descriptor && fails is_unqualified_text name
@@ -86,7 +86,7 @@ breaks_f6 c (InterfaceMethodref class entry) = fails is_method_text (member_desc
 breaks_f6 c (InvokeDynamic bootstrap entry) = fails is_method_text (member_descriptor_at c entry)
 breaks_f6 c constant = false
 
--- a method's name that begins with `<`, and isn't that of a constructor without a result
+-- the name of a method begins with `<`, but it is not `<init>` or the method returns a value
 abbrev pub is_bad_special : Option (List ℕ) → List ℕ → Bool
 is_bad_special descriptor name = begins_with 60 name && (not (is_init name) || passes returns_value descriptor)
 
@@ -94,7 +94,7 @@ abbrev pub breaks_f7 : ClassFile → Constant → Bool
 breaks_f7 c (Methodref class entry) = passes (is_bad_special (member_descriptor_at c entry)) (member_name_at c entry)
 breaks_f7 c constant = false
 
--- a reference by a handle of this kind, in a file of this version, may be such an entry (JVMS 4.4.8)
+-- a handle of this kind may refer to this constant in a file of this version (JVMS 4.4.8)
 abbrev pub fits_handle : ℕ → ℕ → Constant → Bool
 fits_handle major kind entry =
     nat_le 1 kind && nat_le kind 4 && is_kind kinds.Fieldref entry
@@ -106,7 +106,7 @@ abbrev pub breaks_f8 : ClassFile → Constant → Bool
 breaks_f8 c (MethodHandle kind reference) = lacks (fits_handle c.major kind) (constant_at c reference)
 breaks_f8 c constant = false
 
--- the name of a method to which a handle of this kind may not refer
+-- a handle of this kind must not refer to a method with this name
 abbrev pub is_wrong_name : ℕ → List ℕ → Bool
 is_wrong_name kind name =
     kind == 8 && not (is_init name)
@@ -121,11 +121,11 @@ abbrev pub breaks_f10 : ClassFile → Constant → Bool
 breaks_f10 c (MethodType descriptor) = fails is_method_text (utf8_at c descriptor)
 breaks_f10 c constant = false
 
--- how many methods one tells, by its first two bytes
+-- the number of bootstrap methods, from the first two bytes of the attribute
 abbrev pub told_count : Attribute → ℕ
 told_count a = if nat_lt (length a.bytes) 2 then 0 else big_number 2 a.bytes
 
--- there is one such attribute, and the number is below its count
+-- the list is a single attribute, and the number is below its count
 abbrev pub is_told : List Attribute → ℕ → Bool
 is_told (a ∷ []) number = nat_lt number (told_count a)
 is_told others number = false
@@ -148,11 +148,11 @@ breaks_f12 c =
 abbrev pub is_object : List ℕ → Bool
 is_object name = same_bytes name (codes "java/lang/Object")
 
--- the Class entry at the index names `java/lang/Object`
+-- the Class constant at the index names `java/lang/Object`
 abbrev pub names_object : ClassFile → ConstantIndex → Bool
 names_object c index = passes is_object (class_text_at c index)
 
--- a superclass is told
+-- the rule for a class with a superclass
 abbrev pub breaks_f13_with : ClassFile → Bool
 breaks_f13_with c =
     names_object c c.this_class
@@ -162,11 +162,11 @@ breaks_f13_with c =
 abbrev pub breaks_f13 : ClassFile → Bool
 breaks_f13 c = if c.super_class.0 == 0 then not (names_object c c.this_class) || is_interface c else breaks_f13_with c
 
--- an entry of the interfaces
+-- the rule for the index of a direct superinterface
 abbrev pub breaks_f14 : ClassFile → ConstantIndex → Bool
 breaks_f14 c index = lacks is_class_text (class_text_at c index)
 
--- a constant that a bootstrap method takes (JVMS 4.7.23)
+-- a bootstrap method may have this constant as an argument (JVMS 4.7.23)
 abbrev pub is_argument : Constant → Bool
 is_argument constant =
     is_kind kinds.String constant || is_kind kinds.Class constant || is_kind kinds.Integer constant
@@ -176,7 +176,7 @@ is_argument constant =
 abbrev pub is_bootstrap : ClassFile → Bootstrap → Bool
 is_bootstrap c m = is_entry c kinds.MethodHandle m.method && list_all (λ index. passes is_argument (constant_at c index)) m.arguments
 
--- two of them, or one that isn't well-formed
+-- the class has two BootstrapMethods attributes, or one that is not well-formed
 abbrev pub breaks_f27 : ClassFile → Bool
 breaks_f27 c =
     nat_le 2 (length (bootstrap_attributes c))
@@ -190,7 +190,7 @@ breaks_f15 c f = lacks is_unqualified_text (utf8_at c f.name)
 abbrev pub breaks_f16 : ClassFile → Member → Bool
 breaks_f16 c f = lacks is_field_text (utf8_at c f.descriptor)
 
--- in an interface
+-- a field of an interface may have these flags
 abbrev pub are_constant_flags : ℕ → Bool
 are_constant_flags flags =
     has flags public && has flags static && has flags final
@@ -203,7 +203,7 @@ breaks_f17 c f =
     || has f.flags final && has f.flags volatile
     || is_interface c && not (are_constant_flags f.flags)
 
--- the constant that initializes a static field of this type (JVMS 4.7.2)
+-- the kind of the constant that initializes a static field of this type (JVMS 4.7.2)
 abbrev pub constant_kind_of : List ℕ → Option ConstantKind
 constant_kind_of descriptor =
     if list_any (same_bytes descriptor) (codes "I" ∷ codes "S" ∷ codes "C" ∷ codes "B" ∷ codes "Z" ∷ []) then Some kinds.Integer
@@ -213,15 +213,15 @@ constant_kind_of descriptor =
     else (if same_bytes descriptor (codes "Ljava/lang/String;") then Some kinds.String
     else None))))
 
--- a ConstantValue of two bytes that names no constant of the kind
+-- a ConstantValue has two bytes that do not name a constant of this kind
 abbrev pub names_other : ClassFile → ConstantKind → Attribute → Bool
 names_other c kind a = length a.bytes == 2 && not (is_entry c kind (index_value a.bytes))
 
--- of a field with this descriptor
+-- a ConstantValue does not fit a field with this descriptor
 abbrev pub misfits : ClassFile → List ℕ → Attribute → Bool
 misfits c descriptor a = option_map_or (λ kind. names_other c kind a) (constant_kind_of descriptor) true
 
--- a ConstantValue of the field is not of its type
+-- a ConstantValue of the field does not fit its type
 abbrev pub has_misfit : ClassFile → Member → Bool
 has_misfit c f = passes (λ descriptor. list_any (misfits c descriptor) (values_of c f)) (utf8_at c f.descriptor)
 
@@ -233,7 +233,7 @@ breaks_f25 c f = has f.flags static && (nat_le 2 (length (values_of c f)) || has
 abbrev pub breaks_f19 : ClassFile → Member → Bool
 breaks_f19 c m = lacks is_method_name_text (utf8_at c m.name)
 
--- 255 slots at most, with the receiver of an instance method
+-- the parameters take at most 255 slots, with the receiver of an instance method
 abbrev pub fits_slots : Member → descriptors.MethodType → Bool
 fits_slots m type = has m.flags static || nat_lt (sum_by slots_of type.params) 255
 
@@ -246,7 +246,7 @@ is_named_clinit c m = passes is_clinit (utf8_at c m.name)
 abbrev pub is_named_init : ClassFile → Member → Bool
 is_named_init c m = passes is_init (utf8_at c m.name)
 
--- an abstract method
+-- an abstract method must not have one of these flags
 abbrev pub has_more_than_abstract : ℕ → Bool
 has_more_than_abstract flags =
     has flags private || has flags static || has flags final || has flags synchronized || has flags native || has flags strict
@@ -254,13 +254,13 @@ has_more_than_abstract flags =
 abbrev pub same_answer : Bool → Bool → Bool
 same_answer a b = if a then b else not b
 
--- an interface's, by the file's version
+-- a method of an interface must not have these flags; they depend on the version
 abbrev pub are_bad_interface_flags : ℕ → ℕ → Bool
 are_bad_interface_flags major flags =
     has flags protected || has flags final || has flags synchronized || has flags native
     || (if nat_lt major 52 then not (has flags public && has flags abstract) else same_answer (has flags public) (has flags private))
 
--- a constructor has an access flag, VARARGS, STRICT and SYNTHETIC alone
+-- a constructor has a flag other than PUBLIC, PRIVATE, PROTECTED, VARARGS, STRICT and SYNTHETIC
 abbrev pub has_more_than_constructor : ℕ → Bool
 has_more_than_constructor flags =
     has flags static || has flags final || has flags synchronized || has flags bridge || has flags native || has flags abstract
@@ -281,11 +281,11 @@ breaks_f23 c m =
 abbrev pub breaks_f24 : ClassFile → Member → Bool
 breaks_f24 c m = list_any (λ a. is_none (code_in a.bytes)) (codes_of c m)
 
--- the bytes are no list of classes
+-- the bytes are not a list of classes
 abbrev pub lacks_classes : ClassFile → List ℕ → Bool
 lacks_classes c bytes = lacks (list_all (is_entry c kinds.Class)) (exceptions_in bytes)
 
--- nor are those of an Exceptions of the method
+-- the bytes of an Exceptions attribute of the method are not a list of classes
 abbrev pub has_bad_exceptions : ClassFile → Member → Bool
 has_bad_exceptions c m = list_any (λ a. lacks_classes c a.bytes) (exceptions_of c m)
 
@@ -297,11 +297,11 @@ breaks_f26 c m = nat_le 2 (length (exceptions_of c m)) || has_bad_exceptions c m
 abbrev pub breaks_f28 : ClassFile → PlacedAttribute → Bool
 breaks_f28 c a = is_none (utf8_at c a.attribute.name)
 
--- recognised, of a length
+-- the attribute is recognised as one of this kind, and has this length
 abbrev pub is_sized : ClassFile → AttributeKind → ℕ → PlacedAttribute → Bool
 is_sized c kind len a = is_recognised c kind a.holder a.attribute && length a.attribute.bytes == len
 
--- recognised, of another length
+-- the attribute is recognised as one of this kind, and has another length
 abbrev pub is_missized : ClassFile → AttributeKind → ℕ → PlacedAttribute → Bool
 is_missized c kind len a = is_recognised c kind a.holder a.attribute && not (length a.attribute.bytes == len)
 
@@ -314,13 +314,14 @@ breaks_f29 c a =
 abbrev pub lacks_method : ClassFile → ConstantIndex → Bool
 lacks_method c index = not (index.0 == 0) && not (is_entry c kinds.NameAndType index)
 
--- a SourceFile or a Signature names no text
+-- the index in a SourceFile or a Signature does not name a Utf8
 abbrev pub lacks_text : ClassFile → PlacedAttribute → Bool
 lacks_text c a =
     (is_sized c attributes.SourceFile 2 a || is_sized c attributes.Signature 2 a)
     && not (is_entry c kinds.Utf8 (first_index a))
 
--- an EnclosingMethod names no class, or a method that is none
+-- the first index in an EnclosingMethod does not name a Class, or the second index names something other than a
+-- NameAndType
 abbrev pub encloses_other : ClassFile → PlacedAttribute → Bool
 encloses_other c a =
     is_sized c attributes.EnclosingMethod 4 a

@@ -1,5 +1,6 @@
--- What it means that a rule of the format is broken at a place, in the standard's terms: `faults_are_violations` says that the
--- tests of FormatRules decide it. A rule over an entry or a text that is missing is not broken, unless it asks for it.
+-- When a rule of the format is broken at a place, in the terms of the standard. The law `faults_are_violations` says
+-- that the tests of FormatRules decide this. A rule about a constant or a text that is missing is not broken, unless
+-- the rule itself requires it.
 use Rattle.std.specs.Prelude.{◌++◌, ◌≡◌, ◌≢◌, ◌↔◌, ◌⊎◌, ℕ, ◌<◌, ◌≤◌, List, []}
 use Rattle.std.specs.Prelude.{◌∷◌, length, sum_by, Some, None, slice_get, All, Contains, IsTrue, codes}
 use Rattle.std.specs.List.{flat_map}
@@ -26,43 +27,43 @@ use Rattle.jc_view.specs.Attributes.{of_kind, code_attributes, attribute_name, b
 use Rattle.jc_view.specs.Attributes.{AreExceptionsOf, Bootstrap, AreBootstrapsOf, bootstrap_attributes}
 use Rattle.jc_view.specs.Attributes.{values_of, codes_of, exceptions_of, first_index, second_index}
 
--- ---- what stands in the constants
+-- ---- the constants at an index
 
--- the usable entry at the index
+-- the usable constant at the index
 abbrev pub IsEntry : ClassFile → ConstantIndex → Constant → Type 0
 IsEntry c index entry = constant_at c index ≡ Some entry
 
--- an entry of the kind stands at the index
+-- the constant at the index is of this kind
 abbrev pub NamesKind : ClassFile → ConstantKind → ConstantIndex → Type 0
 NamesKind c kind index = (entry : Constant) × IsEntry c index entry × (kind_of entry ≡ kind)
 
--- a Utf8 stands at the index, and its text is so
+-- the text of the Utf8 at the index has this property
 abbrev pub HasText : ClassFile → (List ℕ → Type 0) → ConstantIndex → Type 0
 HasText c Is index = (text : List ℕ) × IsEntry c index (Utf8 text) × Is text
 
--- a Class stands at the index, and its text is so
+-- the text of the Class at the index has this property
 abbrev pub HasClassText : ClassFile → (List ℕ → Type 0) → ConstantIndex → Type 0
 HasClassText c Is index = (name : ConstantIndex) × IsEntry c index (Class name) × HasText c Is name
 
--- the name that the NameAndType at the index gives is so
+-- the name in the NameAndType at the index has this property
 abbrev pub GivesName : ClassFile → (List ℕ → Type 0) → ConstantIndex → Type 0
 GivesName c Is entry =
     (name : ConstantIndex) × (descriptor : ConstantIndex) × IsEntry c entry (NameAndType name descriptor)
     × HasText c Is name
 
--- the descriptor that it gives is so
+-- the descriptor in the NameAndType at the index has this property
 abbrev pub GivesDescriptor : ClassFile → (List ℕ → Type 0) → ConstantIndex → Type 0
 GivesDescriptor c Is entry =
     (name : ConstantIndex) × (descriptor : ConstantIndex) × IsEntry c entry (NameAndType name descriptor)
     × HasText c Is descriptor
 
--- the name of the member to which a reference refers is so
+-- the name of the field or method that a reference names has this property
 abbrev pub RefersTo : ClassFile → (List ℕ → Type 0) → Constant → Type 0
 RefersTo c Is reference = (entry : ConstantIndex) × (signature_entry reference ≡ Some entry) × GivesName c Is entry
 
 -- ---- texts
 
--- a field descriptor of at least one dimension (JVMS 4.4.1)
+-- a field descriptor with at least one dimension (JVMS 4.4.1)
 abbrev pub IsArrayDescriptor : List ℕ → Type 0
 IsArrayDescriptor text = (type : FieldType) × IsField text type × (0 < type.dims)
 
@@ -79,14 +80,14 @@ IsClinit text = text ≡ codes "<clinit>"
 abbrev pub IsObject : List ℕ → Type 0
 IsObject text = text ≡ codes "java/lang/Object"
 
--- ---- constants (JVMS 4.4): an entry that breaks a rule
+-- ---- constants (JVMS 4.4): when a constant breaks a rule
 
--- a reference to a member lacks its class, or its name and type (JVMS 4.4.2)
+-- the class_index or the name_and_type_index of a reference does not name a constant of the right kind (JVMS 4.4.2)
 abbrev pub LacksMemberEntries : ClassFile → ConstantIndex → ConstantIndex → Type 0
 LacksMemberEntries c class entry = ¬ NamesKind c kinds.Class class ⊎ ¬ NamesKind c kinds.NameAndType entry
 
--- an index inside a constant, a MethodHandle's aside, names no entry of the kind that belongs there
--- (JVMS 4.4.1 to 4.4.3, 4.4.6, 4.4.9, 4.4.10)
+-- an index in a constant, other than a MethodHandle, names no constant of the right kind (JVMS 4.4.1 to 4.4.3, 4.4.6,
+-- 4.4.9, 4.4.10)
 abbrev pub BreaksF1 : ClassFile → Constant → Type 0
 BreaksF1 c (Class name) = ¬ NamesKind c kinds.Utf8 name
 BreaksF1 c (String text) = ¬ NamesKind c kinds.Utf8 text
@@ -103,28 +104,29 @@ abbrev pub BreaksF2 : ClassFile → Constant → Type 0
 BreaksF2 c (Utf8 text) = ¬ IsWellSpelled text
 BreaksF2 c constant = ⊥
 
--- a class's text is neither a class name nor an array descriptor (JVMS 4.4.1)
+-- the text of a Class is neither a class name nor an array descriptor (JVMS 4.4.1)
 abbrev pub BreaksF3 : ClassFile → Constant → Type 0
 BreaksF3 c (Class name) = HasText c (λ text. ¬ (IsClassName text ⊎ IsArrayDescriptor text)) name
 BreaksF3 c constant = ⊥
 
--- a descriptor is neither a field's nor a method's (JVMS 4.4.6)
+-- the descriptor of a NameAndType is neither a field descriptor nor a method descriptor (JVMS 4.4.6)
 abbrev pub BreaksF4 : ClassFile → Constant → Type 0
 BreaksF4 c (NameAndType name descriptor) = HasText c (λ text. ¬ (IsFieldDescriptor text ⊎ IsMethodDescriptor text)) descriptor
 BreaksF4 c constant = ⊥
 
--- a name that may not stand beside the descriptor
+-- a name that does not fit the descriptor beside it
 abbrev pub MisfitsName : ClassFile → ConstantIndex → List ℕ → Type 0
 MisfitsName c name descriptor =
     IsFieldDescriptor descriptor × HasText c (λ text. ¬ IsUnqualifiedName text) name
     ⊎ IsMethodDescriptor descriptor × HasText c (λ text. ¬ IsMethodName text) name
 
--- a name may not stand beside its descriptor (JVMS 4.4.6, 4.2.2)
+-- the name of a NameAndType does not fit its descriptor (JVMS 4.4.6, 4.2.2)
 abbrev pub BreaksF5 : ClassFile → Constant → Type 0
 BreaksF5 c (NameAndType name descriptor) = HasText c (MisfitsName c name) descriptor
 BreaksF5 c constant = ⊥
 
--- a reference has a descriptor of the other sort (JVMS 4.4.2, 4.4.10)
+-- a Fieldref has a descriptor other than that of a field, or another reference has one other than that of a method
+-- (JVMS 4.4.2, 4.4.10)
 abbrev pub BreaksF6 : ClassFile → Constant → Type 0
 BreaksF6 c (Fieldref class entry) = GivesDescriptor c (λ text. ¬ IsFieldDescriptor text) entry
 BreaksF6 c (Methodref class entry) = GivesDescriptor c (λ text. ¬ IsMethodDescriptor text) entry
@@ -132,17 +134,17 @@ BreaksF6 c (InterfaceMethodref class entry) = GivesDescriptor c (λ text. ¬ IsM
 BreaksF6 c (InvokeDynamic bootstrap entry) = GivesDescriptor c (λ text. ¬ IsMethodDescriptor text) entry
 BreaksF6 c constant = ⊥
 
--- it begins with `<`
+-- the name begins with `<`
 abbrev pub IsBracketed : List ℕ → Type 0
 IsBracketed name = (rest : List ℕ) × (name ≡ 60 ∷ rest)
 
--- a method's name begins with `<`, and is not `<init>`, or returns a value (JVMS 4.4.2)
+-- the name of a method begins with `<`, but it is not `<init>` or the method returns a value (JVMS 4.4.2)
 abbrev pub BreaksF7 : ClassFile → Constant → Type 0
 BreaksF7 c (Methodref class entry) =
     GivesName c (λ name. IsBracketed name × (¬ IsInit name ⊎ GivesDescriptor c ReturnsValue entry)) entry
 BreaksF7 c constant = ⊥
 
--- a handle of this kind, in a file of this version, may refer to such an entry (JVMS 4.4.8)
+-- a handle of this kind may refer to this constant in a file of this version (JVMS 4.4.8)
 abbrev pub FitsHandle : ℕ → ℕ → Constant → Type 0
 FitsHandle major kind entry =
     (1 ≤ kind) × (kind ≤ 4) × (kind_of entry ≡ kinds.Fieldref)
@@ -150,37 +152,37 @@ FitsHandle major kind entry =
     ⊎ (6 ≤ kind) × (kind ≤ 7) × (52 ≤ major) × (kind_of entry ≡ kinds.InterfaceMethodref)
     ⊎ (kind ≡ 9) × (kind_of entry ≡ kinds.InterfaceMethodref)
 
--- a handle refers to no entry that belongs to its kind (JVMS 4.4.8)
+-- a handle does not refer to a constant that fits its kind (JVMS 4.4.8)
 abbrev pub BreaksF8 : ClassFile → Constant → Type 0
 BreaksF8 c (MethodHandle kind reference) = ¬ ((entry : Constant) × IsEntry c reference entry × FitsHandle c.major kind entry)
 BreaksF8 c constant = ⊥
 
--- the name of a method to which a handle of this kind may not refer (JVMS 4.4.8)
+-- a handle of this kind must not refer to a method with this name (JVMS 4.4.8)
 abbrev pub IsNameAmiss : ℕ → List ℕ → Type 0
 IsNameAmiss kind name =
     (kind ≡ 8) × ¬ IsInit name
     ⊎ ((5 ≤ kind) × (kind ≤ 7) ⊎ (kind ≡ 9)) × (IsInit name ⊎ IsClinit name)
 
--- a handle of its kind may not refer to a method of this name (JVMS 4.4.8)
+-- a handle refers to a method whose name does not fit its kind (JVMS 4.4.8)
 abbrev pub BreaksF9 : ClassFile → Constant → Type 0
 BreaksF9 c (MethodHandle kind reference) =
     (entry : Constant) × IsEntry c reference entry × (FitsHandle c.major kind entry × RefersTo c (IsNameAmiss kind) entry)
 BreaksF9 c constant = ⊥
 
--- a method type's text is no method descriptor (JVMS 4.4.9)
+-- the text of a MethodType is not a method descriptor (JVMS 4.4.9)
 abbrev pub BreaksF10 : ClassFile → Constant → Type 0
 BreaksF10 c (MethodTypeEntry descriptor) = HasText c (λ text. ¬ IsMethodDescriptor text) descriptor
 BreaksF10 c constant = ⊥
 
--- the count at the front of the bytes is more than the number
+-- the number is below the count at the front of the attribute
 abbrev pub Tells : Attribute → ℕ → Type 0
 Tells a number = (2 ≤ length a.bytes) × (number < big_number 2 a.bytes)
 
--- there is one BootstrapMethods, and the number is below its count (JVMS 4.7.23)
+-- there is one BootstrapMethods attribute, and the number is below its count (JVMS 4.7.23)
 abbrev pub IsBootstrapNumber : ClassFile → ℕ → Type 0
 IsBootstrapNumber c number = (a : Attribute) × (bootstrap_attributes c ≡ a ∷ []) × Tells a number
 
--- the number of a bootstrap method is not within the one BootstrapMethods (JVMS 4.4.10)
+-- the number of the bootstrap method is not that of a method in the only BootstrapMethods attribute (JVMS 4.4.10)
 abbrev pub BreaksF11 : ClassFile → Constant → Type 0
 BreaksF11 c (InvokeDynamic bootstrap entry) = ¬ IsBootstrapNumber c bootstrap
 BreaksF11 c constant = ⊥
@@ -194,14 +196,15 @@ Has flags flag = IsTrue (has flags flag)
 abbrev pub IsInterface : ClassFile → Type 0
 IsInterface c = Has c.flags interface
 
--- the class's flags do not go together (JVMS 4.1)
+-- the flags of the class are not a permitted combination (JVMS 4.1)
 abbrev pub BreaksF12 : ClassFile → Type 0
 BreaksF12 c =
     IsInterface c × (¬ Has c.flags abstract ⊎ Has c.flags final ⊎ Has c.flags super ⊎ Has c.flags enum)
     ⊎ Has c.flags annotation × ¬ IsInterface c
     ⊎ Has c.flags final × Has c.flags abstract
 
--- only `java/lang/Object` has no superclass, and an interface has that one (JVMS 4.1)
+-- the superclass is not permitted: only `java/lang/Object` has none, and that of an interface is `java/lang/Object`
+-- (JVMS 4.1)
 abbrev pub BreaksF13 : ClassFile → Type 0
 BreaksF13 c =
     (c.super_class.0 ≡ 0) × (¬ HasClassText c IsObject c.this_class ⊎ IsInterface c)
@@ -210,11 +213,11 @@ BreaksF13 c =
     ⊎ ¬ HasClassText c IsClassName c.super_class
     ⊎ IsInterface c × ¬ HasClassText c IsObject c.super_class)
 
--- an interface is no Class with a class name (JVMS 4.1)
+-- a direct superinterface is not a Class with the name of a class (JVMS 4.1)
 abbrev pub BreaksF14 : ClassFile → ConstantIndex → Type 0
 BreaksF14 c index = ¬ HasClassText c IsClassName index
 
--- the kinds of a bootstrap method's arguments (JVMS 4.7.23)
+-- the kinds of constants that a bootstrap method may have as arguments (JVMS 4.7.23)
 abbrev pub argument_kinds : List ConstantKind
 argument_kinds =
     kinds.String ∷ kinds.Class ∷ kinds.Integer ∷ kinds.Long ∷ kinds.Float ∷ kinds.Double
@@ -226,7 +229,7 @@ IsArgument c index = (entry : Constant) × IsEntry c index entry × Contains arg
 abbrev pub IsBootstrap : ClassFile → Bootstrap → Type 0
 IsBootstrap c m = NamesKind c kinds.MethodHandle m.method × All (IsArgument c) m.arguments
 
--- the class has two BootstrapMethods, or one that is no table of bootstrap methods (JVMS 4.7.23)
+-- the class has two BootstrapMethods attributes, or one that is not a table of bootstrap methods (JVMS 4.7.23)
 abbrev pub BreaksF27 : ClassFile → Type 0
 BreaksF27 c =
     (2 ≤ length (bootstrap_attributes c))
@@ -235,7 +238,7 @@ BreaksF27 c =
 
 -- ---- members (JVMS 4.5, 4.6)
 
--- the member of this number has the name and the descriptor of an earlier one
+-- the member with this number has the name and the descriptor of an earlier member
 pub record IsRepeated (c : ClassFile) (members : List Member) (n : ℕ) : Type 0 where
   pub later : Member
   pub is_later : slice_get members n ≡ Some later
@@ -250,7 +253,7 @@ pub record IsRepeated (c : ClassFile) (members : List Member) (n : ℕ) : Type 0
   pub later_descriptor : IsEntry c later.descriptor (Utf8 descriptor)
   pub earlier_descriptor : IsEntry c earlier.descriptor (Utf8 descriptor)
 
--- two of the three kinds of access
+-- at least two of PUBLIC, PRIVATE and PROTECTED are set
 abbrev pub HasTwoAccesses : ℕ → Type 0
 HasTwoAccesses flags =
     Has flags public × Has flags private
@@ -259,15 +262,15 @@ HasTwoAccesses flags =
 
 -- ---- fields (JVMS 4.5)
 
--- a field's name is not unqualified (JVMS 4.5, 4.2.2)
+-- the name of a field is not an unqualified name (JVMS 4.5, 4.2.2)
 abbrev pub BreaksF15 : ClassFile → Member → Type 0
 BreaksF15 c f = ¬ HasText c IsUnqualifiedName f.name
 
--- a field's descriptor is none (JVMS 4.5, 4.3.2)
+-- the descriptor of a field is not a field descriptor (JVMS 4.5, 4.3.2)
 abbrev pub BreaksF16 : ClassFile → Member → Type 0
 BreaksF16 c f = ¬ HasText c IsFieldDescriptor f.descriptor
 
--- the flags of a field of an interface
+-- a field of an interface may have these flags
 pub record AreConstantFlags (flags : ℕ) : Type 0 where
   pub is_public : Has flags public
   pub is_static : Has flags static
@@ -278,14 +281,14 @@ pub record AreConstantFlags (flags : ℕ) : Type 0 where
   pub not_transient : ¬ Has flags transient
   pub not_enum : ¬ Has flags enum
 
--- a field's flags do not go together (JVMS 4.5)
+-- the flags of a field are not a permitted combination (JVMS 4.5)
 abbrev pub BreaksF17 : ClassFile → Member → Type 0
 BreaksF17 c f =
     HasTwoAccesses f.flags
     ⊎ Has f.flags final × Has f.flags volatile
     ⊎ IsInterface c × ¬ AreConstantFlags f.flags
 
--- a static field's descriptor, and the kind of the constant that initializes it (JVMS 4.7.2)
+-- the descriptor of a static field, and the kind of the constant that initializes the field (JVMS 4.7.2)
 abbrev pub initializers : List (List ℕ × ConstantKind)
 initializers =
     (codes "I", kinds.Integer) ∷ (codes "S", kinds.Integer) ∷ (codes "C", kinds.Integer)
@@ -293,14 +296,15 @@ initializers =
     ∷ (codes "F", kinds.Float) ∷ (codes "J", kinds.Long) ∷ (codes "D", kinds.Double)
     ∷ (codes "Ljava/lang/String;", kinds.String) ∷ []
 
--- no constant initializes a field with this descriptor, or one of another kind than the two bytes of the attribute name
+-- no constant initializes a field with this descriptor, or the two bytes of the attribute name a constant of another
+-- kind or none
 abbrev pub Misfits : ClassFile → List ℕ → Attribute → Type 0
 Misfits c descriptor a =
     ((kind : ConstantKind) → ¬ Contains initializers (descriptor, kind))
     ⊎ (kind : ConstantKind) × Contains initializers (descriptor, kind)
     × ((length a.bytes ≡ 2) × ¬ NamesKind c kind (index_value a.bytes))
 
--- a static field has two ConstantValue, or one that does not fit its type (JVMS 4.7.2)
+-- a static field has two ConstantValue attributes, or one that does not fit its type (JVMS 4.7.2)
 abbrev pub BreaksF25 : ClassFile → Member → Type 0
 BreaksF25 c f =
     Has f.flags static
@@ -309,42 +313,42 @@ BreaksF25 c f =
 
 -- ---- methods (JVMS 4.6)
 
--- a method's name is none (JVMS 4.6, 4.2.2)
+-- the name of a method is not a method name (JVMS 4.6, 4.2.2)
 abbrev pub BreaksF19 : ClassFile → Member → Type 0
 BreaksF19 c m = ¬ HasText c IsMethodName m.name
 
--- the parameters take 255 slots at most, with the receiver of an instance method (JVMS 4.3.3)
+-- the parameters take at most 255 slots, with the receiver of an instance method (JVMS 4.3.3)
 abbrev pub FitsSlots : Member → MethodType → Type 0
 FitsSlots m type = Has m.flags static ⊎ (sum_by slots_of type.params < 255)
 
--- a method's descriptor is none, or takes too many slots (JVMS 4.6, 4.3.3)
+-- the descriptor of a method is not a method descriptor, or its parameters take too many slots (JVMS 4.6, 4.3.3)
 abbrev pub BreaksF20 : ClassFile → Member → Type 0
 BreaksF20 c m = ¬ HasText c (λ text. (type : MethodType) × IsMethod text type × FitsSlots m type) m.descriptor
 
--- what no abstract method has
+-- an abstract method must not have one of these flags
 abbrev pub HasMoreThanAbstract : ℕ → Type 0
 HasMoreThanAbstract flags =
     Has flags private ⊎ Has flags static ⊎ Has flags final ⊎ Has flags synchronized
     ⊎ Has flags native ⊎ Has flags strict
 
--- one of the two flags alone
+-- exactly one of the two flags is set
 abbrev pub HasOneOf : ℕ → ℕ → ℕ → Type 0
 HasOneOf flags a b = (Has flags a ⊎ Has flags b) × ¬ (Has flags a × Has flags b)
 
--- what no method of an interface has, by the file's version
+-- a method of an interface must not have these flags; they depend on the version
 abbrev pub AreBadInterfaceFlags : ℕ → ℕ → Type 0
 AreBadInterfaceFlags major flags =
     Has flags protected ⊎ Has flags final ⊎ Has flags synchronized ⊎ Has flags native
     ⊎ (major < 52) × ¬ (Has flags public × Has flags abstract)
     ⊎ (52 ≤ major) × ¬ HasOneOf flags public private
 
--- what no constructor has
+-- a constructor must not have one of these flags
 abbrev pub HasMoreThanConstructor : ℕ → Type 0
 HasMoreThanConstructor flags =
     Has flags static ⊎ Has flags final ⊎ Has flags synchronized ⊎ Has flags bridge
     ⊎ Has flags native ⊎ Has flags abstract
 
--- a method's flags do not go together; those of the class's initializer mean nothing (JVMS 4.6)
+-- the flags of a method are not a permitted combination; those of `<clinit>` have no meaning (JVMS 4.6)
 abbrev pub BreaksF21 : ClassFile → Member → Type 0
 BreaksF21 c m =
     ¬ HasText c IsClinit m.name
@@ -353,11 +357,11 @@ BreaksF21 c m =
     ⊎ IsInterface c × AreBadInterfaceFlags c.major m.flags
     ⊎ HasText c IsInit m.name × HasMoreThanConstructor m.flags)
 
--- native or abstract, and no initializer of the class (JVMS 4.7.3)
+-- the method is native or abstract, and is not `<clinit>` (JVMS 4.7.3)
 abbrev pub IsBodiless : ClassFile → Member → Type 0
 IsBodiless c m = (Has m.flags native ⊎ Has m.flags abstract) × ¬ HasText c IsClinit m.name
 
--- a method has no Code or two, or one that it may not have (JVMS 4.7.3)
+-- a method that must have one Code has none or several, or a method that must have none has one (JVMS 4.7.3)
 abbrev pub BreaksF23 : ClassFile → Member → Type 0
 BreaksF23 c m = IsBodiless c m × (0 < length (codes_of c m)) ⊎ ¬ IsBodiless c m × (length (codes_of c m) ≢ 1)
 
@@ -365,7 +369,7 @@ BreaksF23 c m = IsBodiless c m × (0 < length (codes_of c m)) ⊎ ¬ IsBodiless 
 abbrev pub BreaksF24 : ClassFile → Member → Type 0
 BreaksF24 c m = (a : Attribute) × Contains (codes_of c m) a × ((k : Code) → ¬ IsCodeOf a.bytes k)
 
--- a method has two Exceptions, or one that is no table of classes (JVMS 4.7.5)
+-- a method has two Exceptions attributes, or one that is not a list of classes (JVMS 4.7.5)
 abbrev pub BreaksF26 : ClassFile → Member → Type 0
 BreaksF26 c m =
     (2 ≤ length (exceptions_of c m))
@@ -374,37 +378,37 @@ BreaksF26 c m =
 
 -- ---- attributes (JVMS 4.7)
 
--- an attribute of this holder has the name of this kind, where the kind belongs
+-- the attribute has the name of this kind, and the kind belongs to this holder
 abbrev pub IsRecognised : ClassFile → AttributeKind → Holder → Attribute → Type 0
 IsRecognised c kind holder a = IsTrue (belongs_to kind holder) × HasText c (λ name. name ≡ attribute_name kind) a.name
 
--- of the attributes of a holder, those of a kind are those that are recognised as of it
+-- `of_kind` returns exactly the attributes of a list that are recognised as attributes of this kind
 abbrev pub AreRecognised : ClassFile → AttributeKind → Holder → Type 0
 AreRecognised c kind holder =
     (list : List Attribute) (a : Attribute)
     → Contains (of_kind c kind holder list) a ↔ Contains list a × IsRecognised c kind holder a
 
--- an attribute's name is no Utf8 (JVMS 4.7)
+-- the name of an attribute is not a Utf8 (JVMS 4.7)
 abbrev pub BreaksF28 : ClassFile → PlacedAttribute → Type 0
 BreaksF28 c a = (text : List ℕ) → ¬ IsEntry c a.attribute.name (Utf8 text)
 
--- the attributes of fixed length (JVMS 4.7.2, 4.7.7 to 4.7.10, 4.7.15)
+-- the kinds of attributes that have a fixed length (JVMS 4.7.2, 4.7.7 to 4.7.10, 4.7.15)
 abbrev pub fixed_lengths : List (AttributeKind × ℕ)
 fixed_lengths =
     (attributes.ConstantValue, 2) ∷ (attributes.SourceFile, 2) ∷ (attributes.Signature, 2)
     ∷ (attributes.EnclosingMethod, 4) ∷ (attributes.Synthetic, 0) ∷ (attributes.Deprecated, 0) ∷ []
 
--- an attribute of fixed length has another (JVMS 4.7.2, 4.7.7 to 4.7.10, 4.7.15)
+-- an attribute of such a kind has another length (JVMS 4.7.2, 4.7.7 to 4.7.10, 4.7.15)
 abbrev pub BreaksF29 : ClassFile → PlacedAttribute → Type 0
 BreaksF29 c a =
     (fixed : AttributeKind × ℕ) × Contains fixed_lengths fixed
     × (IsRecognised c fixed.0 a.holder a.attribute × (length a.attribute.bytes ≢ fixed.1))
 
--- recognised as of the kind, and of the length
+-- the attribute is recognised as one of this kind, and has this length
 abbrev pub IsSized : ClassFile → AttributeKind → ℕ → PlacedAttribute → Type 0
 IsSized c kind len a = IsRecognised c kind a.holder a.attribute × (length a.attribute.bytes ≡ len)
 
--- an index in an attribute names no entry of the kind that belongs there (JVMS 4.7.7, 4.7.9, 4.7.10)
+-- an index in an attribute does not name a constant of the right kind (JVMS 4.7.7, 4.7.9, 4.7.10)
 abbrev pub BreaksF30 : ClassFile → PlacedAttribute → Type 0
 BreaksF30 c a =
     (IsSized c attributes.SourceFile 2 a ⊎ IsSized c attributes.Signature 2 a) × ¬ NamesKind c kinds.Utf8 (first_index a)
@@ -414,11 +418,11 @@ BreaksF30 c a =
 
 -- ---- places
 
--- the usable entry at this index breaks a rule
+-- the constant at this index breaks a rule
 abbrev pub AtConstant : (Constant → Type 0) → ClassFile → ℕ → Type 0
 AtConstant Breaks c k = (entry : Constant) × IsEntry c (record { 0 = k }) entry × Breaks entry
 
--- the one of this number breaks a rule
+-- the element with this number breaks a rule
 abbrev pub AtNumber : {X : Type 0} → (X → Type 0) → List X → ℕ → Type 0
 AtNumber {X} Breaks xs n = (x : X) × (slice_get xs n ≡ Some x) × Breaks x
 
@@ -426,19 +430,19 @@ AtNumber {X} Breaks xs n = (x : X) × (slice_get xs n ≡ Some x) × Breaks x
 abbrev pub outer_attributes : ClassFile → List PlacedAttribute
 outer_attributes c = flat_map member_attributes (fields_in c) ++ flat_map member_attributes (methods_in c) ++ attributes_in c
 
--- the attribute stands inside the Code that another is
+-- the attribute is inside the Code that `outer` is
 abbrev pub IsInside : ClassFile → PlacedAttribute → PlacedAttribute → Type 0
 IsInside c outer a =
     IsRecognised c attributes.Code outer.holder outer.attribute
     × (k : Code) × IsCodeOf outer.attribute.bytes k × Contains (code_attributes outer k) a
 
--- an attribute of the class file: one of those, or one inside a Code
+-- an attribute of the class file: one of the attributes above, or one inside a Code
 abbrev pub IsAttributeOf : ClassFile → PlacedAttribute → Type 0
 IsAttributeOf c a =
     Contains (outer_attributes c) a
     ⊎ (outer : PlacedAttribute) × Contains (outer_attributes c) outer × IsInside c outer a
 
--- the attribute that begins at this place breaks a rule
+-- the attribute at this place breaks a rule
 abbrev pub AtAttribute : (PlacedAttribute → Type 0) → ClassFile → ℕ → Type 0
 AtAttribute Breaks c place = (a : PlacedAttribute) × IsAttributeOf c a × (a.place ≡ place) × Breaks a
 

@@ -1,4 +1,4 @@
--- What the private calls and the invariants of types speak of, and no public clause.
+-- Definitions for the contracts of private functions and the invariants of types; no public clause uses them.
 pub mod AttributePlaces
 pub mod BootstrapsRead
 pub mod Broken

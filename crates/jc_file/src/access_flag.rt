@@ -9,7 +9,7 @@ use crate::flags::{
     STATIC, STRICT, SUPER, SYNCHRONIZED, SYNTHETIC, TRANSIENT, VARARGS, VOLATILE, has,
 };
 
-/// An access flag. Some share a bit, which means one thing on a class and another on a field or a method.
+/// An access flag. Some flags share a bit, whose meaning differs between classes, fields and methods.
 #[derive(Clone, Copy)]
 pub enum AccessFlag {
     Public,
@@ -33,7 +33,7 @@ pub enum AccessFlag {
 }
 
 impl AccessFlag {
-    /// The flags of a class, by rising bit.
+    /// The flags of a class, from the lowest bit to the highest.
     pub const OF_CLASS: [AccessFlag; 8] = [
         AccessFlag::Public,
         AccessFlag::Final,
@@ -45,7 +45,7 @@ impl AccessFlag {
         AccessFlag::Enum,
     ];
 
-    /// The flags of a field, by rising bit.
+    /// The flags of a field, from the lowest bit to the highest.
     pub const OF_FIELD: [AccessFlag; 9] = [
         AccessFlag::Public,
         AccessFlag::Private,
@@ -58,7 +58,7 @@ impl AccessFlag {
         AccessFlag::Enum,
     ];
 
-    /// The flags of a method, by rising bit.
+    /// The flags of a method, from the lowest bit to the highest.
     pub const OF_METHOD: [AccessFlag; 12] = [
         AccessFlag::Public,
         AccessFlag::Private,
@@ -74,7 +74,7 @@ impl AccessFlag {
         AccessFlag::Synthetic,
     ];
 
-    /// Returns its bit.
+    /// Returns the bit of the flag.
     pub fn mask(self) -> u16
         ensures { result ≡ mask_of self }
     {
@@ -100,7 +100,7 @@ impl AccessFlag {
         }
     }
 
-    /// Returns its name in the standard, without `ACC_`.
+    /// Returns the name of the flag in the standard, without `ACC_`.
     pub fn name(self) -> &'static str
         ensures { result.now ≡ flag_name self }
     {
@@ -126,7 +126,7 @@ impl AccessFlag {
         }
     }
 
-    /// Returns whether it is one of the flags.
+    /// Returns whether the flag is set in `flags`.
     pub fn is_in(self, flags: u16) -> bool
         ensures { result ≡ has flags (mask_of self) }
     {
@@ -134,7 +134,7 @@ impl AccessFlag {
     }
 }
 
-/// The tables of flags are those of the standard.
+/// States that the tables of flags are those of the standard.
 pub fn access_flags_are_tabled()
     ensures class { OF_CLASS ≡ class_flags }
     ensures field { OF_FIELD ≡ field_flags }

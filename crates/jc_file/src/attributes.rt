@@ -1,4 +1,4 @@
-//! The rules over attributes (JVMS 4.7).
+//! The rules about attributes (JVMS 4.7).
 
 ghost use Rattle.std.specs.Prelude.{◌≡◌, [], ◌∷◌, OnOk};
 ghost use Rattle.std.specs.Option.{option_map};
@@ -19,7 +19,7 @@ use jc_view::{
     Attribute, AttributeKind, Attributes, ClassView, Code, ConstantIndex, ConstantKind, index_at,
 };
 
-/// Adds the rules that attributes break, and those inside them.
+/// Adds the rules that attributes and the attributes inside them break.
 pub(crate) fn add_with_inner(
     broken: &mut Vec<Broken>,
     attributes: Attributes,
@@ -34,7 +34,8 @@ pub(crate) fn add_with_inner(
     Ok(())
 }
 
-/// Adds those of an attribute, and of the attributes inside `code`. Kind and code are those of the attribute.
+/// Adds the rules that an attribute and the attributes inside `code` break. `kind` and `code` are those of the
+/// attribute.
 pub(crate) fn add_of_one(
     broken: &mut Vec<Broken>,
     attribute: &Attribute,
@@ -52,7 +53,7 @@ pub(crate) fn add_of_one(
     Ok(())
 }
 
-/// Adds those of attributes in which no other is.
+/// Adds the rules that attributes break. The attributes inside them are not judged.
 fn add_each(broken: &mut Vec<Broken>, attributes: Attributes) -> Result<(), NoMemory>
     ensures { OnOk result (AddsPlaces (λ rule. places_among rule attributes.entry.class attributes.entry.left) broken.old.items broken.new.items) }
 {
@@ -63,7 +64,7 @@ fn add_each(broken: &mut Vec<Broken>, attributes: Attributes) -> Result<(), NoMe
     Ok(())
 }
 
-/// Adds those of an attribute of this kind itself.
+/// Adds the rules that an attribute of this kind itself breaks.
 fn add_own(
     broken: &mut Vec<Broken>,
     attribute: &Attribute,
@@ -86,7 +87,7 @@ fn attribute_rules(attribute: &Attribute, kind: Option<AttributeKind>) -> RuleSe
         .with(FormatRule::F30, breaks_f30(attribute, kind))
 }
 
-/// Returns whether all attributes of its kind have one length, and this attribute has another.
+/// Returns whether the attribute is recognised as one of a kind with a fixed length, and has another length.
 fn breaks_f29(attribute: &Attribute, kind: Option<AttributeKind>) -> bool
     requires { IsRecognisedAs attribute.now.class attribute.now.attribute.holder attribute.now.attribute.attribute kind }
     ensures { result ≡ breaks_f29 attribute.now.class attribute.now.attribute }
@@ -97,7 +98,7 @@ fn breaks_f29(attribute: &Attribute, kind: Option<AttributeKind>) -> bool
     }
 }
 
-/// Returns whether the kind has a length, and the attribute has another one.
+/// Returns whether attributes of this kind have a fixed length, and this attribute has another length.
 fn is_missized(attribute: &Attribute, kind: AttributeKind) -> bool
     ensures { result ≡ has_other_length kind attribute.now.attribute.attribute }
 {
@@ -107,7 +108,7 @@ fn is_missized(attribute: &Attribute, kind: AttributeKind) -> bool
     }
 }
 
-/// Returns the length of all attributes of a kind (JVMS 4.7.2, 4.7.7 to 4.7.10, 4.7.15).
+/// Returns the fixed length of attributes of a kind, if there is one (JVMS 4.7.2, 4.7.7 to 4.7.10, 4.7.15).
 fn length_of(kind: AttributeKind) -> Option<usize>
     ensures { result ≡ length_of kind }
 {
@@ -121,7 +122,7 @@ fn length_of(kind: AttributeKind) -> Option<usize>
     }
 }
 
-/// Returns whether an attribute of the right length names what it may not.
+/// Returns whether an attribute of the right length names a constant that it must not name.
 fn breaks_f30(attribute: &Attribute, kind: Option<AttributeKind>) -> bool
     requires { IsRecognisedAs attribute.now.class attribute.now.attribute.holder attribute.now.attribute.attribute kind }
     ensures { result ≡ breaks_f30 attribute.now.class attribute.now.attribute }
@@ -132,7 +133,8 @@ fn breaks_f30(attribute: &Attribute, kind: Option<AttributeKind>) -> bool
     }
 }
 
-/// Returns whether an attribute of this kind names what it may not. Only one of the right length does.
+/// Returns whether an attribute of this kind names a constant that it must not name. Attributes of another length do
+/// not.
 fn names_other(attribute: &Attribute, kind: AttributeKind) -> bool
     ensures { result ≡ names_other kind attribute.now.class attribute.now.attribute }
 {
@@ -148,7 +150,7 @@ fn names_other(attribute: &Attribute, kind: AttributeKind) -> bool
     }
 }
 
-/// Returns whether an attribute of two bytes names no text.
+/// Returns whether an attribute of two bytes does not name a `Utf8` constant.
 fn names_no_text(attribute: &Attribute) -> bool
     ensures { result ≡ names_no_text attribute.now.class attribute.now.attribute }
 {
@@ -159,7 +161,8 @@ fn names_no_text(attribute: &Attribute) -> bool
             .is_entry(ConstantKind::Utf8, index_at(bytes, 0))
 }
 
-/// Returns whether an attribute of four bytes names no class, or its second index is neither 0 nor a `NameAndType`.
+/// Returns whether an attribute of four bytes does not name a `Class`, or its second index is neither 0 nor that of a
+/// `NameAndType`.
 fn names_no_method(attribute: &Attribute) -> bool
     ensures { result ≡ names_no_method attribute.now.class attribute.now.attribute }
 {
@@ -170,7 +173,7 @@ fn names_no_method(attribute: &Attribute) -> bool
             || is_no_method(class, index_at(bytes, 2)))
 }
 
-/// Returns whether an index other than 0 is that of no `NameAndType`.
+/// Returns whether an index is neither 0 nor that of a `NameAndType`.
 fn is_no_method(class: &ClassView, index: ConstantIndex) -> bool
     ensures { result ≡ lacks_method class.now index }
 {

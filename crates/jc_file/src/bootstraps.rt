@@ -20,7 +20,8 @@ use jc_view::{
     read_indexes,
 };
 
-/// Returns the number of methods of the class's only `BootstrapMethods`, or 0 if there is none or a second.
+/// Returns the number of bootstrap methods of the class, or 0 if it does not have exactly one `BootstrapMethods`
+/// attribute.
 pub(crate) fn told_methods(class: &ClassView) -> u16
     ensures { result ≡ told_by (bootstrap_attributes class.now) }
 {
@@ -34,14 +35,14 @@ pub(crate) fn told_methods(class: &ClassView) -> u16
     }
 }
 
-/// Returns the count at the front of a table of methods, or 0 if it is cut off.
+/// Returns the count at the front of a table of methods, or 0 if the table is shorter than that.
 fn told_count(table: &[u8]) -> u16
     ensures { result ≡ (if nat_lt (length table.now) 2 then 0 else big_number 2 table.now) }
 {
     Cursor::new(table).u2().unwrap_or(0)
 }
 
-/// Returns whether the class has more than one `BootstrapMethods`, or one that is not well-formed.
+/// Returns whether the class has more than one `BootstrapMethods` attribute, or one that is not well-formed.
 pub(crate) fn breaks_f27(class: &ClassView) -> bool
     ensures { result ≡ breaks_f27 class.now }
 {
@@ -88,7 +89,7 @@ fn read_bootstrap(class: &ClassView, cursor: &mut Cursor) -> Option<bool>
     Some(class.is_entry(ConstantKind::MethodHandle, method) && are_arguments(class, arguments))
 }
 
-/// Returns whether each index names a constant that a bootstrap method takes.
+/// Returns whether each index names a constant that may be an argument of a bootstrap method.
 fn are_arguments(class: &ClassView, indexes: Indexes) -> bool
     ensures { result ≡ list_all (λ index. passes is_argument (constant_at class.now index)) indexes.entry }
 {
@@ -106,7 +107,7 @@ fn is_argument_at(class: &ClassView, index: ConstantIndex) -> bool
     class.constant(index.0).is_some_and(is_argument)
 }
 
-/// Returns whether a bootstrap method takes such a constant (JVMS 4.7.23).
+/// Returns whether a constant may be an argument of a bootstrap method (JVMS 4.7.23).
 fn is_argument(constant: Constant) -> bool
     ensures { result ≡ is_argument (constant_of constant.entry) }
 {

@@ -1,4 +1,4 @@
-//! Things that break rules, by their places.
+//! Lists of the rules that are broken at each place.
 
 ghost use Rattle.std.specs.Prelude.{◌≡◌, ◌++◌, [], ◌∷◌, cond, map, OnOk};
 ghost use Rattle.jc_file.specs.Faults.{fault_at};
@@ -9,7 +9,7 @@ use crate::fault::{Fault, FormatRule};
 use crate::rule_set::RuleSet;
 use jc_base::NoMemory;
 
-/// The rules that are broken at a place. What the place counts depends on the rule, as for a fault.
+/// The rules that are broken at a place. The meaning of the place depends on the rule, as in a [`Fault`].
 #[derive(Clone, Copy)]
 pub(crate) struct Broken {
     pub(crate) place: usize,
@@ -44,7 +44,7 @@ pub(crate) fn add_faults(
     Ok(())
 }
 
-/// Adds a fault if there is one.
+/// Adds a fault if the rule is broken.
 pub(crate) fn add_if(
     faults: &mut Vec<Fault>,
     is_broken: bool,

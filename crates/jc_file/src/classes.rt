@@ -1,4 +1,4 @@
-//! The rules over the class itself and its interfaces (JVMS 4.1).
+//! The rules about the class itself and its interfaces (JVMS 4.1).
 
 ghost use Rattle.std.specs.Prelude.{◌≡◌};
 ghost use Rattle.std.specs.Option.{option_copied};
@@ -32,7 +32,7 @@ pub(crate) fn is_interface(class: &ClassView) -> bool
     has(class.flags(), INTERFACE)
 }
 
-/// Returns whether the class has flags that exclude each other.
+/// Returns whether the flags of the class are not a permitted combination.
 fn breaks_f12(class: &ClassView) -> bool
     ensures { result ≡ breaks_f12 class.now }
 {
@@ -43,7 +43,7 @@ fn breaks_f12(class: &ClassView) -> bool
         || has(flags, FINAL) && has(flags, ABSTRACT)
 }
 
-/// Returns whether the superclass is not as it must be.
+/// Returns whether `super_class` is not permitted: it is 0 or names a class that it must not name.
 fn breaks_f13(class: &ClassView) -> bool
     ensures { result ≡ breaks_f13 class.now }
 {
@@ -54,7 +54,7 @@ fn breaks_f13(class: &ClassView) -> bool
     }
 }
 
-/// Returns the same of a class that has one.
+/// Returns whether `super_class`, which is not 0, is not permitted.
 fn breaks_f13_with(class: &ClassView) -> bool
     ensures { result ≡ breaks_f13_with class.now }
 {
@@ -63,14 +63,14 @@ fn breaks_f13_with(class: &ClassView) -> bool
         || is_interface(class) && !names_object(class, class.super_class())
 }
 
-/// Returns whether the class of an index is `java/lang/Object`.
+/// Returns whether the `Class` at an index names `java/lang/Object`.
 fn names_object(class: &ClassView, index: ConstantIndex) -> bool
     ensures { result ≡ names_object class.now index }
 {
     class.class_text(index).is_some_and(is_object)
 }
 
-/// Returns whether there is no name, or it is not that of a class.
+/// Returns whether the name is missing, or is not the name of a class.
 fn lacks_class_name(name: Option<&[u8]>) -> bool
     ensures { result ≡ lacks is_class_text (option_copied name.entry) }
 {
@@ -80,7 +80,7 @@ fn lacks_class_name(name: Option<&[u8]>) -> bool
     }
 }
 
-/// Returns the rules that an interface of the class breaks.
+/// Returns the rules that the index of a direct superinterface breaks.
 pub(crate) fn interface_rules(texts: &mut Texts, index: ConstantIndex) -> RuleSet
     ensures same { texts.new ≡ texts.old }
     ensures rules { AreBroken (interface_tests texts.old index) result }
@@ -88,7 +88,7 @@ pub(crate) fn interface_rules(texts: &mut Texts, index: ConstantIndex) -> RuleSe
     RuleSet::none().with(FormatRule::F14, breaks_f14(texts, index))
 }
 
-/// Returns whether an interface is not a `Class` with a class name.
+/// Returns whether the index is not that of a `Class` with the name of a class.
 fn breaks_f14(texts: &mut Texts, index: ConstantIndex) -> bool
     ensures same { texts.new ≡ texts.old }
     ensures breaks { result ≡ breaks_f14 texts.old index }

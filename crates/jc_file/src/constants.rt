@@ -1,4 +1,4 @@
-//! The rules over constants (JVMS 4.4).
+//! The rules about constants (JVMS 4.4).
 
 ghost use Rattle.std.specs.Prelude.{◌≡◌, ◌||◌};
 ghost use Rattle.std.specs.Option.{option_copied};
@@ -174,7 +174,7 @@ fn lacks_member_entries(class: &ClassView, owner: ConstantIndex, entry: Constant
     !class.is_entry(ConstantKind::Class, owner) || !class.is_entry(ConstantKind::NameAndType, entry)
 }
 
-/// Returns whether the text of a `Class` is neither a class name nor the descriptor of an array.
+/// Returns whether the text of a `Class` is neither a class name nor an array descriptor.
 fn breaks_f3(texts: &mut Texts, name: ConstantIndex) -> bool
     ensures same { texts.new ≡ texts.old }
     ensures breaks { result ≡ breaks_f3 texts.old (Class name) }
@@ -182,7 +182,7 @@ fn breaks_f3(texts: &mut Texts, name: ConstantIndex) -> bool
     matches!(texts.is_class(name), Some(false)) && !is_array_text(texts, name)
 }
 
-/// Returns whether the descriptor of a `NameAndType` is neither that of a field nor that of a method.
+/// Returns whether the descriptor of a `NameAndType` is neither a field descriptor nor a method descriptor.
 fn breaks_f4(texts: &mut Texts, descriptor: ConstantIndex) -> bool
     ensures same { texts.new ≡ texts.old }
     ensures breaks { result ≡ fails (λ text. is_field_text text || is_method_text text) (utf8_at texts.old descriptor) }
@@ -216,7 +216,7 @@ fn fails_beside(texts: &mut Texts, descriptor: Descriptor, name: ConstantIndex) 
     }
 }
 
-/// Returns whether a `NameAndType` has a descriptor, and it is not that of a field.
+/// Returns whether a `NameAndType` has a descriptor that is not a field descriptor.
 fn is_no_field(texts: &mut Texts, entry: ConstantIndex) -> bool
     ensures same { texts.new ≡ texts.old }
     ensures fails { result ≡ fails is_field_text (member_descriptor_at texts.old entry) }
@@ -227,7 +227,7 @@ fn is_no_field(texts: &mut Texts, entry: ConstantIndex) -> bool
     }
 }
 
-/// Returns whether a `NameAndType` has a descriptor, and it is not that of a method.
+/// Returns whether a `NameAndType` has a descriptor that is not a method descriptor.
 fn is_no_method(texts: &mut Texts, entry: ConstantIndex) -> bool
     ensures same { texts.new ≡ texts.old }
     ensures fails { result ≡ fails is_method_text (member_descriptor_at texts.old entry) }
@@ -238,7 +238,7 @@ fn is_no_method(texts: &mut Texts, entry: ConstantIndex) -> bool
     }
 }
 
-/// Returns whether there is a text at an index, and it is not the descriptor of a field.
+/// Returns whether the text at an index exists and is not a field descriptor.
 fn is_no_field_text(texts: &mut Texts, index: ConstantIndex) -> bool
     ensures same { texts.new ≡ texts.old }
     ensures fails { result ≡ fails is_field_text (utf8_at texts.old index) }
@@ -249,7 +249,7 @@ fn is_no_field_text(texts: &mut Texts, index: ConstantIndex) -> bool
     }
 }
 
-/// Returns whether there is a text at an index, and it is not the descriptor of a method.
+/// Returns whether the text at an index exists and is not a method descriptor.
 fn is_no_method_text(texts: &mut Texts, index: ConstantIndex) -> bool
     ensures same { texts.new ≡ texts.old }
     ensures fails { result ≡ fails is_method_text (utf8_at texts.old index) }
@@ -260,7 +260,7 @@ fn is_no_method_text(texts: &mut Texts, index: ConstantIndex) -> bool
     }
 }
 
-/// Returns whether the text at an index is the descriptor of an array.
+/// Returns whether the text at an index is an array descriptor.
 fn is_array_text(texts: &mut Texts, index: ConstantIndex) -> bool
     ensures same { texts.new ≡ texts.old }
     ensures passes { result ≡ passes is_array_text (utf8_at texts.old index) }
@@ -271,7 +271,7 @@ fn is_array_text(texts: &mut Texts, index: ConstantIndex) -> bool
     }
 }
 
-/// Returns whether a method with this `NameAndType` has a special name that it may not have.
+/// Returns whether a method with this `NameAndType` has a special name that is not permitted.
 fn breaks_f7(texts: &mut Texts, entry: ConstantIndex) -> bool
     ensures same { texts.new ≡ texts.old }
     ensures breaks { result ≡ passes (is_bad_special (member_descriptor_at texts.old entry)) (member_name_at texts.old entry) }
@@ -285,7 +285,7 @@ fn breaks_f7(texts: &mut Texts, entry: ConstantIndex) -> bool
     }
 }
 
-/// Returns whether a method's name begins with `<`, and is not that of a constructor without a result.
+/// Returns whether the name of a method begins with `<`, but it is not `<init>` or the method returns a value.
 fn is_bad_special(texts: &mut Texts, descriptor: ConstantIndex, name: &[u8]) -> bool
     ensures same { texts.new ≡ texts.old }
     ensures is { result ≡ is_bad_special (utf8_at texts.old descriptor) name.now }
@@ -293,7 +293,7 @@ fn is_bad_special(texts: &mut Texts, descriptor: ConstantIndex, name: &[u8]) -> 
     begins_with(b'<', name) && (!is_init(name) || returns_value(texts, descriptor))
 }
 
-/// Returns whether the text at an index is the descriptor of a method with a result.
+/// Returns whether the text at an index is a method descriptor whose result is not void.
 fn returns_value(texts: &mut Texts, descriptor: ConstantIndex) -> bool
     ensures same { texts.new ≡ texts.old }
     ensures is { result ≡ passes returns_value (utf8_at texts.old descriptor) }
@@ -325,7 +325,7 @@ fn breaks_f9(class: &ClassView, kind: u8, reference: ConstantIndex) -> bool
     }
 }
 
-/// Returns the name of the member that a constant refers to.
+/// Returns the name of the field or method that a constant refers to.
 fn name_of<'a>(class: &ClassView<'a>, reference: Constant) -> Option<&'a [u8]>
     ensures { option_copied result ≡ name_of class.now (constant_of reference.entry) }
 {
@@ -338,8 +338,7 @@ fn name_of<'a>(class: &ClassView<'a>, reference: Constant) -> Option<&'a [u8]>
     }
 }
 
-/// Returns whether a reference by a handle of this kind, in a file of this version, may be such an entry
-/// (JVMS 4.4.8).
+/// Returns whether a handle of this kind may refer to this constant in a file of this version (JVMS 4.4.8).
 fn fits_handle(major: u16, kind: u8, entry: Constant) -> bool
     ensures { result ≡ fits_handle major kind (constant_of entry.entry) }
 {
@@ -349,7 +348,7 @@ fn fits_handle(major: u16, kind: u8, entry: Constant) -> bool
         || kind == 9 && is_kind(ConstantKind::InterfaceMethodref, entry)
 }
 
-/// Returns whether a method to which a handle of this kind refers has a name that it may not have.
+/// Returns whether a handle of this kind must not refer to a method with this name.
 fn is_wrong_name(kind: u8, name: &[u8]) -> bool
     ensures { result ≡ is_wrong_name kind name.now }
 {

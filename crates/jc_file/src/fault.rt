@@ -1,81 +1,83 @@
-//! The format rules, and faults against them (JVMS 4.1 to 4.8).
+//! The rules of the class file format, and faults against them (JVMS 4.1 to 4.8).
 
 ghost use Rattle.std.specs.Prelude.{◌≡◌};
 ghost use Rattle.jc_file.specs.FaultOrder.{rule_number};
 
-/// A rule of the class file format. A rule over an entry or a text that is missing, or of the wrong
-/// kind, is not broken unless it asks for that itself.
+/// A rule of the class file format. A rule about a constant or a text that is missing, or of the wrong kind, is not
+/// broken unless the rule itself requires it.
 #[derive(Clone, Copy, PartialEq, Eq)]
 pub enum FormatRule {
-    /// An index inside a constant, except in a `MethodHandle`, names an entry of the kind that belongs
-    /// there (JVMS 4.4).
+    /// An index in a constant, other than a `MethodHandle`, names a constant of the right kind (JVMS 4.4).
     F1,
-    /// A `Utf8` is modified UTF-8 (JVMS 4.4.7).
+    /// The text of a `Utf8` is modified UTF-8 (JVMS 4.4.7).
     F2,
-    /// A `Class`'s text is a class name or an array descriptor (JVMS 4.4.1).
+    /// The text of a `Class` is a class name or an array descriptor (JVMS 4.4.1).
     F3,
-    /// A `NameAndType`'s descriptor is a field's or a method's (JVMS 4.4.6).
+    /// The descriptor of a `NameAndType` is a field descriptor or a method descriptor (JVMS 4.4.6).
     F4,
-    /// Its name is unqualified, and a method's name beside a method descriptor (JVMS 4.4.6, 4.2.2).
+    /// The name of a `NameAndType` fits its descriptor. With a field descriptor it is an unqualified name, and with a
+    /// method descriptor a method name (JVMS 4.4.6, 4.2.2).
     F5,
-    /// A `Fieldref` has a field descriptor; a `Methodref`, an `InterfaceMethodref` and an
-    /// `InvokeDynamic` have a method descriptor (JVMS 4.4.2, 4.4.10).
+    /// A `Fieldref` has a field descriptor. A `Methodref`, an `InterfaceMethodref` and an `InvokeDynamic` have a method
+    /// descriptor (JVMS 4.4.2, 4.4.10).
     F6,
-    /// A `Methodref` whose name begins with `<` names `<init>`, which returns nothing (JVMS 4.4.2).
+    /// If the name in a `Methodref` begins with `<`, it is `<init>` and the method returns nothing (JVMS 4.4.2).
     F7,
-    /// A `MethodHandle`'s kind is 1 to 9, and its entry is of the kind that belongs to it (JVMS 4.4.8).
+    /// The kind of a `MethodHandle` is 1 to 9, and it refers to a constant that fits its kind (JVMS 4.4.8).
     F8,
-    /// A `MethodHandle` of kind 8 names `<init>`, and one of kind 5, 6, 7 or 9 names no special
-    /// method (JVMS 4.4.8).
+    /// A `MethodHandle` of kind 8 names `<init>`. One of kind 5, 6, 7 or 9 names neither `<init>` nor `<clinit>` (JVMS
+    /// 4.4.8).
     F9,
-    /// A `MethodType`'s text is a method descriptor (JVMS 4.4.9).
+    /// The text of a `MethodType` is a method descriptor (JVMS 4.4.9).
     F10,
-    /// A class with an `InvokeDynamic` has one `BootstrapMethods`, and the index is within it (JVMS 4.4.10).
+    /// A class with an `InvokeDynamic` has one `BootstrapMethods`, and the index of the bootstrap method is in its
+    /// range (JVMS 4.4.10).
     F11,
-    /// The class's flags go together (JVMS 4.1).
+    /// The flags of the class are a permitted combination (JVMS 4.1).
     F12,
-    /// The superclass is a class, of `java/lang/Object` alone none, and of an interface
-    /// `java/lang/Object` (JVMS 4.1).
+    /// `java/lang/Object` has no superclass, and every other class has one. It is a `Class` with the name of a class,
+    /// and for an interface it is `java/lang/Object` (JVMS 4.1).
     F13,
-    /// An interface is a `Class` with a class name (JVMS 4.1).
+    /// A direct superinterface is a `Class` with the name of a class (JVMS 4.1).
     F14,
-    /// A field's name is unqualified (JVMS 4.5).
+    /// The name of a field is an unqualified name (JVMS 4.5).
     F15,
-    /// A field's descriptor is one (JVMS 4.5).
+    /// The descriptor of a field is a field descriptor (JVMS 4.5).
     F16,
-    /// A field's flags go together (JVMS 4.5).
+    /// The flags of a field are a permitted combination (JVMS 4.5).
     F17,
     /// No earlier field has the same name and descriptor (JVMS 4.5).
     F18,
-    /// A method's name is one (JVMS 4.6).
+    /// The name of a method is a method name (JVMS 4.6).
     F19,
-    /// A method's descriptor is one, and takes 255 slots at most with the receiver (JVMS 4.6, 4.3.3).
+    /// The descriptor of a method is a method descriptor. Its parameters and the receiver take at most 255 slots (JVMS
+    /// 4.6, 4.3.3).
     F20,
-    /// A method's flags go together (JVMS 4.6).
+    /// The flags of a method are a permitted combination (JVMS 4.6).
     F21,
     /// No earlier method has the same name and descriptor (JVMS 4.6).
     F22,
-    /// A method has one `Code`, and none if it is native or abstract (JVMS 4.7.3).
+    /// A method has one `Code`. A native or abstract method other than `<clinit>` has none (JVMS 4.7.3).
     F23,
-    /// A method's `Code` is well-formed (JVMS 4.7.3).
+    /// The `Code` of a method is well-formed (JVMS 4.7.3).
     F24,
-    /// A static field has one `ConstantValue` at most, of its type (JVMS 4.7.2).
+    /// A static field has at most one `ConstantValue`, which fits its type (JVMS 4.7.2).
     F25,
-    /// A method has one `Exceptions` at most, a list of `Class` entries (JVMS 4.7.5).
+    /// A method has at most one `Exceptions`, which is a list of `Class` constants (JVMS 4.7.5).
     F26,
-    /// A class has one `BootstrapMethods` at most, well-formed (JVMS 4.7.23).
+    /// A class has at most one `BootstrapMethods`, which is well-formed (JVMS 4.7.23).
     F27,
-    /// An attribute's name is a `Utf8` (JVMS 4.7).
+    /// The name of an attribute is a `Utf8` (JVMS 4.7).
     F28,
-    /// An attribute of fixed length has it (JVMS 4.7.2, 4.7.7 to 4.7.10, 4.7.15).
+    /// An attribute of a kind with a fixed length has this length (JVMS 4.7.2, 4.7.7 to 4.7.10, 4.7.15).
     F29,
-    /// `SourceFile` and `Signature` name a `Utf8`; `EnclosingMethod` names a `Class`, and a
-    /// `NameAndType` or nothing (JVMS 4.7.7, 4.7.9, 4.7.10).
+    /// A `SourceFile` or a `Signature` names a `Utf8`. An `EnclosingMethod` names a `Class`, and a `NameAndType` or
+    /// nothing (JVMS 4.7.7, 4.7.9, 4.7.10).
     F30,
 }
 
 impl FormatRule {
-    /// Returns its number, from 1.
+    /// Returns the number of the rule, from 1.
     pub fn number(self) -> u8
         ensures { result ≡ rule_number self }
     {
@@ -113,7 +115,7 @@ impl FormatRule {
         }
     }
 
-    /// The rules in their order.
+    /// All rules, in their order.
     pub const ALL: [FormatRule; 30] = [
         FormatRule::F1,
         FormatRule::F2,
@@ -148,9 +150,15 @@ impl FormatRule {
     ];
 }
 
-/// Where a rule is broken. What the place counts depends on the rule: an index into the constants (F1
-/// to F11), nothing and is 0 (F12, F13, F27), interfaces (F14), fields (F15 to F18, F25) or methods
-/// (F19 to F24, F26) from 0, or bytes of the file before the attribute (F28 to F30).
+/// A rule, and a place where it is broken.
+///
+/// The meaning of `place` depends on the rule:
+/// - F1 to F11: an index of the constant pool.
+/// - F12, F13 and F27: 0.
+/// - F14: the number of an interface, from 0.
+/// - F15 to F18 and F25: the number of a field, from 0.
+/// - F19 to F24 and F26: the number of a method, from 0.
+/// - F28 to F30: the number of bytes before the attribute in the file.
 #[derive(Clone, Copy, PartialEq, Eq)]
 pub struct Fault {
     pub rule: FormatRule,

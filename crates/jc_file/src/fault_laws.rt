@@ -1,5 +1,4 @@
-//! Laws of the format faults: functions without a body, whose contracts say what the tests of the
-//! rules mean.
+//! Laws of the format faults: functions without a body, whose contracts say what the tests of the rules mean.
 
 ghost use Rattle.std.specs.Prelude.{◌≡◌, [], ◌∷◌, ◌↔◌, ℕ, Contains};
 ghost use Rattle.jc_view.specs.declared.attribute_kind.AttributeKind.{AttributeKind};
@@ -18,7 +17,7 @@ ghost use Rattle.jc_file.specs.Violations.{AreRecognised, Violates};
 use jc_base::{descriptors_are_decided, texts_are_decided};
 use jc_view::attributes_are_read;
 
-/// In a class file whose bytes are below 256, the places of a rule are those where it is broken.
+/// States that the places of a rule are those where the rule is broken, in a class file whose bytes are below 256.
 pub fn faults_are_violations()
     ensures { (c : ClassFile) (rule : FormatRule) (place : ℕ) → AreBytes (layout c)
         → Contains (places c rule) place ↔ Violates rule c place }
@@ -28,18 +27,19 @@ pub fn faults_are_violations()
     attributes_are_read();
 }
 
-/// The attributes of a kind are those with its name, in the holder that the kind belongs to.
+/// States that the attributes of a kind are those with its name, in a holder that the kind belongs to.
 pub fn attributes_are_recognised()
     ensures { (c : ClassFile) (kind : AttributeKind) (holder : Holder) → AreRecognised c kind holder }
 {}
 
-/// The faults of a class file are sorted by rule and then by place, each once. There is one for each place of each rule.
+/// States that the faults of a class file are sorted by rule, then by place, and that none is repeated. There is one
+/// fault for each place of each rule.
 pub fn faults_are_exact()
     ensures rising { (c : ClassFile) → IsStrictlySortedBy fault_cmp (faults c) }
     ensures exact { (c : ClassFile) (fault : Fault) → Contains (faults c) fault ↔ Contains (places c fault.rule) fault.place }
 {}
 
-/// The faults of a class file of 53 bytes, and of three that differ little from it.
+/// States the faults of a class file of 53 bytes, and of three class files that differ a little from it.
 pub fn fault_examples()
     ensures none { faults class_a_data ≡ [] }
     ensures nameless { faults with_nameless_class ≡ record { rule = FormatRule.F1; place = 5 } ∷ [] }

@@ -23,9 +23,9 @@ use jc_base::NoMemory;
 use jc_view::ClassView;
 use std::alloc::Global;
 
-/// Returns all places of a class file where a rule of the format is broken, by rule and then by place.
+/// Returns the format faults of a class file, sorted by rule, then by place.
 ///
-/// Returns `NoMemory` only when an allocation fails.
+/// Returns `NoMemory` only when an allocation fails. Each constant, member and attribute is judged once.
 pub fn format_faults(alloc: Global, class: &ClassView) -> Result<Vec<Fault>, NoMemory>
     ensures listed { IfOk result (λ found. found.items ≡ faults class.now) }
     ensures violated { IfOk result (λ found. (fault : Fault)
@@ -38,7 +38,7 @@ pub fn format_faults(alloc: Global, class: &ClassView) -> Result<Vec<Fault>, NoM
     find_faults(alloc, class)
 }
 
-/// Looks at each constant, member and attribute once, and lists the faults by rule if there are any.
+/// Finds the broken rules in one pass over the constants, members and attributes, then lists the faults by rule.
 fn find_faults(alloc: Global, class: &ClassView) -> Result<Vec<Fault>, NoMemory>
     ensures { IfOk result (λ found. found.items ≡ faults class.now) }
 {
@@ -64,7 +64,7 @@ fn broken_rules(alloc: Global, class: &ClassView) -> Result<Vec<Broken>, NoMemor
     Ok(broken)
 }
 
-/// Returns the faults by rule and then by place.
+/// Returns the faults, sorted by rule, then by place.
 fn list_faults(alloc: Global, broken: &[Broken]) -> Result<Vec<Fault>, NoMemory>
     ensures { IfOk result (λ found. found.items ≡ flat_map (λ rule. map (fault_at rule) (places_in rule broken.now)) ALL) }
 {

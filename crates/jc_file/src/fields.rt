@@ -1,4 +1,4 @@
-//! The rules over fields (JVMS 4.5).
+//! The rules about fields (JVMS 4.5).
 
 ghost use Rattle.std.specs.Prelude.{◌≡◌, codes};
 ghost use Rattle.std.specs.List.{list_any};
@@ -19,7 +19,7 @@ use crate::rule_set::RuleSet;
 use crate::texts::Texts;
 use jc_view::{Attribute, AttributeKind, ConstantKind, Member, index_at};
 
-/// Returns the rules that a field breaks, other than that it repeats an earlier one.
+/// Returns the rules that a field breaks, except the rule against repeated fields.
 pub(crate) fn field_rules(texts: &mut Texts, field: &Member) -> RuleSet
     requires class { field.now.class ≡ texts.old }
     requires holder { field.now.member.holder ≡ holders.Field }
@@ -33,7 +33,7 @@ pub(crate) fn field_rules(texts: &mut Texts, field: &Member) -> RuleSet
         .with(FormatRule::F25, breaks_f25(field))
 }
 
-/// Returns whether a field's name is missing or none of a field.
+/// Returns whether the name of a field is missing, or is not an unqualified name.
 fn breaks_f15(texts: &mut Texts, field: &Member) -> bool
     ensures same { texts.new ≡ texts.old }
     ensures breaks { result ≡ breaks_f15 texts.old field.now.member.member }
@@ -41,7 +41,7 @@ fn breaks_f15(texts: &mut Texts, field: &Member) -> bool
     !matches!(texts.is_unqualified(field.name_index()), Some(true))
 }
 
-/// Returns whether a field's descriptor is missing or none of a field.
+/// Returns whether the descriptor of a field is missing, or is not a field descriptor.
 fn breaks_f16(texts: &mut Texts, field: &Member) -> bool
     ensures same { texts.new ≡ texts.old }
     ensures breaks { result ≡ breaks_f16 texts.old field.now.member.member }
@@ -52,7 +52,7 @@ fn breaks_f16(texts: &mut Texts, field: &Member) -> bool
     }
 }
 
-/// Returns whether the field has flags that exclude each other.
+/// Returns whether the flags of the field are not a permitted combination.
 fn breaks_f17(field: &Member) -> bool
     ensures { result ≡ breaks_f17 field.now.class field.now.member.member }
 {
@@ -62,7 +62,7 @@ fn breaks_f17(field: &Member) -> bool
         || is_interface(field.class()) && !are_constant_flags(flags)
 }
 
-/// Returns whether an interface's field may have these flags.
+/// Returns whether a field of an interface may have these flags.
 fn are_constant_flags(flags: u16) -> bool
     ensures { result ≡ are_constant_flags flags }
 {
@@ -76,7 +76,7 @@ fn are_constant_flags(flags: u16) -> bool
         && !has(flags, ENUM)
 }
 
-/// Returns whether a static field has more than one `ConstantValue`, or one that is not of its type.
+/// Returns whether a static field has more than one `ConstantValue`, or one that does not fit its type.
 fn breaks_f25(field: &Member) -> bool
     requires { field.now.member.holder ≡ holders.Field }
     ensures { result ≡ breaks_f25 field.now.class field.now.member.member }
@@ -85,7 +85,7 @@ fn breaks_f25(field: &Member) -> bool
         && (has_two(field, AttributeKind::ConstantValue) || has_misfit(field))
 }
 
-/// Returns whether a `ConstantValue` of the field is not of its type.
+/// Returns whether a `ConstantValue` of the field does not fit its type.
 fn has_misfit(field: &Member) -> bool
     requires { field.now.member.holder ≡ holders.Field }
     ensures { result ≡ has_misfit field.now.class field.now.member.member }
@@ -96,7 +96,7 @@ fn has_misfit(field: &Member) -> bool
     }
 }
 
-/// Returns whether a `ConstantValue` of the field is not of this type.
+/// Returns whether a `ConstantValue` of the field does not fit this type.
 #[tactic(auto, using(crate::proofs::kinds::AnyOfKind::any_of_member))]
 fn has_other_type(field: &Member, descriptor: &[u8]) -> bool
     requires { field.now.member.holder ≡ holders.Field }
@@ -110,7 +110,7 @@ fn has_other_type(field: &Member, descriptor: &[u8]) -> bool
     false
 }
 
-/// Returns whether the attribute names no constant that initializes a field of this type.
+/// Returns whether the attribute does not name a constant that initializes a field of this type.
 fn misfits(attribute: &Attribute, descriptor: &[u8]) -> bool
     ensures { result ≡ misfits attribute.now.class descriptor.now attribute.now.attribute.attribute }
 {
@@ -120,7 +120,7 @@ fn misfits(attribute: &Attribute, descriptor: &[u8]) -> bool
     }
 }
 
-/// Returns whether the attribute is two bytes that name no constant of a kind.
+/// Returns whether the attribute has two bytes that do not name a constant of this kind.
 fn names_other(attribute: &Attribute, kind: ConstantKind) -> bool
     ensures { result ≡ names_other attribute.now.class kind attribute.now.attribute.attribute }
 {
@@ -128,7 +128,7 @@ fn names_other(attribute: &Attribute, kind: ConstantKind) -> bool
     bytes.len() == 2 && !attribute.class().is_entry(kind, index_at(bytes, 0))
 }
 
-/// Returns the kind of constant that initializes a static field of this type (JVMS 4.7.2).
+/// Returns the kind of constants that initialize a static field of this type (JVMS 4.7.2).
 fn constant_kind_of(descriptor: &[u8]) -> Option<ConstantKind>
     ensures { result ≡ constant_kind_of descriptor.now }
 {

@@ -12,17 +12,17 @@ pub(crate) const PROTECTED: u16 = 0x0004;
 pub(crate) const STATIC: u16 = 0x0008;
 
 pub(crate) const FINAL: u16 = 0x0010;
-/// Of a class.
+/// A flag of classes.
 pub(crate) const SUPER: u16 = 0x0020;
-/// Of a method.
+/// A flag of methods.
 pub(crate) const SYNCHRONIZED: u16 = 0x0020;
-/// Of a field.
+/// A flag of fields.
 pub(crate) const VOLATILE: u16 = 0x0040;
-/// Of a method.
+/// A flag of methods.
 pub(crate) const BRIDGE: u16 = 0x0040;
-/// Of a field.
+/// A flag of fields.
 pub(crate) const TRANSIENT: u16 = 0x0080;
-/// Of a method.
+/// A flag of methods.
 pub(crate) const VARARGS: u16 = 0x0080;
 
 pub(crate) const NATIVE: u16 = 0x0100;
@@ -46,7 +46,7 @@ pub(crate) fn has(flags: u16, flag: u16) -> bool
     flags & flag != 0
 }
 
-/// Returns whether more than one of the three kinds of access is set.
+/// Returns whether at least two of PUBLIC, PRIVATE and PROTECTED are set.
 pub(crate) fn has_two_accesses(flags: u16) -> bool
     ensures { result ≡ has_two_accesses flags }
 {

@@ -1,5 +1,10 @@
-//! The faults of a class file's format (JVMS 4.1 to 4.8): which rules a readable class file breaks, and where. What a
-//! class file is and lends is `jc_view`'s, and has the same names here.
+//! The format faults of a readable class file (JVMS 4.1 to 4.8).
+//!
+//! [`format_faults`] returns a [`Fault`] for each place where a class file breaks a [`FormatRule`]. Its contract refers
+//! to a definition of each rule in the terms of the standard: the list has all faults, once each, in order.
+//! [`AccessFlag`] names the access flags of classes, fields and methods.
+//!
+//! The crate re-exports `parse` and the views of `jc_view`, for programs that use no other crate.
 #![tactic(auto)]
 
 mod access_flag;

@@ -17,17 +17,17 @@ use crate::broken::Broken;
 use jc_base::{Cursor, NoMemory};
 use jc_view::{Attribute, AttributeKind, ClassView, ConstantKind, Indexes, Member, read_indexes};
 
-/// The attributes of a kind.
+/// The number of the attributes of a kind, and whether one of them is bad.
 #[derive(Clone, Copy)]
 pub(crate) struct OfKind {
-    /// How many there are, and 2 if there are more.
+    /// The number of these attributes, or 2 if there are more.
     pub(crate) count: u8,
-    /// Whether one of them is not as it must be.
+    /// Whether one of them breaks a rule.
     pub(crate) has_bad: bool,
 }
 
 impl OfKind {
-    /// Returns these and one more, if there is one.
+    /// Counts one more attribute, if there is one.
     fn with(self, is_one: bool, is_bad: bool) -> OfKind
         ensures { AddsIf is_one is_bad self result }
     {
@@ -41,8 +41,10 @@ impl OfKind {
     }
 }
 
-/// Adds the rules that the attributes of a method break, and those inside them. Returns its `Code` and `Exceptions`
-/// attributes. A `Code` is bad if it is not well-formed, and an `Exceptions` if it is no list of classes.
+/// Adds the rules that the attributes of a method and the attributes inside them break. Returns its `Code` and
+/// `Exceptions` attributes.
+///
+/// A `Code` is bad if it is not well-formed. An `Exceptions` is bad if it is not a list of classes.
 pub(crate) fn add_attributes_of(
     broken: &mut Vec<Broken>,
     method: &Member,
@@ -66,7 +68,7 @@ pub(crate) fn add_attributes_of(
     Ok((codes, exceptions))
 }
 
-/// Returns these and an attribute of this kind, if it is an `Exceptions`.
+/// Counts an attribute of this kind, if it is an `Exceptions`.
 fn with_exceptions(exceptions: OfKind, attribute: &Attribute, kind: Option<AttributeKind>) -> OfKind
     ensures { AddsIf (is_kind kinds.Exceptions kind) (lacks_classes attribute.now.class attribute.now.attribute.attribute.bytes) exceptions result }
 {
@@ -87,7 +89,7 @@ fn is_of(found: Option<AttributeKind>, kind: AttributeKind) -> bool
     }
 }
 
-/// Returns whether the bytes are not a count and a list of classes (JVMS 4.7.5).
+/// Returns whether the bytes are not a count and a list of `Class` indexes (JVMS 4.7.5).
 fn lacks_classes(class: &ClassView, bytes: &[u8]) -> bool
     ensures { result ≡ lacks_classes class.now bytes.now }
 {
@@ -98,7 +100,7 @@ fn lacks_classes(class: &ClassView, bytes: &[u8]) -> bool
     }
 }
 
-/// Returns whether each index names a class.
+/// Returns whether each index names a `Class`.
 fn are_classes(class: &ClassView, indexes: Indexes) -> bool
     ensures { result ≡ list_all (is_entry class.now constants.Class) indexes.entry }
 {

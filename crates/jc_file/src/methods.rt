@@ -1,4 +1,4 @@
-//! The rules over methods (JVMS 4.6).
+//! The rules about methods (JVMS 4.6).
 
 ghost use Rattle.std.specs.Prelude.{◌≡◌};
 ghost use Rattle.jc_view.specs.declared.attribute_kind.Holder.TheVariants as holders;
@@ -21,8 +21,8 @@ use crate::rule_set::RuleSet;
 use crate::texts::Texts;
 use jc_view::Member;
 
-/// Returns the rules that a method with these `Code` and `Exceptions` attributes breaks, other than that it repeats an
-/// earlier one.
+/// Returns the rules that a method with these `Code` and `Exceptions` attributes breaks, except the rule against
+/// repeated methods.
 pub(crate) fn method_rules(
     texts: &mut Texts,
     method: &Member,
@@ -44,7 +44,7 @@ pub(crate) fn method_rules(
         .with(FormatRule::F26, breaks_f26(method, exceptions))
 }
 
-/// Returns whether a method's name is missing or none of a method.
+/// Returns whether the name of a method is missing, or is not a method name.
 fn breaks_f19(texts: &mut Texts, method: &Member) -> bool
     ensures same { texts.new ≡ texts.old }
     ensures breaks { result ≡ breaks_f19 texts.old method.now.member.member }
@@ -52,7 +52,8 @@ fn breaks_f19(texts: &mut Texts, method: &Member) -> bool
     !matches!(texts.is_method_name(method.name_index()), Some(true))
 }
 
-/// Returns whether a method's descriptor is missing or none of a method, or its parameters take too many slots.
+/// Returns whether the descriptor of a method is missing or is not a method descriptor, or its parameters take too many
+/// slots.
 fn breaks_f20(texts: &mut Texts, method: &Member) -> bool
     ensures same { texts.new ≡ texts.old }
     ensures breaks { result ≡ breaks_f20 texts.old method.now.member.member }
@@ -63,7 +64,8 @@ fn breaks_f20(texts: &mut Texts, method: &Member) -> bool
     }
 }
 
-/// Returns whether the method has flags that exclude each other, or that a special method or one of an interface may not have.
+/// Returns whether the flags of the method are not a permitted combination. Constructors and methods of interfaces have
+/// more restrictions.
 fn breaks_f21(method: &Member) -> bool
     ensures { result ≡ breaks_f21 method.now.class method.now.member.member }
 {
@@ -89,7 +91,7 @@ fn is_named_init(method: &Member) -> bool
     method.name().is_some_and(is_init)
 }
 
-/// Returns whether an abstract method may not have these flags.
+/// Returns whether an abstract method must not have these flags.
 fn has_more_than_abstract(flags: u16) -> bool
     ensures { result ≡ has_more_than_abstract flags }
 {
@@ -101,7 +103,7 @@ fn has_more_than_abstract(flags: u16) -> bool
         || has(flags, STRICT)
 }
 
-/// Returns whether a method of an interface in a file of this version may not have these flags.
+/// Returns whether a method of an interface must not have these flags, in a file of this version.
 fn are_bad_interface_flags(major: u16, flags: u16) -> bool
     ensures { result ≡ are_bad_interface_flags major flags }
 {
@@ -118,7 +120,7 @@ fn are_bad_interface_flags(major: u16, flags: u16) -> bool
         || is_bad_access
 }
 
-/// Returns whether a constructor may not have these flags.
+/// Returns whether a constructor must not have these flags.
 fn has_more_than_constructor(flags: u16) -> bool
     ensures { result ≡ has_more_than_constructor flags }
 {
@@ -130,7 +132,7 @@ fn has_more_than_constructor(flags: u16) -> bool
         || has(flags, ABSTRACT)
 }
 
-/// Returns whether a method has a `Code` and may have none, or has not the one that it must have.
+/// Returns whether a method that must have no `Code` has one, or a method that must have one has none or several.
 fn breaks_f23(method: &Member, codes: OfKind) -> bool
     requires { Counts codes.count (codes_of method.now.class method.now.member.member) }
     ensures { result ≡ breaks_f23 method.now.class method.now.member.member }
@@ -143,7 +145,7 @@ fn breaks_f23(method: &Member, codes: OfKind) -> bool
     }
 }
 
-/// Returns whether a method has more than one `Exceptions`, or one that is no list of classes.
+/// Returns whether a method has more than one `Exceptions`, or one that is not a list of classes.
 fn breaks_f26(method: &Member, exceptions: OfKind) -> bool
     requires counts { Counts exceptions.count (exceptions_of method.now.class method.now.member.member) }
     requires bad { exceptions.has_bad ≡ has_bad_exceptions method.now.class method.now.member.member }

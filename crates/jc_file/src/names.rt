@@ -1,4 +1,4 @@
-//! What the rules ask of texts.
+//! Tests of texts that the rules use.
 
 ghost use Rattle.std.specs.Prelude.{◌≡◌, is_some};
 ghost use Rattle.jc_base.specs.TextTests.{units_of};
@@ -24,7 +24,7 @@ pub(crate) fn begins_with(byte: u8, text: &[u8]) -> bool
     }
 }
 
-/// Returns whether the name is that of a constructor.
+/// Returns whether the name is `<init>`.
 pub(crate) fn is_init(name: &[u8]) -> bool
     ensures { result ≡ is_init name.now }
 {
@@ -37,7 +37,7 @@ pub(crate) fn is_clinit(name: &[u8]) -> bool
     name == b"<clinit>".as_slice()
 }
 
-/// Returns whether the name is that of the class without a superclass.
+/// Returns whether the name is `java/lang/Object`.
 pub(crate) fn is_object(name: &[u8]) -> bool
     ensures { result ≡ is_object name.now }
 {

@@ -1,4 +1,4 @@
-//! The attributes of a kind, one after the other.
+//! A search for the attributes of a kind.
 
 ghost use Rattle.std.specs.Prelude.{◌≡◌, length, nat_le};
 ghost use Rattle.jc_view.specs.Attributes.{of_kind};
@@ -6,7 +6,7 @@ ghost use Rattle.jc_file.specs.inside.Recognised.{GivesOfKind};
 
 use jc_view::{Attribute, AttributeKind, Attributes, Member};
 
-/// Returns the next attribute that is recognised as of a kind.
+/// Returns the next attribute that is recognised as one of this kind.
 pub(crate) fn next_of_kind<'v, 'a>(
     attributes: &mut Attributes<'v, 'a>,
     kind: AttributeKind,
@@ -21,7 +21,7 @@ pub(crate) fn next_of_kind<'v, 'a>(
     None
 }
 
-/// Returns whether more than one attribute of the member is recognised as of a kind.
+/// Returns whether more than one attribute of the member is recognised as one of this kind.
 pub(crate) fn has_two(member: &Member, kind: AttributeKind) -> bool
     ensures { result ≡ nat_le 2 (length (of_kind member.now.class kind member.now.member.holder member.now.member.member.attributes)) }
 {

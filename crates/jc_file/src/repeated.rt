@@ -1,4 +1,4 @@
-//! Members whose name and descriptor an earlier one has.
+//! A search, with numbered texts, for members that have the name and descriptor of an earlier one.
 
 ghost use Rattle.std.specs.Prelude.{◌≡◌, ◌<◌, ◌^◌, ◌++◌, [], false, map, length, IfOk, OnOk};
 ghost use Rattle.std.specs.List.{list_any};
@@ -19,8 +19,8 @@ use std::alloc::Global;
 /// The numbers of a name and a descriptor.
 type NumberedKey = (ConstantIndex, ConstantIndex);
 
-/// Adds a fault for each field whose name and descriptor an earlier one has. After an error the list may
-/// have some of them.
+/// Adds a fault for each field that has the name and descriptor of an earlier one. After an error, the list may have
+/// some of them.
 pub(crate) fn add_repeated_fields(
     alloc: Global,
     faults: &mut Vec<Fault>,
@@ -32,8 +32,8 @@ pub(crate) fn add_repeated_fields(
     add_repeated(alloc, faults, class.fields(), rule)
 }
 
-/// Adds a fault for each method whose name and descriptor an earlier one has. After an error the list may
-/// have some of them.
+/// Adds a fault for each method that has the name and descriptor of an earlier one. After an error, the list may have
+/// some of them.
 pub(crate) fn add_repeated_methods(
     alloc: Global,
     faults: &mut Vec<Fault>,
@@ -45,7 +45,7 @@ pub(crate) fn add_repeated_methods(
     add_repeated(alloc, faults, class.methods(), rule)
 }
 
-/// Adds a fault for each member whose name and descriptor an earlier one has.
+/// Adds a fault for each member that has the name and descriptor of an earlier one.
 fn add_repeated(
     alloc: Global,
     faults: &mut Vec<Fault>,
@@ -60,7 +60,7 @@ fn add_repeated(
     add_each(faults, &mut texts, &mut seen, members, rule)
 }
 
-/// Adds the faults of all members, by the numbers of texts and the keys that were seen, none so far.
+/// Adds the faults of all members. The set of keys that were seen begins empty.
 fn add_each<'a>(
     faults: &mut Vec<Fault>,
     texts: &mut TextNumbers<'a>,
@@ -80,7 +80,7 @@ fn add_each<'a>(
     Ok(())
 }
 
-/// Returns the numbers of a member's name and descriptor.
+/// Returns the numbers of the name and the descriptor of a member.
 fn numbered_key<'a>(
     texts: &mut TextNumbers<'a>,
     member: &Member<'_, 'a>,
@@ -95,7 +95,7 @@ fn numbered_key<'a>(
     Ok(name.zip(descriptor))
 }
 
-/// Inserts a key, and returns whether it was there.
+/// Inserts a key, and returns whether the set had it already.
 fn note(seen: &mut IndexSet<NumberedKey>, key: Option<NumberedKey>) -> Result<bool, NoMemory>
     ensures was { IfOk result (λ was. was ≡ option_map_or (λ k. list_any (same_numbers k) seen.old.keys) key false) }
     ensures ok { OnOk result (seen.new.keys ≡ option_map_or (insert_key same_numbers seen.old.keys) key seen.old.keys) }

@@ -1,4 +1,4 @@
-//! Members that repeat an earlier one (JVMS 4.5, 4.6).
+//! Members that have the name and descriptor of an earlier one (JVMS 4.5, 4.6).
 
 ghost use Rattle.std.specs.Prelude.{◌≡◌, [], Some, true, filter, map, IfOk, IfSome, OnOk};
 ghost use Rattle.std.specs.List.{list_any};
@@ -20,13 +20,14 @@ use std::alloc::Global;
 /// The name and the descriptor of a member.
 type Key<'a> = (&'a [u8], &'a [u8]);
 
-/// The largest number of members that are compared with each other. For more members, a map finds equal ones sooner.
+/// The maximum number of members that are compared with each other. For more members, a map finds equal ones faster.
 const MOST_KEYS: usize = 64;
 
-/// The largest number of bytes of a text that is compared in this way, because many members may have the same text.
+/// The maximum length of a text that is compared in this way. Many members may have the same text, so long texts would
+/// be expensive.
 const LONGEST_TEXT: usize = 128;
 
-/// Adds the rules that fields and methods break that repeat an earlier one.
+/// Adds the rules that are broken by fields and methods that repeat an earlier one.
 pub(crate) fn add_repeats(
     alloc: Global,
     broken: &mut Vec<Broken>,
@@ -75,7 +76,7 @@ fn repeated_methods(alloc: Global, class: &ClassView) -> Result<Vec<Fault>, NoMe
     Ok(faults)
 }
 
-/// Returns whether the members are few, and each has a short name and a short descriptor that no earlier one has.
+/// Returns whether the members are few, and each has a short name and descriptor that no earlier one has.
 fn are_few_and_apart(alloc: Global, members: Members) -> Result<bool, NoMemory>
     ensures { IfOk result (λ apart. apart ≡ true → repeated members.entry.class (map (λ m. m.member) members.entry.left) ≡ []) }
 {
@@ -89,7 +90,7 @@ fn are_few_and_apart(alloc: Global, members: Members) -> Result<bool, NoMemory>
     Ok(true)
 }
 
-/// Returns the name and the descriptor of a member, if both are there and short.
+/// Returns the name and the descriptor of a member, if both are present and short.
 fn short_key<'a>(member: &Member<'_, 'a>) -> Option<Key<'a>>
     ensures { IfSome result (λ key. key_of member.now.class member.now.member.member ≡ Some (key_now key)) }
 {

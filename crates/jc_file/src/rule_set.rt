@@ -19,7 +19,7 @@ impl RuleSet {
         RuleSet { bits: 0 }
     }
 
-    /// Returns this set with a rule in it if the rule is broken, and else without the rule.
+    /// Returns this set, with the rule if it is broken, or without the rule if it is not.
     pub(crate) fn with(self, rule: FormatRule, is_broken: bool) -> RuleSet
         ensures { (other : FormatRule) → has result other ≡ cond (same_rule rule other) is_broken (has self other) }
     {

@@ -1,4 +1,4 @@
-//! The rules that the constants, interfaces, fields and methods break.
+//! Passes over the constants, interfaces, fields and methods, which collect the rules that they break.
 
 ghost use Rattle.std.specs.Prelude.{◌≡◌, false, OnOk};
 ghost use Rattle.std.specs.Option.{option_map_or};
@@ -38,7 +38,8 @@ pub(crate) fn add_constants(broken: &mut Vec<Broken>, texts: &mut Texts) -> Resu
     Ok(())
 }
 
-/// Returns the rules that the constant of an index breaks, if it is there. A text that is a name or a descriptor breaks none.
+/// Returns the rules that the constant at an index breaks, if there is one. A text that is known to be a name or a
+/// descriptor breaks none.
 fn rules_at(texts: &mut Texts, bootstraps: u16, index: u16) -> RuleSet
     requires { bootstraps ≡ told_by (bootstrap_attributes texts.old) }
     ensures same { texts.new ≡ texts.old }
@@ -66,7 +67,7 @@ pub(crate) fn add_interfaces(broken: &mut Vec<Broken>, texts: &mut Texts) -> Res
     Ok(())
 }
 
-/// Adds the rules that fields break, other than that they repeat earlier ones, and those that their attributes break.
+/// Adds the rules that fields break, except the rule against repeated fields, and those that their attributes break.
 pub(crate) fn add_fields(
     broken: &mut Vec<Broken>,
     attributes: &mut Vec<Broken>,
@@ -84,7 +85,7 @@ pub(crate) fn add_fields(
     Ok(())
 }
 
-/// Adds the rules that methods break, other than that they repeat earlier ones, and those that their attributes break.
+/// Adds the rules that methods break, except the rule against repeated methods, and those that their attributes break.
 pub(crate) fn add_methods(
     broken: &mut Vec<Broken>,
     attributes: &mut Vec<Broken>,

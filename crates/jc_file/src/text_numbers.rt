@@ -10,8 +10,10 @@ use jc_view::{ClassView, ConstantIndex};
 use std::alloc::Global;
 use std::collections::BTreeMap;
 
-/// The numbers of the texts that were asked for. Each text is looked up once for each index that has it. The map is ordered
-/// by bytes, so no choice of texts makes it slow.
+/// The numbers of the texts that were looked up. The number of a text is the first index that was looked up with it.
+///
+/// A text is searched in the map once per index that names it. The map is ordered, so hostile texts do not make it
+/// slow.
 #[derive(Drop)]
 pub(crate) struct TextNumbers<'a> {
     by_index: Vec<Option<ConstantIndex>>,
@@ -30,7 +32,7 @@ impl<'a> TextNumbers<'a> {
         })
     }
 
-    /// Returns the number of the text of an index, or `None` if the index names no `Utf8` constant.
+    /// Returns the number of the text at an index, or `None` if the index does not name a `Utf8` constant.
     pub(crate) fn number(
         &mut self,
         class: &ClassView<'a>,
@@ -53,14 +55,14 @@ impl<'a> TextNumbers<'a> {
     }
 }
 
-/// Returns what is kept for an index.
+/// Returns the number that is kept for an index.
 fn known(numbers: &[Option<ConstantIndex>], index: ConstantIndex) -> Option<ConstantIndex>
     ensures { result ≡ option_flatten (slice_get numbers.now index.0) }
 {
     *numbers.get(index.0 as usize)?
 }
 
-/// Keeps a number for an index.
+/// Keeps the number of the text at an index.
 fn keep(numbers: &mut Vec<Option<ConstantIndex>>, index: ConstantIndex, number: ConstantIndex)
     ensures { numbers.new.items ≡ slice_set numbers.old.items index.0 (Some number) }
 {
@@ -70,7 +72,7 @@ fn keep(numbers: &mut Vec<Option<ConstantIndex>>, index: ConstantIndex, number: 
     }
 }
 
-/// Returns the number of a text, and gives it this one if it has none.
+/// Returns the number of a text. If it has none, it gets this number.
 fn number_text<'a>(
     numbers: &mut BTreeMap<&'a [u8], ConstantIndex>,
     text: &'a [u8],

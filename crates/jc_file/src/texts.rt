@@ -1,5 +1,5 @@
-//! The texts of a class file, and what each was found to be. Any number of constants and members may name the same
-//! long text, and no text is read twice for the same question.
+//! The texts of a class file, and what is known about each. Many constants and members may name the same long text, but
+//! no text is read twice for the same question.
 
 ghost use Rattle.std.specs.Prelude.{◌≡◌, IfOk, option_map, slice_get, true};
 ghost use Rattle.jc_base.specs.TextTests.{is_class_text, is_method_name_text, is_unqualified_text};
@@ -13,14 +13,14 @@ use jc_view::{ClassView, ConstantIndex};
 use std::alloc::Global;
 use std::marker::Model;
 
-/// What a text is as a descriptor (JVMS 4.3).
+/// Which descriptor a text is (JVMS 4.3).
 #[derive(Clone, Copy)]
 pub(crate) enum Descriptor {
-    /// That of a field, with this number of dimensions.
+    /// A field descriptor with this number of dimensions.
     Field(u8),
-    /// That of a method. The parameters take this number of slots, without the receiver.
+    /// A method descriptor. The parameters take this number of slots, without the receiver.
     Method { slots: u8, returns_value: bool },
-    /// None.
+    /// The text is not a descriptor.
     Other,
 }
 
@@ -55,8 +55,8 @@ impl Descriptor {
         }
     }
 
-    /// Returns whether it is that of a method whose parameters take at most 255 slots, with the receiver unless the
-    /// method is static.
+    /// Returns whether this is a method descriptor whose parameters take at most 255 slots, with the receiver unless
+    /// the method is static.
     pub(crate) fn fits(self, is_static: bool) -> bool
         ensures { result ≡ fits is_static self }
     {
@@ -67,7 +67,7 @@ impl Descriptor {
     }
 }
 
-/// The answers about a text that are known.
+/// What is known about a text.
 #[derive(Clone, Copy)]
 struct Known {
     is_class: Option<bool>,
@@ -100,7 +100,7 @@ impl Known {
     }
 }
 
-/// A class file, and what is known of its texts.
+/// A class file, and what is known about its texts.
 #[derive(Drop)]
 pub(crate) struct Texts<'v, 'a> {
     class: &'v ClassView<'a>,
@@ -140,7 +140,8 @@ impl<'v, 'a> Texts<'v, 'a> {
         self.known(index).is_name_or_descriptor()
     }
 
-    /// Returns whether the text at `index` is the name of a class or interface (JVMS 4.2.1).
+    /// Returns whether the text at `index` is the name of a class or interface (JVMS 4.2.1). Returns `None` if the
+    /// index does not name a `Utf8`.
     pub(crate) fn is_class(&mut self, index: ConstantIndex) -> Option<bool>
         ensures same { self.new ≡ self.old }
         ensures answer { result ≡ option_map is_class_text (utf8_at self.old index) }
@@ -154,7 +155,8 @@ impl<'v, 'a> Texts<'v, 'a> {
         is_class
     }
 
-    /// Returns whether the text at `index` is an unqualified name (JVMS 4.2.2).
+    /// Returns whether the text at `index` is an unqualified name (JVMS 4.2.2). Returns `None` if the index does not
+    /// name a `Utf8`.
     pub(crate) fn is_unqualified(&mut self, index: ConstantIndex) -> Option<bool>
         ensures same { self.new ≡ self.old }
         ensures answer { result ≡ option_map is_unqualified_text (utf8_at self.old index) }
@@ -174,7 +176,8 @@ impl<'v, 'a> Texts<'v, 'a> {
         is_unqualified
     }
 
-    /// Returns whether the text at `index` is the name of a method (JVMS 4.2.2).
+    /// Returns whether the text at `index` is the name of a method (JVMS 4.2.2). Returns `None` if the index does not
+    /// name a `Utf8`.
     pub(crate) fn is_method_name(&mut self, index: ConstantIndex) -> Option<bool>
         ensures same { self.new ≡ self.old }
         ensures answer { result ≡ option_map is_method_name_text (utf8_at self.old index) }
@@ -194,7 +197,7 @@ impl<'v, 'a> Texts<'v, 'a> {
         is_method_name
     }
 
-    /// Returns what the text at `index` is as a descriptor (JVMS 4.3).
+    /// Returns which descriptor the text at `index` is (JVMS 4.3). Returns `None` if the index does not name a `Utf8`.
     pub(crate) fn descriptor(&mut self, index: ConstantIndex) -> Option<Descriptor>
         ensures same { self.new ≡ self.old }
         ensures answer { result ≡ option_map descriptor_of (utf8_at self.old index) }
@@ -206,7 +209,7 @@ impl<'v, 'a> Texts<'v, 'a> {
         }
     }
 
-    /// Reads the text at `index` as a descriptor, and notes what it is.
+    /// Reads the text at `index` as a descriptor, and notes the result.
     #[inline(never)]
     fn read_descriptor(&mut self, index: ConstantIndex, known: Known) -> Option<Descriptor>
         requires { IsKnown self.old index known }
@@ -244,7 +247,7 @@ impl<'v, 'a> Texts<'v, 'a> {
     }
 }
 
-/// Returns what is known at an index.
+/// Returns what is known about the text at an index.
 fn known_at(known: &[Known], index: ConstantIndex) -> Option<Known>
     ensures { result ≡ slice_get known.now index.0 }
 {

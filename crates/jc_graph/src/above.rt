@@ -1,4 +1,4 @@
-//! What is above some nodes.
+//! The nodes that can be reached from some nodes.
 
 ghost use Rattle.std.specs.Prelude.{◌≡◌, ◌<◌, length, OnOk};
 ghost use Rattle.std.specs.List.{All};
@@ -9,7 +9,8 @@ use crate::seen::Seen;
 use crate::successors::successors;
 use jc_base::NoMemory;
 
-/// Sees what one or more steps from some nodes lead to, each node once.
+/// Marks the nodes that can be reached from `starts` in one or more steps. Forgets the nodes that were seen before.
+/// Visits each node once. Returns `NoMemory` only when an allocation fails.
 pub fn mark_above(graph: &[Vec<usize>], seen: &mut Seen, starts: &[usize]) -> Result<(), NoMemory>
     requires starts { All (λ v. v < length graph.now) starts.now }
     requires nodes { AreNodes (successors_of graph.now) (length graph.now) }

@@ -1,6 +1,10 @@
-//! Graphs of numbered nodes, each with the nodes that one step leads to: which nodes are above
-//! themselves, an order in which a node stands after what its steps lead to, and what is above some
-//! nodes.
+//! Graphs of numbered nodes. A graph has, for each node, the list of the nodes that one step leads to.
+//!
+//! A node is circular if it can be reached from itself. [`sort_nodes`] finds the circular nodes, and an order in which
+//! every other node comes after the nodes that its steps lead to. [`mark_above`] marks the nodes that can be reached
+//! from some nodes, in a [`Seen`].
+//!
+//! The contracts say that these results are exact.
 #![tactic(auto)]
 
 mod above;

@@ -1,4 +1,4 @@
-//! Which nodes a walk has seen.
+//! The nodes that a walk has seen.
 
 ghost use Rattle.std.specs.Prelude.{◌≡◌, ◌<◌, ◌++◌, ◌∷◌, [], ℕ, length, OnOk, OnErr, IfOk, true, false, slice_set};
 ghost use Rattle.std.specs.List.{All};
@@ -8,8 +8,8 @@ use jc_base::NoMemory;
 use std::alloc::Global;
 use std::marker::Model;
 
-/// Which of so many nodes were seen, as a flag for each and as a list in the order in which they were
-/// added.
+/// The nodes that were seen, out of a fixed number of nodes. They are kept as a flag for each node, and as a list in
+/// the order in which they were added.
 #[derive(Drop)]
 pub struct Seen {
     flags: Vec<bool>,
@@ -27,7 +27,7 @@ impl Model for Seen {
 }
 
 impl Seen {
-    /// None of the nodes.
+    /// Creates a set without nodes, for the nodes below `count`. Returns `NoMemory` only when an allocation fails.
     pub fn new(alloc: Global, count: usize) -> Result<Seen, NoMemory>
         ensures size { IfOk result (λ s. length s.flags ≡ count) }
         ensures none { IfOk result (λ s. (v : ℕ) → flag_at s.flags v ≡ false) }
@@ -39,7 +39,7 @@ impl Seen {
         })
     }
 
-    /// Whether a node was seen.
+    /// Returns whether a node was seen.
     pub fn has(&self, node: usize) -> bool
         requires { node < length self.now.flags }
         ensures { result ≡ flag_at self.now.flags node }
@@ -47,7 +47,8 @@ impl Seen {
         self.flags[node]
     }
 
-    /// Adds a node.
+    /// Adds a node at the end of the list, even if the list has it already. Returns `NoMemory` only when an allocation
+    /// fails.
     pub fn add(&mut self, node: usize) -> Result<(), NoMemory>
         requires { node < length self.old.flags }
         ensures flags { OnOk result (self.new.flags ≡ slice_set self.old.flags node true) }
@@ -59,7 +60,7 @@ impl Seen {
         Ok(())
     }
 
-    /// Forgets all. It takes as long as there are nodes in the list.
+    /// Removes all nodes. The cost is proportional to the number of nodes in the list, and not to the number of flags.
     pub fn clear(&mut self)
         ensures size { length self.new.flags ≡ length self.old.flags }
         ensures none { (v : ℕ) → flag_at self.new.flags v ≡ false }
@@ -70,21 +71,21 @@ impl Seen {
         }
     }
 
-    /// How many nodes were seen.
+    /// Returns the number of nodes that were seen.
     pub fn len(&self) -> usize
         ensures { result ≡ length self.now.list }
     {
         self.list.len()
     }
 
-    /// The nodes that were seen.
+    /// Returns the nodes that were seen, in the order in which they were added.
     pub fn nodes(&self) -> &[usize]
         ensures { result.now ≡ self.now.list }
     {
         self.list.as_slice()
     }
 
-    /// The node that was seen at a place.
+    /// Returns the node at a place of the list.
     pub fn node(&self, at: usize) -> usize
         requires { at < length self.now.list }
         ensures { result ≡ node_at self.now.list at }
@@ -92,7 +93,7 @@ impl Seen {
         self.list[at]
     }
 
-    /// Adds a node, unless it is there.
+    /// Adds a node, unless it was seen.
     fn add_once(&mut self, node: usize) -> Result<(), NoMemory>
         requires { node < length self.old.flags }
         ensures { OnOk result (SeesMore self.old.flags self.old.list self.new.flags self.new.list (node ∷ [])) }
@@ -104,7 +105,7 @@ impl Seen {
         Ok(())
     }
 
-    /// Adds each node of a list that is not there.
+    /// Adds the nodes of a list that were not seen. Returns `NoMemory` only when an allocation fails.
     pub fn add_all(&mut self, nodes: &[usize]) -> Result<(), NoMemory>
         requires { All (λ v. v < length self.old.flags) nodes.now }
         ensures { OnOk result (SeesMore self.old.flags self.old.list self.new.flags self.new.list nodes.now) }

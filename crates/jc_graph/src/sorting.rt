@@ -1,4 +1,4 @@
-//! Which nodes are above themselves, and an order of all nodes.
+//! The circular nodes of a graph, and an order of all its nodes.
 
 ghost use Rattle.std.specs.Prelude.{length, IfOk};
 ghost use Rattle.jc_graph.specs.Graph.{successors_of, AreNodes, TellsCircular, IsOrder};
@@ -7,15 +7,18 @@ use crate::walk::Walk;
 use jc_base::NoMemory;
 use std::alloc::Global;
 
-/// Which nodes are circular, which is to say above themselves, and all nodes in an order in which each
-/// one that is not circular stands after those that its steps lead to.
+/// The circular nodes, which can be reached from themselves, and an order of all nodes. A node that is not circular
+/// comes after the nodes that its steps lead to.
 #[derive(Drop)]
 pub struct Sorted {
+    /// Whether each node is circular.
     pub circular: Vec<bool>,
+    /// All nodes in that order.
     pub order: Vec<usize>,
 }
 
-/// Sorts all nodes, each of which is visited once.
+/// Finds the circular nodes and an order of all nodes. Visits each node once. Returns `NoMemory` only when an
+/// allocation fails.
 pub fn sort_nodes(alloc: Global, graph: &[Vec<usize>]) -> Result<Sorted, NoMemory>
     requires { AreNodes (successors_of graph.now) (length graph.now) }
     ensures circular { IfOk result (λ s. TellsCircular (successors_of graph.now) (length graph.now) s.circular.items) }

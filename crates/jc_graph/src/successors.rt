@@ -3,7 +3,7 @@
 ghost use Rattle.std.specs.Prelude.{◌≡◌, ◌<◌, length};
 ghost use Rattle.jc_graph.specs.Graph.{successors_of};
 
-/// Where the steps from a node lead.
+/// Returns the nodes that one step from a node leads to.
 pub(crate) fn successors<'a>(graph: &'a [Vec<usize>], node: usize) -> &'a [usize]
     requires { node < length graph.now }
     ensures { result.now ≡ successors_of graph.now node }

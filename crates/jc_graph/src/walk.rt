@@ -1,4 +1,4 @@
-//! A walk over the nodes that joins what lies on a ring.
+//! A walk over the nodes that joins the nodes of a ring into one segment.
 
 ghost use Rattle.std.specs.Prelude.{◌≡◌, ◌<◌, ◌≤◌, ◌-◌, ℕ, OnOk, IfOk, length, replicate, [], false};
 ghost use Rattle.std.specs.List.{All};
@@ -12,7 +12,7 @@ use crate::successors::successors;
 use jc_base::NoMemory;
 use std::alloc::Global;
 
-/// Where a walk has a node.
+/// The state of a node in a walk.
 #[derive(Clone, Copy)]
 pub(crate) enum Place {
     Unseen,
@@ -21,14 +21,15 @@ pub(crate) enum Place {
     Done,
 }
 
-/// Where a part of the path begins, and where the steps begin that it still has to take.
+/// A segment: the place on the path where its nodes begin, and the place in `steps` where its pending steps begin.
 #[derive(Clone, Copy)]
 pub(crate) struct Segment {
     pub(crate) path_from: usize,
     pub(crate) steps_from: usize,
 }
 
-/// A walk: a path of segments, each of nodes that reach one another, and the nodes that are done.
+/// A walk: a path of segments, the pending steps, and the nodes that are done. The nodes of a segment can be reached
+/// from each other.
 #[derive(Drop)]
 pub(crate) struct Walk {
     pub(crate) path: Vec<usize>,
@@ -39,7 +40,7 @@ pub(crate) struct Walk {
     pub(crate) order: Vec<usize>,
 }
 
-/// Whether the nodes of a segment that has no more steps to take are on a ring.
+/// Returns whether the nodes of a segment without pending steps are on a ring.
 fn is_ring(graph: &[Vec<usize>], nodes: &[usize]) -> bool
     requires { All (λ v. v < length graph.now) nodes.now }
     ensures { TellsRing (successors_of graph.now) nodes.now result }
@@ -51,7 +52,7 @@ fn is_ring(graph: &[Vec<usize>], nodes: &[usize]) -> bool
 }
 
 impl Walk {
-    /// A walk that has seen none of the nodes.
+    /// Creates a walk that has seen none of the nodes.
     pub(crate) fn new(alloc: Global, count: usize) -> Result<Walk, NoMemory>
         ensures path { IfOk result (λ w. w.path.items ≡ []) }
         ensures segments { IfOk result (λ w. w.segments.items ≡ []) }
@@ -70,7 +71,7 @@ impl Walk {
         })
     }
 
-    /// Goes on to a node that was not seen.
+    /// Visits a node that was not seen. It becomes a segment at the end of the path.
     fn visit(&mut self, graph: &[Vec<usize>], node: usize) -> Result<(), NoMemory>
         requires walk { IsWalk (successors_of graph.now) (length graph.now) (state_of self.old) }
         requires node { node < length graph.now }
@@ -90,7 +91,7 @@ impl Walk {
         Ok(())
     }
 
-    /// Ends the last segment, which has no more steps to take.
+    /// Ends the last segment, which has no pending steps.
     fn end(&mut self, graph: &[Vec<usize>], last: Segment) -> Result<(), NoMemory>
         requires walk { IsWalk (successors_of graph.now) (length graph.now) (state_of self.old) }
         requires some { 0 < length self.old.segments.items }
@@ -108,7 +109,7 @@ impl Walk {
         Ok(())
     }
 
-    /// Where the last step leads.
+    /// Returns the node that the last pending step leads to.
     fn target(&self) -> usize
         requires { 0 < length self.now.steps.items }
         ensures { result ≡ last_step (state_of self.now) }
@@ -116,8 +117,10 @@ impl Walk {
         self.steps[self.steps.len() - 1]
     }
 
-    /// Takes the last step, which is one from the last segment. A step to a node that was not seen waits
-    /// until that node is done.
+    /// Takes the last pending step, which begins in the last segment.
+    ///
+    /// If the step leads to a node that was not seen, that node is visited, and the step stays pending until the node
+    /// is done. If it leads to a node of an earlier segment, the last two segments are joined.
     fn take(&mut self, graph: &[Vec<usize>], last: Segment) -> Result<(), NoMemory>
         requires nodes { AreNodes (successors_of graph.now) (length graph.now) }
         requires walk { IsWalk (successors_of graph.now) (length graph.now) (state_of self.old) }
@@ -144,7 +147,7 @@ impl Walk {
         }
     }
 
-    /// One turn at the last segment.
+    /// Takes a pending step of the last segment, or ends the segment if it has none.
     fn turn(&mut self, graph: &[Vec<usize>], last: Segment) -> Result<(), NoMemory>
         requires nodes { AreNodes (successors_of graph.now) (length graph.now) }
         requires walk { IsWalk (successors_of graph.now) (length graph.now) (state_of self.old) }
@@ -159,7 +162,7 @@ impl Walk {
         }
     }
 
-    /// Sees a node, and all that is above it.
+    /// Visits a node and all nodes that can be reached from it, except those that were seen.
     pub(crate) fn see(&mut self, graph: &[Vec<usize>], node: usize) -> Result<(), NoMemory>
         requires nodes { AreNodes (successors_of graph.now) (length graph.now) }
         requires walk { IsWalk (successors_of graph.now) (length graph.now) (state_of self.old) }

@@ -1,4 +1,4 @@
-//! An index holds for each name the classes that depend on it.
+//! An index from names to the classes that depend on them.
 
 ghost use Rattle.std.specs.Prelude.{◌≡◌, ◌&&◌, not, true, [], Some, IfSome, OnErr, OnOk, slice_get};
 ghost use Rattle.std.specs.FinMap as map;
@@ -15,7 +15,8 @@ use jc_base::{ByteMap, NoMemory, byte_map};
 use std::alloc::Global;
 use std::marker::Model;
 
-/// For each of some names its users, in the order of their bytes, seen as a map from names to lists of names.
+/// An index from names to their users, which are names too. Each list of users is in the order of their bytes. Its
+/// model is a map from names to lists of names.
 #[derive(Drop)]
 pub struct Index {
     alloc: Global,
@@ -38,7 +39,7 @@ impl Model for Index {
 }
 
 impl Index {
-    /// An index without users. No memory.
+    /// Creates an index without users. Does not allocate.
     pub fn new(alloc: Global) -> Index
         ensures { (name : Name) → users_of result name ≡ [] }
     {
@@ -48,14 +49,14 @@ impl Index {
         }
     }
 
-    /// A name has a place here only with a user.
+    /// States that each name of the index has a user.
     pub fn names_have_users(&self)
         ensures { HaveUsers self.now }
     {
         let _lists = &self.lists;
     }
 
-    /// The users of a name, rising, each once. No memory.
+    /// Returns the users of a name in ascending order, without duplicates. Does not allocate.
     pub fn users(&self, name: &[u8]) -> &[Vec<u8>]
         ensures users { names_of result.now ≡ users_of self.now name.now }
         ensures rises { IsStrictlySortedBy name_cmp (users_of self.now name.now) }
@@ -66,14 +67,15 @@ impl Index {
         }
     }
 
-    /// The list of users of a name that has some. No memory.
+    /// Returns the list of users of a name, if it has any. Does not allocate.
     pub fn list(&self, name: &[u8]) -> Option<&NameList>
         ensures { option_copied result ≡ map.get self.now name.now }
     {
         self.lists.get(name)
     }
 
-    /// The name at a place among those that have users, from 0, with its users; nothing beyond the last. No memory.
+    /// Returns the name at a place among the names that have users, counted from 0, with its users. Returns `None`
+    /// after the last. Does not allocate.
     pub fn nth(&self, place: usize) -> Option<(&[u8], &NameList)>
         ensures name { option_map (λ entry. entry.0.now) result ≡ slice_get (map.keys self.now) place }
         ensures list { IfSome result (λ entry. map.get self.now entry.0.now ≡ Some entry.1.now) }
@@ -81,7 +83,7 @@ impl Index {
         self.lists.iter().nth(place)
     }
 
-    /// The names that have users, rising.
+    /// Returns an iterator over the names that have users, in ascending order.
     pub fn keys(&self) -> Keys<'_>
         ensures { Lists result (λ name. is_key self.now name ≡ true) }
     {
@@ -90,7 +92,7 @@ impl Index {
         }
     }
 
-    /// Adds a user at a name.
+    /// Adds a user to the list of a name. Returns `NoMemory` only when an allocation fails.
     pub fn link(&mut self, name: &[u8], user: &[u8]) -> Result<(), NoMemory>
         ensures ok { OnOk result (Linked self.old self.new name.now user.now) }
         ensures err { OnErr result (self.new ≡ self.old) }
@@ -106,7 +108,7 @@ impl Index {
         Ok(())
     }
 
-    /// Takes a user out at a name. No memory.
+    /// Removes a user from the list of a name. Does not allocate.
     pub fn unlink(&mut self, name: &[u8], user: &[u8])
         ensures { Unlinked self.old self.new name.now user.now }
     {
@@ -118,7 +120,8 @@ impl Index {
         }
     }
 
-    /// Adds a user at each of some names. At want of memory it may be added at some of them.
+    /// Adds a user to the list of each of these names. Returns `NoMemory` only when an allocation fails, and then some
+    /// of the lists may have the user.
     pub fn link_all(&mut self, names: &PackedNames, user: &[u8]) -> Result<(), NoMemory>
         ensures ok { OnOk result (LinkedAt self.old self.new (has names.now) user.now) }
         ensures err { OnErr result (LinkedAtSome self.old self.new (has names.now) user.now) }
@@ -127,7 +130,8 @@ impl Index {
         self.link_all_but(names, &none, user)
     }
 
-    /// Adds a user at each of some names that others lack. At want of memory it may be added at some of them.
+    /// Adds a user to the list of each of these names that is not one of `others`. Returns `NoMemory` only when an
+    /// allocation fails, and then some of the lists may have the user.
     pub fn link_all_but(
         &mut self,
         names: &PackedNames,
@@ -147,8 +151,8 @@ impl Index {
         Ok(())
     }
 
-    /// Adds a user at a name, unless others have it, most likely near a place. Answers the place near which they have
-    /// the next.
+    /// Adds a user to the list of a name, unless the name is one of `others`. The search in `others` compares the name
+    /// at the place `near` first. Returns the place to compare first for the next name.
     fn link_unless(
         &mut self,
         name: &[u8],
@@ -168,7 +172,7 @@ impl Index {
         }
     }
 
-    /// Takes a user out at each of some names. No memory.
+    /// Removes a user from the list of each of these names. Does not allocate.
     pub fn unlink_all(&mut self, names: &PackedNames, user: &[u8])
         ensures { UnlinkedAt self.old self.new (has names.now) user.now }
     {
@@ -177,7 +181,7 @@ impl Index {
         }
     }
 
-    /// Takes a user out at each of some names that others lack. No memory.
+    /// Removes a user from the list of each of these names that is not one of `others`. Does not allocate.
     pub fn unlink_all_but(&mut self, names: &PackedNames, others: &PackedNames, user: &[u8])
         ensures { UnlinkedAt self.old self.new (has_but names.now others.now) user.now }
     {
@@ -190,7 +194,8 @@ impl Index {
         }
     }
 
-    /// The same for taking a user out. No memory.
+    /// Removes a user from the list of a name, unless the name is one of `others`. Searches as `link_unless` does. Does
+    /// not allocate.
     fn unlink_unless(
         &mut self,
         name: &[u8],
@@ -210,7 +215,8 @@ impl Index {
     }
 }
 
-/// The names of an [`Index`] that have users, in their order, seen as the list of those that are left.
+/// An iterator over the names of an [`Index`] that have users, in ascending order. Its model is the list of those that
+/// are left.
 #[derive(Drop)]
 pub struct Keys<'i> {
     keys: byte_map::Keys<'i, NameList>,

@@ -1,4 +1,9 @@
-//! Lists of names in their order, and an index that holds such a list for each name.
+//! Sorted lists of names, and an index from names to such lists.
+//!
+//! [`NameList`] is a list that can change. [`PackedNames`] is a list in one buffer that does not change. [`Index`] has
+//! the users of each name, and can add or remove a user at many names.
+//!
+//! The contracts describe these lists by the names that they have. A list is sorted by bytes and has no duplicates.
 #![tactic(auto)]
 
 mod index;

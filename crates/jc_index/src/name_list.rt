@@ -1,4 +1,4 @@
-//! Names in their order, each once.
+//! A sorted list of names that can change.
 
 ghost use Rattle.std.specs.Prelude.{◌≡◌, ◌∷◌, ◌↔◌, ◌||◌, ◌&&◌, not, IsTrue, OnErr, OnOk, IfErr, IfOk, [], length};
 ghost use Rattle.std.specs.List.Sorted.{IsStrictlySortedBy};
@@ -11,7 +11,7 @@ use std::alloc::Global;
 use std::cmp::Ordering;
 use std::marker::Model;
 
-/// Names in the order of their bytes, each once, seen as the list of them.
+/// Names in the order of their bytes, without duplicates. Its model is the list of them.
 #[derive(Drop)]
 pub struct NameList {
     names: Vec<Vec<u8>>,
@@ -33,7 +33,7 @@ impl Model for NameList {
 }
 
 impl NameList {
-    /// One name.
+    /// Creates a list of one name. Returns `NoMemory` only when an allocation fails.
     pub fn one(alloc: Global, name: Vec<u8>) -> Result<NameList, NoMemory>
         ensures { IfOk result (λ list. list ≡ name.items ∷ []) }
     {
@@ -42,7 +42,7 @@ impl NameList {
         Ok(NameList { names })
     }
 
-    /// These names, put in order, each once. No memory.
+    /// Creates a list of these names: sorts them and removes duplicates. Does not allocate.
     pub fn of(names: Vec<Vec<u8>>) -> NameList
         ensures same { (name : Name) → has result name ≡ has (names_of names.items) name }
         ensures kept { IsStrictlySortedBy name_cmp (names_of names.items) → result ≡ names_of names.items }
@@ -54,7 +54,7 @@ impl NameList {
         NameList { names }
     }
 
-    /// The names. No memory.
+    /// Returns the names in ascending order. Does not allocate.
     pub fn names(&self) -> &[Vec<u8>]
         ensures names { names_of result.now ≡ self.now }
         ensures rises { IsStrictlySortedBy name_cmp self.now }
@@ -62,21 +62,22 @@ impl NameList {
         self.names.as_slice()
     }
 
-    /// Whether there is no name. No memory.
+    /// Returns whether the list is empty. Does not allocate.
     pub fn is_empty(&self) -> bool
         ensures { IsTrue result ↔ (self.now ≡ []) }
     {
         self.names.is_empty()
     }
 
-    /// Whether a name is among them. No memory.
+    /// Returns whether the list has a name. Does not allocate.
     pub fn has(&self, name: &[u8]) -> bool
         ensures { result ≡ has self.now name.now }
     {
         self.place(name).is_ok()
     }
 
-    /// Adds a name at its place. Only a name that is not there takes memory.
+    /// Adds a name at its place. Allocates only if the list does not have the name. Returns `NoMemory` only when an
+    /// allocation fails.
     pub fn add(&mut self, name: Vec<u8>) -> Result<(), NoMemory>
         ensures ok { OnOk result ((n : Name) → has self.new n ≡ (has self.old n || same_name n name.items)) }
         ensures err { OnErr result (self.new ≡ self.old) }
@@ -87,7 +88,7 @@ impl NameList {
         }
     }
 
-    /// Takes a name out. No memory.
+    /// Removes a name. Does not allocate.
     pub fn remove(&mut self, name: &[u8])
         ensures { (n : Name) → has self.new n ≡ (has self.old n && not (same_name n name.now)) }
     {
@@ -96,7 +97,7 @@ impl NameList {
         }
     }
 
-    /// Where a name stands, or else the place that it would have.
+    /// Returns the place of a name, or as an error, the place where it can be inserted.
     fn place(&self, name: &[u8]) -> Result<usize, usize>
         ensures found { IfOk result (StandsAt self.now name.now) }
         ensures absent { IfErr result (IsGapFor self.now name.now) }
@@ -114,8 +115,8 @@ impl NameList {
         Err(low)
     }
 
-    /// Where the search for a name begins: behind all names, where it belongs there, as it does where names come in
-    /// their order.
+    /// Returns the place where the search for a name begins. This is the end of the list for a name after all others,
+    /// so names that are added in order need no search.
     fn begin(&self, name: &[u8]) -> usize
         ensures { IsNarrowed self.now name.now result (length self.now) }
     {

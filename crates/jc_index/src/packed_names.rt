@@ -1,4 +1,4 @@
-//! Names in one buffer.
+//! A sorted list of names in one buffer.
 
 ghost use Rattle.std.specs.Prelude.{◌≡◌, [], is_ok, length, map, IfOk, IsTrue};
 ghost use Rattle.std.specs.List.Sorted.{IsStrictlySortedBy};
@@ -12,8 +12,8 @@ use std::alloc::Global;
 use std::cmp::Ordering;
 use std::marker::Model;
 
-/// Names in the order of their bytes, each once, in one buffer, seen as the list of them: for names that are kept and
-/// not changed.
+/// Names in the order of their bytes, without duplicates, in one buffer. They are kept and do not change. Its model is
+/// the list of them.
 #[derive(Drop)]
 pub struct PackedNames {
     names: TextList,
@@ -35,7 +35,7 @@ impl Model for PackedNames {
 }
 
 impl PackedNames {
-    /// No names. No memory.
+    /// Creates an empty list. Does not allocate.
     pub fn new(alloc: Global) -> PackedNames
         ensures { result ≡ [] }
     {
@@ -44,7 +44,8 @@ impl PackedNames {
         }
     }
 
-    /// Copies of these names, put in order, each once.
+    /// Creates a list of copies of these names: sorts them and removes duplicates. Returns `NoMemory` only when an
+    /// allocation fails.
     pub fn of(alloc: Global, names: Vec<&[u8]>) -> Result<PackedNames, NoMemory>
         ensures same { IfOk result (λ packed. (name : Name) → has packed name ≡ has (map (λ n. n.now) names.entry.items) name) }
         ensures rises { IfOk result (λ packed. IsStrictlySortedBy name_cmp packed) }
@@ -56,28 +57,29 @@ impl PackedNames {
         Ok(PackedNames { names })
     }
 
-    /// How many names there are. No memory.
+    /// Returns the number of names. Does not allocate.
     pub fn len(&self) -> usize
         ensures { result ≡ length self.now }
     {
         self.names.len()
     }
 
-    /// Whether others are known to be the same. No memory.
+    /// Returns whether the other list is known to have the same names. Does not allocate.
     pub fn is_same(&self, other: &PackedNames) -> bool
         ensures { IsTrue result → self.now ≡ other.now }
     {
         self.names.is_same(&other.names)
     }
 
-    /// The name at a place, from 0; an empty one beyond the last. No memory.
+    /// Returns the name at a place, counted from 0. Returns an empty name after the last. Does not allocate.
     pub fn name(&self, place: usize) -> &[u8]
         ensures { result.now ≡ name_at self.now place }
     {
         self.names.text(place)
     }
 
-    /// Where a name stands, or else the place that it would have. It is looked for at a place first. No memory.
+    /// Returns the place of a name, or as an error, the place where it can be inserted. Compares the name at `place`
+    /// first. Does not allocate.
     pub(crate) fn find_near(&self, place: usize, name: &[u8]) -> Result<usize, usize>
         ensures { is_ok result ≡ has self.now name.now }
     {
@@ -87,7 +89,7 @@ impl PackedNames {
         self.find(name)
     }
 
-    /// The same by halves.
+    /// Returns the place of a name by a binary search, or as an error, the place where it can be inserted.
     fn find(&self, name: &[u8]) -> Result<usize, usize>
         ensures { is_ok result ≡ has self.now name.now }
     {
@@ -105,7 +107,7 @@ impl PackedNames {
     }
 }
 
-/// Copies of names, one behind the other, with no room to spare.
+/// Copies names into one buffer without spare room.
 fn pack(alloc: Global, names: &[&[u8]]) -> Result<TextList, NoMemory>
     ensures { IfOk result (λ texts. texts ≡ map (λ name. name.now) names.now) }
 {

@@ -1,11 +1,11 @@
-//! A class file from the lines of a `class` row.
+//! Builds a class file from the lines of a `class` row.
 
 use crate::tokens::{Token, tokens_of};
 use anyhow::{Context, Result, bail};
 use jc_base::ByteMap;
 use std::alloc::Global;
 
-/// Adds bytes. Where memory is refused they are left out, so that the row that wants them is wrong.
+/// Adds bytes. If an allocation fails, the bytes are missing, and the row that needs them is wrong.
 fn add(bytes: &mut Vec<u8>, more: &[u8]) {
     let _ = bytes.extend_from_slice(more);
 }
@@ -21,7 +21,7 @@ fn add_table(bytes: &mut Vec<u8>, table: &Table) {
     add(bytes, &table.rows);
 }
 
-/// A table behind its count.
+/// A table: its count, and its entries as bytes.
 #[derive(Drop)]
 struct Table {
     count: u16,
@@ -43,7 +43,7 @@ impl Table {
     }
 }
 
-/// Constants, each once.
+/// A constant pool without duplicates.
 #[derive(Drop)]
 struct Pool {
     indexes: ByteMap<u16>,
@@ -51,7 +51,7 @@ struct Pool {
 }
 
 impl Pool {
-    /// The index of a constant, which is added where it is new.
+    /// Returns the index of a constant, which is added if it is new.
     fn entry(&mut self, tag: u8, numbers: &[u16], text: &[u8]) -> u16 {
         let mut constant = Vec::new(*self.constants.allocator());
         add(&mut constant, &[tag]);
@@ -70,7 +70,7 @@ impl Pool {
         index
     }
 
-    /// One more than the greatest index.
+    /// Returns the greatest index plus one.
     fn count(&self) -> u16 {
         low_bytes(self.indexes.len().wrapping_add(1))
     }
@@ -93,7 +93,7 @@ impl Pool {
     }
 }
 
-/// The lowest two bytes of a number.
+/// Returns the lowest two bytes of a number.
 fn low_bytes(number: usize) -> u16 {
     (number % (1 << 16)) as u16
 }
@@ -102,7 +102,7 @@ fn low_byte(number: u16) -> u8 {
     (number % (1 << 8)) as u8
 }
 
-/// A class file in the making.
+/// A class file that is being built.
 #[derive(Drop)]
 struct Assembler {
     pool: Pool,
@@ -113,11 +113,11 @@ struct Assembler {
     interfaces: Table,
     fields: Table,
     methods: Table,
-    /// The method that the next instructions are of.
+    /// The method that the next instructions belong to.
     method: Option<Method>,
 }
 
-/// A method in the making. Its code ends with `return`.
+/// A method that is being built. Its code ends with `return`.
 #[derive(Drop)]
 struct Method {
     flags: u16,
@@ -132,7 +132,7 @@ fn hexadecimal(word: &str) -> Result<u16> {
     u16::from_str_radix(word, 16).context("flags in hexadecimal")
 }
 
-/// The bits NATIVE and ABSTRACT, with which a method has no Code.
+/// The bits NATIVE and ABSTRACT. A method with one of them has no `Code`.
 const WITHOUT_CODE: u16 = 0x0500;
 
 impl Assembler {
@@ -164,7 +164,7 @@ impl Assembler {
         Ok(())
     }
 
-    /// Takes the words of a line.
+    /// Reads the tokens of a line.
     fn take(&mut self, tokens: &[Token]) -> Result<()> {
         let [Token::Word(word), rest @ ..] = tokens else {
             bail!("no line of a class");
@@ -180,7 +180,7 @@ impl Assembler {
         }
     }
 
-    /// Takes a line of two words.
+    /// Reads a line of two tokens.
     fn set(&mut self, word: &str, values: &[Token]) -> Result<()> {
         match (word, values) {
             ("version", [Token::Word(major)]) => self.major = major.parse::<u16>()?,
@@ -195,7 +195,7 @@ impl Assembler {
         Ok(())
     }
 
-    /// A field or a method, with the code `return` where it has one.
+    /// Adds a field or a method. A method with a `Code` gets the code `return`.
     fn declare(&mut self, kind: &str, tokens: &[Token]) -> Result<()> {
         let [
             Token::Word(flags),
@@ -230,7 +230,7 @@ impl Assembler {
         });
     }
 
-    /// Puts the method in the making behind the others.
+    /// Adds the current method, if there is one, to the table of methods.
     fn finish_method(&mut self) {
         if let Some(mut method) = self.method.take() {
             let attribute = method.attribute;
@@ -245,7 +245,7 @@ impl Assembler {
         }
     }
 
-    /// An instruction: its opcode, the constant that it names, and what stands behind that.
+    /// Adds an instruction: its opcode, the index of its constant, and the operands after that.
     fn instruct(&mut self, tokens: &[Token]) -> Result<()> {
         let [Token::Word(opcode), operands @ ..] = tokens else {
             bail!("no instruction");
@@ -272,7 +272,7 @@ impl Assembler {
         Ok(())
     }
 
-    /// The index of a constant that names a class or a member.
+    /// Returns the index of a constant that names a class, a field or a method.
     fn refer(&mut self, tokens: &[Token]) -> Result<u16> {
         match tokens {
             [Token::Word("class"), Token::Quoted(name)] => Ok(self.pool.class(name)),
@@ -310,7 +310,7 @@ fn tag_of(kind: &str) -> Result<u8> {
     }
 }
 
-/// The class file of a name and of the lines below it.
+/// Returns the class file with this name that the lines describe.
 pub(crate) fn assemble(alloc: Global, name: &str, lines: &[&str]) -> Result<Vec<u8>> {
     let mut assembler = Assembler::new(alloc, name);
     assembler.take_lines(alloc, lines)?;

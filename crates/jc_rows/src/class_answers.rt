@@ -1,4 +1,4 @@
-//! What `parse` and `format_faults` answer.
+//! The results of `parse` and `format_faults`.
 
 use jc_base::Output;
 use jc_file::{Fault, ParseError, format_faults, parse};
@@ -6,7 +6,7 @@ use jc_report::write_refusal;
 use jc_text::TextWriter;
 use std::alloc::Global;
 
-/// The class's name, or the refusal.
+/// Writes the name of the class, or the refusal.
 pub(crate) fn write_parsed<W: Output>(alloc: Global, out: &mut TextWriter<'_, W>, bytes: &[u8]) {
     match parse(alloc, bytes) {
         Ok(view) => {
@@ -17,10 +17,11 @@ pub(crate) fn write_parsed<W: Output>(alloc: Global, out: &mut TextWriter<'_, W>
     }
 }
 
-/// The fronts of longer class files are not tried.
+/// The maximum length of a class file whose truncations are parsed.
 const MOST_BYTES: usize = 4096;
 
-/// Whether each proper front of the bytes is too short, where they are a class file.
+/// Returns whether each truncation of a class file is refused as `Short`. Bytes that are not a class file, or more than
+/// 4,096 bytes, are not tested, and the result is true.
 pub(crate) fn has_short_fronts(alloc: Global, bytes: &[u8]) -> bool {
     if bytes.len() > MOST_BYTES || parse(alloc, bytes).is_err() {
         return true;
@@ -37,7 +38,7 @@ fn is_short(alloc: Global, bytes: &[u8]) -> bool {
     matches!(parse(alloc, bytes), Err(ParseError::Short))
 }
 
-/// The faults in their order.
+/// Writes the faults in their order.
 pub(crate) fn write_faults<W: Output>(alloc: Global, out: &mut TextWriter<'_, W>, bytes: &[u8]) {
     let view = match parse(alloc, bytes) {
         Ok(view) => view,
@@ -58,7 +59,7 @@ fn write_each<W: Output>(out: &mut TextWriter<'_, W>, faults: &[Fault]) {
     }
 }
 
-/// A fault, behind a comma where it is not the first.
+/// Writes a fault, after a comma if it is not the first.
 pub(crate) fn write_fault<W: Output>(
     out: &mut TextWriter<'_, W>,
     is_next: bool,

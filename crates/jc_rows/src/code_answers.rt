@@ -1,4 +1,4 @@
-//! What `Insns` and `code_faults` answer.
+//! The results of `Insns` and `code_faults`.
 
 use crate::class_answers::write_fault;
 use jc_base::Output;
@@ -7,7 +7,7 @@ use jc_file::parse;
 use jc_text::TextWriter;
 use std::alloc::Global;
 
-/// The instructions of a code, and the offset where they end.
+/// Writes the instructions of a code, and the offset where they end.
 pub(crate) fn write_instructions<W: Output>(out: &mut TextWriter<'_, W>, code: &[u8]) {
     if code.len() >= 1 << 16 {
         return out.text(b"too long");
@@ -100,7 +100,7 @@ fn write_cases<W: Output>(out: &mut TextWriter<'_, W>, switch: &LookupSwitch) {
     }
 }
 
-/// The code faults of the first method, in their order.
+/// Writes the code faults of the first method, in their order.
 pub(crate) fn write_code_faults<W: Output>(
     alloc: Global,
     out: &mut TextWriter<'_, W>,

@@ -1,8 +1,8 @@
-//! Bytes as a person reads them, and where two of them part.
+//! Messages about bytes that differ, with the bytes as readable text.
 
 use std::alloc::{AllocError, Global};
 
-/// Bytes as text: a byte that is no printable letter as `\n` or `\x` and two digits.
+/// Returns bytes as text: printable ASCII as it is, a line feed as `\n`, and any other byte as `\x` and two digits.
 pub(crate) fn shown(alloc: Global, bytes: &[u8]) -> Result<String, AllocError> {
     let mut text = String::new(alloc);
     for byte in bytes {
@@ -15,7 +15,7 @@ pub(crate) fn shown(alloc: Global, bytes: &[u8]) -> Result<String, AllocError> {
     Ok(text)
 }
 
-/// How many bytes of each side are told where two texts part.
+/// The maximum number of bytes of each side in a message.
 const TOLD: usize = 60;
 
 fn excerpt(alloc: Global, bytes: &[u8], place: usize) -> Result<String, AllocError> {
@@ -23,7 +23,7 @@ fn excerpt(alloc: Global, bytes: &[u8], place: usize) -> Result<String, AllocErr
     shown(alloc, &behind[..behind.len().min(TOLD)])
 }
 
-/// How many bytes at their fronts are the same.
+/// Returns the length of the common prefix.
 fn common(wanted: &[u8], found: &[u8]) -> usize {
     let mut same: usize = 0;
     for (a, b) in wanted.iter().zip(found) {
@@ -35,7 +35,7 @@ fn common(wanted: &[u8], found: &[u8]) -> usize {
     same
 }
 
-/// What is told of two texts that are not the same.
+/// Returns a message about two texts that differ.
 pub(crate) fn difference(
     alloc: Global,
     what: &str,

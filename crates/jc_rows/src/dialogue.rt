@@ -1,4 +1,4 @@
-//! The lines of a row that tell what goes in and what has to come out.
+//! The lines of a row with the input of a run and the output that is wanted.
 
 use crate::doubles::Refusal;
 use crate::outcome::Expected;
@@ -8,25 +8,29 @@ use anyhow::{Context, Result, bail};
 use jc_session::SourceError;
 use std::alloc::{AllocError, Global};
 
-/// A file by its name.
+/// A file with its name.
 #[derive(Drop)]
 pub(crate) struct NamedFile<'a> {
     pub(crate) name: &'a str,
     pub(crate) bytes: Vec<u8>,
 }
 
-/// What goes in, and what has to come out.
+/// The input of a run, and the result that is wanted.
 #[derive(Drop)]
 pub(crate) struct Dialogue<'a> {
     pub(crate) files: Vec<NamedFile<'a>>,
+    /// The files that the session must have after the run.
     pub(crate) held: Vec<NamedFile<'a>>,
     pub(crate) refusal: Option<Refusal>,
     pub(crate) takes_bytes: bool,
     pub(crate) words: Vec<&'a str>,
     pub(crate) input: Vec<u8>,
     pub(crate) fails: bool,
+    /// The results of the source, in order.
     pub(crate) answers: Vec<Result<Vec<u8>, SourceError>>,
+    /// The room of the output in bytes, if it is limited.
     pub(crate) room: Option<usize>,
+    /// The room of standard error in bytes, if it is limited.
     pub(crate) error_room: Option<usize>,
     pub(crate) wanted: Expected,
 }
@@ -48,7 +52,7 @@ impl<'a> Dialogue<'a> {
         }
     }
 
-    /// The dialogue that these lines tell, and what has to come out.
+    /// Parses the lines of a dialogue.
     pub(crate) fn read(alloc: Global, names: &Names, lines: &[&'a str]) -> Result<Dialogue<'a>> {
         let mut dialogue = Dialogue::new(alloc);
         dialogue.add_lines(alloc, names, lines)?;
@@ -70,7 +74,7 @@ impl<'a> Dialogue<'a> {
         }
     }
 
-    /// Takes a line that tells of no stream.
+    /// Reads a line that is not about a stream.
     fn add_rest(&mut self, alloc: Global, names: &Names, word: &str, rest: &'a str) -> Result<()> {
         match word {
             "source" => self.push_answers(alloc, names, 1, rest),
@@ -82,7 +86,7 @@ impl<'a> Dialogue<'a> {
         }
     }
 
-    /// Takes a line that tells how a stream or the run ends.
+    /// Reads a line about the end of a stream or of the run.
     fn add_ending(&mut self, word: &str, rest: &str) -> Result<()> {
         if self.switch(word, rest) {
             return Ok(());
@@ -93,7 +97,7 @@ impl<'a> Dialogue<'a> {
         }
     }
 
-    /// What a line that begins so adds to.
+    /// Returns the bytes that a line with this first word adds to.
     fn stream(&mut self, word: &str) -> Option<&mut Vec<u8>> {
         match word {
             "<" | "<<" => Some(&mut self.input),
@@ -103,7 +107,7 @@ impl<'a> Dialogue<'a> {
         }
     }
 
-    /// Takes a line that has no number and no bytes, and says whether it is one.
+    /// Reads a line without a number and without bytes, and returns whether it is one.
     fn switch(&mut self, word: &str, rest: &str) -> bool {
         match (word, rest) {
             ("files", "no-memory") => self.refusal = Some(Refusal::NoMemory),
@@ -151,7 +155,7 @@ fn push_line(bytes: &mut Vec<u8>, line: &str) -> Result<(), AllocError> {
     Ok(())
 }
 
-/// Adds a line where the word is one mark, and else the bytes of parts.
+/// Adds a line if the word has one character, or else the bytes of parts.
 fn push_stream(bytes: &mut Vec<u8>, names: &Names, word: &str, rest: &str) -> Result<()> {
     if word.len() == 1 {
         Ok(push_line(bytes, rest)?)

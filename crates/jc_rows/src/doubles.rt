@@ -1,4 +1,4 @@
-//! A writer and files that stand in for those of the system.
+//! A writer and files that replace those of the system.
 
 use std::alloc::{Allocator, Global};
 use std::fs::{Metadata, OpenOptions};
@@ -6,7 +6,7 @@ use std::io;
 use std::io::{ErrorKind, Write};
 use std::rt::Files;
 
-/// A writer that takes no byte and tells no error.
+/// A writer that accepts no bytes and returns no error.
 #[derive(Drop)]
 pub(crate) struct TakesNothing;
 
@@ -20,7 +20,7 @@ impl Write for TakesNothing {
     }
 }
 
-/// What can't be opened, and why.
+/// What cannot be opened, and why.
 #[derive(Clone, Copy)]
 pub(crate) enum Refusal {
     NoMemory,
@@ -37,7 +37,7 @@ impl Refusal {
     }
 }
 
-/// Files that can't be opened, in folders that can where files alone are unread.
+/// Files that cannot be opened. Their folders can be opened if only files are unread.
 #[derive(Drop)]
 pub(crate) struct RefusedFiles<'a, R> {
     pub(crate) rt: &'a R,

@@ -1,4 +1,5 @@
-//! Edits of a session: what each makes and asks for, and which classes depend on a name.
+//! The calls of a row of edits: edits of a session, with their numbers of parts and of look-ups, and queries of its
+//! report.
 
 use crate::assembler::assemble;
 use crate::compare::difference;
@@ -14,7 +15,7 @@ use jc_session::{Done, Edit, EditError, Session};
 use jc_text::TextWriter;
 use std::alloc::{AllocError, Global};
 
-/// What the calls of these lines answer otherwise than they have to, if one does.
+/// Makes the calls of these lines, and returns a message about the first that returns another result than is wanted.
 pub(crate) fn told_of_edits(
     alloc: Global,
     names: &Names,
@@ -45,7 +46,7 @@ fn told_of_line(
     told_of_answer(alloc, line, wanted.as_bytes(), found, is_counted)
 }
 
-/// Makes the call of these words into an output, and tells how often it asked.
+/// Makes the call of these tokens, writes its result to an output, and returns the number of its look-ups.
 fn answer(
     alloc: Global,
     names: &Names,
@@ -59,7 +60,7 @@ fn answer(
     Ok(asks)
 }
 
-/// Splits a wanted answer into its text and the number of names that the edit asks for, if the row has one.
+/// Splits a wanted answer into its text and the number of names that the edit looks up, if the row has one.
 fn split_asks(wanted: &str) -> Result<(&str, Option<u64>)> {
     match wanted.split_once(", asks ") {
         Some((wanted, asks)) => Ok((wanted, Some(asks.parse::<u64>()?))),
@@ -83,7 +84,7 @@ fn told_of_answer(
     Ok(None)
 }
 
-/// Makes the call of these words, writes what it answers, and tells how often it asked.
+/// Makes the call of these tokens, writes its result, and returns the number of its look-ups.
 fn call<W: Output>(
     alloc: Global,
     names: &Names,
@@ -126,7 +127,7 @@ fn make_edit<W: Output>(
     Ok(write_done(out, session.edit(edit)))
 }
 
-/// Adds or drops a prefix of names outside, or writes whether it is held.
+/// Adds or drops an outside prefix, or writes whether the session has it.
 fn call_outside<W: Output>(
     alloc: Global,
     session: &mut Session,
@@ -162,7 +163,7 @@ fn write_held<W: Output>(out: &mut TextWriter<'_, W>, session: &Session, prefix:
     }
 }
 
-/// How many classes require the row at a place.
+/// Writes the number of classes that require the row at a place.
 fn write_holders<W: Output>(
     out: &mut TextWriter<'_, W>,
     session: &Session,
@@ -172,7 +173,7 @@ fn write_holders<W: Output>(
     Ok(())
 }
 
-/// How many answers the part of a class has.
+/// Writes the number of answers in the part of a class.
 fn write_part<W: Output>(out: &mut TextWriter<'_, W>, session: &Session, name: &str) {
     match session.part(name.as_bytes()) {
         Some(part) => out.decimal(part.answers().len()),
@@ -180,7 +181,7 @@ fn write_part<W: Output>(out: &mut TextWriter<'_, W>, session: &Session, name: &
     }
 }
 
-/// Writes the answer of a class to the reference of a constant, by the constant's index.
+/// Writes the answer of a class to the reference of the constant at an index.
 fn write_answer_at<W: Output>(
     out: &mut TextWriter<'_, W>,
     session: &Session,
@@ -217,13 +218,13 @@ fn write_answer<W: Output>(out: &mut TextWriter<'_, W>, answer: Option<Answer<'_
     }
 }
 
-/// Writes a name after a text.
+/// Writes a text and a name after it.
 fn write_after<W: Output>(out: &mut TextWriter<'_, W>, text: &[u8], name: &[u8]) {
     out.text(text);
     out.path(name);
 }
 
-/// Writes the rows that a class provides, a blank before each.
+/// Writes the rows that a class provides, with a space before each.
 fn write_provided<W: Output>(out: &mut TextWriter<'_, W>, session: &Session, name: &str) {
     out.text(b"rows");
     if let Some(class) = session.report().class(name.as_bytes()) {
@@ -233,7 +234,7 @@ fn write_provided<W: Output>(out: &mut TextWriter<'_, W>, session: &Session, nam
     }
 }
 
-/// Writes the rows that a class requires, a blank before each.
+/// Writes the rows that a class requires, with a space before each.
 fn write_required<W: Output>(out: &mut TextWriter<'_, W>, session: &Session, name: &str) {
     out.text(b"rows");
     if let Some(class) = session.report().class(name.as_bytes()) {
@@ -251,7 +252,7 @@ fn write_row<W: Output>(out: &mut TextWriter<'_, W>, row: Row<'_>) {
     }
 }
 
-/// Writes the names of the circular classes, a blank before each.
+/// Writes the names of the circular classes, with a space before each.
 fn write_circular<W: Output>(out: &mut TextWriter<'_, W>, session: &Session) {
     out.text(b"names");
     for name in session.report().circular() {
@@ -259,7 +260,7 @@ fn write_circular<W: Output>(out: &mut TextWriter<'_, W>, session: &Session) {
     }
 }
 
-/// Adds files, each with a class below java/lang/Object, whose names are the front and a number from 1.
+/// Adds files, each with a class whose superclass is `java/lang/Object`. The names are a prefix and a number from 1.
 fn add_classes(
     alloc: Global,
     session: &mut Session,
@@ -276,7 +277,7 @@ fn add_classes(
     Ok(())
 }
 
-/// Adds files with the same bytes, whose paths are the front and a number from 1.
+/// Adds files with the same bytes. The paths are a prefix and a number from 1.
 fn add_copies(
     alloc: Global,
     names: &Names,
@@ -307,7 +308,7 @@ fn add_file(session: &mut Session, path: &str, bytes: Vec<u8>) -> Result<()> {
     }
 }
 
-/// The classes that depend on a name, a blank between them.
+/// Writes the classes that depend on a name, with a space between them.
 fn write_dependants<W: Output>(out: &mut TextWriter<'_, W>, session: &Session, name: &str) {
     for (number, class) in session.dependants(name.as_bytes()).iter().enumerate() {
         if number > 0 {
@@ -327,7 +328,7 @@ fn edit_of(alloc: Global, word: &str, path: &str, bytes: Vec<u8>) -> Result<Edit
     }
 }
 
-/// Writes how many parts an edit made, or why it is refused, and tells how often it asked.
+/// Writes how many parts an edit made, or why it is refused, and returns the number of its look-ups.
 fn write_done<W: Output>(out: &mut TextWriter<'_, W>, done: Result<Done, EditError>) -> u64 {
     match done {
         Ok(done) => {

@@ -1,4 +1,4 @@
-//! What errors say of themselves.
+//! The messages of errors.
 
 use jc_base::Output;
 use jc_session::{EditError, RunError, SourceError, WriteError};
@@ -6,7 +6,7 @@ use jc_text::TextWriter;
 use std::alloc::Global;
 use std::fmt::Display;
 
-/// What each error of a type says, in the order of the variants.
+/// Writes the message of each error of a type, in the order of the variants.
 pub(crate) fn write_errors<W: Output>(alloc: Global, out: &mut TextWriter<'_, W>, of: &[u8]) {
     match of {
         b"EditError" => write_edit_errors(alloc, out),

@@ -1,4 +1,4 @@
-//! What a source of files hands over.
+//! The result of a source of files.
 
 use jc_base::Output;
 use jc_session::{FileSource, Source, SourceError};
@@ -6,10 +6,10 @@ use jc_text::TextWriter;
 use std::rt::Files;
 use std::{fs, io};
 
-/// Where the file lies.
+/// The path of the file.
 const PATH: &str = "row";
 
-/// How much a source hands over of a file with these bytes.
+/// Writes the number of bytes that a source reads from a file with these bytes.
 pub(crate) fn write_read<F: Files + AllocGlobal, W: Output>(
     rt: &F,
     out: &mut TextWriter<'_, W>,

@@ -1,4 +1,4 @@
-//! Judging the rows of a file, one by one.
+//! Judges the rows of a file, one by one.
 
 use crate::assembler::assemble;
 use crate::class_answers::{write_faults, write_parsed};
@@ -24,21 +24,21 @@ use std::io::ErrorKind;
 use std::rt::Files;
 use std::{fs, io, mem};
 
-/// How many rows a file has, and how many of them are wrong.
+/// The number of rows of a file, and the number of wrong rows.
 #[derive(Clone, Copy)]
 pub(crate) struct Tally {
     pub(crate) rows: u64,
     pub(crate) wrong: u64,
 }
 
-/// What rows leave to those below them: names, and the session of the last run.
+/// The state that rows share with later rows: names, and the session of the last run.
 #[derive(Drop)]
 pub(crate) struct Judge {
     names: Names,
     session: Session,
 }
 
-/// What was found of a row: a definition, a row that is right, or what is told of one that is wrong.
+/// The result of judging a row: a definition, a correct row, or the message about a wrong row.
 #[derive(Drop)]
 enum Found {
     Definition,
@@ -69,7 +69,7 @@ impl Tally {
     }
 }
 
-/// Prints what is told of a row that is wrong.
+/// Prints the message about a row, if it is wrong.
 fn tell(rt: &impl Print, path: &str, number: usize, found: &Found) -> Result<()> {
     if let Found::Wrong(told) = found {
         println!(rt; "{path}:{number}: {told}")?;
@@ -105,7 +105,7 @@ impl Judge {
         Ok(tally)
     }
 
-    /// Judges a row, and prints it if it is wrong.
+    /// Judges a row, and prints the message about it if it is wrong.
     fn judge_and_tell(
         &mut self,
         rt: &(impl Files + AllocGlobal + Print),
@@ -142,19 +142,19 @@ impl Judge {
         self.judge_session(rt.alloc(), kind, what, row)
     }
 
-    /// Begins anew, with no name and a new session.
+    /// Removes all names, and starts a new session.
     fn forget(&mut self, alloc: Global) -> Result<(), AllocError> {
         self.names = ByteMap::new(alloc);
         self.renew(alloc)
     }
 
-    /// Begins a new session.
+    /// Starts a new session.
     fn renew(&mut self, alloc: Global) -> Result<(), AllocError> {
         drop(mem::replace(&mut self.session, new_session(alloc)?));
         Ok(())
     }
 
-    /// Judges a row over the session as it stands.
+    /// Judges a row over the current session.
     fn judge_session(&mut self, alloc: Global, kind: &str, what: &str, row: &Row) -> Result<Found> {
         let told = match kind {
             "run" | "then" => told_of_run(alloc, &self.names, &mut self.session, &row.more)?,
@@ -164,7 +164,7 @@ impl Judge {
     }
 }
 
-/// Judges a row that asks for no session.
+/// Judges a row that needs no session.
 fn judge_named(
     rt: &(impl Files + AllocGlobal),
     names: &mut Names,
@@ -184,7 +184,7 @@ fn define(alloc: Global, names: &mut Names, name: &str, row: &Row) -> Result<Fou
     name_bytes(alloc, names, name, bytes)
 }
 
-/// Names the class file that the lines of a row tell: by what stands behind `as`, else by its class.
+/// Names the class file that the lines of a row describe, by the word after `as`, or else by its class.
 fn define_class(alloc: Global, names: &mut Names, class: &str, row: &Row) -> Result<Found> {
     let bytes = assemble(alloc, class, &row.more)?;
     match head_of(alloc, row.head)?.parts() {
@@ -226,7 +226,7 @@ fn judge_bytes(
     judge_answer(rt, kind, what, &bytes, wanted.as_bytes())
 }
 
-/// Judges what the call of a kind answers to the bytes.
+/// Judges the result of the call of a kind for these bytes.
 fn judge_answer(
     rt: &(impl Files + AllocGlobal),
     kind: &str,
@@ -242,7 +242,7 @@ fn row_bytes(alloc: Global, names: &Names, statement: &Statement) -> Result<Vec<
     bytes_of(alloc, names, statement.parts())
 }
 
-/// The word that a row begins with, and what stands behind it.
+/// Returns the first word of a row, and the token after it.
 fn front_of<'a>(alloc: Global, row: &Row<'a>) -> Result<(&'a str, Token<'a>)> {
     match head_of(alloc, row.head)?.tokens.as_slice() {
         [Token::Word(word), behind, ..] => Ok((*word, *behind)),
@@ -250,7 +250,7 @@ fn front_of<'a>(alloc: Global, row: &Row<'a>) -> Result<(&'a str, Token<'a>)> {
     }
 }
 
-/// What is told of a run that goes otherwise than its dialogue.
+/// Runs a session, and returns a message if the result differs from the dialogue.
 fn told_of_run(
     alloc: Global,
     names: &Names,
@@ -270,7 +270,7 @@ fn told_of_dialogue(
     Ok(unlike(alloc, session, &dialogue.held)?.or(told))
 }
 
-/// What is told where the session holds other bytes than these.
+/// Returns a message if the session has other bytes for a file than these.
 fn unlike(
     alloc: Global,
     session: &Session,
@@ -285,7 +285,7 @@ fn unlike(
     Ok(None)
 }
 
-/// What is told of a program that does otherwise than its dialogue.
+/// Runs the program, and returns a message if the result differs from the dialogue.
 fn told_of_program(rt: &(impl Files + AllocGlobal), dialogue: &Dialogue) -> Result<Option<String>> {
     write_files(rt, &dialogue.files)?;
     let told = told_of_status(rt, dialogue)?;
@@ -293,7 +293,7 @@ fn told_of_program(rt: &(impl Files + AllocGlobal), dialogue: &Dialogue) -> Resu
     Ok(told)
 }
 
-/// Writes the files, with the folders that they lie in.
+/// Writes the files, and creates the folders of their paths.
 fn write_files(rt: &impl Files, files: &[NamedFile]) -> io::Result<()> {
     for file in files {
         if let Some((folder, _)) = file.name.rsplit_once('/') {
@@ -314,7 +314,7 @@ fn remove_files(rt: &(impl Files + AllocGlobal), files: &[NamedFile]) -> io::Res
     Ok(())
 }
 
-/// Removes a folder with all that lies in it, if it is there.
+/// Removes a folder and its contents, if it exists.
 fn remove_folder(rt: &(impl Files + AllocGlobal), folder: &str) -> io::Result<()> {
     match fs::remove_dir_all(rt, folder) {
         Err(error) if error.kind() != ErrorKind::NotFound => Err(error),
@@ -329,7 +329,7 @@ fn judged(alloc: Global, what: &str, difference: Option<String>) -> Result<Found
     })
 }
 
-/// What is found where these bytes are wanted.
+/// Judges bytes that were found by those that are wanted.
 fn judged_bytes(
     alloc: Global,
     kind: &str,
@@ -343,7 +343,7 @@ fn judged_bytes(
     judged(alloc, what, Some(difference(alloc, kind, wanted, found)?))
 }
 
-/// What the call of a kind answers to the bytes, in room for what is wanted and some more.
+/// Returns the result of the call of a kind for these bytes. The output has room for the wanted bytes and some more.
 fn answered(
     rt: &(impl Files + AllocGlobal),
     kind: &str,

@@ -1,6 +1,7 @@
-//! Judges files of rows by the libraries' public calls. The words are the names of the files; a line is
-//! printed for each file and for each row that is wrong, and the status is 1 if one is. `docs/ROWS.md`
-//! tells how rows are written.
+//! A program that judges files of test rows with the public functions of the libraries.
+//!
+//! The arguments are the names of the files. A line is printed for each file and for each row that is wrong, and the
+//! status is 1 if a row is wrong. `docs/ROWS.md` describes the rows.
 #![tactic(auto)]
 
 mod assembler;
@@ -27,7 +28,7 @@ use std::process::ExitCode;
 use std::rt::Files;
 use std::{env, fs, io};
 
-/// The words after the program's name.
+/// Returns the arguments after the name of the program.
 fn words(rt: &(impl Env + AllocGlobal)) -> io::Result<Vec<String>> {
     let mut words = Vec::new(rt.alloc());
     for word in env::args(rt)?.skip(1) {
@@ -36,7 +37,7 @@ fn words(rt: &(impl Env + AllocGlobal)) -> io::Result<Vec<String>> {
     Ok(words)
 }
 
-/// Judges the rows of a file, and says whether none of them is wrong.
+/// Judges the rows of a file, and returns whether all of them are right.
 fn judge_path(
     rt: &(impl Files + AllocGlobal + Print),
     judge: &mut Judge,
@@ -48,7 +49,7 @@ fn judge_path(
     Ok(tally.wrong == 0)
 }
 
-/// Judges the rows of files, and says whether none of them is wrong.
+/// Judges the rows of files, and returns whether all of them are right.
 fn judge_paths(
     rt: &(impl Files + AllocGlobal + Print),
     judge: &mut Judge,
@@ -61,7 +62,7 @@ fn judge_paths(
     Ok(are_right)
 }
 
-/// Judges the rows of the files that the words name, and says whether none of them is wrong.
+/// Judges the rows of the files that the arguments name, and returns whether all of them are right.
 fn judge_words(rt: &(impl Files + AllocGlobal + Print), words: &[String]) -> Result<bool> {
     let mut judge = Judge::new(rt.alloc())?;
     let are_right = judge_paths(rt, &mut judge, words);

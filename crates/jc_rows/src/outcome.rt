@@ -1,4 +1,4 @@
-//! What has to come out of a run or a program, and what does.
+//! The result of a run or of the program, and the result that is wanted.
 
 use crate::compare::difference;
 use crate::dialogue::Dialogue;
@@ -9,7 +9,7 @@ use std::alloc::{AllocError, Global};
 use std::mem;
 use std::rt::Files;
 
-/// The output, standard error, and how it ends.
+/// The wanted output, standard error and ending.
 #[derive(Drop)]
 pub(crate) struct Expected {
     pub(crate) output: Vec<u8>,
@@ -26,7 +26,7 @@ impl Expected {
         }
     }
 
-    /// What is told where other texts are found.
+    /// Returns a message if one of the texts differs from the wanted one.
     fn difference(
         &self,
         alloc: Global,
@@ -47,7 +47,7 @@ impl Expected {
     }
 }
 
-/// An output with the room that is asked for, or with more than the wanted bytes take.
+/// Returns an output with this room, or with more than enough room for the wanted bytes.
 pub(crate) fn output_for(
     alloc: Global,
     room: Option<usize>,
@@ -60,7 +60,7 @@ pub(crate) fn output_for(
     }
 }
 
-/// How a run ends, by number where it stops, and whether the report is wrong then.
+/// Returns how a run ends, with the number of its error if it has one, and whether the report is wrong.
 fn ending_of(
     alloc: Global,
     ended: Result<Ended, RunError>,
@@ -73,7 +73,7 @@ fn ending_of(
     }
 }
 
-/// What is told of a run over the session that goes otherwise than its dialogue.
+/// Runs a session, and returns a message if the result differs from the dialogue.
 pub(crate) fn told_of_outcome(
     alloc: Global,
     session: &mut Session,
@@ -102,7 +102,7 @@ fn run_dialogue(
     }
 }
 
-/// What is told of a program that does otherwise than its dialogue.
+/// Runs the program, and returns a message if the result differs from the dialogue.
 pub(crate) fn told_of_status(
     rt: &(impl Files + AllocGlobal),
     dialogue: &Dialogue,

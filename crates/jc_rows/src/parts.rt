@@ -1,4 +1,4 @@
-//! The bytes that a row's parts are.
+//! The bytes of the parts of a row.
 
 use crate::class_answers::has_short_fronts;
 use crate::tokens::Token;
@@ -6,10 +6,10 @@ use anyhow::{Context, Result, bail, ensure};
 use jc_base::ByteMap;
 use std::alloc::{AllocError, Global};
 
-/// Bytes by the names that a file gives them.
+/// The bytes of each name that a file of rows defines.
 pub(crate) type Names = ByteMap<Vec<u8>>;
 
-/// Bytes one after another, the open brackets, and where the last part begins.
+/// The bytes so far, the open brackets, and the place where the last part begins.
 #[derive(Drop)]
 struct Parts {
     bytes: Vec<u8>,
@@ -17,7 +17,7 @@ struct Parts {
     last: usize,
 }
 
-/// Where what it holds begins, and in how many bytes its length stands in front.
+/// The place where the contents of a bracket begin, and the number of bytes of the length before them.
 #[derive(Drop)]
 struct Bracket {
     at: usize,
@@ -60,7 +60,7 @@ impl Parts {
         Ok(self.push(bytes)?)
     }
 
-    /// Puts the length of what a bracket holds in front of it.
+    /// Inserts the length of the contents of a bracket before them.
     fn close(&mut self, alloc: Global, bracket: Bracket) -> Result<()> {
         let Bracket { at, length_bytes } = bracket;
         let held = Vec::from_slice(alloc, self.bytes.get(at..).unwrap_or(&[]))?;
@@ -75,7 +75,7 @@ impl Parts {
         Ok(())
     }
 
-    /// Has the last part stand so many times.
+    /// Repeats the last part, so that it occurs `times` times.
     fn repeat(&mut self, alloc: Global, times: usize) -> Result<(), AllocError> {
         let part = Vec::from_slice(alloc, self.bytes.get(self.last..).unwrap_or(&[]))?;
         self.bytes.truncate(self.last);
@@ -95,7 +95,7 @@ fn is_hexadecimal(word: &str) -> bool {
     true
 }
 
-/// The bytes that the tokens are. Of a class file each proper front has to be too short.
+/// Returns the bytes of the tokens. If they are a class file, each truncation of it must be refused as `Short`.
 pub(crate) fn bytes_of(alloc: Global, names: &Names, tokens: &[Token]) -> Result<Vec<u8>> {
     let mut parts = Parts {
         bytes: Vec::new(alloc),

@@ -1,4 +1,4 @@
-//! What the prefixes of names outside cover.
+//! The results of outside prefixes.
 
 use jc_base::{NoMemory, Output};
 use jc_link::{Outside, OutsideError};
@@ -6,7 +6,7 @@ use jc_text::TextWriter;
 use std::alloc::Global;
 use std::str::Lines;
 
-/// Whether the prefixes of all lines but the first cover the name in the first, or why they are refused.
+/// Writes whether the name in the first line begins with a prefix in the other lines, or why the prefixes are refused.
 pub(crate) fn write_covered<W: Output>(alloc: Global, out: &mut TextWriter<'_, W>, bytes: &[u8]) {
     let mut lines = str::from_utf8(bytes).unwrap_or("").lines();
     let name = lines.next().unwrap_or("");

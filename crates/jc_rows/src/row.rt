@@ -1,10 +1,10 @@
-//! The rows of a file, line by line.
+//! The rows of a file, with their lines.
 
 use crate::tokens::{Token, tokens_of};
 use anyhow::{Context, Result, bail};
 use std::alloc::Global;
 
-/// A row or a definition: its first line, and the lines that go on with it.
+/// A row or a definition: its first line, and the lines that continue it.
 #[derive(Drop)]
 pub(crate) struct Row<'a> {
     pub(crate) number: usize,
@@ -12,16 +12,16 @@ pub(crate) struct Row<'a> {
     pub(crate) more: Vec<&'a str>,
 }
 
-/// What a row says, apart from a dialogue's lines.
+/// The contents of a row that is not a dialogue.
 #[derive(Drop)]
 pub(crate) struct Statement<'a> {
     pub(crate) tokens: Vec<Token<'a>>,
-    /// What stands behind the arrow, on its line and on those below it.
+    /// The text after the arrow, on its line and on the lines after it.
     pub(crate) answer: Option<String>,
 }
 
 impl<'a> Row<'a> {
-    /// What all its lines say.
+    /// Parses all lines of the row.
     pub(crate) fn statement(&self, alloc: Global) -> Result<Statement<'a>> {
         let mut statement = head_of(alloc, self.head)?;
         for line in &self.more {
@@ -32,7 +32,7 @@ impl<'a> Row<'a> {
 }
 
 impl<'a> Statement<'a> {
-    /// The tokens behind the first two.
+    /// Returns the tokens after the first two.
     pub(crate) fn parts(&self) -> &[Token<'a>] {
         &self.tokens[self.tokens.len().min(2)..]
     }
@@ -51,13 +51,13 @@ impl<'a> Statement<'a> {
     }
 }
 
-/// What stands in front of a comment, without blanks around it.
+/// Returns the text before a comment, without spaces around it.
 pub(crate) fn without_comment(text: &str) -> &str {
     let (text, _) = text.split_once('#').unwrap_or((text, ""));
     text.trim()
 }
 
-/// The first line of a row by itself.
+/// Parses the first line of a row.
 pub(crate) fn head_of<'a>(alloc: Global, head: &'a str) -> Result<Statement<'a>> {
     let mut statement = Statement {
         tokens: Vec::new(alloc),
@@ -67,7 +67,7 @@ pub(crate) fn head_of<'a>(alloc: Global, head: &'a str) -> Result<Statement<'a>>
     Ok(statement)
 }
 
-/// The rows of a text. Blank lines and lines of comment are passed over.
+/// Returns the rows of a text. Blank lines and comments are skipped.
 pub(crate) fn rows_of(alloc: Global, text: &str) -> Result<Vec<Row<'_>>> {
     let mut rows: Vec<Row<'_>> = Vec::new(alloc);
     for (index, line) in text.lines().enumerate() {

@@ -1,4 +1,4 @@
-//! What the calls over texts answer.
+//! The results of the functions about texts.
 
 use jc_base::{
     FieldDesc, MethodDesc, Output, SigKind, UnitsError, check_signature, check_units,
@@ -7,7 +7,7 @@ use jc_base::{
 use jc_text::TextWriter;
 use std::alloc::Global;
 
-/// The code units, or the place of the first wrong spelling, where both calls agree.
+/// Writes the code units, or the place of the first wrong bytes, if both functions agree.
 pub(crate) fn write_units<W: Output>(alloc: Global, out: &mut TextWriter<'_, W>, text: &[u8]) {
     let checked = check_units(text);
     match units(alloc, text) {
@@ -33,7 +33,7 @@ fn write_code_units<W: Output>(out: &mut TextWriter<'_, W>, units: &[u16]) {
     }
 }
 
-/// What the text is a name of.
+/// Writes the kinds of names that the text is.
 pub(crate) fn write_names<W: Output>(out: &mut TextWriter<'_, W>, text: &[u8]) {
     let names = [
         is_unqualified(text),

@@ -1,18 +1,18 @@
-//! The words that a row is written in.
+//! The tokens of the lines of a row.
 
 use anyhow::{Context, Result};
 use std::alloc::Global;
 
 #[derive(Clone, Copy)]
 pub(crate) enum Token<'a> {
-    /// What stood between two quotes.
+    /// The text between two quotes.
     Quoted(&'a str),
     /// Hexadecimal digits, a name or another word.
     Word(&'a str),
-    /// A bracket, behind which the length of what it holds stands in so many bytes.
+    /// An opening bracket. The length of its contents comes before them, in this number of bytes.
     Open(usize),
     Close,
-    /// `*N`: the part in front of it stands so many times.
+    /// `*N`: the part before it occurs N times.
     Times(usize),
     Equals,
     Arrow,
@@ -44,7 +44,7 @@ fn split_word(text: &str) -> (&str, &str) {
     (text, "")
 }
 
-/// The token at the front of a text that begins with no blank, and what is behind it.
+/// Returns the token at the front of a text that does not begin with a space, and the text after the token.
 fn first_token(text: &str) -> Result<(Token<'_>, &str)> {
     for (mark, token) in MARKS {
         if let Some(rest) = text.strip_prefix(mark) {
@@ -61,13 +61,13 @@ fn first_token(text: &str) -> Result<(Token<'_>, &str)> {
     Ok((Token::Word(word), rest))
 }
 
-/// What stands up to the next quote.
+/// Reads the text up to the next quote.
 fn quoted(text: &str) -> Result<(Token<'_>, &str)> {
     let (quoted, rest) = text.split_once('"').context("a quote without its end")?;
     Ok((Token::Quoted(quoted), rest))
 }
 
-/// The number behind a star.
+/// Reads the number after a star.
 fn times(text: &str) -> Result<(Token<'_>, &str)> {
     let (digits, rest) = split_word(text);
     let times = digits
@@ -76,7 +76,7 @@ fn times(text: &str) -> Result<(Token<'_>, &str)> {
     Ok((Token::Times(times), rest))
 }
 
-/// The tokens of a line up to its comment or its arrow, and what stands behind the arrow if it has one.
+/// Returns the tokens of a line before its comment or its arrow, and the text after the arrow if there is one.
 pub(crate) fn tokens_of(alloc: Global, line: &str) -> Result<(Vec<Token<'_>>, Option<&str>)> {
     let mut tokens = Vec::new(alloc);
     let mut rest = line.trim_start();

@@ -1,5 +1,7 @@
-//! Tests of the devices over std's readers and writers, whose clauses can't say what a stream holds. It
-//! holds no function of the product, so that the crates below need no tests of their own.
+//! Tests of the devices over readers and writers of std.
+//!
+//! The contracts of these devices cannot say what a stream contains, so tests check it. This crate has no code of the
+//! product, and the crates below it need no tests of their own.
 #![tactic(auto)]
 
 #[cfg(test)]

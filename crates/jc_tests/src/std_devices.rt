@@ -1,11 +1,11 @@
-//! Devices over std's readers and writers.
+//! Tests of devices over readers and writers of std.
 
 use jc_base::{DeviceFault, Input, Output, StdInput, StdOutput, write_all};
 use std::alloc::Global;
 use std::io;
 use std::io::{Read, Write};
 
-/// Gives a text, is interrupted once, and then gives the rest.
+/// A reader that returns a text, is interrupted once, and then returns the rest.
 #[derive(Drop)]
 struct Interrupted<'a> {
     text: &'a [u8],
@@ -26,7 +26,8 @@ impl<'a> Read for Interrupted<'a> {
     }
 }
 
-/// Takes at most three bytes a call. Where it holds `cut` bytes it fails once, or takes nothing.
+/// A writer that takes at most three bytes per call. Once it has `cut` bytes, it fails once, or takes nothing if
+/// `refuses` is set.
 #[derive(Drop)]
 struct Choppy {
     got: Vec<u8>,

@@ -10,9 +10,10 @@ use crate::text_writer::TextWriter;
 use jc_base::{Output, Units, check_units};
 
 impl<'w, W: Output> TextWriter<'w, W> {
-    /// Hands over a text by its code units (JVMS 4.4.7): plain ones as they are, a backslash twice, and
-    /// any other as `\uNNNN`. A text that is no modified UTF-8 is shown as `!` and its bytes, two
-    /// hexadecimal digits each.
+    /// Writes a text by its code units (JVMS 4.4.7).
+    ///
+    /// Printable ASCII is written as it is, except that a backslash is doubled. Other units are written as `\uNNNN`. A
+    /// text that is not modified UTF-8 is written as `!` and two hexadecimal digits for each byte.
     pub fn shown(&mut self, text: &[u8])
         ensures { Sends W.written W.failures self.old self.new (shown text.now) }
     {
@@ -23,7 +24,7 @@ impl<'w, W: Output> TextWriter<'w, W> {
         }
     }
 
-    /// The same of a text with an escape, of which there are few.
+    /// Writes a text that is not plain, which is rare.
     #[cold]
     #[inline(never)]
     fn shown_escaped(&mut self, text: &[u8])
@@ -40,7 +41,9 @@ impl<'w, W: Output> TextWriter<'w, W> {
         }
     }
 
-    /// Hands over a path: plain bytes as they are, a backslash twice, and any other byte as `\xNN`.
+    /// Writes a path.
+    ///
+    /// Printable ASCII is written as it is, except that a backslash is doubled. Other bytes are written as `\xNN`.
     pub fn path(&mut self, path: &[u8])
         ensures { Sends W.written W.failures self.old self.new (path_text path.now) }
     {
@@ -56,7 +59,7 @@ impl<'w, W: Output> TextWriter<'w, W> {
         }
     }
 
-    // The units that stand before the first wrong spelling.
+    // Writes the units before the first bytes that encode no unit.
     fn units(&mut self, text: &[u8])
         ensures { Sends W.written W.failures self.old self.new (flat_map unit_text (units_before text.now)) }
     {
@@ -100,7 +103,7 @@ impl<'w, W: Output> TextWriter<'w, W> {
     }
 }
 
-// The plain bytes at the front, and what follows them.
+// Splits the bytes after the plain bytes at their front.
 fn split_plain(bytes: &[u8]) -> (&[u8], &[u8])
     ensures plain { result.0.now ≡ take (prefix_len is_plain bytes.now) bytes.now }
     ensures escaped { result.1.now ≡ drop (prefix_len is_plain bytes.now) bytes.now }
@@ -108,7 +111,7 @@ fn split_plain(bytes: &[u8]) -> (&[u8], &[u8])
     bytes.split_at(plain_len(bytes))
 }
 
-// Whether all bytes are plain. No byte ends the loop, so many can be looked at in one step.
+// Returns whether all bytes are plain. The loop has no early exit, so that many bytes can be tested in one step.
 fn are_plain(text: &[u8]) -> bool
     ensures { result ≡ list_all is_plain text.now }
 {
@@ -119,7 +122,7 @@ fn are_plain(text: &[u8]) -> bool
     plain
 }
 
-// How many bytes at the front are plain.
+// Returns the number of plain bytes at the front.
 fn plain_len(bytes: &[u8]) -> usize
     ensures length { result ≡ prefix_len is_plain bytes.now }
     ensures within { result ≤ length bytes.now }
@@ -130,7 +133,7 @@ fn plain_len(bytes: &[u8]) -> usize
         .count()
 }
 
-// Whether a unit is printable ASCII and no backslash.
+// Returns whether a unit is printable ASCII and not a backslash.
 fn is_plain(unit: u16) -> bool
     ensures { result ≡ is_plain unit }
 {

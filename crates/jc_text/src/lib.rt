@@ -1,5 +1,7 @@
-//! Text on its way to an output: a buffer of fixed size before the output, and how names, paths and
-//! numbers are shown.
+//! A buffered writer of text.
+//!
+//! [`TextWriter`] has a buffer of fixed size before an output. It writes numbers, names and paths as printable ASCII.
+//! The contract of each function that writes says which text is sent. After a failed write, all later text is dropped.
 #![tactic(auto)]
 
 mod escapes;

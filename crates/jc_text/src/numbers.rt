@@ -9,7 +9,7 @@ use itoa::{Buffer, Integer};
 use jc_base::Output;
 
 impl<'w, W: Output> TextWriter<'w, W> {
-    /// Hands over a number in decimal digits, behind a minus where it is below 0.
+    /// Writes a number in decimal digits, with a minus sign if it is negative.
     pub fn decimal<I: Integer>(&mut self, number: I)
         ensures { Sends W.written W.failures self.old self.new (I.text number) }
     {
@@ -17,7 +17,7 @@ impl<'w, W: Output> TextWriter<'w, W> {
         self.text(buffer.format(number).as_bytes());
     }
 
-    /// Hands over two hexadecimal digits a byte, in lower case.
+    /// Writes two hexadecimal digits for each byte, in lower case.
     pub fn hexadecimal(&mut self, bytes: &[u8])
         ensures { Sends W.written W.failures self.old self.new (hexadecimal bytes.now) }
     {

@@ -1,13 +1,13 @@
-//! Bytes that wait to be written.
+//! A buffer of bytes that are not written yet.
 
 ghost use Rattle.std.specs.Prelude.{◌≡◌, ◌++◌, [], true, false};
 
 use std::marker::Model;
 
-/// So many bytes may wait.
+/// The size of the buffer in bytes.
 const ROOM: usize = 8192;
 
-/// Bytes that wait to be written, seen as their list.
+/// Bytes that are not written yet. Its model is their list.
 #[derive(Drop)]
 pub(crate) struct Pending {
     buffer: [u8; ROOM],
@@ -46,7 +46,7 @@ impl Pending {
         self.len = 0;
     }
 
-    /// Keeps more bytes, if there is room for them, and says whether there was.
+    /// Appends bytes if there is room for them, and returns whether there was.
     #[inline]
     pub(crate) fn keep(&mut self, bytes: &[u8]) -> bool
         ensures kept { result ≡ true → self.new ≡ self.old ++ bytes.now }

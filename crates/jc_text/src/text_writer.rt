@@ -1,4 +1,4 @@
-//! A buffer between pieces of text and an output.
+//! A writer of text with a buffer before an output.
 
 ghost use Rattle.std.specs.Prelude.{◌≡◌, OnOk, OnErr, false, true, []};
 ghost use Rattle.jc_text.specs.Sends.{IsFresh, Sends};
@@ -6,11 +6,11 @@ ghost use Rattle.jc_text.specs.Sends.{IsFresh, Sends};
 use crate::pending::Pending;
 use jc_base::{DeviceFault, Output, write_all};
 
-/// Text on its way to an output. It waits in a buffer of 8 KiB, and takes no memory; `finish` writes
-/// what still waits.
+/// A writer of text with a buffer of 8 KiB before an output. Does not allocate. Text stays in the buffer until
+/// `finish`, or until there is no room for more.
 ///
-/// Once a write has failed nothing more is written, and what is handed over is dropped: the output has
-/// a beginning of the text. `finish` tells.
+/// After a write fails, nothing more is written, and later text is dropped. The output then has a prefix of the text,
+/// and `finish` returns an error.
 #[derive(Drop)]
 pub struct TextWriter<'w, W> {
     out: &'w mut W,
@@ -19,7 +19,7 @@ pub struct TextWriter<'w, W> {
 }
 
 impl<'w, W: Output> TextWriter<'w, W> {
-    /// Nothing waits yet.
+    /// Creates a writer without pending text.
     pub fn new(out: &'w mut W) -> TextWriter<'w, W>
         ensures fresh { IsFresh result }
         ensures same_reference { result.out.ghost_name ≡ out.entry.ghost_name }
@@ -32,7 +32,7 @@ impl<'w, W: Output> TextWriter<'w, W> {
         }
     }
 
-    /// Hands over bytes as they are.
+    /// Writes bytes as they are.
     #[inline]
     pub fn text(&mut self, bytes: &[u8])
         ensures { Sends W.written W.failures self.old self.new bytes.now }
@@ -42,14 +42,14 @@ impl<'w, W: Output> TextWriter<'w, W> {
         }
     }
 
-    /// Whether a write has failed, so that no more is written.
+    /// Returns whether a write has failed, after which nothing more is written.
     pub(crate) fn has_failed(&self) -> bool
         ensures { result ≡ self.now.failed }
     {
         self.failed
     }
 
-    /// Writes what waits, and tells whether a write has failed.
+    /// Writes the pending text. Returns an error if this or an earlier write failed.
     pub fn finish(&mut self) -> Result<(), DeviceFault>
         ensures sends { Sends W.written W.failures self.old self.new [] }
         ensures ok { OnOk result (IsFresh self.new) }
@@ -63,7 +63,7 @@ impl<'w, W: Output> TextWriter<'w, W> {
         }
     }
 
-    /// Writes what waits, and then the bytes too where they are more than the buffer holds.
+    /// Writes the pending text. Then keeps the bytes, or writes them too if the buffer is too small.
     #[cold]
     #[inline(never)]
     fn text_without_room(&mut self, bytes: &[u8])
@@ -75,7 +75,7 @@ impl<'w, W: Output> TextWriter<'w, W> {
         }
     }
 
-    /// Writes what waits, unless a write has failed.
+    /// Writes the pending text, or drops it if a write has failed.
     fn flush(&mut self)
         ensures sends { Sends W.written W.failures self.old self.new [] }
         ensures empty { self.new.pending ≡ [] }
@@ -88,7 +88,7 @@ impl<'w, W: Output> TextWriter<'w, W> {
         self.pending.clear();
     }
 
-    /// Writes bytes at once, unless a write has failed.
+    /// Writes bytes at once, or drops them if a write has failed.
     fn send(&mut self, bytes: &[u8])
         requires { self.old.pending ≡ [] }
         ensures { Sends W.written W.failures self.old self.new bytes.now }

@@ -1,4 +1,4 @@
--- What is read in the bytes of attributes: `attributes_are_read` says that it is what `Attributes` defines.
+-- What is read from the bytes of attributes. The law `attributes_are_read` says that it is what `Attributes` defines.
 use Rattle.std.specs.Prelude.{◌≡◌, ◌↔◌, ℕ, ◌+◌, ◌*◌, ◌^◌, ◌&&◌, ◌==◌, nat_lt, List, [], ◌∷◌}
 use Rattle.std.specs.Prelude.{◌++◌, length, take, drop, Option, Some, None, if◌then◌else◌, option_and_then}
 use Rattle.std.specs.List.{flat_map}
@@ -13,7 +13,7 @@ use Rattle.jc_view.specs.Outcome.{AreBytes}
 use Rattle.jc_view.specs.Places.{PlacedAttribute, fields_in, methods_in, attributes_in, member_attributes}
 use Rattle.jc_view.specs.Attributes.{Bootstrap, Code, Handler, code_attributes, is_recognised}
 
--- what stands in all of the bytes
+-- the value that is read from these bytes, if it takes all of them
 abbrev pub whole : {X : Type 0} → (List ℕ → Option (List ℕ)) → (List ℕ → X) → List ℕ → Option X
 whole after_it value b = option_and_then (λ rest. if length rest == 0 then Some (value b) else None) (after_it b)
 
@@ -28,7 +28,7 @@ handler_value xs = record {
 abbrev pub code_length : List ℕ → ℕ
 code_length xs = big_number 4 (drop 4 xs)
 
--- behind 1 to 65,535 bytes of code and their count
+-- the bytes that are left after max_stack, max_locals, code_length and 1 to 65,535 bytes of code
 abbrev pub after_instructions : List ℕ → Option (List ℕ)
 after_instructions xs =
     option_and_then
@@ -41,7 +41,7 @@ after_handlers xs = after_table (after 8) xs
 unfoldable pub after_code : List ℕ → Option (List ℕ)
 after_code xs = option_and_then (after_table after_attribute) (option_and_then after_handlers (after_instructions xs))
 
--- where the handlers and the attributes begin, with their counts
+-- the bytes from the exception table on, and from the table of attributes on; both begin with their count
 abbrev pub handlers_at : List ℕ → List ℕ
 handlers_at xs = drop (8 + code_length xs) xs
 
@@ -57,7 +57,7 @@ code_value xs = record {
   attributes = table_value after_attribute attribute_value (code_attributes_at xs);
 }
 
--- the well-formed Code that the bytes are, if they are one
+-- the well-formed Code that these bytes are, if they are one
 abbrev pub code_in : List ℕ → Option Code
 code_in b = whole after_code code_value b
 
@@ -73,19 +73,19 @@ bootstrap_value xs = record { method = index_value xs; arguments = table_value (
 abbrev pub bootstraps_in : List ℕ → Option (List Bootstrap)
 bootstraps_in b = whole (after_table after_bootstrap) (table_value after_bootstrap bootstrap_value) b
 
--- a function reads in bytes the one content that they are by a relation, and nothing where they are none
+-- a function reads from bytes the one content that a relation gives them, and nothing if there is none
 abbrev pub ReadsExactly : {X : Type 0} → (List ℕ → Option X) → (List ℕ → X → Type 0) → Type 0
 ReadsExactly {X = X} read IsContent = (b : List ℕ) (x : X) → AreBytes b → (read b ≡ Some x) ↔ IsContent b x
 
--- the well-formed Code that an attribute of a method is
+-- the well-formed Code that an attribute is, if it is the Code of a method
 abbrev pub code_of : ClassFile → PlacedAttribute → Option Code
 code_of c a = if is_recognised c kinds.Code a.holder a.attribute then code_in a.attribute.bytes else None
 
--- an attribute, and those inside it
+-- an attribute, followed by the attributes inside it
 abbrev pub with_inner : ClassFile → PlacedAttribute → List PlacedAttribute
 with_inner c a = a ∷ option_map_or (code_attributes a) (code_of c a) []
 
--- all attributes, places rising
+-- all attributes of a class file, in ascending order of their places
 abbrev pub all_attributes : ClassFile → List PlacedAttribute
 all_attributes c =
     flat_map (with_inner c) (flat_map member_attributes (fields_in c))

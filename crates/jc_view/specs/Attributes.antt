@@ -1,4 +1,4 @@
--- The attributes that are recognised, and what is read in them (JVMS 4.7).
+-- The attributes that are recognised, and the contents of those with tables (JVMS 4.7).
 use Rattle.std.specs.Prelude.{◌≡◌, ℕ, ◌+◌, ◌<◌, ◌^◌, Bool, true, false}
 use Rattle.std.specs.Prelude.{◌&&◌, List, ◌++◌, length, drop, filter, codes, Option}
 use Rattle.std.specs.Option.{option_map_or}
@@ -14,7 +14,7 @@ use Rattle.jc_view.specs.ClassFile.{Attribute, ClassFile, counted, attribute_byt
 use Rattle.jc_view.specs.Lookups.{utf8_at, passes}
 use Rattle.jc_view.specs.Places.{PlacedAttribute, attributes_from}
 
--- ---- which are recognised, and where
+-- ---- which attributes are recognised, and in which holder
 
 abbrev pub attribute_name : AttributeKind → List ℕ
 attribute_name kinds.ConstantValue = codes "ConstantValue"
@@ -27,7 +27,7 @@ attribute_name kinds.Signature = codes "Signature"
 attribute_name kinds.Synthetic = codes "Synthetic"
 attribute_name kinds.Deprecated = codes "Deprecated"
 
--- of a class, a field or a method, and not of a Code
+-- the holder is a class, a field or a method, and not a Code
 abbrev pub is_outer : Holder → Bool
 is_outer holders.Code = false
 is_outer holder = true
@@ -55,19 +55,19 @@ belongs_to kinds.Signature holder = is_outer holder
 belongs_to kinds.Synthetic holder = is_outer holder
 belongs_to kinds.Deprecated holder = is_outer holder
 
--- an attribute of this holder is recognised as of this kind
+-- an attribute of this holder is recognised as an attribute of this kind
 abbrev pub is_recognised : ClassFile → AttributeKind → Holder → Attribute → Bool
 is_recognised c kind holder a = belongs_to kind holder && passes (λ name. same_bytes name (attribute_name kind)) (utf8_at c a.name)
 
--- whether this kind was found: kinds with the same name are the same
+-- this kind was found: two kinds with the same name are the same kind
 abbrev pub is_kind : AttributeKind → Option AttributeKind → Bool
 is_kind kind found = option_map_or (λ other. same_bytes (attribute_name other) (attribute_name kind)) found false
 
--- the attribute is recognised as of the kind that was found, and as of no other
+-- the attribute is recognised as an attribute of the kind that was found, and of no other kind
 abbrev pub IsRecognisedAs : ClassFile → Holder → Attribute → Option AttributeKind → Type 0
 IsRecognisedAs c holder a found = (kind : AttributeKind) → is_recognised c kind holder a ≡ is_kind kind found
 
--- those of a kind
+-- the attributes of this kind
 abbrev pub of_kind : ClassFile → AttributeKind → Holder → List Attribute → List Attribute
 of_kind c kind holder attributes = filter (is_recognised c kind holder) attributes
 
@@ -89,7 +89,7 @@ pub record Code : Type 0 where
 abbrev pub handler_bytes : Handler → List ℕ
 handler_bytes h = big_bytes 2 h.start_pc ++ big_bytes 2 h.end_pc ++ big_bytes 2 h.handler_pc ++ index_bytes h.catch_type
 
--- what stands before its attributes
+-- the bytes of a Code before its attributes
 abbrev pub code_front : Code → List ℕ
 code_front k =
     big_bytes 2 k.max_stack ++ big_bytes 2 k.max_locals
@@ -142,15 +142,16 @@ pub record AreBootstrapsOf (b : List ℕ) (methods : List Bootstrap) : Type 0 wh
   pub fits : FitsTable FitsBootstrap methods
   pub bytes : counted bootstrap_bytes methods ≡ b
 
--- ---- of a class file
+-- ---- places of the attributes of a Code
 
--- the attributes of a Code that stands in this attribute, behind its name, its length and the count
+-- the attributes of the Code in this attribute; they begin after attribute_name_index, attribute_length, the front of
+-- the Code and their count
 abbrev pub code_attributes : PlacedAttribute → Code → List PlacedAttribute
 code_attributes a k = attributes_from holders.Code (a.place + 6 + length (code_front k) + 2) k.attributes
 
--- ---- of a class file, by kind
+-- ---- attributes of a class file, by kind
 
--- the attributes of the class that tell bootstrap methods
+-- the BootstrapMethods attributes of the class
 abbrev pub bootstrap_attributes : ClassFile → List Attribute
 bootstrap_attributes c = of_kind c kinds.BootstrapMethods holders.Class c.attributes
 
@@ -163,10 +164,10 @@ codes_of c m = of_kind c kinds.Code holders.Method m.attributes
 abbrev pub exceptions_of : ClassFile → Member → List Attribute
 exceptions_of c m = of_kind c kinds.Exceptions holders.Method m.attributes
 
--- the index in the first two bytes
+-- the index in the first two bytes of an attribute's contents
 abbrev pub first_index : PlacedAttribute → ConstantIndex
 first_index a = index_value a.attribute.bytes
 
--- the index in the next two
+-- the index in the third and fourth byte of an attribute's contents
 abbrev pub second_index : PlacedAttribute → ConstantIndex
 second_index a = index_value (drop 2 a.attribute.bytes)

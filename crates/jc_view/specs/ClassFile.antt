@@ -21,7 +21,7 @@ pub record Member : Type 0 where
 pub record ClassFile : Type 0 where
   pub minor : ℕ
   pub major : ℕ
-  -- in file order, the first at index 1
+  -- in file order; the first constant has index 1
   pub constants : List Constant
   pub flags : ℕ
   pub this_class : ConstantIndex
@@ -31,18 +31,18 @@ pub record ClassFile : Type 0 where
   pub methods : List Member
   pub attributes : List Attribute
 
--- how many indexes a constant takes
+-- the number of indexes that a constant takes
 abbrev pub slots : Constant → ℕ
 slots constant = if is_wide (kind_of constant) then 2 else 1
 
--- how many indexes they take
+-- the number of indexes that these constants take
 abbrev pub all_slots : List Constant → ℕ
 all_slots [] = 0
 all_slots (constant ∷ constants) = slots constant + all_slots constants
 
 -- ---- bytes
 
--- a table behind its count
+-- a table after its count
 abbrev pub counted : {X : Type 0} → (X → List ℕ) → List X → List ℕ
 counted bytes table = big_bytes 2 (length table) ++ flat_map bytes table
 
@@ -55,11 +55,11 @@ member_bytes m = big_bytes 2 m.flags ++ index_bytes m.name ++ index_bytes m.desc
 abbrev pub magic : ℕ
 magic = 0xcafebabe
 
--- what stands before the constants
+-- the bytes before the constants
 abbrev pub head_bytes : ClassFile → List ℕ
 head_bytes c = big_bytes 4 magic ++ big_bytes 2 c.minor ++ big_bytes 2 c.major ++ big_bytes 2 (1 + all_slots c.constants)
 
--- what stands behind the constants
+-- the bytes after the constants
 abbrev pub tail_bytes : ClassFile → List ℕ
 tail_bytes c =
     big_bytes 2 c.flags ++ index_bytes c.this_class ++ index_bytes c.super_class ++ counted index_bytes c.interfaces
@@ -68,11 +68,11 @@ tail_bytes c =
 unfoldable pub layout : ClassFile → List ℕ
 layout c = head_bytes c ++ flat_map constant_bytes c.constants ++ tail_bytes c
 
--- the bytes of the one are no front of the other's, unless both are the same class file
+-- if the bytes of the first class file are a prefix of those of the second, the two are equal
 abbrev pub AreApart : ClassFile → ClassFile → Type 0
 AreApart c d = (rest : List ℕ) → layout c ++ rest ≡ layout d → (rest ≡ []) × (c ≡ d)
 
--- ---- what has a layout
+-- ---- which class files have a layout
 
 -- a table whose length fits its count
 abbrev pub FitsTable : {X : Type 0} → (X → Type 0) → List X → Type 0
@@ -88,14 +88,14 @@ pub record FitsMember (m : Member) : Type 0 where
   pub descriptor : IsIndex m.descriptor
   pub attributes : FitsTable FitsAttribute m.attributes
 
--- major 51 with any minor, and 52.0
+-- version 51 with any minor version, and 52.0
 abbrev pub IsAcceptedVersion : ℕ → ℕ → Type 0
 IsAcceptedVersion major minor = (major ≡ 51) ⊎ ((major ≡ 52) × (minor ≡ 0))
 
 pub record FitsClassFile (c : ClassFile) : Type 0 where
   pub minor : c.minor < 2 ^ 16
   pub version : IsAcceptedVersion c.major c.minor
-  -- the constants fill the indexes from 1 to the count less 1
+  -- the constants fill the indexes from 1 to constant_pool_count - 1
   pub indexes : 1 + all_slots c.constants < 2 ^ 16
   pub constants : AllByRecursion FitsConstant c.constants
   pub flags : c.flags < 2 ^ 16
@@ -108,13 +108,13 @@ pub record FitsClassFile (c : ClassFile) : Type 0 where
 
 -- ---- constants by index
 
--- the constant at an index that is counted from the first's
+-- the constant at an index, which is counted from 0
 abbrev pub constant_from_first : List Constant → ℕ → Option Constant
 constant_from_first [] i = None
 constant_from_first (constant ∷ constants) i =
     if i == 0 then Some constant else if nat_lt i (slots constant) then None else constant_from_first constants (i - slots constant)
 
--- the usable entry at an index, if there is one
+-- the usable constant at an index, if there is one
 abbrev pub constant_at : ClassFile → ConstantIndex → Option Constant
 constant_at c index = if index.0 == 0 then None else constant_from_first c.constants (index.0 - 1)
 
@@ -122,7 +122,7 @@ infixl 10 ◌>>=◌
 abbrev ◌>>=◌ : {A B : Type 0} → Option A → (A → Option B) → Option B
 o >>= f = option_and_then f o
 
--- the text of the Class constant of an index
+-- the text of the Class constant at an index
 abbrev pub class_text_at : ClassFile → ConstantIndex → Option (List ℕ)
 class_text_at c index = do
   class ← constant_at c index

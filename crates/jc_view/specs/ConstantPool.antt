@@ -6,7 +6,7 @@ use Rattle.jc_view.specs.declared.constant_pool.ConstantIndex.{ConstantIndex}
 use Rattle.jc_view.specs.declared.constant_pool.ConstantKind.{ConstantKind}
 use Rattle.jc_view.specs.declared.constant_pool.ConstantKind.TheVariants as kinds
 
--- a constant as data
+-- a constant as plain data
 pub data Constant : Type 0 where
   Utf8 : (text : List ℕ) → Constant
   Integer : (bits : ℕ) → Constant
@@ -72,7 +72,7 @@ kind_name kinds.MethodHandle = codes "MethodHandle"
 kind_name kinds.MethodType = codes "MethodType"
 kind_name kinds.InvokeDynamic = codes "InvokeDynamic"
 
--- each kind, once
+-- all kinds, without repetition
 abbrev pub all_kinds : List ConstantKind
 all_kinds =
     kinds.Utf8 ∷ kinds.Integer ∷ kinds.Float ∷ kinds.Long ∷ kinds.Double ∷ kinds.Class ∷ kinds.String
@@ -83,11 +83,11 @@ abbrev pub with_tag : ℕ → List ConstantKind → Option ConstantKind
 with_tag tag [] = None
 with_tag tag (kind ∷ kinds) = if tag == tag_of kind then Some kind else with_tag tag kinds
 
--- the kind that has a tag
+-- the kind with this tag
 abbrev pub kind_of_tag : ℕ → Option ConstantKind
 kind_of_tag tag = with_tag tag all_kinds
 
--- a Long or a Double takes two indexes, and the second is unusable
+-- a Long or a Double takes two indexes, the second of which is unusable
 abbrev pub is_wide : ConstantKind → Bool
 is_wide kinds.Long = true
 is_wide kinds.Double = true
@@ -96,7 +96,7 @@ is_wide _ = false
 abbrev pub index_bytes : ConstantIndex → List ℕ
 index_bytes index = big_bytes 2 index.0
 
--- what stands behind the tag
+-- the bytes after the tag
 abbrev pub body_bytes : Constant → List ℕ
 body_bytes (Utf8 text) = big_bytes 2 (length text) ++ text
 body_bytes (Integer bits) = big_bytes 4 bits
@@ -123,7 +123,7 @@ IsIndex index = index.0 < 2 ^ 16
 abbrev pub index_value : List ℕ → ConstantIndex
 index_value xs = record { 0 = big_number 2 xs }
 
--- what has a spelling
+-- the text and the numbers of the constant fit the bytes that encode them
 abbrev pub FitsConstant : Constant → Type 0
 FitsConstant (Utf8 text) = length text < 2 ^ 16
 FitsConstant (Integer bits) = bits < 2 ^ 32
@@ -140,7 +140,7 @@ FitsConstant (MethodHandle kind reference) = (kind < 2 ^ 8) × IsIndex reference
 FitsConstant (MethodType descriptor) = IsIndex descriptor
 FitsConstant (InvokeDynamic bootstrap name_and_type) = (bootstrap < 2 ^ 16) × IsIndex name_and_type
 
--- the index in a Class constant
+-- the name_index of a Class constant
 abbrev pub class_entry : Constant → Option ConstantIndex
 class_entry (Class name) = Some name
 class_entry constant = None

@@ -1,4 +1,4 @@
--- A class file of 53 bytes, and bytes near it.
+-- A class file of 53 bytes, and its parts, from which similar bytes are made.
 use Rattle.std.specs.Prelude.{ℕ, List, [], ◌∷◌, ◌++◌, codes}
 use Rattle.jc_view.specs.ConstantPool as pool
 use Rattle.jc_view.specs.ClassFile.{ClassFile}
@@ -7,15 +7,15 @@ use Rattle.jc_view.specs.ClassFile.{ClassFile}
 abbrev pub head : ℕ → List ℕ
 head count = 0xca ∷ 0xfe ∷ 0xba ∷ 0xbe ∷ 0 ∷ 0 ∷ 0 ∷ 0x34 ∷ 0 ∷ count ∷ []
 
--- Class #2, Utf8 A, Class #4, Utf8 java/lang/Object
+-- the four constants: Class #2, Utf8 A, Class #4, Utf8 java/lang/Object
 abbrev pub constants : List ℕ
 constants = 7 ∷ 0 ∷ 2 ∷ 1 ∷ 0 ∷ 1 ∷ 65 ∷ 7 ∷ 0 ∷ 4 ∷ 1 ∷ 0 ∷ 16 ∷ [] ++ codes "java/lang/Object"
 
--- the flags PUBLIC and SUPER, this_class, super_class 3, and four empty tables
+-- the bytes after the constants: the flags PUBLIC and SUPER, this_class, super_class 3, and four empty tables
 abbrev pub tail : ℕ → List ℕ
 tail this_class = 0 ∷ 0x21 ∷ 0 ∷ this_class ∷ 0 ∷ 3 ∷ 0 ∷ 0 ∷ 0 ∷ 0 ∷ 0 ∷ 0 ∷ 0 ∷ 0 ∷ []
 
--- class A
+-- the bytes of the class A
 abbrev pub class_a : List ℕ
 class_a = head 5 ++ constants ++ tail 1
 

@@ -1,4 +1,4 @@
--- What a view lends: its members, its attributes and the code of its methods, each with the class that it is of.
+-- What a view returns: its members, its attributes and the code of its methods, each with its class.
 use Rattle.jc_view.specs.declared.constant_pool.Constant.{Constant}
 use Rattle.jc_view.specs.declared.constant_pool.Constant.TheVariants as lent
 use Rattle.jc_view.specs.ConstantPool as pool
@@ -13,7 +13,7 @@ use Rattle.jc_view.specs.Places.{PlacedAttribute, PlacedMember, HasBytesAt, HasI
 use Rattle.jc_view.specs.AttributeReading.{all_attributes, code_of}
 use Rattle.jc_view.specs.Attributes.{Code, Handler}
 
--- ---- what an iterator has still to give
+-- ---- what an iterator has left
 
 pub record InterfacesLeft : Type 0 where
   pub class : ClassFile
@@ -27,7 +27,7 @@ pub record AttributesLeft : Type 0 where
   pub class : ClassFile
   pub left : List PlacedAttribute
 
--- ---- what is given
+-- ---- what an iterator returns
 
 pub record LentMember : Type 0 where
   pub class : ClassFile
@@ -37,7 +37,7 @@ pub record LentAttribute : Type 0 where
   pub class : ClassFile
   pub attribute : PlacedAttribute
 
--- the code that stands in an attribute
+-- the code in an attribute
 pub record LentCode : Type 0 where
   pub class : ClassFile
   pub attribute : PlacedAttribute
@@ -46,11 +46,11 @@ pub record LentCode : Type 0 where
 abbrev pub lent_code : LentAttribute → Code → LentCode
 lent_code lent code = record { class = lent.class; attribute = lent.attribute; code = code }
 
--- the names of the interfaces
+-- the names of the interfaces that are left
 abbrev pub interface_names : InterfacesLeft → List (Option (List ℕ))
 interface_names interfaces = map (class_text_at interfaces.class) interfaces.left
 
--- ---- one step of an iterator: the first that is left, of the same class
+-- ---- one step of an iterator: it returns the first element that is left
 
 abbrev pub GivesMember : MembersLeft → Option LentMember → MembersLeft → Type 0
 GivesMember old result new =
@@ -88,24 +88,24 @@ constant_of (lent.InvokeDynamic bootstrap name_and_type) = pool.InvokeDynamic bo
 abbrev pub handler_of : ExceptionHandler → Handler
 handler_of h = record { start_pc = h.start_pc; end_pc = h.end_pc; handler_pc = h.handler_pc; catch_type = h.catch_type }
 
--- ---- where what is lent lies in the file
+-- ---- where in the file the texts, attributes and instructions are
 
--- each text is the part of the file at its constant's place
+-- the text of each Utf8 constant is the part of the file at the place of the constant
 abbrev pub TextsLieIn : ClassFile → Type 0
 TextsLieIn c = (index : ConstantIndex) (text : List ℕ) → utf8_at c index ≡ Some text → IsLent c index text
 
--- the text of each Class is that of the Utf8 that it names
+-- the text of each Class constant is the part of the file at the Utf8 constant that it names
 abbrev pub ClassTextsLieIn : ClassFile → Type 0
 ClassTextsLieIn c =
     (index : ConstantIndex) (text : List ℕ) → class_text_at c index ≡ Some text
     → (entry : ConstantIndex) × (constant_at c index ≡ Some (pool.Class entry)) × IsLent c entry text
 
--- the instructions of each Code are the part behind the numbers at its front
+-- the instructions of each Code are the bytes after max_stack, max_locals and code_length
 abbrev pub InstructionsLieIn : ClassFile → Type 0
 InstructionsLieIn c =
     (a : PlacedAttribute) (k : Code) → Contains (all_attributes c) a → code_of c a ≡ Some k
     → HasInstructionsAt (layout c) a.place k.code
 
--- the bytes of each attribute are the part behind its name and its length
+-- the contents of each attribute are the bytes after attribute_name_index and attribute_length
 abbrev pub AttributesLieIn : ClassFile → Type 0
 AttributesLieIn c = (a : PlacedAttribute) → Contains (all_attributes c) a → HasBytesAt (layout c) a

@@ -1,4 +1,4 @@
--- What an index into the constants leads to.
+-- What a class file has at an index of its constant pool.
 use Rattle.std.specs.Prelude.{ℕ, Bool, true, false, not, ◌==◌, List, Option, Some, None, option_and_then}
 use Rattle.std.specs.Option.{option_map_or}
 use Rattle.jc_view.specs.declared.constant_pool.ConstantIndex.{ConstantIndex}
@@ -7,30 +7,30 @@ use Rattle.jc_view.specs.ConstantPool.{Constant, Fieldref, Methodref, InterfaceM
 use Rattle.jc_view.specs.ConstantPool.{NameAndType, InvokeDynamic, kind_of, tag_of, utf8_text}
 use Rattle.jc_view.specs.ClassFile.{ClassFile, constant_at}
 
--- the text of the Utf8 entry
+-- the text of the Utf8 constant at an index
 abbrev pub utf8_at : ClassFile → ConstantIndex → Option (List ℕ)
 utf8_at c index = option_and_then utf8_text (constant_at c index)
 
 abbrev pub is_kind : ConstantKind → Constant → Bool
 is_kind kind constant = tag_of (kind_of constant) == tag_of kind
 
--- the usable entry is of this kind
+-- the usable constant at the index is of this kind
 abbrev pub is_entry : ClassFile → ConstantKind → ConstantIndex → Bool
 is_entry c kind index = option_map_or (is_kind kind) (constant_at c index) false
 
--- the name and the descriptor of a NameAndType
+-- the indexes of the name and of the descriptor in a NameAndType
 abbrev pub name_and_type : Constant → Option (ConstantIndex × ConstantIndex)
 name_and_type (NameAndType name descriptor) = Some (name, descriptor)
 name_and_type constant = None
 
--- the class of a reference to a member
+-- the class_index of a reference to a field or method
 abbrev pub owner : Constant → Option ConstantIndex
 owner (Fieldref class entry) = Some class
 owner (Methodref class entry) = Some class
 owner (InterfaceMethodref class entry) = Some class
 owner constant = None
 
--- the NameAndType of a reference to a member
+-- the name_and_type_index of a reference to a field or method, or of an InvokeDynamic
 abbrev pub signature_entry : Constant → Option ConstantIndex
 signature_entry (Fieldref class entry) = Some entry
 signature_entry (Methodref class entry) = Some entry
@@ -41,31 +41,31 @@ signature_entry constant = None
 abbrev pub name_and_type_at : ClassFile → ConstantIndex → Option (ConstantIndex × ConstantIndex)
 name_and_type_at c index = option_and_then name_and_type (constant_at c index)
 
--- the name that the NameAndType at the index gives
+-- the name in the NameAndType at an index
 abbrev pub member_name_at : ClassFile → ConstantIndex → Option (List ℕ)
 member_name_at c entry = option_and_then (λ pair. utf8_at c pair.0) (name_and_type_at c entry)
 
--- the descriptor that it gives
+-- the descriptor in the NameAndType at an index
 abbrev pub member_descriptor_at : ClassFile → ConstantIndex → Option (List ℕ)
 member_descriptor_at c entry = option_and_then (λ pair. utf8_at c pair.1) (name_and_type_at c entry)
 
--- the name that a reference gives
+-- the name of the field or method that a reference names
 abbrev pub name_of : ClassFile → Constant → Option (List ℕ)
 name_of c reference = option_and_then (member_name_at c) (signature_entry reference)
 
--- ---- tests of what may be missing
+-- ---- tests of an element that may be missing
 
--- it is there and doesn't pass
+-- the element exists and fails the test
 abbrev pub fails : {X : Type 0} → (X → Bool) → Option X → Bool
 fails test None = false
 fails test (Some x) = not (test x)
 
--- it is missing, or doesn't pass
+-- the element is missing or fails the test
 abbrev pub lacks : {X : Type 0} → (X → Bool) → Option X → Bool
 lacks test None = true
 lacks test (Some x) = not (test x)
 
--- it is there and passes
+-- the element exists and passes the test
 abbrev pub passes : {X : Type 0} → (X → Bool) → Option X → Bool
 passes test None = false
 passes test (Some x) = test x

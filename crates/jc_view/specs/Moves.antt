@@ -1,12 +1,12 @@
--- How the reader of a part moves its cursor.
+-- How a function that reads a part moves its cursor.
 use Rattle.std.specs.Prelude.{◌≡◌, ℕ, ◌+◌, List, length, Option, Some, None}
 use Rattle.jc_base.specs.Cursor.{Reading}
 
--- the place counts the bytes that were passed
+-- the place moves by the number of bytes that were read
 abbrev pub KeepsEnd : Reading → Reading → Type 0
 KeepsEnd old new = new.place + length new.rest ≡ old.place + length old.rest
 
--- Some: the part's value, and the cursor stands behind the part; None: the part is cut
+-- Some: the value of the part, and the cursor is at its end; None: the bytes do not begin with such a part
 abbrev pub Lends : {X Y : Type 0} → (X → Y) → (List ℕ → Option (List ℕ)) → (List ℕ → Y)
     → Reading → Option X → Reading → Type 0
 Lends view after_part value old None new = after_part old.rest ≡ None

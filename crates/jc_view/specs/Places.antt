@@ -1,4 +1,4 @@
--- Members and attributes, each with the place in the file where it begins: a number of bytes from its front.
+-- Members and attributes with their places. A place is the number of bytes before an element in the file.
 use Rattle.std.specs.Prelude.{◌≡◌, ℕ, ◌+◌, Bool, true, false, List, [], ◌∷◌, ◌++◌}
 use Rattle.std.specs.Prelude.{length, Option, Some, None, option_and_then, take, drop, slice_get}
 use Rattle.std.specs.List.{flat_map}
@@ -19,7 +19,7 @@ pub record PlacedMember : Type 0 where
   pub place : ℕ
   pub member : Member
 
--- attributes that stand one behind the other from a place on
+-- attributes that follow each other, the first at this place
 unfoldable pub attributes_from : Holder → ℕ → List Attribute → List PlacedAttribute
 attributes_from holder place [] = []
 attributes_from holder place (a ∷ attributes) =
@@ -30,7 +30,7 @@ members_from holder place [] = []
 members_from holder place (m ∷ members) =
     record { holder = holder; place = place; member = m } ∷ members_from holder (place + length (member_bytes m)) members
 
--- ---- where the tables begin, with their counts
+-- ---- where the tables begin; each begins with its count
 
 abbrev pub interfaces_place : ClassFile → ℕ
 interfaces_place c = 10 + length (flat_map constant_bytes c.constants) + 6
@@ -44,7 +44,7 @@ methods_place c = fields_place c + length (counted member_bytes c.fields)
 abbrev pub attributes_place : ClassFile → ℕ
 attributes_place c = methods_place c + length (counted member_bytes c.methods)
 
--- ---- what stands in them, behind their counts
+-- ---- the entries of the tables, after their counts
 
 abbrev pub fields_in : ClassFile → List PlacedMember
 fields_in c = members_from holders.Field (fields_place c + 2) c.fields
@@ -55,18 +55,18 @@ methods_in c = members_from holders.Method (methods_place c + 2) c.methods
 abbrev pub attributes_in : ClassFile → List PlacedAttribute
 attributes_in c = attributes_from holders.Class (attributes_place c + 2) c.attributes
 
--- of a member, behind its flags, name, descriptor and the count
+-- the attributes of a member, after its access_flags, name_index, descriptor_index and attributes_count
 abbrev pub member_attributes : PlacedMember → List PlacedAttribute
 member_attributes m = attributes_from m.holder (m.place + 8) m.member.attributes
 
 -- ---- constants
 
--- the second index of a wide constant is unusable
+-- the indexes that a constant takes after its own: a Long or a Double takes one, which is unusable
 abbrev pub unusable_index : Bool → List (Option ℕ)
 unusable_index true = None ∷ []
 unusable_index false = []
 
--- by index, where each of the constants begins that stand from a place on
+-- for each index, the place of its constant, if it has one; the first of the constants is at this place
 unfoldable pub places_of : ℕ → List Constant → List (Option ℕ)
 places_of place [] = []
 places_of place (constant ∷ constants) =
@@ -75,17 +75,17 @@ places_of place (constant ∷ constants) =
 abbrev pub place_at : List (Option ℕ) → ConstantIndex → Option ℕ
 place_at places index = option_and_then (λ place. place) (slice_get places index.0)
 
--- the text of the Utf8 constant of an index, as the part of the layout at its place: behind a tag and two bytes of length
+-- the text of the Utf8 constant at an index is a part of the layout, after the tag and the two bytes of its length
 pub record IsLent (c : ClassFile) (index : ConstantIndex) (text : List ℕ) : Type 0 where
   pub place : ℕ
   pub begins : place_at (None ∷ places_of 10 c.constants) index ≡ Some place
   pub part : take (length text) (drop (place + 3) (layout c)) ≡ text
 
--- the bytes of an attribute are the part of these bytes behind its place, its name and its length
+-- the contents of an attribute are the part of these bytes after its attribute_name_index and attribute_length
 abbrev pub HasBytesAt : List ℕ → PlacedAttribute → Type 0
 HasBytesAt bytes a = take (length a.attribute.bytes) (drop (a.place + 6) bytes) ≡ a.attribute.bytes
 
--- the instructions of a Code are the part behind the name, the length, max_stack, max_locals and their own length of the
--- attribute at the place
+-- the instructions of the Code at this place are a part of these bytes: they follow attribute_name_index,
+-- attribute_length, max_stack, max_locals and code_length
 abbrev pub HasInstructionsAt : List ℕ → ℕ → List ℕ → Type 0
 HasInstructionsAt bytes place code = take (length code) (drop (place + 14) bytes) ≡ code

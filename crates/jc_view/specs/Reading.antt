@@ -1,4 +1,4 @@
--- What the parts of `parse` take from the front of the bytes. Its theorem speaks of `layout` alone.
+-- What each step of `parse` reads from the front of the bytes. The contract of `parse` does not use these definitions.
 use Rattle.std.specs.Prelude.{ℕ, zero, suc, ◌+◌, ◌-◌, ◌*◌, Bool, true, false, not, ◌&&◌}
 use Rattle.std.specs.Prelude.{◌||◌, List, [], ◌∷◌, ◌++◌, length, take, drop, Option, Some, None}
 use Rattle.std.specs.Prelude.{Result, Ok, Err, if◌then◌else◌, ◌==◌, nat_lt, unwrap_or, option_and_then}
@@ -14,20 +14,20 @@ use Rattle.jc_view.specs.ConstantPool as pool
 use Rattle.jc_view.specs.ConstantPool.{Constant, kind_of_tag, is_wide, index_value}
 use Rattle.jc_view.specs.ClassFile.{Attribute, Member, ClassFile, magic}
 
--- ---- parts that can only be too short: what is left behind one, and its value
+-- ---- parts that can only be too short: the bytes that are left after one, and its value
 
--- what is left behind n bytes
+-- the bytes that are left after n bytes
 abbrev pub after : ℕ → List ℕ → Option (List ℕ)
 after n xs = if nat_lt (length xs) n then None else Some (drop n xs)
 
--- behind a text and its length, a number of n bytes
+-- the bytes that are left after a text and its length, which is a number of n bytes
 abbrev pub after_sized : ℕ → List ℕ → Option (List ℕ)
 after_sized n xs = option_and_then (after (big_number n xs)) (after n xs)
 
 abbrev pub sized_value : ℕ → List ℕ → List ℕ
 sized_value n xs = take (big_number n xs) (drop n xs)
 
--- so many of one kind, one behind the other
+-- the bytes that are left after n parts of one kind that follow each other
 unfoldable pub after_each : (List ℕ → Option (List ℕ)) → ℕ → List ℕ → Option (List ℕ)
 after_each after_one zero xs = Some xs
 after_each after_one (suc n) xs = option_and_then (after_each after_one n) (after_one xs)
@@ -36,7 +36,7 @@ unfoldable pub each_value : {X : Type 0} → (List ℕ → Option (List ℕ)) �
 each_value after_one value zero xs = []
 each_value after_one value (suc n) xs = value xs ∷ each_value after_one value n (unwrap_or (after_one xs) [])
 
--- a table behind its count
+-- the bytes that are left after a table and its count
 abbrev pub after_table : (List ℕ → Option (List ℕ)) → List ℕ → Option (List ℕ)
 after_table after_one xs = option_and_then (after_each after_one (big_number 2 xs)) (after 2 xs)
 
@@ -60,14 +60,14 @@ member_value xs = record {
   attributes = table_value after_attribute attribute_value (drop 6 xs);
 }
 
--- behind a table of indexes and its count
+-- the bytes that are left after a table of indexes and its count
 abbrev pub after_indexes : List ℕ → Option (List ℕ)
 after_indexes xs = option_and_then (after (2 * big_number 2 xs)) (after 2 xs)
 
 abbrev pub after_members : List ℕ → Option (List ℕ)
 after_members xs = after_table after_member xs
 
--- behind all that stands behind the constants
+-- the bytes that are left after all parts that follow the constants
 unfoldable pub after_tail : List ℕ → Option (List ℕ)
 after_tail xs =
     option_and_then (after_table after_attribute)
@@ -76,7 +76,7 @@ after_tail xs =
     (option_and_then after_indexes
     (after 6 xs))))
 
--- where the fields, the methods and the attributes of the class begin
+-- the bytes from the fields, the methods and the attributes of the class on
 abbrev pub fields_at : List ℕ → List ℕ
 fields_at xs = unwrap_or (after_indexes (drop 6 xs)) []
 
@@ -88,7 +88,7 @@ attributes_at xs = unwrap_or (after_members (methods_at xs)) []
 
 -- ---- constants
 
--- the length of a body that is not Utf8
+-- the length of a body; that of a Utf8 depends on its text and is not listed here
 abbrev pub body_size : ConstantKind → ℕ
 body_size kinds.Utf8 = 0
 body_size kinds.Integer = 4
@@ -109,7 +109,7 @@ abbrev pub after_body : ConstantKind → List ℕ → Option (List ℕ)
 after_body kinds.Utf8 xs = after_sized 2 xs
 after_body kind xs = after (body_size kind) xs
 
--- the constant whose kind and body these are
+-- the constant of this kind whose body is at the front of the bytes
 abbrev pub body_value : ConstantKind → List ℕ → Constant
 body_value kinds.Utf8 xs = pool.Utf8 (sized_value 2 xs)
 body_value kinds.Integer xs = pool.Integer (big_number 4 xs)
@@ -126,11 +126,11 @@ body_value kinds.MethodHandle xs = pool.MethodHandle (big_number 1 xs) (index_va
 body_value kinds.MethodType xs = pool.MethodType (index_value xs)
 body_value kinds.InvokeDynamic xs = pool.InvokeDynamic (big_number 2 xs) (index_value (drop 2 xs))
 
--- the constant at the front
+-- the constant at the front of the bytes
 abbrev pub constant_value : List ℕ → Constant
 constant_value xs = option_map_or (λ kind. body_value kind (drop 1 xs)) (kind_of_tag (big_number 1 xs)) (pool.Utf8 [])
 
--- a reading that goes on where these bytes are left
+-- the reading that has these bytes left
 abbrev pub moved_to : Reading → List ℕ → Reading
 moved_to reading rest = record { place = reading.place + length reading.rest - length rest; rest = rest }
 
@@ -146,7 +146,7 @@ or_refusal (Some x) e = Ok x
 abbrev pub unless : Bool → ParseError → Result (Unit {0}) ParseError
 unless b e = if b then Err e else Ok tt
 
--- the constant at the front, where its index is the last or not: its kind, and where reading goes on
+-- the kind of the constant at the front, and the reading after it; a Long or a Double must not have the last index
 unfoldable pub first_constant : Bool → Reading → Result (ConstantKind × Reading) ParseError
 first_constant is_last reading = do
   body ← or_refusal (after 1 reading.rest) errors.Short
@@ -155,7 +155,7 @@ first_constant is_last reading = do
   rest ← or_refusal (after_body kind body) errors.Short
   Ok (kind, moved_to reading rest)
 
--- what stands at an index: where its constant begins, if one does, and whether it takes the next index too
+-- what is at an index: the place of its constant, if it has one, and whether the constant takes the next index too
 pub record Entry : Type 0 where
   pub offset : Option ℕ
   pub is_wide : Bool
@@ -169,7 +169,7 @@ entry_at false is_last reading = do
   first ← first_constant is_last reading
   Ok (record { offset = Some reading.place; is_wide = is_wide first.0 }, first.1)
 
--- for each of so many indexes where its constant begins; the first of them may be the second of a wide constant
+-- for each of n indexes, the place of its constant; the first index may be the second of a Long or a Double
 unfoldable pub entries_from : ℕ → Bool → Reading → Result (List (Option ℕ) × Reading) ParseError
 entries_from zero is_second reading = Ok ([], reading)
 entries_from (suc left) is_second reading = do
@@ -181,11 +181,11 @@ abbrev pub with_front : List (Option ℕ) → Result (List (Option ℕ) × Readi
     → Result (List (Option ℕ) × Reading) ParseError
 with_front front read = read >>= λ x. Ok (front ++ x.0, x.1)
 
--- the places of a constant pool with this count, by index
+-- the places of the constants of a pool with this count, by index
 abbrev pub pool_at : ℕ → Reading → Result (List (Option ℕ) × Reading) ParseError
 pool_at count reading = with_front (None ∷ []) (entries_from (count - 1) false reading)
 
--- ---- the whole
+-- ---- the class file
 
 -- the constants that begin at these places
 abbrev pub constants_at : List ℕ → List (Option ℕ) → List Constant
@@ -193,7 +193,7 @@ constants_at bytes [] = []
 constants_at bytes (None ∷ places) = constants_at bytes places
 constants_at bytes (Some place ∷ places) = constant_value (drop place bytes) ∷ constants_at bytes places
 
--- the class file with these numbers and constants, whose other parts stand at the front
+-- the class file with these numbers and constants, whose other parts are at the front of the bytes
 abbrev pub class_with : ℕ → ℕ → List Constant → List ℕ → ClassFile
 class_with minor major constants xs = record {
   minor = minor;
@@ -208,7 +208,7 @@ class_with minor major constants xs = record {
   attributes = table_value after_attribute attribute_value (attributes_at xs);
 }
 
--- the class file in these bytes whose constants begin at these places, and whose other parts at that place
+-- the class file in these bytes: its constants begin at these places, and its other parts at the place after them
 unfoldable pub class_value : List ℕ → List (Option ℕ) → ℕ → ClassFile
 class_value bytes places tail =
     class_with (big_number 2 (drop 4 bytes)) (big_number 2 (drop 6 bytes)) (constants_at bytes places) (drop tail bytes)
@@ -216,7 +216,7 @@ class_value bytes places tail =
 abbrev pub is_accepted : ℕ → ℕ → Bool
 is_accepted major minor = major == 51 || (major == 52 && minor == 0)
 
--- what stands before the constants: their count
+-- constant_pool_count, and the reading after it
 unfoldable pub head_at : Reading → Result (ℕ × Reading) ParseError
 head_at reading = do
   behind_magic ← or_refusal (after 4 reading.rest) errors.Short
@@ -228,7 +228,7 @@ head_at reading = do
   right_count ← unless (big_number 2 behind_major == 0) errors.Count
   Ok (big_number 2 behind_major, moved_to reading behind_count)
 
--- the numbers behind the constants
+-- the numbers after the constants
 pub record NumbersRead : Type 0 where
   pub flags : ℕ
   pub this_class : ConstantIndex
@@ -237,14 +237,14 @@ pub record NumbersRead : Type 0 where
 abbrev pub numbers_value : List ℕ → NumbersRead
 numbers_value xs = record { flags = big_number 2 xs; this_class = index_value (drop 2 xs); super_class = index_value (drop 4 xs) }
 
--- what stands behind the constants, where nothing follows it
+-- the numbers after the constants, if the bytes end after the last table
 unfoldable pub last_at : Reading → Result (NumbersRead × Reading) ParseError
 last_at reading = do
   rest ← or_refusal (after_tail reading.rest) errors.Short
   at_end ← unless (not (length rest == 0)) (errors.Trailing (moved_to reading rest).place)
   Ok (numbers_value reading.rest, moved_to reading rest)
 
--- by index, where each constant begins, the place behind them, and the numbers there
+-- for each index, the place of its constant; the place after the constants, and the numbers there
 pub record PartsRead : Type 0 where
   pub places : List (Option ℕ)
   pub tail : ℕ

@@ -1,4 +1,4 @@
--- Which bytes are a readable class file, and why others are not.
+-- Which bytes are a readable class file, and why other bytes are refused.
 use Rattle.std.specs.Prelude.{◌≡◌, ◌≢◌, ℕ, ◌+◌, ◌-◌, ◌<◌, ◌≤◌}
 use Rattle.std.specs.Prelude.{◌⊎◌, List, ◌∷◌, ◌++◌, length, take, drop, Some}
 use Rattle.std.specs.List.{flat_map, AllByRecursion}
@@ -19,9 +19,9 @@ pub record HasHead (b : List ℕ) : Type 0 where
   pub version : IsAcceptedVersion (big_number 2 (drop 6 b)) (big_number 2 (drop 4 b))
   pub count : big_number 2 (drop 8 b) ≢ 0
 
--- ---- refusals: what stands in the bytes
+-- ---- refusals, by the contents of the bytes
 
--- from a place on stand whole constants, and then a byte where another is owed
+-- these bytes, which begin at `place`, are whole constants, then a byte at `at` where another constant must begin
 pub record Owes (place : ℕ) (bytes : List ℕ) (indexes at : ℕ) : Type 0 where
   pub constants : List Constant
   pub whole : AllByRecursion FitsConstant constants
@@ -29,7 +29,7 @@ pub record Owes (place : ℕ) (bytes : List ℕ) (indexes at : ℕ) : Type 0 whe
   pub rest : List ℕ
   pub stand : bytes ≡ flat_map constant_bytes constants ++ tag ∷ rest
   pub here : at ≡ place + length (flat_map constant_bytes constants)
-  -- how many indexes are left
+  -- the number of indexes that are left
   pub left : ℕ
   pub one_at_least : 0 < left
   pub filled : all_slots constants + left ≡ indexes
@@ -41,7 +41,7 @@ IsNoTag tag = (kind : ConstantKind) → tag_of kind ≢ tag
 abbrev pub IsWideTag : ℕ → Type 0
 IsWideTag tag = (tag ≡ 5) ⊎ (tag ≡ 6)
 
--- the indexes that the constants have to fill
+-- the number of indexes that the constants must fill
 abbrev pub pool_size : List ℕ → ℕ
 pool_size b = big_number 2 (drop 8 b) - 1
 
@@ -50,7 +50,7 @@ pub record IsLayoutOf (c : ClassFile) (b : List ℕ) : Type 0 where
   pub fits : FitsClassFile c
   pub bytes : layout c ≡ b
 
--- this_class is a Class constant whose text is a class name (no array)
+-- this_class is a Class constant whose text is the name of a class, and not of an array
 pub record IsNamed (c : ClassFile) (name : List ℕ) : Type 0 where
   pub entry : ConstantIndex
   pub class : constant_at c c.this_class ≡ Some (pool.Class entry)
@@ -63,7 +63,7 @@ IsNameless c = (name : List ℕ) → ¬ IsNamed c name
 abbrev pub IsReadable : List ℕ → Type 0
 IsReadable b = (c : ClassFile) × IsLayoutOf c b × ((name : List ℕ) × IsNamed c name)
 
--- what stands in the bytes where a refusal applies
+-- what the bytes contain if a refusal applies to them
 abbrev pub Applies : ParseError → List ℕ → Type 0
 Applies errors.Magic b = (4 ≤ length b) × (big_number 4 b ≢ magic)
 Applies errors.Version b = (8 ≤ length b) × ¬ IsAcceptedVersion (big_number 2 (drop 6 b)) (big_number 2 (drop 4 b))
@@ -75,7 +75,7 @@ Applies errors.Short b = (at : ℕ) (c : ClassFile) → ¬ IsLayoutOf c (take at
 Applies errors.NoName b = (c : ClassFile) × IsLayoutOf c b × IsNameless c
 Applies errors.NoMemory b = ⊥
 
--- the number of a refusal, by which refusals are ordered
+-- the number of a refusal; a refusal with a smaller number goes first
 abbrev pub refusal_number : ParseError → ℕ
 refusal_number errors.Magic = 1
 refusal_number errors.Version = 2
@@ -87,7 +87,7 @@ refusal_number errors.Short = 7
 refusal_number errors.NoName = 8
 refusal_number errors.NoMemory = 9
 
--- the first refusal that applies
+-- this refusal applies, and no refusal with a smaller number does
 pub record IsRefusal (b : List ℕ) (e : ParseError) : Type 0 where
   pub applies : Applies e b
   pub first : (f : ParseError) → refusal_number f < refusal_number e → ¬ Applies f b

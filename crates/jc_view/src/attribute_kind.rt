@@ -1,20 +1,20 @@
-//! The attributes that are recognised (JVMS 4.7).
+//! The kinds of attributes that are recognised, and their holders (JVMS 4.7).
 
 ghost use Rattle.std.specs.Prelude.{◌≡◌};
 ghost use Rattle.jc_base.specs.Bytes.{same_bytes};
 ghost use Rattle.jc_view.specs.Attributes.{attribute_name, belongs_to, is_kind};
 
-/// What an attribute belongs to.
+/// The element of a class file that an attribute belongs to.
 #[derive(Clone, Copy)]
 pub enum Holder {
     Class,
     Field,
     Method,
-    /// A method's code.
+    /// The `Code` attribute of a method.
     Code,
 }
 
-/// The attributes that are recognised, each where the standard defines it (JVMS 4.7, table 4.7-C).
+/// A kind of attribute that is recognised in its holder (JVMS 4.7, table 4.7-C).
 #[derive(Clone, Copy)]
 pub enum AttributeKind {
     ConstantValue,
@@ -28,7 +28,7 @@ pub enum AttributeKind {
     Deprecated,
 }
 
-/// All kinds of attributes, those first that are found most often.
+/// All kinds of attributes, the most frequent ones first.
 const KINDS: [AttributeKind; 9] = [
     AttributeKind::Code,
     AttributeKind::Signature,
@@ -42,7 +42,7 @@ const KINDS: [AttributeKind; 9] = [
 ];
 
 impl AttributeKind {
-    /// The name by which an attribute of this kind is recognised.
+    /// Returns the name of attributes of this kind.
     pub fn name(self) -> &'static [u8]
         ensures { result.now ≡ attribute_name self }
     {
@@ -59,7 +59,7 @@ impl AttributeKind {
         }
     }
 
-    /// Whether an attribute of this kind is recognised in this holder. In a `Code` none is.
+    /// Returns whether attributes of this kind are recognised in this holder. In a `Code`, none are.
     pub fn belongs_to(self, holder: Holder) -> bool
         ensures { result ≡ belongs_to self holder }
     {
@@ -76,7 +76,7 @@ impl AttributeKind {
     }
 }
 
-/// Returns the kind of attributes of this name.
+/// Returns the kind of attributes with this name.
 #[tactic(auto, using(crate::proofs::kinds::KindNames::named, crate::proofs::kinds::KindNames::not_named))]
 pub(crate) fn kind_named(name: &[u8]) -> Option<AttributeKind>
     ensures { (kind : AttributeKind) → same_bytes name.now (attribute_name kind) ≡ is_kind kind result }

@@ -1,4 +1,4 @@
-//! Attributes (JVMS 4.7).
+//! Attributes, and an iterator over a table of them (JVMS 4.7).
 
 ghost use Rattle.std.specs.Prelude.{◌≡◌, IfSome};
 ghost use Rattle.std.specs.Option.{option_copied, option_map};
@@ -19,7 +19,8 @@ use crate::view::ClassView;
 use jc_base::Cursor;
 use std::marker::Model;
 
-/// Attributes, in the order of the file. Seen as those that are left, each with its place.
+/// An iterator over a table of attributes, in file order. Its model is the list of those that are left, each with its
+/// place.
 #[derive(Drop)]
 pub struct Attributes<'v, 'a> {
     pub(crate) class: &'v ClassView<'a>,
@@ -70,7 +71,7 @@ pub struct Attribute<'v, 'a> {
     entry: AttributeEntry<'a>,
 }
 
-/// An attribute as it stands in its table.
+/// An attribute as its table has it.
 #[derive(Drop)]
 pub(crate) struct AttributeEntry<'a> {
     pub(crate) place: usize,
@@ -92,42 +93,44 @@ impl<'v, 'a> Model for Attribute<'v, 'a> {
 }
 
 impl<'v, 'a> Attribute<'v, 'a> {
-    /// The class that it is of.
+    /// Returns the class that the attribute is part of.
     pub fn class(&self) -> &'v ClassView<'a>
         ensures { result.now ≡ self.now.class }
     {
         self.class
     }
 
-    /// What it belongs to.
+    /// Returns the element that the attribute belongs to.
     pub fn holder(&self) -> Holder
         ensures { result ≡ self.now.attribute.holder }
     {
         self.holder
     }
 
-    /// Where the attribute begins in the file, with its name: so many bytes from the file's front.
+    /// Returns the place of the attribute: the number of bytes before its `attribute_name_index` in the file.
     pub fn place(&self) -> usize
         ensures { result ≡ self.now.attribute.place }
     {
         self.entry.place
     }
 
-    /// Its name; `None` where attribute_name_index names no `Utf8` constant (JVMS 4.7).
+    /// Returns the name of the attribute, or `None` if its `attribute_name_index` does not name a `Utf8` constant (JVMS
+    /// 4.7).
     pub fn name(&self) -> Option<&'a [u8]>
         ensures { option_copied result ≡ utf8_at self.now.class self.now.attribute.attribute.name }
     {
         self.class.utf8(self.entry.name)
     }
 
-    /// What stands behind its length.
+    /// Returns the contents of the attribute: the bytes after its `attribute_length`.
     pub fn bytes(&self) -> &'a [u8]
         ensures { result.now ≡ self.now.attribute.attribute.bytes }
     {
         self.entry.body.rest()
     }
 
-    /// The kind as which it is recognised: by its name, in the holder that the kind belongs to.
+    /// Returns the kind of the attribute if it is recognised: its name is that of the kind, and the kind belongs to its
+    /// holder.
     pub fn kind(&self) -> Option<AttributeKind>
         ensures { IsRecognisedAs self.now.class self.now.attribute.holder self.now.attribute.attribute result }
     {
@@ -139,15 +142,16 @@ impl<'v, 'a> Attribute<'v, 'a> {
         }
     }
 
-    /// Whether it is recognised as of a kind: by its name, in the holder that the kind belongs to.
+    /// Returns whether the attribute is recognised as one of this kind: its name is that of the kind, and the kind
+    /// belongs to its holder.
     pub fn is(&self, kind: AttributeKind) -> bool
         ensures { result ≡ is_recognised self.now.class kind self.now.attribute.holder self.now.attribute.attribute }
     {
         kind.belongs_to(self.holder) && self.name().is_some_and(|name| name == kind.name())
     }
 
-    /// The code of a method (JVMS 4.7.3); `None` where this is no `Code` attribute of a method, or no
-    /// well-formed one.
+    /// Returns the code of a method (JVMS 4.7.3). Returns `None` if this is not a `Code` attribute of a method, or if
+    /// it is not well-formed. Does not allocate.
     pub fn code(&self) -> Option<Code<'v, 'a>>
         ensures { result ≡ option_map (lent_code self.now) (code_of self.now.class self.now.attribute) }
     {
@@ -176,7 +180,7 @@ impl<'a> AttributeEntry<'a> {
     }
 }
 
-/// The attribute that begins here.
+/// Reads the attribute at the cursor.
 #[tactic(auto, unfolding(crate::specs::Reading::after_attribute))]
 fn read_attribute<'a>(cursor: &mut Cursor<'a>) -> Option<AttributeEntry<'a>>
     ensures { LendsAttribute cursor.old result cursor.new }

@@ -1,4 +1,4 @@
-//! The code of a method (JVMS 4.7.3).
+//! The code of a method, and its exception handlers (JVMS 4.7.3).
 
 ghost use Rattle.std.specs.Prelude.{◌≡◌, ◌+◌, ◌<◌, ◌^◌, length, IfSome};
 ghost use Rattle.std.specs.Option.{option_map};
@@ -21,7 +21,7 @@ use crate::view::ClassView;
 use jc_base::Cursor;
 use std::marker::Model;
 
-/// A method's code.
+/// A well-formed `Code` attribute.
 #[derive(Drop)]
 pub struct Code<'v, 'a> {
     pub(crate) class: &'v ClassView<'a>,
@@ -30,7 +30,7 @@ pub struct Code<'v, 'a> {
     pub(crate) body: CodeBody<'a>,
 }
 
-/// What stands in a `Code` attribute.
+/// The parts of a `Code` attribute.
 #[derive(Drop)]
 pub(crate) struct CodeBody<'a> {
     instructions: Instructions<'a>,
@@ -38,7 +38,7 @@ pub(crate) struct CodeBody<'a> {
     attributes: Table<'a>,
 }
 
-/// The instructions, and what they need.
+/// The instructions, with the depths that they need.
 #[derive(Clone, Copy)]
 struct Instructions<'a> {
     max_stack: u16,
@@ -60,28 +60,28 @@ impl<'v, 'a> Model for Code<'v, 'a> {
 }
 
 impl<'v, 'a> Code<'v, 'a> {
-    /// The class that it is of.
+    /// Returns the class that the code is part of.
     pub fn class(&self) -> &'v ClassView<'a>
         ensures { result.now ≡ self.now.class }
     {
         self.class
     }
 
-    /// How many entries the operand stack has at most.
+    /// Returns the maximum depth of the operand stack.
     pub fn max_stack(&self) -> u16
         ensures { result ≡ self.now.code.max_stack }
     {
         self.body.instructions.max_stack
     }
 
-    /// How many local variables there are; a `long` or a `double` takes two.
+    /// Returns the number of local variables. A `long` or a `double` counts as two.
     pub fn max_locals(&self) -> u16
         ensures { result ≡ self.now.code.max_locals }
     {
         self.body.instructions.max_locals
     }
 
-    /// The array of instructions, of 1 to 65,535 bytes.
+    /// Returns the array of instructions, which has 1 to 65,535 bytes.
     pub fn bytes(&self) -> &'a [u8]
         ensures part { result.now ≡ self.now.code.code }
         ensures some { 0 < length result.now }
@@ -90,7 +90,7 @@ impl<'v, 'a> Code<'v, 'a> {
         self.body.instructions.bytes
     }
 
-    /// The exception table, in the order in which handlers are searched (JVMS 2.10).
+    /// Returns the exception table, in the order in which the handlers are searched (JVMS 2.10).
     pub fn handlers(&self) -> Handlers<'a>
         ensures left { result ≡ self.now.code.handlers }
         ensures few { length self.now.code.handlers < 2 ^ 16 }
@@ -100,7 +100,7 @@ impl<'v, 'a> Code<'v, 'a> {
         }
     }
 
-    /// The attributes inside it, of which none is recognised.
+    /// Returns the attributes of the code. None of them are recognised.
     pub fn attributes(&self) -> Attributes<'v, 'a>
         ensures { result ≡ record { class = self.now.class; left = code_attributes self.now.attribute self.now.code } }
     {
@@ -112,8 +112,8 @@ impl<'v, 'a> Code<'v, 'a> {
     }
 }
 
-/// An exception handler: it stands at `handler_pc`, for the instructions from `start_pc` on and before
-/// `end_pc`, and catches the class of `catch_type`, or anything where that is 0.
+/// An exception handler. It begins at `handler_pc` and handles exceptions that instructions from `start_pc` to before
+/// `end_pc` throw. It catches exceptions of the class `catch_type`, or all exceptions if `catch_type` is 0.
 #[derive(Clone, Copy)]
 pub struct ExceptionHandler {
     pub start_pc: u16,
@@ -122,7 +122,7 @@ pub struct ExceptionHandler {
     pub catch_type: ConstantIndex,
 }
 
-/// Exception handlers, in the order of the table. Seen as those that are left.
+/// An iterator over exception handlers, in the order of their table. Its model is the list of those that are left.
 #[derive(Drop)]
 pub struct Handlers<'a> {
     table: Table<'a>,
@@ -175,7 +175,7 @@ fn read_handler(cursor: &mut Cursor) -> Option<ExceptionHandler>
     })
 }
 
-/// What stands in all of the bytes that are left, where that is a well-formed `Code`.
+/// Reads a well-formed `Code`, which must take all bytes that are left.
 pub(crate) fn read_code<'a>(body: &Cursor<'a>) -> Option<CodeBody<'a>>
     ensures code { option_map body_code result ≡ code_in body.now.rest }
     ensures body { IfSome result (IsCodeBody body.now.place) }
@@ -188,7 +188,7 @@ pub(crate) fn read_code<'a>(body: &Cursor<'a>) -> Option<CodeBody<'a>>
     Some(code)
 }
 
-/// The well-formed `Code` that begins here.
+/// Reads the well-formed `Code` at the cursor.
 #[tactic(auto, unfolding(crate::specs::AttributeReading::after_code))]
 fn read_front<'a>(cursor: &mut Cursor<'a>) -> Option<CodeBody<'a>>
     ensures code { Lends body_code after_code code_value cursor.old result cursor.new }
@@ -204,7 +204,7 @@ fn read_front<'a>(cursor: &mut Cursor<'a>) -> Option<CodeBody<'a>>
     })
 }
 
-/// What stands before the exception table. There are 1 to 65,535 bytes of instructions (JVMS 4.7.3).
+/// Reads the parts before the exception table. The code has 1 to 65,535 bytes (JVMS 4.7.3).
 fn read_instructions<'a>(cursor: &mut Cursor<'a>) -> Option<Instructions<'a>>
     ensures { Lends instructions after_instructions instructions_value cursor.old result cursor.new }
 {

@@ -1,13 +1,13 @@
-//! The constant pool (JVMS 4.4).
+//! Constants, their kinds and their indexes (JVMS 4.4).
 
 ghost use Rattle.std.specs.Prelude.{◌≡◌};
 ghost use Rattle.jc_view.specs.ConstantPool.{kind_name, kind_of_tag, is_wide, tag_of};
 
-/// An index into the constant pool.
+/// An index of the constant pool.
 #[derive(Clone, Copy, PartialEq, Eq, Hash)]
 pub struct ConstantIndex(pub u16);
 
-/// The kinds of constants (JVMS 4.4, table 4.4-A).
+/// A kind of constant (JVMS 4.4, table 4.4-A).
 #[derive(Clone, Copy)]
 pub enum ConstantKind {
     Utf8,
@@ -26,27 +26,37 @@ pub enum ConstantKind {
     InvokeDynamic,
 }
 
-/// A constant, whose text is a slice of the file (JVMS 4.4). Numbers are the bits that stand there.
+/// A constant, whose text is a slice of the file (JVMS 4.4). A number is its bits, as they are in the file.
 #[derive(Clone, Copy)]
 pub enum Constant<'a> {
+    /// The bytes of the text.
     Utf8(&'a [u8]),
     Integer(u32),
     Float(u32),
     Long(u64),
     Double(u64),
+    /// `name_index`.
     Class(ConstantIndex),
+    /// `string_index`.
     String(ConstantIndex),
+    /// `class_index` and `name_and_type_index`.
     Fieldref(ConstantIndex, ConstantIndex),
+    /// `class_index` and `name_and_type_index`.
     Methodref(ConstantIndex, ConstantIndex),
+    /// `class_index` and `name_and_type_index`.
     InterfaceMethodref(ConstantIndex, ConstantIndex),
+    /// `name_index` and `descriptor_index`.
     NameAndType(ConstantIndex, ConstantIndex),
+    /// `reference_kind` and `reference_index`.
     MethodHandle(u8, ConstantIndex),
+    /// `descriptor_index`.
     MethodType(ConstantIndex),
+    /// `bootstrap_method_attr_index` and `name_and_type_index`.
     InvokeDynamic(u16, ConstantIndex),
 }
 
 impl ConstantKind {
-    /// The kind of a tag.
+    /// Returns the kind of constants with this tag.
     pub fn of_tag(tag: u8) -> Option<ConstantKind>
         ensures { result ≡ kind_of_tag tag }
     {
@@ -69,7 +79,7 @@ impl ConstantKind {
         })
     }
 
-    /// The tag of this kind (JVMS 4.4, table 4.4-A).
+    /// Returns the tag of constants of this kind (JVMS 4.4, table 4.4-A).
     pub fn tag(self) -> u8
         ensures { result ≡ tag_of self }
     {
@@ -91,7 +101,7 @@ impl ConstantKind {
         }
     }
 
-    /// Its name in the standard, without `CONSTANT_` (JVMS 4.4, table 4.4-A).
+    /// Returns the name of this kind in the standard, without `CONSTANT_` (JVMS 4.4, table 4.4-A).
     pub fn name(self) -> &'static str
         ensures { result.now ≡ kind_name self }
     {
@@ -113,7 +123,7 @@ impl ConstantKind {
         }
     }
 
-    /// Whether a constant of this kind takes two indexes: a `Long` or a `Double` (JVMS 4.4.5).
+    /// Returns whether a constant of this kind takes two indexes: a `Long` or a `Double` (JVMS 4.4.5).
     pub fn is_wide(self) -> bool
         ensures { result ≡ is_wide self }
     {
@@ -125,7 +135,7 @@ impl<'a> Constant<'a> {
     ghost use Rattle.jc_view.specs.ConstantPool.{kind_of};
     ghost use Rattle.jc_view.specs.Lent.{constant_of};
 
-    /// What kind of constant this is.
+    /// Returns the kind of the constant.
     pub fn kind(self) -> ConstantKind
         ensures { result ≡ kind_of (constant_of self.entry) }
     {

@@ -1,4 +1,4 @@
-//! Looking constants up by their index, in bytes that were gone over.
+//! Access to the constants of parsed bytes, by index.
 
 ghost use Rattle.std.specs.Prelude.{◌≡◌, ◌+◌, ◌≤◌, drop, length, option_and_then};
 ghost use Rattle.std.specs.Option.{option_copied, option_map};
@@ -18,14 +18,14 @@ use crate::constant_pool::{Constant, ConstantIndex, ConstantKind};
 use byteorder::{BigEndian, ByteOrder};
 use jc_base::Cursor;
 
-/// Where the constant of an index begins, if one does.
+/// Returns the place where the constant at an index begins, if there is one.
 fn place_at(offsets: &[Option<usize>], index: ConstantIndex) -> Option<usize>
     ensures { result ≡ place_at offsets.now index }
 {
     *offsets.get(index.0 as usize)?
 }
 
-/// The constant of an index, if a usable one has it.
+/// Returns the constant at an index, if it is usable.
 pub(crate) fn entry<'a>(
     bytes: &'a [u8],
     offsets: &[Option<usize>],
@@ -36,7 +36,7 @@ pub(crate) fn entry<'a>(
     constant_at(bytes, place_at(offsets, index)?)
 }
 
-/// The kind of the constant of an index, if a usable one has it. Behind the tag nothing is read.
+/// Returns the kind of the constant at an index, if it is usable. Only the tag is read.
 pub(crate) fn kind_entry(
     bytes: &[u8],
     offsets: &[Option<usize>],
@@ -47,14 +47,14 @@ pub(crate) fn kind_entry(
     kind_at(bytes, place_at(offsets, index)?)
 }
 
-/// The kind of the constant that begins at a place, by its tag.
+/// Returns the kind of the constant that begins at a place, by its tag.
 fn kind_at(bytes: &[u8], place: usize) -> Option<ConstantKind>
     ensures { result ≡ kind_read place bytes.now }
 {
     ConstantKind::of_tag(*bytes.get(place)?)
 }
 
-/// The text of the Utf8 constant of an index; the constants of other kinds are not read.
+/// Returns the text of the `Utf8` constant at an index. A constant of another kind is not read.
 pub(crate) fn text_entry<'a>(
     bytes: &'a [u8],
     offsets: &[Option<usize>],
@@ -65,7 +65,7 @@ pub(crate) fn text_entry<'a>(
     text_at(bytes, place_at(offsets, index)?)
 }
 
-/// The text of the Utf8 constant that begins at a place (JVMS 4.4.7).
+/// Returns the text of the `Utf8` constant that begins at a place (JVMS 4.4.7).
 #[tactic(auto, unfolding(crate::specs::inside::ConstantRead::constant_read))]
 fn text_at(bytes: &[u8], place: usize) -> Option<&[u8]>
     ensures { option_copied result ≡ option_and_then utf8_text (constant_read place bytes.now) }
@@ -78,7 +78,7 @@ fn text_at(bytes: &[u8], place: usize) -> Option<&[u8]>
     read_text(&mut cursor)
 }
 
-/// The index in the Class constant of an index; the constants of other kinds are not read.
+/// Returns the `name_index` of the `Class` constant at an index. A constant of another kind is not read.
 pub(crate) fn class_entry(
     bytes: &[u8],
     offsets: &[Option<usize>],
@@ -89,7 +89,7 @@ pub(crate) fn class_entry(
     class_at(bytes, place_at(offsets, index)?)
 }
 
-/// The index in the Class constant that begins at a place (JVMS 4.4.1).
+/// Returns the `name_index` of the `Class` constant that begins at a place (JVMS 4.4.1).
 #[tactic(auto, unfolding(crate::specs::inside::ConstantRead::constant_read))]
 fn class_at(bytes: &[u8], place: usize) -> Option<ConstantIndex>
     ensures { result ≡ option_and_then class_entry (constant_read place bytes.now) }
@@ -102,7 +102,7 @@ fn class_at(bytes: &[u8], place: usize) -> Option<ConstantIndex>
     read_index(&mut cursor)
 }
 
-/// The name and the descriptor of the NameAndType of an index; the constants of other kinds are not read.
+/// Returns the name and descriptor indexes of the `NameAndType` at an index. A constant of another kind is not read.
 pub(crate) fn name_and_type_entry(
     bytes: &[u8],
     offsets: &[Option<usize>],
@@ -113,7 +113,7 @@ pub(crate) fn name_and_type_entry(
     name_and_type_at(bytes, place_at(offsets, index)?)
 }
 
-/// The name and the descriptor of the NameAndType that begins at a place (JVMS 4.4.6).
+/// Returns the name and descriptor indexes of the `NameAndType` that begins at a place (JVMS 4.4.6).
 #[tactic(auto, unfolding(crate::specs::inside::ConstantRead::constant_read))]
 fn name_and_type_at(bytes: &[u8], place: usize) -> Option<(ConstantIndex, ConstantIndex)>
     ensures { result ≡ option_and_then name_and_type (constant_read place bytes.now) }
@@ -126,7 +126,7 @@ fn name_and_type_at(bytes: &[u8], place: usize) -> Option<(ConstantIndex, Consta
     read_pair(&mut cursor)
 }
 
-/// The class of the reference to a member of an index; the constants of other kinds are not read.
+/// Returns the `class_index` of the reference to a field or method at an index. A constant of another kind is not read.
 pub(crate) fn owner_entry(
     bytes: &[u8],
     offsets: &[Option<usize>],
@@ -137,7 +137,7 @@ pub(crate) fn owner_entry(
     owner_at(bytes, place_at(offsets, index)?)
 }
 
-/// The class of the reference to a member that begins at a place (JVMS 4.4.2).
+/// Returns the `class_index` of the reference to a field or method that begins at a place (JVMS 4.4.2).
 #[tactic(auto, unfolding(crate::specs::inside::ConstantRead::constant_read))]
 fn owner_at(bytes: &[u8], place: usize) -> Option<ConstantIndex>
     ensures { result ≡ option_and_then owner (constant_read place bytes.now) }
@@ -152,8 +152,8 @@ fn owner_at(bytes: &[u8], place: usize) -> Option<ConstantIndex>
     }
 }
 
-/// The NameAndType of the reference to a member, or of the InvokeDynamic, of an index; the constants of other kinds are not
-/// read.
+/// Returns the `name_and_type_index` of the reference to a field or method, or of the `InvokeDynamic`, at an index. A
+/// constant of another kind is not read.
 pub(crate) fn signature_entry(
     bytes: &[u8],
     offsets: &[Option<usize>],
@@ -164,7 +164,8 @@ pub(crate) fn signature_entry(
     signature_at(bytes, place_at(offsets, index)?)
 }
 
-/// The NameAndType of the reference to a member, or of the InvokeDynamic, that begins at a place (JVMS 4.4.2, 4.4.10).
+/// Returns the `name_and_type_index` of the reference to a field or method, or of the `InvokeDynamic`, that begins at a
+/// place (JVMS 4.4.2, 4.4.10).
 #[tactic(auto, unfolding(crate::specs::inside::ConstantRead::constant_read))]
 fn signature_at(bytes: &[u8], place: usize) -> Option<ConstantIndex>
     ensures { result ≡ option_and_then signature_entry (constant_read place bytes.now) }
@@ -180,7 +181,7 @@ fn signature_at(bytes: &[u8], place: usize) -> Option<ConstantIndex>
     }
 }
 
-/// The constant that begins at a place.
+/// Returns the constant that begins at a place.
 #[tactic(auto, unfolding(crate::specs::inside::ConstantRead::constant_read))]
 fn constant_at(bytes: &[u8], place: usize) -> Option<Constant<'_>>
     ensures { option_map constant_of result ≡ constant_read place bytes.now }
@@ -191,7 +192,7 @@ fn constant_at(bytes: &[u8], place: usize) -> Option<Constant<'_>>
     read_body(kind, &mut cursor)
 }
 
-/// The constant of a kind whose body stands here.
+/// Reads the body of a constant of a kind.
 fn read_body<'a>(kind: ConstantKind, cursor: &mut Cursor<'a>) -> Option<Constant<'a>>
     ensures { Lends constant_of (after_body kind) (body_value kind) cursor.old result cursor.new }
 {
@@ -225,6 +226,7 @@ fn read_body<'a>(kind: ConstantKind, cursor: &mut Cursor<'a>) -> Option<Constant
     }
 }
 
+/// Reads a text after its two bytes of length.
 fn read_text<'a>(cursor: &mut Cursor<'a>) -> Option<&'a [u8]>
     ensures { Lends (λ text. text.now) (after_sized 2) (sized_value 2) cursor.old result cursor.new }
 {
@@ -232,13 +234,14 @@ fn read_text<'a>(cursor: &mut Cursor<'a>) -> Option<&'a [u8]>
     cursor.take(length as usize)
 }
 
+/// Reads an index of the constant pool.
 pub fn read_index(cursor: &mut Cursor) -> Option<ConstantIndex>
     ensures { Lends (λ index. index) (after 2) index_value cursor.old result cursor.new }
 {
     Some(ConstantIndex(cursor.u2()?))
 }
 
-/// The index that stands so many bytes behind the front.
+/// Returns the index of the constant pool in the two bytes at a position.
 pub fn index_at(bytes: &[u8], at: usize) -> ConstantIndex
     requires { at + 2 ≤ length bytes.now }
     ensures { result ≡ index_value (drop at bytes.now) }
@@ -246,7 +249,7 @@ pub fn index_at(bytes: &[u8], at: usize) -> ConstantIndex
     ConstantIndex(BigEndian::read_u16(&bytes[at..]))
 }
 
-/// A number of eight bytes, by its two halves (JVMS 4.4.5).
+/// Reads a number of eight bytes, as two halves (JVMS 4.4.5).
 fn read_u8(cursor: &mut Cursor) -> Option<u64>
     ensures { Lends (λ bits. bits) (after 8) (big_number 8) cursor.old result cursor.new }
 {

@@ -1,4 +1,4 @@
-//! Tables of indexes into the constants.
+//! Tables of indexes of the constant pool.
 
 ghost use Rattle.jc_view.specs.Reading.{after, after_indexes, table_value};
 ghost use Rattle.jc_view.specs.ConstantPool.{index_value};
@@ -11,7 +11,7 @@ use crate::table::Table;
 use jc_base::Cursor;
 use std::marker::Model;
 
-/// Indexes into the constants, in the order of their table. Seen as those that are left.
+/// An iterator over a table of indexes, in its order. Its model is the list of those that are left.
 #[derive(Drop)]
 pub struct Indexes<'a> {
     pub(crate) table: Table<'a>,
@@ -48,7 +48,8 @@ impl<'a> Iterator for Indexes<'a> {
     }
 }
 
-/// The table of indexes that stands here, behind its count.
+/// Reads a table of indexes and its count, and returns an iterator over it. Returns `None` if the bytes end before the
+/// table does.
 pub fn read_indexes<'a>(cursor: &mut Cursor<'a>) -> Option<Indexes<'a>>
     ensures { Lends (λ left. left) after_indexes (table_value (after 2) index_value) cursor.old result cursor.new }
 {

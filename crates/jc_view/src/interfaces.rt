@@ -1,12 +1,12 @@
-//! The interfaces that a class names (JVMS 4.1).
+//! The names of the direct superinterfaces of a class (JVMS 4.1).
 
 use crate::constant_reader::read_index;
 use crate::table::Table;
 use crate::view::ClassView;
 use std::marker::Model;
 
-/// The names of interfaces, in the order of the file; `None` for one whose entry names no class. Seen
-/// as the entries that are left.
+/// An iterator over the names of interfaces, in file order. It yields `None` for an interface whose index does not name
+/// a class. Its model is the list of the indexes that are left.
 #[derive(Drop)]
 pub struct Interfaces<'v, 'a> {
     pub(crate) class: &'v ClassView<'a>,

@@ -12,8 +12,8 @@ ghost use Rattle.jc_view.specs.Outcome.{AreBytes, IsReadAs, NamesClass, class_na
 
 use jc_base::texts_are_decided;
 
-/// The class that bytes name and the class file that they are, as functions, and the refusals, are what
-/// the definitions say.
+/// States that the functions `class_named` and `class_read` agree with the definitions of class files, names and
+/// refusals.
 pub fn outcomes_are_exact()
     ensures read { (b : List ℕ) (c : ClassFile) (name : List ℕ) → AreBytes b → IsReadAs b c name }
     ensures unread { (b : List ℕ) (e : ParseError) → AreBytes b → IsRefusal b e → class_read b ≡ Err e }
@@ -23,17 +23,20 @@ pub fn outcomes_are_exact()
     texts_are_decided();
 }
 
-/// What is read in the bytes of a `Code`, an `Exceptions` or a `BootstrapMethods` attribute is the one
-/// well-formed content that they are.
+/// States that the contents read from a `Code`, an `Exceptions` or a `BootstrapMethods` attribute are the only
+/// well-formed contents of its bytes.
 pub fn attributes_are_read()
     ensures code { ReadsExactly code_in IsCodeOf }
     ensures exceptions { ReadsExactly exceptions_in AreExceptionsOf }
     ensures bootstraps { ReadsExactly bootstraps_in AreBootstrapsOf }
 {}
 
-/// The text of a constant is the part of the file at the constant's place, and that of a Class at the
-/// Utf8's that it names; the bytes of an attribute, one inside a `Code` too, are the part behind its place, its name
-/// and its length; and a `Code`'s instructions the part behind the numbers at its front.
+/// States where in the file the texts, attributes and instructions are.
+///
+/// - The text of a `Utf8` constant is the part of the file at the place of the constant.
+/// - The text of a `Class` constant is that of the `Utf8` constant that it names.
+/// - The contents of an attribute, even inside a `Code`, follow its `attribute_name_index` and `attribute_length`.
+/// - The instructions of a `Code` follow `max_stack`, `max_locals` and `code_length`.
 pub fn texts_lie_in_the_layout()
     ensures texts { (c : ClassFile) → FitsClassFile c → TextsLieIn c }
     ensures class_texts { (c : ClassFile) → FitsClassFile c → ClassTextsLieIn c }
@@ -41,8 +44,8 @@ pub fn texts_lie_in_the_layout()
     ensures attributes { (c : ClassFile) → FitsClassFile c → AttributesLieIn c }
 {}
 
-/// No class file's bytes are a proper front of another's, a class file has its bytes alone, and at
-/// most one refusal is the first that applies.
+/// States that layouts and refusals are unique. No class file is a proper prefix of another, and bytes are the layout
+/// of at most one class file. At most one refusal is the first that applies, and none applies to readable bytes.
 pub fn layouts_are_apart()
     ensures fronts { (c d : ClassFile) → FitsClassFile c → FitsClassFile d → AreApart c d }
     ensures one_record { (b : List ℕ) (c d : ClassFile) → IsLayoutOf c b → IsLayoutOf d b → c ≡ d }
@@ -50,7 +53,7 @@ pub fn layouts_are_apart()
     ensures readable { (b : List ℕ) (e : ParseError) → IsReadable b → ¬ Applies e b }
 {}
 
-/// A class file of 53 bytes, and how bytes near it are refused.
+/// States the layout of a class file of 53 bytes, and how similar bytes are refused.
 pub fn parsing_examples()
     ensures layout { layout class_a_data ≡ class_a }
     ensures named { NamesClass class_a (codes "A") }

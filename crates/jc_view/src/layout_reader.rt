@@ -1,4 +1,4 @@
-//! Moving past the parts of a class file, to see that they are whole.
+//! One pass over the bytes of a class file, which checks that its parts are whole.
 
 ghost use Rattle.std.specs.Prelude.{◌≡◌, ◌<◌, IfOk, IfSome, ◌≢◌, IfErr};
 ghost use Rattle.jc_view.specs.declared.parse_error.ParseError.TheVariants.{NoMemory};
@@ -20,7 +20,8 @@ use std::alloc::Global;
 
 const MAGIC: u32 = 0xcafebabe;
 
-/// Where the constants of a class file begin, by index, the place behind them, and what stands there.
+/// What one pass over a class file finds: the places of its constants by index, the place after them, and the parts
+/// there.
 #[derive(Drop)]
 pub(crate) struct ClassParts<'a> {
     pub(crate) offsets: Vec<Option<usize>>,
@@ -30,7 +31,7 @@ pub(crate) struct ClassParts<'a> {
     pub(crate) tables: ClassTables<'a>,
 }
 
-/// The numbers behind the constants.
+/// The numbers after the constants.
 #[derive(Clone, Copy)]
 pub(crate) struct ClassNumbers {
     pub(crate) flags: u16,
@@ -38,7 +39,7 @@ pub(crate) struct ClassNumbers {
     pub(crate) super_class: ConstantIndex,
 }
 
-/// The tables behind those numbers.
+/// The tables after those numbers.
 #[derive(Drop)]
 pub(crate) struct ClassTables<'a> {
     pub(crate) interfaces: Table<'a>,
@@ -47,7 +48,7 @@ pub(crate) struct ClassTables<'a> {
     pub(crate) attributes: Table<'a>,
 }
 
-/// Goes over a whole class file.
+/// Reads a whole class file.
 #[tactic(auto, unfolding(crate::specs::Reading::parts_at))]
 pub(crate) fn skip_class<'a>(
     alloc: Global,
@@ -71,8 +72,7 @@ pub(crate) fn skip_class<'a>(
     })
 }
 
-/// Past what stands behind the constants, which are the last bytes: the numbers at its front, and
-/// the tables.
+/// Reads the numbers and tables after the constants. They must be the last bytes.
 #[tactic(auto, unfolding(crate::specs::Reading::last_at))]
 fn read_last<'a>(cursor: &mut Cursor<'a>) -> Result<(ClassNumbers, ClassTables<'a>), ParseError>
     ensures numbers { Takes (λ last. numbers last.0) last_at cursor.old result cursor.new }
@@ -87,7 +87,7 @@ fn read_last<'a>(cursor: &mut Cursor<'a>) -> Result<(ClassNumbers, ClassTables<'
     Ok((numbers, tables))
 }
 
-/// Past what stands before the constants: the version, and their count, which is not 0.
+/// Reads the parts before the constants, and returns the version and constant_pool_count, which is not 0.
 #[tactic(auto, unfolding(crate::specs::Reading::head_at))]
 fn skip_head(cursor: &mut Cursor) -> Result<(Version, u16), ParseError>
     ensures head { Takes (λ head. head.1) head_at cursor.old result cursor.new }
@@ -122,7 +122,7 @@ fn is_accepted_version(major: u16, minor: u16) -> bool
     major == 51 || major == 52 && minor == 0
 }
 
-/// Past what stands behind the constants: the numbers at its front, and the tables.
+/// Reads the numbers and tables after the constants.
 #[tactic(auto, unfolding(crate::specs::Reading::after_tail))]
 fn read_tail<'a>(cursor: &mut Cursor<'a>) -> Option<(ClassNumbers, ClassTables<'a>)>
     ensures numbers { Lends (λ tail. numbers tail.0) after_tail numbers_value cursor.old result cursor.new }
@@ -189,7 +189,7 @@ fn skip_member(cursor: &mut Cursor) -> Option<()>
     Some(())
 }
 
-/// Past a table of attributes.
+/// Skips a table of attributes.
 pub(crate) fn skip_attributes<'a>(cursor: &mut Cursor<'a>) -> Option<Table<'a>>
     ensures { LendsTable (after_table after_attribute) cursor.old result cursor.new }
 {
@@ -214,7 +214,7 @@ fn skip_attribute(cursor: &mut Cursor) -> Option<()>
     Some(())
 }
 
-/// Past what stands behind a constant's tag.
+/// Skips the bytes of a constant after its tag.
 pub(crate) fn skip_body(kind: ConstantKind, cursor: &mut Cursor) -> Option<()>
     ensures { MovesBehind (after_body kind) cursor.old result cursor.new }
 {
@@ -235,7 +235,7 @@ pub(crate) fn skip_body(kind: ConstantKind, cursor: &mut Cursor) -> Option<()>
     Some(())
 }
 
-/// Past the constant that begins here, where its index is the last of the pool or not.
+/// Skips the constant at the cursor. A `Long` or a `Double` must not have the last index of the pool.
 #[tactic(auto, unfolding(crate::specs::Reading::first_constant))]
 pub(crate) fn skip_constant(is_last: bool, cursor: &mut Cursor) -> Result<ConstantKind, ParseError>
     ensures { Takes (λ kind. kind) (first_constant is_last) cursor.old result cursor.new }
@@ -254,7 +254,8 @@ pub(crate) fn skip_constant(is_last: bool, cursor: &mut Cursor) -> Result<Consta
     Ok(kind)
 }
 
-/// Where the constant of an index begins, if one does, and whether it takes the next index too.
+/// Skips what is at an index. Returns the place of its constant, if it has one, and whether the constant takes the next
+/// index too.
 #[tactic(auto, unfolding(crate::specs::Reading::entry_at))]
 fn skip_entry(
     is_second: bool,
@@ -271,7 +272,7 @@ fn skip_entry(
     Ok((Some(place), kind.is_wide()))
 }
 
-/// Past the constants of a pool with this count: by index, where each begins.
+/// Skips the constants of a pool with this count, and returns the place of each by its index.
 pub(crate) fn skip_pool(
     alloc: Global,
     count: u16,

@@ -1,5 +1,12 @@
-//! Class files of versions 51 and 52 as borrowed views (JVMS 4.1 to 4.7): which bytes are a readable
-//! class file and why others are not, and what a class file has.
+//! Class files of versions 51 and 52 as borrowed views (JVMS 4.1 to 4.7).
+//!
+//! [`parse`] decides whether bytes are a readable class file. It returns a [`ClassView`], or a [`ParseError`] that says
+//! why the bytes are refused. A view, its [`Member`]s, [`Attribute`]s and [`Code`] refer to slices of the file and copy
+//! none of its bytes.
+//!
+//! The contract of `parse` is exact. It returns a view only if the bytes are the layout of a class file, and otherwise
+//! the first refusal that applies, or `NoMemory`. The contracts of the accessors refer to that class file, which is
+//! plain data.
 #![tactic(auto)]
 
 mod attribute_kind;

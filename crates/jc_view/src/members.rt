@@ -1,4 +1,4 @@
-//! Fields and methods (JVMS 4.5, 4.6).
+//! Fields and methods, and an iterator over a table of them (JVMS 4.5, 4.6).
 
 ghost use Rattle.std.specs.Prelude.{◌≡◌};
 ghost use Rattle.std.specs.Option.{option_copied};
@@ -16,7 +16,8 @@ use crate::view::ClassView;
 use jc_base::Cursor;
 use std::marker::Model;
 
-/// Fields or methods, in the order of the file. Seen as those that are left, each with its place.
+/// An iterator over fields or methods, in file order. Its model is the list of those that are left, each with its
+/// place.
 #[derive(Drop)]
 pub struct Members<'v, 'a> {
     pub(crate) class: &'v ClassView<'a>,
@@ -39,7 +40,7 @@ impl<'v, 'a> Model for Members<'v, 'a> {
 }
 
 impl<'v, 'a> Members<'v, 'a> {
-    /// The class whose members they are.
+    /// Returns the class that declares the members.
     pub fn class(&self) -> &'v ClassView<'a>
         ensures { result.now ≡ self.now.class }
     {
@@ -76,7 +77,7 @@ pub struct Member<'v, 'a> {
     entry: MemberEntry<'a>,
 }
 
-/// A member as it stands in its table.
+/// A field or a method as its table has it.
 #[derive(Drop)]
 pub(crate) struct MemberEntry<'a> {
     pub(crate) place: usize,
@@ -99,47 +100,49 @@ impl<'v, 'a> Model for Member<'v, 'a> {
 }
 
 impl<'v, 'a> Member<'v, 'a> {
-    /// The class that it is of.
+    /// Returns the class that declares the member.
     pub fn class(&self) -> &'v ClassView<'a>
         ensures { result.now ≡ self.now.class }
     {
         self.class
     }
 
-    /// Its access flags (JVMS 4.5, table 4.5-A; 4.6, table 4.6-A), those that mean nothing too.
+    /// Returns the access flags, including bits that have no meaning (JVMS 4.5, table 4.5-A; 4.6, table 4.6-A).
     pub fn flags(&self) -> u16
         ensures { result ≡ self.now.member.member.flags }
     {
         self.entry.flags
     }
 
-    /// Its name; `None` where name_index names no `Utf8` constant.
+    /// Returns the name, or `None` if `name_index` does not name a `Utf8` constant.
     pub fn name(&self) -> Option<&'a [u8]>
         ensures { option_copied result ≡ utf8_at self.now.class self.now.member.member.name }
     {
         self.class.utf8(self.entry.name)
     }
 
-    /// Its descriptor; `None` where descriptor_index names no `Utf8` constant.
+    /// Returns the descriptor, or `None` if `descriptor_index` does not name a `Utf8` constant.
     pub fn descriptor(&self) -> Option<&'a [u8]>
         ensures { option_copied result ≡ utf8_at self.now.class self.now.member.member.descriptor }
     {
         self.class.utf8(self.entry.descriptor)
     }
 
+    /// Returns the index of the name.
     pub fn name_index(&self) -> ConstantIndex
         ensures { result ≡ self.now.member.member.name }
     {
         self.entry.name
     }
 
+    /// Returns the index of the descriptor.
     pub fn descriptor_index(&self) -> ConstantIndex
         ensures { result ≡ self.now.member.member.descriptor }
     {
         self.entry.descriptor
     }
 
-    /// Its attributes, in the order of the file.
+    /// Returns the attributes, in file order.
     pub fn attributes(&self) -> Attributes<'v, 'a>
         ensures { result ≡ record { class = self.now.class; left = member_attributes self.now.member } }
     {
@@ -151,7 +154,7 @@ impl<'v, 'a> Member<'v, 'a> {
     }
 }
 
-/// The member that begins here.
+/// Reads the field or method at the cursor.
 #[tactic(auto, unfolding(crate::specs::Reading::after_member))]
 fn read_member<'a>(cursor: &mut Cursor<'a>) -> Option<MemberEntry<'a>>
     ensures { LendsMember cursor.old result cursor.new }

@@ -1,39 +1,39 @@
-//! Why bytes are no readable class file.
+//! Why bytes are not a readable class file.
 
 ghost use Rattle.std.specs.Prelude.{◌≡◌};
 ghost use Rattle.jc_view.specs.declared.parse_error.ParseError.TheVariants.{NoMemory};
 
 use std::alloc::{AllocError, AllocFailed};
 
-/// Why [`parse`](crate::parse) refuses bytes: the first that applies, in the order of the variants.
-/// Places are byte offsets in the file.
+/// The reason why [`parse`](crate::parse) refuses bytes: the first that applies, in the order of the variants. A place
+/// is a byte offset in the file.
 #[derive(Clone, Copy, Debug, PartialEq, Eq)]
 pub enum ParseError {
-    /// The first four bytes are there and are not `cafebabe`.
+    /// The first four bytes are present and are not `cafebabe`.
     Magic,
-    /// The version is there and is neither 51 with any minor nor 52.0.
+    /// The version is present and is neither 51 with any minor version nor 52.0.
     Version,
-    /// The constant pool's count is there and is 0.
+    /// `constant_pool_count` is present and is 0.
     Count,
-    /// All constants before this place are whole, another is owed, and the byte here is no tag.
+    /// The constants before this place are whole and another must follow, but the byte at this place is not a tag.
     Tag(usize),
-    /// The same, but the byte is the tag of a `Long` or a `Double`, and only one index is left. Its
-    /// body may be missing.
+    /// The constants before this place are whole and leave only one index. The byte at this place is the tag of a
+    /// `Long` or a `Double`, which needs two. The body of that constant may be missing.
     Wide(usize),
-    /// The bytes before this place are a class file, and more follow.
+    /// The bytes before this place are a class file, and more bytes follow.
     Trailing(usize),
-    /// No front of the bytes is a class file.
+    /// The bytes do not begin with a class file.
     Short,
-    /// The bytes are a class file whose `this_class` names no class.
+    /// The bytes are a class file whose `this_class` does not name a class.
     NoName,
-    /// Memory was refused.
+    /// An allocation failed.
     NoMemory,
 }
 
 impl ParseError {
     ghost use Rattle.jc_view.specs.Refusal.{refusal_number};
 
-    /// The number of the refusal, from 1, in the order of the variants.
+    /// Returns the number of the refusal: 1 for the first variant, and so on in their order.
     pub fn code(&self) -> u8
         ensures { result ≡ refusal_number self.now }
     {

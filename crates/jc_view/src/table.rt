@@ -1,10 +1,10 @@
-//! Tables of a class file: a count, and so many entries one behind the other (JVMS 4.1).
+//! Tables of a class file: a count, then that number of entries (JVMS 4.1).
 
 ghost use Rattle.std.specs.Prelude.{◌≡◌, ◌<◌, ◌^◌};
 
 use jc_base::Cursor;
 
-/// What is left of a table: so many entries, the first of which begins at the cursor.
+/// The rest of a table: `left` entries remain, starting at the cursor.
 #[derive(Drop)]
 pub(crate) struct Table<'a> {
     pub(crate) left: u16,
@@ -12,7 +12,7 @@ pub(crate) struct Table<'a> {
 }
 
 impl<'a> Table<'a> {
-    /// The same table, to go over it once more.
+    /// Returns the same table again, for another pass over it.
     pub(crate) fn fork(&self) -> Table<'a>
         ensures same { result ≡ self.now }
         ensures few { result.left < 2 ^ 16 }

@@ -1,6 +1,6 @@
-//! Versions of the format (JVMS 4.1).
+//! The version of the class file format (JVMS 4.1).
 
-/// The version of a class file's format (JVMS 4.1, table 4.1-A).
+/// The version of the format of a class file (JVMS 4.1, table 4.1-A).
 #[derive(Clone, Copy)]
 pub struct Version {
     pub major: u16,

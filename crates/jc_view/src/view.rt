@@ -1,4 +1,4 @@
-//! A class file as a borrowed view (JVMS 4.1).
+//! A readable class file as a borrowed view (JVMS 4.1).
 
 ghost use Rattle.std.specs.Prelude.{◌≡◌, ◌⊎◌, ◌+◌, ◌<◌, ◌^◌, ℕ, List, length, option_and_then, IfOk, IfErr, IfSome, IfNone};
 ghost use Rattle.jc_view.specs.declared.parse_error.ParseError.TheVariants.{NoMemory};
@@ -28,7 +28,7 @@ use jc_base::{Cursor, is_class_name};
 use std::alloc::Global;
 use std::marker::Model;
 
-/// A readable class file. Each text that it lends is a slice of the file.
+/// A readable class file. The texts that it returns are slices of the file.
 #[derive(Drop)]
 pub struct ClassView<'a> {
     bytes: &'a [u8],
@@ -55,7 +55,7 @@ impl<'a> Model for ClassView<'a> {
 }
 
 impl<'a> ClassView<'a> {
-    /// The whole file.
+    /// Returns the bytes of the whole file.
     pub fn bytes(&self) -> &'a [u8]
         ensures layout { IsLayoutOf self.now result.now }
         ensures numbers { AreBytes result.now }
@@ -63,45 +63,45 @@ impl<'a> ClassView<'a> {
         self.bytes
     }
 
-    /// The name of the class, in its internal form (JVMS 4.2.1).
+    /// Returns the name of the class, in its internal form (JVMS 4.2.1).
     pub fn name(&self) -> &'a [u8]
         ensures named { IsNamed self.now result.now }
-        // It is the part of the file at its place.
+        // The name is the part of the file at the place of its constant.
         ensures lent { (named : IsNamed self.now result.now) → IsLent self.now named.entry result.now }
     {
         self.name
     }
 
-    /// The class's access flags (JVMS 4.1, table 4.1-B), those that mean nothing too.
+    /// Returns the access flags of the class, including bits that have no meaning (JVMS 4.1, table 4.1-B).
     pub fn flags(&self) -> u16
         ensures { result ≡ self.now.flags }
     {
         self.numbers.flags
     }
 
-    /// The index of the class's own Class constant.
+    /// Returns the index of the `Class` constant of the class itself.
     pub fn this_class(&self) -> ConstantIndex
         ensures { result ≡ self.now.this_class }
     {
         self.numbers.this_class
     }
 
-    /// The index of the superclass's Class constant, or 0.
+    /// Returns the index of the `Class` constant of the superclass, or 0.
     pub fn super_class(&self) -> ConstantIndex
         ensures { result ≡ self.now.super_class }
     {
         self.numbers.super_class
     }
 
-    /// The text of the superclass's Class constant; `None` where super_class names none, as in
-    /// `java/lang/Object`, whose super_class is 0.
+    /// Returns the text of the `Class` constant of the superclass. Returns `None` if `super_class` names none: in
+    /// `java/lang/Object`, it is 0.
     pub fn super_name(&self) -> Option<&'a [u8]>
         ensures { option_copied result ≡ class_text_at self.now self.now.super_class }
     {
         self.class_text(self.numbers.super_class)
     }
 
-    /// The version of the format that the file is in: 51 with any minor, or 52.0.
+    /// Returns the version of the format: 51 with any minor version, or 52.0.
     pub fn version(&self) -> Version
         ensures major { result.major ≡ self.now.major }
         ensures minor { result.minor ≡ self.now.minor }
@@ -109,15 +109,15 @@ impl<'a> ClassView<'a> {
         self.version
     }
 
-    /// One more than the greatest index of a constant: constant_pool_count (JVMS 4.1).
+    /// Returns `constant_pool_count`: the number of indexes that the constants take, plus one (JVMS 4.1).
     pub fn constant_count(&self) -> u16
         ensures { result ≡ 1 + all_slots self.now.constants }
     {
         self.offsets.as_slice().len() as u16
     }
 
-    /// The names of the interfaces that it extends or implements; `None` for one whose entry names no
-    /// class.
+    /// Returns the names of the direct superinterfaces. The iterator yields `None` for an interface whose index does
+    /// not name a class.
     pub fn interfaces(&self) -> Interfaces<'_, 'a>
         ensures left { result ≡ record { class = self.now; left = self.now.interfaces } }
         ensures few { length self.now.interfaces < 2 ^ 16 }
@@ -128,7 +128,7 @@ impl<'a> ClassView<'a> {
         }
     }
 
-    /// The entries of those interfaces.
+    /// Returns the indexes of the direct superinterfaces.
     pub fn interface_indexes(&self) -> Indexes<'a>
         ensures left { result ≡ self.now.interfaces }
         ensures few { length self.now.interfaces < 2 ^ 16 }
@@ -138,7 +138,7 @@ impl<'a> ClassView<'a> {
         }
     }
 
-    /// The fields, in the order of the file (JVMS 4.5).
+    /// Returns the fields, in file order (JVMS 4.5).
     pub fn fields(&self) -> Members<'_, 'a>
         ensures left { result ≡ record { class = self.now; left = fields_in self.now } }
         ensures few { length self.now.fields < 2 ^ 16 }
@@ -151,7 +151,7 @@ impl<'a> ClassView<'a> {
         }
     }
 
-    /// The methods, constructors and initializers too, in the order of the file (JVMS 4.6).
+    /// Returns the methods, including constructors and initializers, in file order (JVMS 4.6).
     pub fn methods(&self) -> Members<'_, 'a>
         ensures left { result ≡ record { class = self.now; left = methods_in self.now } }
         ensures few { length self.now.methods < 2 ^ 16 }
@@ -164,7 +164,7 @@ impl<'a> ClassView<'a> {
         }
     }
 
-    /// The attributes of the class itself.
+    /// Returns the attributes of the class itself.
     pub fn attributes(&self) -> Attributes<'_, 'a>
         ensures left { result ≡ record { class = self.now; left = attributes_in self.now } }
         ensures few { length self.now.attributes < 2 ^ 16 }
@@ -176,49 +176,50 @@ impl<'a> ClassView<'a> {
         }
     }
 
-    /// The text of the `Utf8` constant of an index.
+    /// Returns the text of the `Utf8` constant at an index.
     pub fn utf8(&self, index: ConstantIndex) -> Option<&'a [u8]>
         ensures { option_copied result ≡ utf8_at self.now index }
     {
         text_entry(self.bytes, &self.offsets, index)
     }
 
-    /// The text of the Class constant of an index.
+    /// Returns the text of the `Class` constant at an index.
     pub fn class_text(&self, index: ConstantIndex) -> Option<&'a [u8]>
         ensures { option_copied result ≡ class_text_at self.now index }
     {
         class_text(self.bytes, &self.offsets, index)
     }
 
-    /// The index of the text of the Class constant of an index.
+    /// Returns the `name_index` of the `Class` constant at an index.
     pub fn class_entry(&self, index: ConstantIndex) -> Option<ConstantIndex>
         ensures { result ≡ option_and_then class_entry (constant_at self.now index) }
     {
         class_entry(self.bytes, &self.offsets, index)
     }
 
-    /// The indexes of the name and of the descriptor that the NameAndType of an index gives.
+    /// Returns the indexes of the name and of the descriptor in the `NameAndType` at an index.
     pub fn name_and_type(&self, index: ConstantIndex) -> Option<(ConstantIndex, ConstantIndex)>
         ensures { result ≡ name_and_type_at self.now index }
     {
         name_and_type_entry(self.bytes, &self.offsets, index)
     }
 
-    /// The index of the class of the reference to a member of an index.
+    /// Returns the `class_index` of the reference to a field or method at an index.
     pub fn owner(&self, index: ConstantIndex) -> Option<ConstantIndex>
         ensures { result ≡ option_and_then owner (constant_at self.now index) }
     {
         owner_entry(self.bytes, &self.offsets, index)
     }
 
-    /// The index of the NameAndType of the reference to a member, or of the InvokeDynamic, of an index.
+    /// Returns the `name_and_type_index` of the reference to a field or method, or of the `InvokeDynamic`, at an index.
     pub fn signature_entry(&self, index: ConstantIndex) -> Option<ConstantIndex>
         ensures { result ≡ option_and_then signature_entry (constant_at self.now index) }
     {
         signature_entry(self.bytes, &self.offsets, index)
     }
 
-    /// The name that the NameAndType of an index gives; `None` where one of the two is missing.
+    /// Returns the name in the `NameAndType` at an index. Returns `None` if there is no such `NameAndType` or if it
+    /// does not name a `Utf8` constant.
     pub fn member_name_at(&self, index: ConstantIndex) -> Option<&'a [u8]>
         ensures { option_copied result ≡ member_name_at self.now index }
     {
@@ -226,7 +227,8 @@ impl<'a> ClassView<'a> {
         self.utf8(name)
     }
 
-    /// The descriptor that it gives.
+    /// Returns the descriptor in the `NameAndType` at an index. Returns `None` if there is no such `NameAndType` or if
+    /// it does not name a `Utf8` constant.
     pub fn member_descriptor_at(&self, index: ConstantIndex) -> Option<&'a [u8]>
         ensures { option_copied result ≡ member_descriptor_at self.now index }
     {
@@ -234,15 +236,15 @@ impl<'a> ClassView<'a> {
         self.utf8(descriptor)
     }
 
-    /// The kind of the constant of an index; `None` where [`ClassView::constant`] answers `None`. Behind the
-    /// tag nothing is read.
+    /// Returns the kind of the constant at an index, or `None` if [`ClassView::constant`] returns `None`. Reads only
+    /// the tag.
     pub fn kind(&self, index: ConstantIndex) -> Option<ConstantKind>
         ensures { result ≡ option_map kind_of (constant_at self.now index) }
     {
         kind_entry(self.bytes, &self.offsets, index)
     }
 
-    /// Whether the usable constant of an index is of a kind.
+    /// Returns whether the constant at an index is usable and of this kind.
     pub fn is_entry(&self, kind: ConstantKind, index: ConstantIndex) -> bool
         ensures { result ≡ is_entry self.now kind index }
     {
@@ -250,8 +252,8 @@ impl<'a> ClassView<'a> {
             .is_some_and(|found| found.tag() == kind.tag())
     }
 
-    /// The constant of an index; `None` for 0, for one past the last, and for the second index of a
-    /// `Long` or a `Double` (JVMS 4.4.5).
+    /// Returns the constant at an index. Returns `None` for 0, for an index after the last, and for the second index of
+    /// a `Long` or a `Double` (JVMS 4.4.5).
     pub fn constant(&self, index: u16) -> Option<Constant<'a>>
         ensures { option_map constant_of result ≡ constant_at self.now (record { 0 = index }) }
     {
@@ -259,10 +261,10 @@ impl<'a> ClassView<'a> {
     }
 }
 
-/// Reads a class file.
+/// Parses a class file. Reads the bytes in one pass, and copies none of them.
 ///
-/// Refuses bytes that are none by the first cause that applies, and answers `NoMemory` only where
-/// memory was refused, and never before the constants are reached.
+/// If the bytes are not a readable class file, returns the first refusal that applies. Returns `NoMemory` only when an
+/// allocation fails, which is possible only after the version and `constant_pool_count` are read.
 pub fn parse<'a>(alloc: Global, bytes: &'a [u8]) -> Result<ClassView<'a>, ParseError>
     ensures ok { IfOk result (λ view. IsLayoutOf view bytes.now) }
     ensures named { IfOk result (λ view. (name : List ℕ) × IsNamed view name) }
@@ -286,7 +288,7 @@ pub fn parse<'a>(alloc: Global, bytes: &'a [u8]) -> Result<ClassView<'a>, ParseE
     })
 }
 
-/// The text of the Class constant of an index.
+/// Returns the text of the `Class` constant at an index.
 fn class_text<'a>(
     bytes: &'a [u8],
     offsets: &[Option<usize>],
@@ -297,7 +299,7 @@ fn class_text<'a>(
     text_entry(bytes, offsets, class_entry(bytes, offsets, index)?)
 }
 
-/// The text of the Class constant of an index, where it is a class name.
+/// Returns the text of the `Class` constant at an index, if it is the name of a class.
 fn class_name<'a>(
     bytes: &'a [u8],
     offsets: &[Option<usize>],

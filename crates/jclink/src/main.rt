@@ -1,4 +1,4 @@
-//! The program `jclink`: hands its words and the standard streams to `jc_session::program`.
+//! The program `jclink`, which passes its arguments and the standard streams to `jc_session::program`.
 #![tactic(auto)]
 
 use jc_base::{Output, StdInput, StdOutput, write_all};
@@ -7,7 +7,7 @@ use std::env::{self, Env};
 use std::io::{self, ErrorKind};
 use std::process::ExitCode;
 
-/// The words after the program's name.
+/// Returns the arguments after the name of the program.
 fn words(rt: &(impl Env + AllocGlobal)) -> io::Result<Vec<String>> {
     let mut words = Vec::new(rt.alloc());
     for word in env::args(rt)?.skip(1) {
@@ -16,7 +16,7 @@ fn words(rt: &(impl Env + AllocGlobal)) -> io::Result<Vec<String>> {
     Ok(words)
 }
 
-/// Runs the program over its words, and gives the status.
+/// Runs the program with its arguments, and returns the status.
 fn run_words<E: Output>(rt: &HostRuntime, err: &mut E) -> io::Result<u8> {
     let words = words(rt)?;
     let words = words
@@ -28,7 +28,7 @@ fn run_words<E: Output>(rt: &HostRuntime, err: &mut E) -> io::Result<u8> {
     Ok(program(rt, &words, &mut input, &mut out, err))
 }
 
-/// Says why the words were not had, and gives the status.
+/// Prints why the arguments cannot be read, and returns the status.
 fn refuse_words<E: Output>(error: &io::Error, err: &mut E) -> u8 {
     let (status, line) = match error.kind() {
         ErrorKind::OutOfMemory => (4, b"jclink: no memory\n".as_slice()),

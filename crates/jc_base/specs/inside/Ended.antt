@@ -1,8 +1,8 @@
--- An input that has ended.
+-- Inputs that have ended.
 use Rattle.std.specs.Prelude.{◌≡◌, ℕ, List, [], Option, Some, None, unwrap_or}
 use Rattle.std.specs.Io.KnownBytes.{IsAtEnd}
 
--- no known byte is left where the known bytes are none
+-- if the known bytes are empty, no known byte is left
 pub is_at_end-of : (bytes : Option (List ℕ)) → unwrap_or bytes [] ≡ [] → IsAtEnd bytes
 is_at_end-of None h = tt
 is_at_end-of (Some xs) h = h

@@ -1,4 +1,4 @@
--- What is judged of the bootstrap methods that stand in bytes.
+-- The judgement of the bootstrap methods in bytes.
 use Rattle.std.specs.Prelude.{ℕ, Bool, List, [], ◌∷◌}
 use Rattle.std.specs.List.{list_all}
 use Rattle.jc_view.specs.ClassFile.{Attribute, ClassFile}
@@ -10,11 +10,11 @@ use Rattle.jc_file.specs.FormatRules.{is_bootstrap, told_count}
 abbrev pub is_bootstrap_at : ClassFile → List ℕ → Bool
 is_bootstrap_at c xs = is_bootstrap c (bootstrap_value xs)
 
--- so are all of the table that stands there behind its count
+-- all bootstrap methods of the table at the front of the bytes, after its count, are well-formed
 abbrev pub are_bootstraps_at : ClassFile → List ℕ → Bool
 are_bootstraps_at c xs = list_all (is_bootstrap c) (table_value after_bootstrap bootstrap_value xs)
 
--- how many methods the only attribute tells, and 0 where there is none or a second
+-- the number of methods of the only attribute, or 0 if there is none or more than one
 abbrev pub told_by : List Attribute → ℕ
 told_by (a ∷ []) = told_count a
 told_by others = 0

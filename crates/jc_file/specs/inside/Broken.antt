@@ -1,13 +1,13 @@
--- Things that break rules, by their places.
+-- The rules that are broken at each place.
 use Rattle.std.specs.Prelude.{◌≡◌, ℕ, List, ◌++◌, filter, map}
 use Rattle.jc_file.specs.declared.fault.FormatRule.{FormatRule}
 use Rattle.jc_file.specs.declared.broken.Broken.{Broken}
 use Rattle.jc_file.specs.inside.RuleSets.{has}
 
--- where a rule is broken
+-- the places where a rule is broken
 abbrev pub places_in : FormatRule → List Broken → List ℕ
 places_in rule broken = map (λ b. b.place) (filter (λ b. has b.rules rule) broken)
 
--- the places of each rule are added
+-- for each rule, its places are appended
 abbrev pub AddsPlaces : (FormatRule → List ℕ) → (old new : List Broken) → Type 0
 AddsPlaces places old new = (rule : FormatRule) → places_in rule new ≡ places_in rule old ++ places rule

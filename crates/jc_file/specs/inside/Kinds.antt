@@ -1,4 +1,4 @@
--- What the kind of an attribute says of its bytes.
+-- The length of attributes of a kind, and the constants that they name.
 use Rattle.std.specs.Prelude.{ℕ, Bool, false, not, ◌&&◌, ◌||◌, ◌==◌, length, Option, Some, None}
 use Rattle.std.specs.Option.{option_map_or}
 use Rattle.jc_view.specs.declared.attribute_kind.AttributeKind.{AttributeKind}

@@ -8,6 +8,6 @@ use Rattle.jc_file.specs.declared.rule_set.RuleSet.{RuleSet}
 abbrev pub same_rule : FormatRule → FormatRule → Bool
 same_rule a b = rule_number a == rule_number b
 
--- the bit of its number is set
+-- the bit at the number of the rule is set
 abbrev pub has : RuleSet → FormatRule → Bool
 has s rule = bit_at s.bits (rule_number rule) == 1

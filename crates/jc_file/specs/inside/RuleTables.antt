@@ -1,4 +1,4 @@
--- The rules over each kind of thing, each with its test.
+-- The rules for each kind of element, with their tests.
 use Rattle.std.specs.Prelude.{◌≡◌, ℕ, ◌+◌, Bool, false, cond, List, [], ◌∷◌, ◌++◌}
 use Rattle.jc_view.specs.ConstantPool.{Constant}
 use Rattle.jc_view.specs.ClassFile.{ClassFile, Member}
@@ -14,7 +14,7 @@ use Rattle.jc_file.specs.Faults.{attributes_with, constants_with, only_if, repea
 use Rattle.jc_file.specs.declared.rule_set.RuleSet.{RuleSet}
 use Rattle.jc_file.specs.inside.RuleSets.{has, same_rule}
 
--- the answer of the last test of the rule, if there is one
+-- the result of the last test of the rule, or `found` if no test is of the rule
 abbrev pub breaks_after : Bool → List (FormatRule × Bool) → FormatRule → Bool
 breaks_after found [] rule = found
 breaks_after found (test ∷ tests) rule = breaks_after (cond (same_rule test.0 rule) test.1 found) tests rule
@@ -22,7 +22,7 @@ breaks_after found (test ∷ tests) rule = breaks_after (cond (same_rule test.0 
 abbrev pub breaks_in : List (FormatRule × Bool) → FormatRule → Bool
 breaks_in tests rule = breaks_after false tests rule
 
--- the set has exactly the rules whose tests say that they are broken
+-- the set has exactly the rules whose tests hold
 abbrev pub AreBroken : List (FormatRule × Bool) → RuleSet → Type 0
 AreBroken tests s = (rule : FormatRule) → has s rule ≡ breaks_in tests rule
 
@@ -51,7 +51,7 @@ method_tests c m =
 abbrev pub attribute_tests : ClassFile → PlacedAttribute → List (FormatRule × Bool)
 attribute_tests c a = (rules.F28, breaks_f28 c a) ∷ (rules.F29, breaks_f29 c a) ∷ (rules.F30, breaks_f30 c a) ∷ []
 
--- ---- the places where each rule is broken, by what it is about
+-- ---- the places where each rule is broken, by the kind of element
 
 abbrev pub class_places : ClassFile → FormatRule → List ℕ
 class_places c rule = only_if (breaks_in (class_tests c) rule)
@@ -74,7 +74,7 @@ repeated_places c rule = cond (same_rule rules.F18 rule) (repeated c c.fields) [
 abbrev pub attribute_places : ClassFile → FormatRule → List ℕ
 attribute_places c rule = attributes_with c (λ a. breaks_in (attribute_tests c a) rule)
 
--- the numbers of those that pass, counted from n
+-- the numbers of the elements that pass the test, counted from n
 abbrev pub numbered : {X : Type 0} → (X → Bool) → ℕ → List X → List ℕ
 numbered test n [] = []
 numbered test n (x ∷ xs) = cond (test x) (n ∷ []) [] ++ numbered test (n + 1) xs

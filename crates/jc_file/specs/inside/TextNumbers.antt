@@ -1,4 +1,4 @@
--- Numbers for the texts of a class: of the indexes that have one text, that which was met first stands for all.
+-- Numbers of the texts of a class file. The number of a text is the first index that was looked up with this text.
 use Rattle.std.specs.Prelude.{◌≡◌, ℕ, Bool, ◌&&◌, cond, nat_eq, List, Option, Some, None, slice_get, unwrap_or}
 use Rattle.std.specs.Borrow.{Bor}
 use Rattle.std.specs.BTreeMap.{BTreeMap, get_by}
@@ -9,11 +9,11 @@ use Rattle.jc_view.specs.ClassFile.{ClassFile, Member}
 use Rattle.jc_view.specs.Lookups.{utf8_at}
 use Rattle.jc_file.specs.Faults.{key_of}
 
--- what a map has at a text
+-- the number that a map has for a text
 abbrev pub number_in : BTreeMap (Bor (List ℕ)) ConstantIndex → List ℕ → Option ConstantIndex
 number_in m text = get_by (λ k. bytes_cmp text k.now) m
 
--- the text has the number that it had or else this one, and every other what it had
+-- the text keeps its number, or gets this number if it has none; no other text changes
 abbrev pub NumbersText : BTreeMap (Bor (List ℕ)) ConstantIndex → BTreeMap (Bor (List ℕ)) ConstantIndex
     → List ℕ → ConstantIndex → Type 0
 NumbersText old new text number =
@@ -24,24 +24,24 @@ NumbersText old new text number =
 abbrev pub number_of : TextNumbers → List ℕ → Option ConstantIndex
 number_of t = number_in t.by_text
 
--- Some: the number of the text of an index; None: the index has no text
+-- Some: the number of the text at an index; None: the index has no text
 abbrev pub IsNumberAt : ClassFile → TextNumbers → ConstantIndex → Option ConstantIndex → Type 0
 IsNumberAt c t index None = utf8_at c index ≡ None
 IsNumberAt c t index (Some n) = (text : List ℕ) × (utf8_at c index ≡ Some text) × (number_of t text ≡ Some n)
 
--- each number is an index of its text, and what is kept for an index is the number of its text
+-- each number is an index of its text, and the number that is kept for an index is that of its text
 pub record AreNumbers (c : ClassFile) (t : TextNumbers) : Type 0 where
   pub by_text : (text : List ℕ) (n : ConstantIndex) → number_of t text ≡ Some n → utf8_at c n ≡ Some text
   pub by_index : (i : ℕ) (n : ConstantIndex) → slice_get t.by_index.items i ≡ Some (Some n)
       → IsNumberAt c t (record { 0 = i }) (Some n)
 
--- what has a number keeps it
+-- each text that has a number keeps it
 abbrev pub KeepsNumbers : TextNumbers → TextNumbers → Type 0
 KeepsNumbers old new = (text : List ℕ) (n : ConstantIndex) → number_of old text ≡ Some n → number_of new text ≡ Some n
 
--- ---- keys
+-- ---- the keys of members
 
--- the numbers of a name and a descriptor
+-- the numbers of a name and of a descriptor
 abbrev pub IsNumbered : TextNumbers → List ℕ × List ℕ → ConstantIndex × ConstantIndex → Type 0
 IsNumbered t key numbers = (number_of t key.0 ≡ Some numbers.0) × (number_of t key.1 ≡ Some numbers.1)
 
@@ -49,7 +49,7 @@ IsNumbered t key numbers = (number_of t key.0 ≡ Some numbers.0) × (number_of 
 abbrev pub same_numbers : ConstantIndex × ConstantIndex → ConstantIndex × ConstantIndex → Bool
 same_numbers a b = nat_eq a.0.0 b.0.0 && nat_eq a.1.0 b.1.0
 
--- Some: the numbers of a member's key; None: it has no key
+-- Some: the numbers of the name and descriptor of a member; None: one of them is missing
 abbrev pub IsNumberedKey : ClassFile → TextNumbers → Member → Option (ConstantIndex × ConstantIndex) → Type 0
 IsNumberedKey c t m None = key_of c m ≡ None
 IsNumberedKey c t m (Some numbers) = (key : List ℕ × List ℕ) × (key_of c m ≡ Some key) × IsNumbered t key numbers

@@ -1,4 +1,4 @@
--- What is known of the texts of a class file.
+-- What is known about the texts of a class file.
 use Rattle.std.specs.Prelude.{◌≡◌, ℕ, Bool, true, false, ◌&&◌, ◌||◌, nat_lt, List, Option, Some, None, is_some, option_map, slice_get, sum_by}
 use Rattle.std.specs.Option.{option_map_or}
 use Rattle.jc_base.specs.Descriptors.{FieldType, MethodType, slots_of}
@@ -12,17 +12,17 @@ use Rattle.jc_file.specs.declared.texts.Descriptor.{Descriptor}
 use Rattle.jc_file.specs.declared.texts.Descriptor.TheVariants.{Field, Method, Other}
 use Rattle.jc_file.specs.declared.texts.Texts.TheInside as known
 
--- that of a method, or none
+-- a method descriptor, or no descriptor
 abbrev pub as_method : Option MethodType → Descriptor
 as_method None = Other
 as_method (Some type) = Method (sum_by slots_of type.params) (is_some type.result)
 
--- that of a field, or else another one
+-- a field descriptor, or otherwise the other one
 abbrev pub as_field : Option FieldType → Descriptor → Descriptor
 as_field None otherwise = otherwise
 as_field (Some type) otherwise = Field type.dims
 
--- what a text is as a descriptor
+-- which descriptor a text is
 abbrev pub descriptor_of : List ℕ → Descriptor
 descriptor_of text = as_field (field_type_of text) (as_method (method_type_of text))
 
@@ -42,17 +42,17 @@ abbrev pub returns : Descriptor → Bool
 returns (Method slots with_value) = with_value
 returns descriptor = false
 
--- 255 slots at most, with the receiver if there is one
+-- the parameters take at most 255 slots, with the receiver if there is one
 abbrev pub fits : Bool → Descriptor → Bool
 fits has_none (Method slots with_value) = has_none || nat_lt slots 255
 fits has_none descriptor = false
 
--- whether there is a name, and it does not fit the descriptor
+-- the name exists and does not fit the descriptor
 abbrev pub fails_with : Descriptor → Option (List ℕ) → Bool
 fails_with descriptor name =
     is_field descriptor && fails is_unqualified_text name || is_method descriptor && fails is_method_name_text name
 
--- modified UTF-8
+-- the text is modified UTF-8
 abbrev pub is_spelled : List ℕ → Bool
 is_spelled text = is_some (units_of text)
 
@@ -62,11 +62,11 @@ is_yes answer = option_map_or (λ b. b) answer false
 abbrev pub is_descriptor : Option Descriptor → Bool
 is_descriptor answer = option_map_or (λ descriptor. is_field descriptor || is_method descriptor) answer false
 
--- a name or a descriptor, as far as is known
+-- the text is known to be a name or a descriptor
 abbrev pub is_known_text : Known → Bool
 is_known_text k = is_yes k.is_class || is_yes k.is_unqualified || is_yes k.is_method_name || is_descriptor k.descriptor
 
--- an answer that is known is that of the text at the index
+-- a result of `f` that is known is its result for the text at the index
 abbrev pub IsAnswer : {A : Type 0} → (List ℕ → A) → ClassFile → ConstantIndex → Option A → Type 0
 IsAnswer {A = A} f c index known = (a : A) → known ≡ Some a → option_map f (utf8_at c index) ≡ Some a
 

@@ -1,4 +1,4 @@
--- A walk over the nodes.
+-- A walk over the nodes of a graph.
 use Rattle.std.specs.Prelude.{◌≡◌, ◌⊎◌, ℕ, ◌+◌, ◌*◌, ◌^◌, ◌<◌, ◌≤◌, Bool, true, false}
 use Rattle.std.specs.Prelude.{List, [], ◌∷◌, ◌++◌, length, slice_index_or, slice_set, take, drop, ◌-◌}
 use Rattle.std.specs.List.{Contains, All}
@@ -35,14 +35,14 @@ place_at places v = slice_index_or places v Unseen
 abbrev pub segment_at : List Segment → ℕ → Segment
 segment_at segments k = slice_index_or segments k (record { path_from = 0; steps_from = 0 })
 
--- the segment of p doesn't begin after q
+-- each segment that begins at or before the place p also begins at or before the place q
 abbrev pub Leads : List Segment → ℕ → ℕ → Type 0
 Leads segments p q = All (λ g. g.path_from ≤ p → g.path_from ≤ q) segments
 
 abbrev pub Way : Successors → ℕ → ℕ → Type 0
 Way next a b = (a ≡ b) ⊎ Above next a b
 
--- a step that waits leads from a place of the path
+-- the pending step with this number leads from a node of the path
 pub record Source (next : Successors) (s : State) (i : ℕ) : Type 0 where
   pub at : ℕ
   pub within : at < length s.path
@@ -50,7 +50,8 @@ pub record Source (next : Successors) (s : State) (i : ℕ) : Type 0 where
   pub after : All (λ g. g.steps_from ≤ i → g.path_from ≤ at) s.segments
   pub before : All (λ g. i < g.steps_from → at < g.path_from) s.segments
 
--- a step from the place p to w waits, or it was taken: w is done, or stands on the path and not before the segment of p
+-- The step from the place p of the path to w is pending, or it was taken. If it was taken, w is done, or it is on the
+-- path and not before the segment of p.
 pub data Told (s : State) (p w : ℕ) : Type 0 where
   waits : (i : ℕ) → i < length s.steps → node_at s.steps i ≡ w
       → All (λ g. g.path_from ≤ p → g.steps_from ≤ i) s.segments → Told s p w
@@ -85,7 +86,7 @@ pub record IsWalk (next : Successors) (count : ℕ) (s : State) : Type 0 where
   pub path : IsPath next s
   pub done : IsDone next s.place s.circular s.order
 
--- ---- what each step makes of a walk
+-- ---- the effect of each step on a walk
 
 abbrev pub visited : Successors → State → ℕ → State
 visited next s v = record {
@@ -97,11 +98,11 @@ visited next s v = record {
   order = s.order;
 }
 
--- a node was seen: what is unseen now was so before, and is another node
+-- the node was seen, and no node became unseen
 abbrev pub SeesNode : List Place → List Place → ℕ → Type 0
 SeesNode old new node = (v : ℕ) → place_at new v ≡ Unseen → (place_at old v ≡ Unseen) × (v ≡ node → ⊥)
 
--- ---- how far a walk has come
+-- ---- the work that is left
 
 abbrev pub is_unseen : Place → ℕ
 is_unseen Unseen = 1
@@ -112,18 +113,18 @@ unfoldable pub unseen : List Place → ℕ
 unseen [] = 0
 unseen (p ∷ ps) = is_unseen p + unseen ps
 
--- what is left to do
+-- a number that each step of the walk makes smaller
 abbrev pub left : State → ℕ
 left s = unseen s.place * 2 ^ 66 + length s.steps + 2 * length s.segments
 
--- the last segment, and the last step that waits
+-- the last segment, and the last pending step
 abbrev pub last_segment : State → Segment
 last_segment s = segment_at s.segments (length s.segments - 1)
 
 abbrev pub last_step : State → ℕ
 last_step s = node_at s.steps (length s.steps - 1)
 
--- the last segment's steps were not all taken
+-- the last segment has a pending step
 abbrev pub HasStep : State → Type 0
 HasStep s = (0 < length s.segments) × ((last_segment s).steps_from < length s.steps)
 
@@ -137,7 +138,7 @@ joined_last s = record s { segments = take (length s.segments - 1) s.segments }
 abbrev pub last_nodes : State → List ℕ
 last_nodes s = drop (last_segment s).path_from s.path
 
--- whether a segment that is ended is on a ring
+-- the flag says whether the nodes of a segment that ends are circular
 abbrev pub TellsRing : Successors → List ℕ → Bool → Type 0
 TellsRing next nodes ring =
     (length nodes ≡ 1 → Decides ring (Contains (next (node_at nodes 0)) (node_at nodes 0)))
@@ -153,7 +154,7 @@ ended ring s = record {
   order = s.order ++ last_nodes s;
 }
 
--- one turn: it is still a walk, less is left to do, and nothing that was seen is forgotten
+-- one step of the walk: the new state is a walk, less work is left, and no node became unseen
 pub record Turned (next : Successors) (count : ℕ) (old new : State) : Type 0 where
   pub walk : IsWalk next count new
   pub less : left new < left old

@@ -1,4 +1,4 @@
--- The class file that a view shows.
+-- The class file that a view is of, and the invariant of views.
 use Rattle.std.specs.Prelude.{◌≡◌}
 use Rattle.jc_view.specs.declared.attribute_kind.Holder.TheVariants as holders
 use Rattle.jc_view.specs.declared.layout_reader.ClassTables.{ClassTables}
@@ -16,7 +16,7 @@ use Rattle.jc_view.specs.inside.Entries.{placed_members, placed_attributes}
 abbrev pub class_shown : Inside → ClassFile
 class_shown v = class_value v.bytes.now v.offsets.items v.tail
 
--- the tables are those of a class file
+-- the tables are those of this class file
 pub record AreTables (c : ClassFile) (t : ClassTables) : Type 0 where
   pub whole_interfaces : IsWhole (after 2) t.interfaces
   pub whole_fields : IsWhole after_member t.fields

@@ -1,4 +1,4 @@
--- What the places of the constants tell.
+-- Bytes that are a class file, and the places of its constants.
 use Rattle.std.specs.Prelude.{◌≡◌, ℕ, List, ◌∷◌, Option, None}
 use Rattle.jc_view.specs.Places.{places_of}
 use Rattle.jc_view.specs.declared.constant_pool.ConstantIndex.{ConstantIndex}
@@ -10,6 +10,6 @@ pub record Holds (bytes : List ℕ) (places : List (Option ℕ)) (c : ClassFile)
   pub layout : layout c ≡ bytes
   pub are_places : places ≡ None ∷ places_of 10 c.constants
 
--- and the Class constant of this index names it
+-- the same, and this index is its this_class
 abbrev pub IsNamedAt : ClassFile → List ℕ → List (Option ℕ) → ConstantIndex → Type 0
 IsNamedAt c bytes places index = Holds bytes places c × (c.this_class ≡ index)

@@ -18,6 +18,6 @@ constant_read place bytes = do
   rest ← after_body kind body
   Some (body_value kind body)
 
--- its kind, by the tag
+-- the kind of the constant at a place, by its tag
 abbrev pub kind_read : ℕ → List ℕ → Option ConstantKind
 kind_read place bytes = option_and_then kind_of_tag (slice_get bytes place)

@@ -1,4 +1,4 @@
--- What the entries that are read from tables are as data.
+-- The entries of tables, as plain data.
 use Rattle.std.specs.Prelude.{◌≡◌, ℕ, ◌<◌, ◌^◌, ◌+◌, List, length, take, drop, Option, Some, None}
 use Rattle.jc_base.specs.Cursor.{Reading}
 use Rattle.jc_base.specs.Endian.{big_number}
@@ -24,11 +24,11 @@ attribute_of a = record { name = a.name; bytes = a.body.rest }
 abbrev pub placed_attribute : Holder → AttributeEntry → PlacedAttribute
 placed_attribute holder a = record { holder = holder; place = a.place; attribute = attribute_of a }
 
--- the attributes of a table that are left
+-- the attributes that are left in a table
 abbrev pub placed_attributes : Holder → Table → List PlacedAttribute
 placed_attributes holder t = attributes_from holder t.cursor.place (entries after_attribute attribute_value t)
 
--- Some: the attribute at the old place, and the cursor stands behind it; None: the attribute is cut
+-- Some: the attribute at the old place, and the cursor is at its end; None: the bytes end before the attribute does
 abbrev pub LendsAttribute : Reading → Option AttributeEntry → Reading → Type 0
 LendsAttribute old None new = after_attribute old.rest ≡ None
 LendsAttribute old (Some a) new =
@@ -48,16 +48,16 @@ member_of m = record {
 abbrev pub placed_member : Holder → MemberEntry → PlacedMember
 placed_member holder m = record { holder = holder; place = m.place; member = member_of m }
 
--- its attributes are whole, and stand behind its flags, its name, its descriptor and their count
+-- the attributes of a member are whole, and follow access_flags, name_index, descriptor_index and attributes_count
 pub record IsMemberEntry (m : MemberEntry) : Type 0 where
   pub whole : IsWhole after_attribute m.attributes
   pub place : m.attributes.cursor.place ≡ m.place + 8
 
--- the members of a table that are left
+-- the members that are left in a table
 abbrev pub placed_members : Holder → Table → List PlacedMember
 placed_members holder t = members_from holder t.cursor.place (entries after_member member_value t)
 
--- Some: the member at the old place, and the cursor stands behind it; None: the member is cut
+-- Some: the member at the old place, and the cursor is at its end; None: the bytes end before the member does
 abbrev pub LendsMember : Reading → Option MemberEntry → Reading → Type 0
 LendsMember old None new = after_member old.rest ≡ None
 LendsMember old (Some m) new =
@@ -66,7 +66,7 @@ LendsMember old (Some m) new =
 
 -- ---- code
 
--- what stands before the exception table: the greatest depths, and the instructions
+-- the parts before the exception table: max_stack, max_locals and the instructions
 abbrev pub instructions : Instructions → ℕ × ℕ × List ℕ
 instructions i = (i.max_stack, i.max_locals, i.bytes.now)
 
@@ -82,7 +82,7 @@ body_code b = record {
   attributes = entries after_attribute attribute_value b.attributes;
 }
 
--- its tables are whole, and its attributes stand behind what comes before them and their count, where it begins at this place
+-- the tables of a Code at this place are whole, and its attributes follow the other parts and attributes_count
 pub record IsCodeBody (place : ℕ) (b : CodeBody) : Type 0 where
   pub handlers : IsWhole (after 8) b.handlers
   pub attributes : IsWhole after_attribute b.attributes

@@ -1,4 +1,4 @@
--- What going over a class file found.
+-- What a pass over a class file finds.
 use Rattle.jc_view.specs.declared.layout_reader.ClassParts.{ClassParts}
 use Rattle.jc_view.specs.declared.layout_reader.ClassNumbers.{ClassNumbers}
 use Rattle.jc_view.specs.Reading.{PartsRead, NumbersRead}
