@@ -6,11 +6,11 @@ use Rattle.jc_file.specs.AccessFlags.{has, public, private, protected, static}
 use Rattle.jc_classes.specs.Worlds.{World, Extends, Found, is_array}
 use Rattle.jc_classes.specs.Facts.Named.{Class, Array}
 
--- d is c or a subclass of c; java/lang/Object is above every class
+-- d is c or a subclass of c; every class is within java/lang/Object
 abbrev pub IsWithin : World → Name → Name → Type 0
 IsWithin m d c = Extends m d c ⊎ (c ≡ object)
 
--- clone of java/lang/Object counts as public where an array is named
+-- the method `clone` of java/lang/Object counts as PUBLIC if the reference names an array
 abbrev pub is_array_clone : Bool → Found → Bool
 is_array_clone is_array f =
     is_array
@@ -20,12 +20,12 @@ is_array_clone is_array f =
 abbrev pub is_package_private : Member → Bool
 is_package_private x = not (has x.flags public) && (not (has x.flags private) && not (has x.flags protected))
 
--- what is named is d, a subclass of d or a superclass of d. An array is a subclass of java/lang/Object alone
+-- the reference names d, a subclass of d or a superclass of d. An array is only a subclass of java/lang/Object
 abbrev pub IsRelated : World → Named → Name → Type 0
 IsRelated m (Class t) d = IsWithin m t d ⊎ IsWithin m d t
 IsRelated m (Array t e) d = d ≡ object
 
--- a class d may use a member that it named through t
+-- a class d may use a member that it refers to through t
 pub data CanUse (m : World) (d : Name) (t : Named) (f : Found) : Type 0 where
   open_to_all : (has f.member.flags public || is_array_clone (is_array t) f) ≡ true → CanUse m d t f
   inherited : has f.member.flags protected ≡ true → IsWithin m d f.home

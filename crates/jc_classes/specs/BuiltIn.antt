@@ -1,4 +1,4 @@
--- The built-in java/lang/Object, which stands where no file gives the class: its public and protected methods.
+-- The built-in java/lang/Object, the class of this name if no file gives one. It has the PUBLIC and PROTECTED methods.
 use Rattle.std.specs.Prelude.{ℕ, List, [], ◌∷◌, None, codes}
 use Rattle.jc_file.specs.AccessFlags.{public, protected}
 use Rattle.jc_classes.specs.Names.{object}

@@ -1,4 +1,4 @@
--- What is kept of a class file.
+-- The facts of a class file.
 use Rattle.std.specs.Prelude.{ℕ, ◌==◌, not, List, [], ◌∷◌, length, map, Option, Some, None, option_and_then, if◌then◌else◌}
 use Rattle.std.specs.Option.{option_map_or, option_to_list}
 use Rattle.std.specs.List.{filter, flat_map, range_with_len}
@@ -36,7 +36,7 @@ member_reference c index kind class entry = do
   descriptor ← member_descriptor_at c entry
   Some (record { index = index; kind = kind; named = named_by text; key = record { name = name; descriptor = descriptor } })
 
--- the reference that a constant is
+-- the reference that a constant represents
 abbrev pub reference_of : ClassFile → ℕ → pool.Constant → Option Reference
 reference_of c index (pool.Class name) = class_reference c index name
 reference_of c index (pool.Fieldref class entry) = member_reference c index kinds.Field class entry
@@ -47,11 +47,11 @@ reference_of c index constant = None
 abbrev pub reference_at : ClassFile → ℕ → Option Reference
 reference_at c index = option_and_then (reference_of c index) (constant_at c (record { 0 = index }))
 
--- by rising index
+-- in ascending order of index
 unfoldable pub references_in : ClassFile → List Reference
 references_in c = flat_map (λ index. option_to_list (reference_at c index)) (range_with_len 1 (all_slots c.constants))
 
--- what uses each of them
+-- what uses each reference
 unfoldable pub users_in : ClassFile → List User
 users_in c = map (λ (r : Reference). user_of c r.index) (references_in c)
 
@@ -69,7 +69,7 @@ members_in c members = flat_map (λ m. option_to_list (member_of c m)) members
 abbrev pub interfaces_in : ClassFile → List (List ℕ)
 interfaces_in c = flat_map (λ index. option_to_list (class_text_at c index)) c.interfaces
 
--- each name where it stands first
+-- each name once, where it occurs first
 abbrev pub once : List Name → List Name
 once [] = []
 once (n ∷ ns) = n ∷ filter (λ m. not (same_name m n)) (once ns)
@@ -95,7 +95,7 @@ sound_facts path c = record {
   code_faults = code_faults c;
 }
 
--- nothing is read of a file with a format fault but its name and flags
+-- of a file with a format fault, only its path, name, flags and format faults are kept
 abbrev pub faulty_facts : List ℕ → ClassFile → Facts
 faulty_facts path c = record {
   path = path;

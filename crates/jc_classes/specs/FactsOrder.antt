@@ -1,4 +1,4 @@
--- The order of a class's references, and of what its instructions do with them.
+-- The order of a class's references, and of the uses of references by its instructions.
 use Rattle.std.specs.Prelude.{List, map}
 use Rattle.std.specs.List.Sorted.{IsStrictlySortedBy}
 use Rattle.std.specs.Ordering.{nat_cmp, ordering_then}

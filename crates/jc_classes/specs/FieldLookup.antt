@@ -5,11 +5,12 @@ use Rattle.jc_classes.specs.Names.{Name}
 use Rattle.jc_classes.specs.Worlds.{Stands, World, superclass_of, interfaces_of, fields_of, member, Found}
 use Rattle.jc_classes.specs.Facts.{Member, Key}
 
--- where look-up of a field goes on: the direct superinterfaces in file order, then the superclass
+-- where look-up of a field continues: the direct superinterfaces in file order, then the superclass
 abbrev pub onward : Stands → List Name
 onward r = interfaces_of r ++ option_to_list (superclass_of r)
 
--- what look-up of a field in a class finds; and in several, of which the first that has it decides
+-- what look-up of a field finds in a class, and what it finds in several classes, of which the first with the field
+-- decides
 mutual
   pub data FindsField (m : World) (k : Key) : Name → Option Found → Type 0 where
     own : {c : Name} {x : Member} → member (fields_of (m c)) k ≡ Some x → FindsField m k c (Some (record { home = c; member = x }))

@@ -1,4 +1,4 @@
--- What a class inherits, or overrides, although a virtual machine rejects it: the class loads, and still does not link.
+-- Errors of inheritance: the class loads, and a virtual machine still rejects it (JVMS 4.10).
 use Rattle.std.specs.Prelude.{◌≡◌, ℕ, Bool, false, List, [], ◌∷◌, map}
 use Rattle.std.specs.Bool.{Decides}
 use Rattle.jc_classes.specs.Facts.{Key}
@@ -23,7 +23,7 @@ pub record InheritanceErrors : Type 0 where
 abbrev pub no_errors : InheritanceErrors
 no_errors = record { extends_final = false; overridden = [] }
 
--- for each of these methods of c the nearest FINAL method that it overrides, if there is one
+-- for each of these methods of c, the nearest FINAL method that it overrides, if there is one
 pub data AreOverridden (m : World) (c : Name) : List Key → List Inherited → Type 0 where
   none : AreOverridden m c [] []
   some : {k : Key} {a : Name} {ks : List Key} {more : List Inherited} → OverridesFinal m k c a → AreOverridden m c ks more
@@ -38,7 +38,7 @@ pub record AreErrors (m : World) (c : Name) (e : InheritanceErrors) : Type 0 whe
   pub is_order : IsOrder (methods_of (m c)) order
   pub overridden : AreOverridden m c (map (key_at (methods_of (m c))) order) e.overridden
 
--- a class that does not load has none
+-- a class that does not load has no errors of inheritance
 abbrev pub AreErrorsOf : World → (c : Name) → Loading → InheritanceErrors → Type 0
 AreErrorsOf m c loading.Loaded e = AreErrors m c e
 AreErrorsOf m c loading.Outside e = e ≡ no_errors

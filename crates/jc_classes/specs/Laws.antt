@@ -1,18 +1,18 @@
--- The laws of parts: a class has one, and it rests on its reach alone.
+-- The laws of parts: a class has one part, which depends only on the reach of the class.
 use Rattle.std.specs.Prelude.{◌≡◌, Bool, true, false}
 use Rattle.jc_classes.specs.Names.{Name}
 use Rattle.jc_classes.specs.Worlds.{World}
 use Rattle.jc_classes.specs.Parts.{Reach, Part, IsPart}
 
--- two maps agree outside the touched names: edits of files and of outside prefixes are both such
+-- two worlds agree outside the touched names, as the worlds before and after an edit do
 abbrev pub Differ : (Name → Bool) → World → World → Type 0
 Differ touched m k = (n : Name) → touched n ≡ false → m n ≡ k n
 
--- the reach of the class holds no touched name
+-- the reach of the class has no touched name
 abbrev pub Avoids : (Name → Bool) → World → Name → Type 0
 Avoids touched m d = (n : Name) → Reach m d n → touched n ≡ false
 
--- the reach of the class holds a touched name
+-- the reach of the class has a touched name
 abbrev pub Hits : (Name → Bool) → World → Name → Type 0
 Hits touched m d = (n : Name) × (touched n ≡ true) × Reach m d n
 

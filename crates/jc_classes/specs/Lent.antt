@@ -1,4 +1,4 @@
--- What is lent of facts, as data.
+-- Borrowed keys, members, references and classes as data.
 use Rattle.jc_classes.specs.Worlds.{Stands as stands}
 use Rattle.jc_classes.specs.Facts.{Key, Member, Reference}
 use Rattle.jc_classes.specs.NamedTexts.{named_by}

@@ -16,7 +16,7 @@ use Rattle.jc_classes.specs.Worlds.{Stands, text_of}
 use Rattle.jc_classes.specs.declared.linkage_error.LinkageError.{LinkageError}
 use Rattle.jc_classes.specs.declared.linkage_error.LinkageError.TheVariants as errors
 
--- where an instruction stands, and what its reference names
+-- the class and the method of an instruction, and what its reference names
 pub record Site : Type 0 where
   pub class : Name
   -- the name of the method
@@ -27,15 +27,15 @@ pub record Site : Type 0 where
 abbrev pub Fault : Type 0
 Fault = LinkageError × Name
 
--- a line of the table decides where it applies, else what stands behind it
+-- an error if its condition applies, and else the result of the conditions after it
 abbrev pub line : Bool → LinkageError → Name → Option Fault → Option Fault
 line applies error class behind = if applies then Some (error, class) else behind
 
--- an instance is wanted, or none
+-- the member is STATIC where an instance member is required, or the reverse
 abbrev pub static_fault : Bool → Name → Option Fault → Option Fault
 static_fault applies home behind = line applies errors.Incompatible home behind
 
--- a store into a final field, outside the method that may initialize it
+-- a store into a FINAL field, outside the method that may initialize the field
 abbrev pub final_fault : Site → List ℕ → Name → Member → Option Fault
 final_fault s initializer home x =
     line (has x.flags final && not (same_name home s.class && same_name s.method initializer)) errors.IllegalAccess home None
@@ -43,7 +43,7 @@ final_fault s initializer home x =
 abbrev pub is_init : Member → Bool
 is_init x = same_name x.name (codes "<init>")
 
--- at a member that a class declares, by the instruction's kind (JVMS 6.5)
+-- the error of an instruction, by its kind, at a member that the class `home` declares (JVMS 6.5)
 abbrev pub member_fault : Site → LinkKind → Name → Member → Option Fault
 member_fault s kinds.GetStatic home x = static_fault (not (has x.flags static)) home None
 member_fault s kinds.PutStatic home x = static_fault (not (has x.flags static)) home (final_fault s (codes "<clinit>") home x)
@@ -57,12 +57,12 @@ member_fault s kinds.InvokeStatic home x = static_fault (not (has x.flags static
 member_fault s kinds.InvokeInterface home x = static_fault (has x.flags static || has x.flags private) home None
 member_fault s kinds.New home x = None
 
--- at a class of these flags
+-- the error of an instruction at a class with these access flags
 abbrev pub class_fault : LinkKind → Name → ℕ → Option Fault
 class_fault kinds.New class flags = line (has flags interface || has flags abstract) errors.Instantiation class None
 class_fault kind class flags = None
 
--- by the answer to the reference: only what resolves may still not link
+-- the error of an instruction, by the answer to its reference. There is an error only if the reference resolves
 abbrev pub link_fault : Site → LinkKind → Answer → Option Fault
 link_fault s kind (answer.ToClass class flags) = class_fault kind class flags
 link_fault s kind (answer.ToMember home x) = member_fault s kind home x
@@ -70,23 +70,23 @@ link_fault s kind (answer.Outside n) = None
 link_fault s kind answer.NotLoaded = None
 link_fault s kind (answer.Error e n) = None
 
--- ---- of all instructions of a class
+-- ---- the errors of all instructions of a class
 
 -- an error at an instruction
 pub record LinkFault : Type 0 where
-  -- the number of its method, and its offset from the front of the code
+  -- the number of its method, and its offset from the start of the code
   pub method : ℕ
   pub place : ℕ
   pub error : LinkageError
   pub class : Name
 
--- the reference of a constant, and its answer
+-- the reference of the constant at an index, and its answer
 abbrev pub answered : ℕ → List Reference → List Answer → Option (Reference × Answer)
 answered index [] answers = None
 answered index (r ∷ rs) [] = None
 answered index (r ∷ rs) (a ∷ answers) = if r.index == index then Some (r, a) else answered index rs answers
 
--- the name of the method of a number: without a format fault each has one, so the numbers are those of the file
+-- the name of the method of a number; without a format fault each method has one, so the numbers are those of the file
 abbrev pub method_name : Facts → ℕ → Name
 method_name f number = option_map_or (λ x. x.name) (slice_get f.methods number) []
 
@@ -96,19 +96,19 @@ site_of d f u r = record { class = d; method = method_name f u.method; named = r
 abbrev pub link_at : MethodUse → Fault → LinkFault
 link_at u fault = record { method = u.method; place = u.place; error = fault.0; class = fault.1 }
 
--- the error at an instruction, by its reference and the answer to that
+-- the error of an instruction, by its reference and the answer to the reference
 abbrev pub link_by : Name → Facts → MethodUse → Reference × Answer → Option LinkFault
 link_by d f u r = option_and_then (λ fault. Some (link_at u fault)) (link_fault (site_of d f u r.0) u.kind r.1)
 
--- the error at an instruction
+-- the error of an instruction
 abbrev pub link_of : Name → Facts → List Answer → MethodUse → Option LinkFault
 link_of d f answers u = option_and_then (link_by d f u) (answered u.index f.references answers)
 
--- by method, then by offset
+-- the errors of the instructions, by method, then by offset
 abbrev pub links_in : Name → Facts → List Answer → List LinkFault
 links_in d f answers = flat_map (λ u. option_to_list (link_of d f answers u)) f.uses
 
--- none where the class does not load: all its answers are then NotLoaded
+-- a class that does not load has none, because all its answers are NotLoaded
 abbrev pub links_of : Name → Stands → List Answer → List LinkFault
 links_of d (stands.Class f) answers = links_in d f answers
 links_of d stands.Outside answers = []

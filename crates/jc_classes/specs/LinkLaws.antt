@@ -1,4 +1,4 @@
--- Which instructions of a class do not link, as facts about its file, and in which order they are listed.
+-- The instructions of a class that do not link, as facts about its file, and their order.
 use Rattle.std.specs.Prelude.{◌≡◌, ◌↔◌, ℕ, List, [], Some, Contains, slice_get}
 use Rattle.std.specs.List.Sorted.{IsStrictlySortedBy}
 use Rattle.std.specs.Ordering.{nat_cmp, ordering_then}
@@ -49,11 +49,11 @@ pub record DoesNotLink (d : Name) (c : ClassFile) (answers : List Answer) (l : L
   -- the answer to that reference
   pub answer : Answer
   pub has_answer : HasAnswer (references_in c) answers reference answer
-  -- the error where the reference is answered so, and the class at fault
+  -- the error of the instruction for this answer, and the class at fault
   pub has_fault :
       link_fault (record { class = d; method = name; named = reference.named }) kind answer ≡ Some (l.error, l.class)
 
--- the errors of a class are those of its instructions that do not link
+-- the errors of a class's instructions are those of the instructions that do not link
 abbrev pub LinksAreExact : Type 0
 LinksAreExact = (path : List ℕ) (c : ClassFile) (d : Name) (answers : List Answer) (l : LinkFault)
     → Contains (links_of d (stands.Class (facts_of path c)) answers) l ↔ DoesNotLink d c answers l
@@ -62,7 +62,7 @@ LinksAreExact = (path : List ℕ) (c : ClassFile) (d : Name) (answers : List Ans
 abbrev pub link_cmp : LinkFault → LinkFault → Ordering
 link_cmp a b = ordering_then (nat_cmp a.method b.method) (nat_cmp a.place b.place)
 
--- each instruction is listed once at most
+-- the errors are sorted, and each instruction has at most one
 abbrev pub LinksAreInOrder : Type 0
 LinksAreInOrder = (path : List ℕ) (c : ClassFile) (d : Name) (answers : List Answer)
     → IsStrictlySortedBy link_cmp (links_of d (stands.Class (facts_of path c)) answers)

@@ -9,17 +9,17 @@ use Rattle.jc_classes.specs.Facts.{Facts, is_faulty}
 use Rattle.jc_classes.specs.declared.linkage_error.LinkageError.{LinkageError}
 use Rattle.jc_classes.specs.declared.linkage_error.LinkageError.TheVariants as errors
 
--- a class is PUBLIC, or in the package of the one that asks (JVMS 5.4.4)
+-- the class c is PUBLIC, or in the package of the class d that refers to it (JVMS 5.4.4)
 abbrev pub can_see : Name → Name → Stands → Bool
 can_see d c r = has (flags_of r) public || same_name (package_of d) (package_of c)
 
--- how loading ends
+-- the result of loading
 pub data Loading : Type 0 where
   Loaded : Loading
   Outside : Loading
   Fails : LinkageError → Name → Loading
 
--- a supertype, and whether it is named as the superclass
+-- a supertype, and whether it is the superclass
 pub record Supertype : Type 0 where
   pub is_class : Bool
   pub name : Name
@@ -33,7 +33,7 @@ abbrev pub same_bool : Bool → Bool → Bool
 same_bool true b = b
 same_bool false b = not b
 
--- the error that a supertype makes, from how it loads, whether it is accessible and whether it is of the wrong kind
+-- the error that a supertype causes: by how it loads, whether it is accessible, and whether it is of the wrong kind
 abbrev pub judged : Loading → Bool → Bool → Name → Option Loading
 judged Loaded sees wrong s = cond sees (cond wrong (Some (Fails errors.Incompatible s)) None) (Some (Fails errors.IllegalAccess s))
 judged Outside sees wrong s = None
@@ -52,7 +52,7 @@ mutual
     through : {n : Name} {r : Facts} {a : Loading} → m n ≡ stands.Class r → is_faulty r ≡ false → (Above m n n → ⊥)
         → LoadEach m n (direct_supertypes r) a → Load m n a
 
-  -- the supertypes in order, of which the first that makes an error decides
+  -- the supertypes in order; the first one that causes an error decides
   pub data LoadEach (m : World) : Name → List Supertype → Loading → Type 0 where
     none : {n : Name} → LoadEach m n [] Loaded
     stops : {n : Name} {p : Supertype} {ps : List Supertype} {a b : Loading} → Load m p.name a

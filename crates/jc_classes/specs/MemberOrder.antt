@@ -1,4 +1,4 @@
--- The order by which the fields or the methods of a class are found, by their numbers in the file.
+-- The order in which the fields or the methods of a class are searched, by their numbers in the file.
 use Rattle.std.specs.Prelude.{ℕ, ◌<◌, List, [], length, slice_index_or}
 use Rattle.std.specs.List.{Contains}
 use Rattle.std.specs.List.Sorted.{IsStrictlySortedBy}
@@ -15,7 +15,7 @@ key_cmp a b = ordering_then (name_cmp a.name b.name) (name_cmp a.descriptor b.de
 abbrev pub key_at : List Member → ℕ → Key
 key_at members number = key_of (slice_index_or members number (record { name = []; descriptor = []; flags = 0 }))
 
--- by name, then by descriptor, and of several with both the same as in the file
+-- by name, then by descriptor; ties keep file order
 abbrev pub place_cmp : List Member → ℕ → ℕ → Ordering
 place_cmp members a b = ordering_then (key_cmp (key_at members a) (key_at members b)) (nat_cmp a b)
 

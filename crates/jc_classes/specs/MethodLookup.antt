@@ -22,19 +22,19 @@ abbrev pub first_named : List Member → Name → Option Member
 first_named [] name = None
 first_named (x ∷ xs) name = cond (same_name x.name name) (Some x) (first_named xs name)
 
--- the method that has this name, where exactly one has
+-- the method with this name, if exactly one method has it
 abbrev pub sole_named : List Member → Name → Option Member
 sole_named methods name = cond (count_named methods name == 1) (first_named methods name) None
 
--- the signature polymorphic method of this name, the only one of its name in its class (2.9)
+-- the signature polymorphic method with this name, which is the only method of its class with this name (2.9)
 abbrev pub polymorphic : Name → List Member → Name → Option Member
 polymorphic c methods name = cond (same_name c method_handle) (if_polymorphic (sole_named methods name)) None
 
--- the method that a class itself answers
+-- the method that look-up finds in the class itself: a signature polymorphic one, or one with this name and descriptor
 abbrev pub declared : Name → Stands → Key → Option Member
 declared c r k = option_or (polymorphic c (methods_of r) k.name) (member (methods_of r) k)
 
--- what look-up in a class and its superclasses in turn finds
+-- what look-up finds in a class, and then in its superclasses in turn
 pub data FindsInClasses (m : World) (k : Key) : Name → Option Found → Type 0 where
   own : {c : Name} {x : Member} → declared c (m c) k ≡ Some x → FindsInClasses m k c (Some (record { home = c; member = x }))
   inherited : {c s : Name} {a : Option Found} → declared c (m c) k ≡ None → superclass_of (m c) ≡ Some s
@@ -48,21 +48,21 @@ abbrev pub only_inheritable : Option Member → Option Member
 only_inheritable None = None
 only_inheritable (Some x) = unless_private_or_static x
 
--- the method that an interface gives to what is below it
+-- the method with this name and descriptor that an interface declares, if it is neither PRIVATE nor STATIC
 abbrev pub given_by : Stands → Key → Option Member
 given_by r k = cond (is_interface r) (only_inheritable (member (methods_of r) k)) None
 
--- a superinterface method of a class with this name and descriptor
+-- such a method of a transitive superinterface of the class
 pub record IsCandidate (m : World) (k : Key) (c : Name) (f : Found) : Type 0 where
   pub above : Above m c f.home
   pub given : given_by (m f.home) k ≡ Some f.member
 
--- one that no other candidate stands below
+-- a maximally-specific candidate: no candidate is declared by a subinterface of its interface
 pub record IsMaximal (m : World) (k : Key) (c : Name) (f : Found) : Type 0 where
   pub candidate : IsCandidate m k c f
   pub lowest : (g : Found) → IsCandidate m k c g → Above m g.home f.home → ⊥
 
--- the only maximal one that is not abstract
+-- the only maximally-specific candidate that is not ABSTRACT
 pub record IsOnly (m : World) (k : Key) (c : Name) (f : Found) : Type 0 where
   pub maximal : IsMaximal m k c f
   pub concrete : has f.member.flags abstract ≡ false
@@ -91,7 +91,7 @@ abbrev pub only_open : Option Member → Option Member
 only_open None = None
 only_open (Some x) = if_open x
 
--- the public instance method of java/lang/Object
+-- the method of java/lang/Object with this name and descriptor, if it is PUBLIC and not STATIC
 abbrev pub of_object : Stands → Key → Option Member
 of_object r k = only_open (member (methods_of r) k)
 

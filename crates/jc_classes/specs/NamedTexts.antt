@@ -1,4 +1,4 @@
--- What the text of a Class constant names (JVMS 4.4.1): of an array its descriptor stands there.
+-- What the text of a Class constant names (JVMS 4.4.1): for an array, the text is its descriptor.
 use Rattle.std.specs.Prelude.{ℕ, ◌==◌, List, [], ◌∷◌, length, take, Option, Some, None, if◌then◌else◌}
 use Rattle.jc_classes.specs.Names.{Name}
 use Rattle.jc_classes.specs.Facts.{Named}

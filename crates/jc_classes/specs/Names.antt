@@ -24,19 +24,19 @@ object = codes "java/lang/Object"
 abbrev pub method_handle : Name
 method_handle = codes "java/lang/invoke/MethodHandle"
 
--- of a signature polymorphic method (JVMS 2.9)
+-- the descriptor of a signature polymorphic method (JVMS 2.9)
 abbrev pub polymorphic_descriptor : Name
 polymorphic_descriptor = codes "([Ljava/lang/Object;)Ljava/lang/Object;"
 
--- what stands before the last `/` of the first k bytes
+-- the part before the last `/` of the first k bytes
 unfoldable pub package_to : Name → ℕ → Name
 package_to n zero = []
 package_to n (suc k) = cond (slice_index_or n k 0 == 47) (take k n) (package_to n k)
 
--- what stands before the last `/` (JVMS 5.3)
+-- the package of a class: the part of its name before the last `/` (JVMS 5.3)
 abbrev pub package_of : Name → Name
 package_of n = package_to n (length n)
 
--- the names that are held
+-- vectors of bytes as names
 abbrev pub names_of : List (Vec ℕ Global) → List Name
 names_of vs = map (λ (v : Vec ℕ Global). v.items) vs

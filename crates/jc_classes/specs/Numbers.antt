@@ -6,11 +6,11 @@ use Rattle.jc_classes.specs.Names.{Name}
 abbrev pub name_at : List Name → ℕ → Name
 name_at names i = slice_index_or names i []
 
--- no name stands twice
+-- the names are distinct
 abbrev pub IsOnce : List Name → Type 0
 IsOnce names = (i j : ℕ) → i < length names → j < length names → name_at names i ≡ name_at names j → i ≡ j
 
--- names were added at the end, each of them one of these
+-- `new` is `old` with some of the names of `added` at its end
 pub record Grows (old new added : List Name) : Type 0 where
   pub once : IsOnce new
   pub longer : length old ≤ length new
@@ -18,7 +18,7 @@ pub record Grows (old new added : List Name) : Type 0 where
   pub same : (i : ℕ) → i < length old → name_at new i ≡ name_at old i
   pub only : (i : ℕ) → length old ≤ i → i < length new → Contains added (name_at new i)
 
--- the numbers of these names were added to a list of numbers
+-- the numbers of these names were appended to a list of numbers
 pub record AddsNumbers (old : List Name) (numbers : List ℕ) (new : List Name) (numbers2 : List ℕ) (added : List Name) : Type 0 where
   pub grows : Grows old new added
   pub nodes : All (λ v. v < length new) numbers2

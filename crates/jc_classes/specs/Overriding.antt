@@ -1,4 +1,4 @@
--- Overriding of methods (JVMS 5.4.5), and of FINAL ones, which a virtual machine rejects (JVMS 4.10).
+-- Overriding of methods (JVMS 5.4.5). A virtual machine rejects a class that overrides a FINAL method (JVMS 4.10).
 use Rattle.std.specs.Prelude.{◌≡◌, ◌⊎◌, ◌||◌, ◌&&◌, Bool, true, Option, Some}
 use Rattle.jc_file.specs.AccessFlags.{final, has, protected, public}
 use Rattle.jc_classes.specs.Access.{is_package_private}
@@ -33,7 +33,7 @@ pub record IsFinalAbove (m : World) (k : Key) (c a : Name) : Type 0 where
   pub declared : overridable m k a ≡ Some method
   pub final : has method.flags final ≡ true
 
--- and a is the nearest such superclass
+-- a is the nearest superclass with such a FINAL method
 pub record OverridesFinal (m : World) (k : Key) (c a : Name) : Type 0 where
   pub above : IsFinalAbove m k c a
   pub nearest : (b : Name) → IsFinalAbove m k c b → (b ≡ a) ⊎ IsSuperclass m a b

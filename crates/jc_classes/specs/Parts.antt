@@ -1,4 +1,4 @@
--- What a class reaches, and its part.
+-- The reach of a class, and its part.
 use Rattle.std.specs.Prelude.{◌≡◌, ℕ, Bool, true, false, List, [], ◌∷◌, ◌++◌, Option, Some}
 use Rattle.std.specs.List.{Contains}
 use Rattle.std.specs.Option.{option_to_list}
@@ -16,7 +16,7 @@ use Rattle.jc_classes.specs.Loading.{Loading as loading}
 use Rattle.jc_classes.specs.Resolution.{Answer, ResolvesClass, ResolvesField, ResolvesMethod, ResolvesInterfaceMethod}
 use Rattle.jc_classes.specs.Resolution.Answer.{NotLoaded}
 
--- the name of a class that is named, or of the innermost one of an array
+-- the name of the class that is named; for an array, of its innermost class
 abbrev pub class_of : Named → Option Name
 class_of (Class c) = Some c
 class_of (Array t e) = e
@@ -28,7 +28,8 @@ abbrev pub names_in : List Reference → List Name
 names_in [] = []
 names_in (r ∷ rs) = class_in r.named ++ names_in rs
 
--- the smallest set that holds the class, java/lang/Object and what the class names, and is closed under supertypes
+-- the smallest set that contains the class, java/lang/Object, the classes that its references name, and all their
+-- supertypes
 pub data Reach (m : World) (d : Name) : Name → Type 0 where
   itself : Reach m d d
   always : Reach m d object
@@ -41,32 +42,32 @@ ResolvesOf m d kind.Field r a = ResolvesField m d r.named r.key a
 ResolvesOf m d kind.Method r a = ResolvesMethod m d r.named r.key a
 ResolvesOf m d kind.InterfaceMethod r a = ResolvesInterfaceMethod m d r.named r.key a
 
--- the answer to a reference of a class that loads so
+-- the answer to a reference of a class, by how the class loads
 abbrev pub IsAnswer : World → Name → Loading → Reference → Answer → Type 0
 IsAnswer m d loading.Loaded r a = ResolvesOf m d r.kind r a
 IsAnswer m d loading.Outside r a = a ≡ NotLoaded
 IsAnswer m d (loading.Fails e x) r a = a ≡ NotLoaded
 
--- the answer to each reference, in order
+-- the answers to the references, in their order
 abbrev pub AreAnswers : World → Name → Loading → List Reference → List Answer → Type 0
 AreAnswers m d l [] [] = Unit {0}
 AreAnswers m d l (r ∷ rs) (a ∷ more) = IsAnswer m d l r a × AreAnswers m d l rs more
 AreAnswers m d l [] (a ∷ more) = ⊥
 AreAnswers m d l (r ∷ rs) [] = ⊥
 
--- what is found of a class
+-- what jclink finds out about a class
 pub record Part : Type 0 where
   pub circular : Bool
   pub load : Loading
   pub format_faults : List Fault
   -- each with the number of its method
   pub code_faults : List (ℕ × CodeFault)
-  -- one for each reference, in their order
+  -- one answer for each reference, in the order of the references
   pub answers : List Answer
-  -- of the instructions whose references are answered To
+  -- the instructions that do not link, although their references resolve
   pub links : List LinkFault
 
--- the part of a name, over the whole world
+-- the part of a name in a world
 pub record IsPart (m : World) (d : Name) (p : Part) : Type 0 where
   pub circular : p.circular ≡ true → Above m d d
   pub not_circular : p.circular ≡ false → Above m d d → ⊥

@@ -13,7 +13,7 @@ use Rattle.jc_classes.specs.declared.linkage_error.LinkageError.TheVariants.{Inc
 use Rattle.jc_classes.specs.Access.{CanUse}
 
 pub data Answer : Type 0 where
-  -- a class with its access flags; an array has none
+  -- a class with its access flags; an array has the flags 0
   ToClass : (text : Name) (flags : ℕ) → Answer
   -- the class that declares a member, and the member as it is declared
   ToMember : (home : Name) (found : Member) → Answer
@@ -21,7 +21,7 @@ pub data Answer : Type 0 where
   NotLoaded : Answer
   Error : LinkageError → Name → Answer
 
--- the answer to the class or the array t of these flags, by how its class c loads and whether that is accessible (5.4.3.1)
+-- the answer to the class or array t with these flags, by how its class c loads and whether c is accessible (5.4.3.1)
 abbrev pub class_answer : Name → Name → Loading → Bool → ℕ → Answer
 class_answer t c loading.Loaded sees flags = cond sees (ToClass t flags) (Error IllegalAccess c)
 class_answer t c loading.Outside sees flags = Outside c
@@ -34,7 +34,7 @@ pub data ResolvesClass (m : World) (d : Name) : Named → Answer → Type 0 wher
   array : {t e : Name} {l : Loading} {a : Answer} → Load m e l
       → a ≡ class_answer t e l (can_see d e (m e)) 0 → ResolvesClass m d (Array t (Some e)) a
 
--- where look-up of a member begins, or the answer that there is without one
+-- the class in which look-up of a member begins, or the answer if there is no look-up
 pub data Start : Type 0 where
   At : Name → Start
   Ends : Answer → Start
@@ -44,7 +44,7 @@ object_start loading.Loaded = At object
 object_start loading.Outside = Ends (Outside object)
 object_start (loading.Fails e x) = Ends (Error e x)
 
--- by the answer to what is named, and how java/lang/Object loads
+-- by the answer to what the reference names, and by how java/lang/Object loads
 abbrev pub start_of : Named → Answer → Loading → Start
 start_of (Class c) (ToClass x f) l = At c
 start_of (Class c) (ToMember h x) l = Ends (ToMember h x)
@@ -60,12 +60,12 @@ start_of (Array t n) (Error e x) l = Ends (Error e x)
 pub data Starts (m : World) (d : Name) (t : Named) (s : Start) : Type 0 where
   starts : {a : Answer} {l : Loading} → ResolvesClass m d t a → Load m object l → s ≡ start_of t a l → Starts m d t s
 
--- an outside name above a class
+-- an outside name among the transitive supertypes of a class
 pub record IsOutsideAbove (m : World) (c n : Name) : Type 0 where
   pub above : Above m c n
   pub outside : m n ≡ stands.Outside
 
--- what becomes of what look-up from c found, where t was named
+-- the answer to a reference that names t, by what look-up from c finds
 pub data Settles (m : World) (d : Name) (t : Named) (c : Name) (missing : LinkageError) : Option Found → Answer → Type 0 where
   found : {f : Found} → CanUse m d t f → Settles m d t c missing (Some f) (ToMember f.home f.member)
   hidden : {f : Found} → (CanUse m d t f → ⊥) → Settles m d t c missing (Some f) (Error IllegalAccess f.home)

@@ -1,4 +1,4 @@
--- Which descriptors are resolved with a constant, and the classes in a descriptor (JVMS 5.4.3.3, 5.4.3.5, 5.4.3.6).
+-- The descriptors that are resolved with a constant, and the classes in a descriptor (JVMS 5.4.3.3, 5.4.3.5, 5.4.3.6).
 use Rattle.std.specs.Prelude.{ℕ, Bool, false, List, [], ◌∷◌, ◌++◌, Option, Some, None, option_and_then, if◌then◌else◌}
 use Rattle.std.specs.List.{flat_map}
 use Rattle.std.specs.Option.{option_map, option_map_or, option_to_list}
@@ -20,7 +20,7 @@ descriptor_in c entry = option_map (λ pair. pair.1) (name_and_type_at c entry)
 abbrev pub is_method_handle : ClassFile → (class : ConstantIndex) → Bool
 is_method_handle c class = option_map_or (same_name method_handle) (class_text_at c class) false
 
--- the descriptor of a method type, of a call site, and of a method that may be signature polymorphic
+-- the descriptor of a method type, of a call site, or of a method that may be signature polymorphic
 abbrev pub own_descriptor : ClassFile → pool.Constant → Option ConstantIndex
 own_descriptor c (pool.MethodType descriptor) = Some descriptor
 own_descriptor c (pool.InvokeDynamic bootstrap entry) = descriptor_in c entry
@@ -39,13 +39,13 @@ handle_descriptor c constant = None
 abbrev pub types_in : List ℕ → List (List ℕ)
 types_in text = option_map_or (λ type. type.params ++ option_to_list type.result) (method_type_of text) (text ∷ [])
 
--- the class of a type, or of an array the innermost one
+-- the class of a type; for an array, its innermost class
 abbrev pub class_in_type : List ℕ → List Name
 class_in_type type = option_to_list (class_in_descriptor (without_dimensions type))
 
 abbrev pub classes_in : List ℕ → List Name
 classes_in text = flat_map class_in_type (types_in text)
 
--- those in the descriptor at an index
+-- the classes in the descriptor at an index
 abbrev pub classes_at : ClassFile → ConstantIndex → List Name
 classes_at c index = option_map_or classes_in (utf8_at c index) []

@@ -1,4 +1,4 @@
--- What uses a reference of a class file: the first method whose code does, something else, or nothing.
+-- What uses a reference of a class file: the first method whose code uses it, something else, or nothing.
 use Rattle.std.specs.Prelude.{ℕ, ◌==◌, ◌||◌, Bool, true, false, position, Option, Some, None, option_and_then}
 use Rattle.std.specs.List.{list_any}
 use Rattle.std.specs.Option.{option_map_or}
@@ -10,11 +10,11 @@ use Rattle.jc_classes.specs.declared.user.User.TheVariants as user
 use Rattle.jc_view.specs.Lookups.{owner}
 use Rattle.jc_classes.specs.UsedConstants.{is_among, used_constants}
 
--- whether the constant is a reference to a member, and its class is the constant at i
+-- whether the constant is a reference to a member whose class is the constant at i
 abbrev pub is_owner : ClassFile → ℕ → ConstantIndex → Bool
 is_owner c i member = option_map_or (λ class. class.0 == i) (option_and_then owner (constant_at c member)) false
 
--- whether code that names a constant uses the one at i: the same, or the class of the member that it names
+-- whether code that names a constant uses the constant at i: it is the same constant, or the class of the member
 abbrev pub names_constant : ClassFile → ℕ → ConstantIndex → Bool
 names_constant c i index = (index.0 == i) || is_owner c i index
 
@@ -22,11 +22,11 @@ names_constant c i index = (index.0 == i) || is_owner c i index
 abbrev pub uses_constant : ClassFile → ℕ → Member → Bool
 uses_constant c i m = list_any (names_constant c i) (named_by_method c m)
 
--- the number of the first such method, in file order
+-- the number of the first method, in file order, whose code uses the constant at i
 abbrev pub first_user : ClassFile → ℕ → Option ℕ
 first_user c i = position (uses_constant c i) c.methods
 
--- the method, if one does; else whether something else does
+-- the user of a constant: the first method, if there is one, and else something else or nothing
 abbrev pub user_by : (method : Option ℕ) → (is_used : Bool) → User
 user_by (Some number) is_used = user.Method number
 user_by None true = user.Other

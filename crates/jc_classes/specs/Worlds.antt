@@ -1,4 +1,4 @@
--- Worlds: what stands at each name, and what stands above a name.
+-- Worlds: what each name is, and the transitive supertypes of a name.
 use Rattle.std.specs.Prelude.{◌≡◌, ℕ, Bool, true, false, ◌&&◌, cond, List, [], ◌∷◌, ◌++◌, Option, Some, None}
 use Rattle.std.specs.Option.{option_to_list}
 use Rattle.std.specs.List.{Contains}
@@ -9,13 +9,13 @@ use Rattle.jc_file.specs.AccessFlags.{has, interface}
 use Rattle.jc_classes.specs.Facts.{Facts, Member, Key, Named, Reference}
 use Rattle.jc_classes.specs.Facts.{Named as named}
 
--- what stands at a name: a class, a name that is outside, of which nothing more is known, or nothing
+-- what a name is in a world: a class, an outside name, of which nothing else is known, or nothing
 pub data Stands : Type 0 where
   Class : Facts → Stands
   Outside : Stands
   Nothing : Stands
 
--- what stands at each name
+-- what each name is
 abbrev pub World : Type 0
 World = Name → Stands
 
@@ -66,12 +66,12 @@ flags_of Nothing = 0
 abbrev pub is_interface : Stands → Bool
 is_interface r = has (flags_of r) interface
 
--- what one or more steps to a supertype lead to
+-- a transitive supertype: one or more steps to a direct supertype lead to it
 pub data Above (m : World) (bottom : Name) : Name → Type 0 where
   direct : {n : Name} → Contains (supertypes_of (m bottom)) n → Above m bottom n
   further : {mid n : Name} → Above m bottom mid → Contains (supertypes_of (m mid)) n → Above m bottom n
 
--- the class itself, or one on its chain of superclasses, which ends at a name without a record
+-- the class itself, or one in its chain of superclasses, which ends at a name without a superclass
 pub data Extends (m : World) : Name → Name → Type 0 where
   itself : {n : Name} → Extends m n n
   through : {n s c : Name} → superclass_of (m n) ≡ Some s → Extends m s c → Extends m n c

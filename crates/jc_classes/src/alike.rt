@@ -1,4 +1,4 @@
-//! References that ask for the same. A class file may have thousands of them.
+//! References of a class file that resolve to the same answer. A class file may have thousands of them.
 
 ghost use Rattle.std.specs.Prelude.{length, map, IfOk, IsTrue};
 ghost use Rattle.jc_classes.specs.Facts.{AreAlike, AreNumbers};
@@ -10,10 +10,10 @@ use crate::reference_kind::ReferenceKind;
 use jc_base::NoMemory;
 use std::alloc::Global;
 
-/// With fewer references than these none is looked for that asks for the same.
+/// With fewer references than this, equal references are not looked for.
 const FEW: usize = 256;
 
-/// What a reference asks for, by the numbers of its texts, and its own number.
+/// The kind and the texts of a reference, by their numbers, and the number of the reference.
 #[derive(Clone, Copy, PartialEq, Eq, PartialOrd, Ord)]
 struct Asked {
     kind: ReferenceKind,
@@ -24,8 +24,8 @@ struct Asked {
 }
 
 impl Facts {
-    /// Whether two references ask for the same, told by the constants of their texts: of two whose texts are the
-    /// same and stand in several constants it says no.
+    /// Returns whether two references, given by number, have the same kind, class and key. It compares the numbers of
+    /// their texts, so it returns `false` for equal texts in several constants. Does not allocate.
     pub fn are_alike(&self, one: usize, other: usize) -> bool
         ensures { IsTrue result → AreAlike self.now.references one other }
     {
@@ -36,10 +36,10 @@ impl Facts {
         }
     }
 
-    /// The numbers of the references, those of which it is told that they ask for the same side by side. Where the
-    /// references are few they come in turn.
+    /// Returns the numbers of all references, with equal references next to each other. It compares the numbers of
+    /// their texts, as `are_alike` does. If there are fewer than 256 references, they are in ascending order instead.
     ///
-    /// Answers `NoMemory` only where memory was refused.
+    /// Returns `NoMemory` only when an allocation fails.
     pub fn alike_references(&self, alloc: Global) -> Result<Vec<usize>, NoMemory>
         ensures { IfOk result (λ numbers. AreNumbers (length self.now.references) numbers.items) }
     {
@@ -56,7 +56,7 @@ impl Facts {
     }
 }
 
-/// Whether two references are of one kind and have their texts in the same constants.
+/// Returns whether two references are of one kind and have their texts in the same constants.
 fn ask_alike(one: &ReferenceEntry, other: &ReferenceEntry) -> bool
     ensures { IsTrue result → AskAlike one.now other.now }
 {
@@ -66,7 +66,7 @@ fn ask_alike(one: &ReferenceEntry, other: &ReferenceEntry) -> bool
         && one.descriptor == other.descriptor
 }
 
-/// The numbers below a count.
+/// Returns the numbers below a count.
 fn in_turn(alloc: Global, count: usize) -> Result<Vec<usize>, NoMemory>
     ensures { IfOk result (λ numbers. AreNumbers count numbers.items) }
 {
@@ -77,7 +77,7 @@ fn in_turn(alloc: Global, count: usize) -> Result<Vec<usize>, NoMemory>
     Ok(numbers)
 }
 
-/// What each reference asks for, in the order of that.
+/// Returns the kind and the texts of each reference, sorted.
 fn ask_in_order(alloc: Global, entries: &[ReferenceEntry]) -> Result<Vec<Asked>, NoMemory>
     ensures { IfOk result (λ asked. AreNumbers (length entries.now) (map (λ (a : AskedValue). a.number) asked.items)) }
 {

@@ -1,4 +1,4 @@
-//! The built-in `java/lang/Object`.
+//! The facts of the built-in `java/lang/Object`.
 
 ghost use Rattle.std.specs.Prelude.{◌≡◌, map, IfOk};
 ghost use Rattle.jc_classes.specs.BuiltIn.{object_facts};
@@ -10,7 +10,7 @@ use jc_base::NoMemory;
 use std::alloc::Global;
 use std::rc::Rc;
 
-/// The texts of its name and of its methods' names and descriptors.
+/// The name of the class, and the names and descriptors of its methods.
 const TEXTS: [&[u8]; 19] = [
     b"java/lang/Object",
     b"<init>",
@@ -33,7 +33,7 @@ const TEXTS: [&[u8]; 19] = [
     b"()Ljava/lang/Object;",
 ];
 
-/// Its methods: PUBLIC ones, and two that are PROTECTED.
+/// The methods of the class: PUBLIC ones, and two that are PROTECTED.
 const METHODS: [MemberEntry; 12] = [
     MemberEntry {
         name: 1,
@@ -98,9 +98,9 @@ const METHODS: [MemberEntry; 12] = [
 ];
 
 impl Facts {
-    /// The built-in `java/lang/Object`.
+    /// Returns the facts of the built-in `java/lang/Object`.
     ///
-    /// Answers `NoMemory` only where memory was refused.
+    /// Returns `NoMemory` only when an allocation fails.
     pub fn built_in_object(alloc: Global) -> Result<Facts, NoMemory>
         ensures { IfOk result (λ facts. facts ≡ object_facts) }
     {
@@ -128,7 +128,7 @@ impl Facts {
     }
 }
 
-/// A list of these texts.
+/// Returns a list of these texts.
 fn list_of(alloc: Global, texts: &[&[u8]]) -> Result<TextList, NoMemory>
     ensures { IfOk result (λ list. list ≡ map (λ text. text.now) texts.now) }
 {

@@ -1,4 +1,4 @@
-//! The texts of a class file that linking asks for.
+//! The texts of a class file that linking uses.
 
 ghost use Rattle.std.specs.Prelude.{◌≡◌, ◌<◌, ◌^◌, IfOk, None, length, map, slice_index_or};
 ghost use Rattle.std.specs.List.{All};
@@ -18,13 +18,13 @@ use jc_view::{ClassView, ConstantIndex, Members};
 use std::alloc::Global;
 use std::marker::Model;
 
-/// The texts of a class file that were asked for, each once and under a number of its own; 0 is the
-/// number of the empty text. Seen as the class file and the texts.
+/// The texts of a class file that were looked up, each with its number. The number 0 is that of the empty text. Its
+/// model is the class file and the texts.
 #[derive(Drop)]
 pub(crate) struct ClassTexts<'c, 'a> {
     alloc: Global,
     class: &'c ClassView<'a>,
-    /// The number of each constant's text, by its index, once it was asked for.
+    /// The number of each constant's text, by the constant's index, if the text was looked up.
     numbers: Vec<Option<u16>>,
     texts: TextList,
 }
@@ -40,7 +40,7 @@ impl<'c, 'a> Model for ClassTexts<'c, 'a> {
 }
 
 impl<'c, 'a> ClassTexts<'c, 'a> {
-    /// None but the empty one.
+    /// Returns the list with only the empty text.
     pub(crate) fn new(
         alloc: Global,
         class: &'c ClassView<'a>,
@@ -59,14 +59,15 @@ impl<'c, 'a> ClassTexts<'c, 'a> {
         })
     }
 
-    /// The texts, by their numbers.
+    /// Returns the texts, by their numbers.
     pub(crate) fn into_list(self) -> TextList
         ensures { result ≡ self.entry.texts }
     {
         self.texts.fitted()
     }
 
-    /// The number of the text of an index; that of the empty text where no Utf8 constant has the index.
+    /// Returns the number of the text at an index. It is the number of the empty text if no Utf8 constant has the
+    /// index.
     pub(crate) fn number(&mut self, index: u16) -> Result<u16, NoMemory>
         ensures { IfOk result (TellsText self.old self.new index) }
     {
@@ -82,7 +83,7 @@ impl<'c, 'a> ClassTexts<'c, 'a> {
         Ok(number)
     }
 
-    /// The number of the text of an index, where there is one.
+    /// Returns the number of the text at an index, if there is an index.
     pub(crate) fn number_of_some(&mut self, index: Option<u16>) -> Result<Option<u16>, NoMemory>
         ensures { IfOk result (TellsSome self.old self.new index) }
     {
@@ -92,7 +93,7 @@ impl<'c, 'a> ClassTexts<'c, 'a> {
         }
     }
 
-    /// The numbers of the names of the direct superinterfaces.
+    /// Returns the numbers of the names of the direct superinterfaces.
     pub(crate) fn interfaces(&mut self) -> Result<Vec<u16>, NoMemory>
         ensures { IfOk result (λ names. Tells self.old self.new
             (λ texts. map (text_at texts) names.items ≡ interfaces_in self.old.class)) }
@@ -107,7 +108,7 @@ impl<'c, 'a> ClassTexts<'c, 'a> {
         Ok(names)
     }
 
-    /// Fields or methods, by the numbers of their texts.
+    /// Returns fields or methods, by the numbers of their texts.
     pub(crate) fn members(&mut self, members: Members) -> Result<Vec<MemberEntry>, NoMemory>
         requires { members.class ≡ self.old.class }
         ensures { IfOk result (λ entries. TellsMembers self.old self.new members.entry.left entries.items) }
@@ -122,7 +123,7 @@ impl<'c, 'a> ClassTexts<'c, 'a> {
         Ok(entries)
     }
 
-    /// The numbers of members in the order by which they are found.
+    /// Returns the numbers of members in the order in which they are searched.
     pub(crate) fn order(&self, members: &[MemberEntry]) -> Result<Vec<u16>, NoMemory>
         requires few { length members.now < 2 ^ 16 }
         requires below { AreBelow (length self.now.texts) members.now }
@@ -131,7 +132,7 @@ impl<'c, 'a> ClassTexts<'c, 'a> {
         order_members(self.alloc, &self.texts, members)
     }
 
-    /// The numbers of each name where it stands first.
+    /// Returns the numbers of the names, each once, where it occurs first.
     pub(crate) fn once(&self, names: Vec<u16>) -> Result<Vec<u16>, NoMemory>
         requires { All (λ name. name < length self.now.texts) names.items }
         ensures below { IfOk result (λ kept. All (λ name. name < length self.now.texts) kept.items) }
@@ -140,7 +141,7 @@ impl<'c, 'a> ClassTexts<'c, 'a> {
         once(self.alloc, &self.texts, names)
     }
 
-    /// A member by the numbers of its texts, from one by indexes, where there is one.
+    /// Returns a member by the numbers of its texts, for a member by indexes, if there is one.
     fn member(&mut self, entry: Option<MemberEntry>) -> Result<Option<MemberEntry>, NoMemory>
         ensures { IfOk result (TellsMember self.old self.new entry) }
     {
@@ -156,7 +157,7 @@ impl<'c, 'a> ClassTexts<'c, 'a> {
         }))
     }
 
-    /// The references, by rising index.
+    /// Returns the references, in ascending order of index.
     pub(crate) fn references(&mut self) -> Result<Vec<ReferenceEntry>, NoMemory>
         ensures { IfOk result (λ entries. Tells self.old self.new
             (λ texts. map (reference_shown texts) entries.items ≡ references_in self.old.class)) }
@@ -172,7 +173,7 @@ impl<'c, 'a> ClassTexts<'c, 'a> {
         Ok(entries)
     }
 
-    /// A reference by the numbers of its texts, from one by indexes, where there is one.
+    /// Returns a reference by the numbers of its texts, for a reference by indexes, if there is one.
     fn reference(
         &mut self,
         entry: Option<ReferenceEntry>,
@@ -195,7 +196,7 @@ impl<'c, 'a> ClassTexts<'c, 'a> {
     }
 }
 
-/// The number that an index has.
+/// Returns the number that an index has.
 fn known(numbers: &[Option<u16>], index: u16) -> Option<u16>
     ensures { result ≡ slice_index_or numbers.now index None }
 {

@@ -19,9 +19,9 @@ use jc_base::{ByteMap, MethodDesc, NoMemory};
 use jc_view::{ClassView, ConstantIndex};
 use std::alloc::Global;
 
-/// Adds the Class constants whose classes, or of arrays the innermost ones, are in descriptors that code resolves.
-/// `handles` has what method handles name, and `marks` the constants that code names. Each text is read once, however many
-/// constants name it.
+/// Adds the Class constants whose classes are in descriptors that code resolves. The class of an array is its innermost
+/// class. `handles` has the constants that method handles name, and `marks` marks the named constants. Each text is
+/// read once, even if several constants name it.
 ///
 /// Returns `NoMemory` only when an allocation fails.
 pub(crate) fn add_resolved_classes(
@@ -107,7 +107,7 @@ fn add_classes_in(alloc: Global, found: &mut ByteMap<()>, text: &[u8]) -> Result
     }
 }
 
-/// Adds the class of a type, or of an array the innermost one.
+/// Adds the class of a type; for an array, its innermost class.
 fn add_class_in(alloc: Global, found: &mut ByteMap<()>, text: &[u8]) -> Result<(), NoMemory>
     ensures { OnOk result (Adds (class_in_type text.now) found.old found.new) }
 {
@@ -128,7 +128,7 @@ fn add(alloc: Global, found: &mut ByteMap<()>, name: &[u8]) -> Result<(), NoMemo
     Ok(())
 }
 
-/// Adds the Class constants whose classes, or of arrays the innermost ones, are among these. Each text is read once.
+/// Adds the Class constants whose classes are in `found`; for an array, its innermost class. Each text is read once.
 fn add_classes_found(
     alloc: Global,
     names: &mut Vec<ConstantIndex>,
@@ -144,7 +144,7 @@ fn add_classes_found(
     Ok(())
 }
 
-/// Returns `index` if the constant there is a Class whose class, or of an array the innermost one, is among these.
+/// Returns `index` if the constant there is a Class whose class is in `found`; for an array, its innermost class.
 fn class_if_found(
     class: &ClassView,
     found: &ByteMap<()>,
@@ -163,7 +163,7 @@ fn class_if_found(
     }
 }
 
-/// Returns whether the text at `index` names one of these classes, or an array of one, and notes it.
+/// Returns whether the text at `index` names a class in `found` or an array of one, and notes the result.
 fn names_once(
     class: &ClassView,
     found: &ByteMap<()>,
@@ -182,7 +182,7 @@ fn names_once(
     names
 }
 
-/// Returns whether the text at `index` names one of these classes, or an array of one.
+/// Returns whether the text at `index` names a class in `found`, or an array of one.
 fn names_one(class: &ClassView, found: &ByteMap<()>, index: ConstantIndex) -> bool
     ensures { result ≡ names_one (map.contains_key found.now) (utf8_at class.now index) }
 {
@@ -192,14 +192,14 @@ fn names_one(class: &ClassView, found: &ByteMap<()>, index: ConstantIndex) -> bo
     }
 }
 
-/// Returns what is known at an index.
+/// Returns the known result at an index.
 fn known_at(known: &[Option<bool>], index: ConstantIndex) -> Option<bool>
     ensures { result ≡ slice_index_or known.now index.0 None }
 {
     *known.get(index.0 as usize)?
 }
 
-/// Notes what is known at an index.
+/// Notes a result at an index.
 fn note(known: &mut Vec<Option<bool>>, index: ConstantIndex, names: bool)
     ensures { known.new.items ≡ slice_set known.old.items index.0 (Some names) }
 {
@@ -209,7 +209,7 @@ fn note(known: &mut Vec<Option<bool>>, index: ConstantIndex, names: bool)
     }
 }
 
-/// Returns whether the text of a Class constant names one of these classes, or an array of one.
+/// Returns whether the text of a Class constant names a class in `found`, or an array of one.
 fn names_found(found: &ByteMap<()>, text: &[u8]) -> bool
     ensures { result ≡ names_one (map.contains_key found.now) (Some text.now) }
 {

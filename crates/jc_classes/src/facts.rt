@@ -1,4 +1,4 @@
-//! What linking keeps of a class file.
+//! The facts of a class file.
 
 ghost use Rattle.std.specs.Prelude.{◌≡◌, [], length, option_map, slice_get, IfOk};
 ghost use Rattle.std.specs.Option.{option_copied};
@@ -21,12 +21,12 @@ use std::alloc::Global;
 use std::marker::Model;
 use std::rc::Rc;
 
-/// What linking keeps of a class file: its names and flags, what it declares and refers to, and its
-/// faults. A file with a format fault keeps no supertypes, members, references, uses and code faults.
+/// The facts of a class file: its names and flags, the members that it declares, its references and its faults. A file
+/// with a format fault keeps only its path, name, flags and format faults.
 #[derive(Drop)]
 pub struct Facts {
     pub(crate) path: Vec<u8>,
-    /// The texts of names and descriptors, by their numbers, shared with the references that are handed out.
+    /// The texts of names and descriptors, by their numbers, shared with the references that are lent.
     pub(crate) texts: Rc<TextList>,
     pub(crate) name: u16,
     pub(crate) flags: u16,
@@ -34,7 +34,7 @@ pub struct Facts {
     pub(crate) interfaces: Vec<u16>,
     pub(crate) fields: Vec<MemberEntry>,
     pub(crate) methods: Vec<MemberEntry>,
-    /// The numbers of the fields and of the methods, in the order by which they are found.
+    /// The numbers of the fields and of the methods, in the order in which they are searched.
     pub(crate) field_order: Vec<u16>,
     pub(crate) method_order: Vec<u16>,
     pub(crate) references: Rc<Vec<ReferenceEntry>>,
@@ -47,14 +47,14 @@ pub struct Facts {
 /// The faults of a class file.
 #[derive(Drop)]
 pub struct Faults {
-    /// Those of its format, by rule and then by place.
+    /// The format faults, by rule and then by place.
     pub format: Vec<Fault>,
-    /// Those of its methods' code, each with the number of the method.
+    /// The faults of methods' code, each with the number of the method.
     pub code: Vec<(usize, CodeFault)>,
 }
 
-/// A field or a method, by the numbers of its texts: first those of their constants, and then their own
-/// among the texts that are kept.
+/// A field or a method, by the numbers of its texts. They are first the indexes of the constants, and later the numbers
+/// of the texts that are kept.
 #[derive(Clone, Copy)]
 pub(crate) struct MemberEntry {
     pub(crate) name: u16,
@@ -62,8 +62,8 @@ pub(crate) struct MemberEntry {
     pub(crate) flags: u16,
 }
 
-/// A reference, by the numbers of its texts in the same way. A reference to a class has the empty text for
-/// name and descriptor.
+/// A reference, by the numbers of its texts, which have the same two meanings as in a `MemberEntry`. A reference to a
+/// class has the empty text as name and as descriptor.
 #[derive(Clone, Copy, PartialEq, Eq)]
 pub(crate) struct ReferenceEntry {
     pub(crate) index: u16,
@@ -74,7 +74,7 @@ pub(crate) struct ReferenceEntry {
 }
 
 impl Faults {
-    /// These faults, to be shared.
+    /// Returns these faults, for sharing.
     pub(crate) fn shared(
         alloc: Global,
         format: Vec<Fault>,
@@ -87,7 +87,7 @@ impl Faults {
     }
 }
 
-/// Returns no references, to be shared.
+/// Returns an empty list of references, for sharing.
 pub(crate) fn no_references(alloc: Global) -> Result<Rc<Vec<ReferenceEntry>>, NoMemory>
     ensures { IfOk result (λ references. references.value.items ≡ []) }
 {
@@ -108,49 +108,49 @@ impl Model for Facts {
 }
 
 impl Facts {
-    /// The path of the file; empty for the built-in `java/lang/Object`.
+    /// Returns the path of the file; it is empty for the built-in `java/lang/Object`.
     pub fn path(&self) -> &[u8]
         ensures { result.now ≡ self.now.path }
     {
         self.path.as_slice()
     }
 
-    /// The name of the class.
+    /// Returns the name of the class.
     pub fn name(&self) -> &[u8]
         ensures { result.now ≡ self.now.name }
     {
         self.texts.as_ref().text(self.name as usize)
     }
 
-    /// Its access flags (JVMS 4.1, table 4.1-B).
+    /// Returns the access flags of the class (JVMS 4.1, table 4.1-B).
     pub fn flags(&self) -> u16
         ensures { result ≡ self.now.flags }
     {
         self.flags
     }
 
-    /// Whether it has a format fault.
+    /// Returns whether the file has a format fault.
     pub fn is_faulty(&self) -> bool
         ensures { result ≡ is_faulty self.now }
     {
         !self.format_faults().is_empty()
     }
 
-    /// Its format faults, by rule and then by place.
+    /// Returns the format faults, by rule and then by place.
     pub fn format_faults(&self) -> &[Fault]
         ensures { result.now ≡ self.now.format_faults }
     {
         self.faults.as_ref().format.as_slice()
     }
 
-    /// The faults of its methods' code, each with the number of the method.
+    /// Returns the faults of the methods' code, each with the number of the method.
     pub fn code_faults(&self) -> &[(usize, CodeFault)]
         ensures { result.now ≡ self.now.code_faults }
     {
         self.faults.as_ref().code.as_slice()
     }
 
-    /// The name of its superclass.
+    /// Returns the name of the superclass. `java/lang/Object` and a file with a format fault have none.
     pub fn superclass(&self) -> Option<&[u8]>
         ensures { option_copied result ≡ self.now.superclass }
     {
@@ -160,7 +160,7 @@ impl Facts {
         }
     }
 
-    /// The name of the direct superinterface of a number.
+    /// Returns the name of the direct superinterface of a number. Each name is listed once, in file order.
     pub fn interface(&self, number: usize) -> Option<&[u8]>
         ensures { option_copied result ≡ slice_get self.now.interfaces number }
     {
@@ -170,14 +170,14 @@ impl Facts {
         }
     }
 
-    /// How many direct superinterfaces it has.
+    /// Returns the number of direct superinterfaces.
     pub fn interface_count(&self) -> usize
         ensures { result ≡ length self.now.interfaces }
     {
         self.interfaces.len()
     }
 
-    /// The field of a number, in file order.
+    /// Returns the field of a number, in file order.
     pub fn own_field(&self, number: usize) -> Option<Member<'_>>
         ensures { option_map member_lent result ≡ slice_get self.now.fields number }
     {
@@ -187,22 +187,21 @@ impl Facts {
         }
     }
 
-    /// How many fields it declares.
+    /// Returns the number of fields that the class declares.
     pub fn field_count(&self) -> usize
         ensures { result ≡ length self.now.fields }
     {
         self.fields.len()
     }
 
-    /// The numbers of its fields by name, then by descriptor, and of several with both the same as in the
-    /// file.
+    /// Returns the numbers of the fields, sorted by name and then by descriptor. Ties keep file order.
     pub fn field_order(&self) -> &[u16]
         ensures { IsOrder self.now.fields result.now }
     {
         self.field_order.as_slice()
     }
 
-    /// The method of a number, in file order.
+    /// Returns the method of a number, in file order.
     pub fn own_method(&self, number: usize) -> Option<Member<'_>>
         ensures { option_map member_lent result ≡ slice_get self.now.methods number }
     {
@@ -212,21 +211,21 @@ impl Facts {
         }
     }
 
-    /// How many methods it declares.
+    /// Returns the number of methods that the class declares.
     pub fn method_count(&self) -> usize
         ensures { result ≡ length self.now.methods }
     {
         self.methods.len()
     }
 
-    /// The numbers of its methods in the same order.
+    /// Returns the numbers of the methods, sorted by name and then by descriptor. Ties keep file order.
     pub fn method_order(&self) -> &[u16]
         ensures { IsOrder self.now.methods result.now }
     {
         self.method_order.as_slice()
     }
 
-    /// The reference of a number, by rising index of its constant.
+    /// Returns the reference of a number. References are numbered in ascending order of the indexes of their constants.
     pub fn reference(&self, number: usize) -> Option<Reference<'_>>
         ensures { option_map reference_lent result ≡ slice_get self.now.references number }
     {
@@ -236,32 +235,34 @@ impl Facts {
         }
     }
 
-    /// How many references it has.
+    /// Returns the number of references.
     pub fn reference_count(&self) -> usize
         ensures { result ≡ length self.now.references }
     {
         self.references.as_ref().len()
     }
 
-    /// What the instructions of its methods do with its references, by method, then by offset: of those methods
-    /// that have exactly one well-formed `Code` and no fault of it.
+    /// Returns the uses of references by instructions, by method and then by offset. Only methods with exactly one
+    /// well-formed `Code` that has no fault have uses here.
     pub fn uses(&self) -> &[MethodUse]
         ensures { result.now ≡ self.now.uses }
     {
         self.uses.as_slice()
     }
 
-    /// Returns what uses the reference of a number: the first method whose code does, something else, or nothing. Code
-    /// uses a reference if one of its instructions or exception handlers names the reference, or a reference to a member
-    /// of the class that the reference names. A method handle, an argument of a bootstrap method and a descriptor that
-    /// code resolves also use references (JVMS 5.4.3.3, 5.4.3.5, 5.4.3.6). Does not allocate.
+    /// Returns what uses the reference of a number: the first method whose code uses it, something else, or nothing.
+    /// Does not allocate.
+    ///
+    /// Code uses a reference if an instruction or an exception handler names it. Code uses a reference to a class also
+    /// if it names a reference to a member of this class. Method handles, arguments of bootstrap methods, and
+    /// descriptors that code resolves also use references (JVMS 5.4.3.3, 5.4.3.5, 5.4.3.6).
     pub fn user(&self, number: usize) -> Option<User>
         ensures { result ≡ slice_get self.now.users number }
     {
         self.users.get(number).copied()
     }
 
-    /// The references are in ascending order of index, and the uses in that of method and offset. Does nothing.
+    /// Has no effect. Its contract says that references are sorted by index, and uses by method and then by offset.
     pub fn are_in_order(&self)
         ensures references { AreByIndex self.now.references }
         ensures uses { AreByPlace self.now.uses }
@@ -269,9 +270,9 @@ impl Facts {
         let _uses = self.uses.as_slice();
     }
 
-    /// Its references, which share their texts with it, so that they may outlive it.
+    /// Returns the references. They share their texts with the facts, and may outlive them.
     ///
-    /// Answers `NoMemory` only where they are shared as often as can be counted.
+    /// Returns `NoMemory` only when the count of owners would overflow.
     pub fn shared_references(&self) -> Result<References, NoMemory>
         ensures { IfOk result (λ references. references ≡ self.now.references) }
     {
@@ -281,9 +282,9 @@ impl Facts {
         })
     }
 
-    /// Its faults, shared with it.
+    /// Returns the faults, shared with the facts.
     ///
-    /// Answers `NoMemory` only where they are shared as often as can be counted.
+    /// Returns `NoMemory` only when the count of owners would overflow.
     pub fn shared_faults(&self) -> Result<Rc<Faults>, NoMemory>
         ensures format { IfOk result (λ faults. faults.value.format.items ≡ self.now.format_faults) }
         ensures code { IfOk result (λ faults. faults.value.code.items ≡ self.now.code_faults) }
@@ -293,7 +294,7 @@ impl Facts {
 }
 
 impl ReferenceEntry {
-    /// The reference, with its texts.
+    /// Returns the reference with its texts.
     pub(crate) fn lend(self, texts: &TextList) -> Reference<'_>
         ensures { reference_lent result ≡ reference_shown texts.now self }
     {

@@ -16,7 +16,7 @@ use std::alloc::Global;
 #[derive(Drop)]
 pub(crate) struct FirstUsers {
     pub(crate) numbers: Vec<Option<u16>>,
-    /// Whether code that was added names each constant. What a constant uses then has a number.
+    /// Whether code that was added names each constant. The constants that it uses then have numbers.
     pub(crate) seen: Vec<bool>,
 }
 
@@ -62,7 +62,7 @@ impl FirstUsers {
     }
 }
 
-/// Returns the number of the constant at `index`, if it has one.
+/// Returns the number of the method at `index`, if there is one.
 pub(crate) fn first_at(numbers: &[Option<u16>], index: u16) -> Option<u16>
     ensures { result ≡ first_at numbers.now index }
 {
@@ -72,7 +72,7 @@ pub(crate) fn first_at(numbers: &[Option<u16>], index: u16) -> Option<u16>
     }
 }
 
-/// Gives the constant at `index` a number, if it has none.
+/// Sets the number of the constant at `index`, if it has none.
 fn set_first(numbers: &mut Vec<Option<u16>>, index: ConstantIndex, method: u16)
     ensures { SetsFirst (λ i. index.0 == i) method numbers.old.items numbers.new.items }
 {

@@ -1,32 +1,32 @@
-//! Laws over the definitions alone.
+//! Laws about the definitions only.
 ghost use Rattle.jc_classes.specs.Laws.{PartIsOne, Locality, AffectedByEither};
 ghost use Rattle.jc_classes.specs.LinkLaws.{LinksAreExact, LinksAreInOrder, NoLinksUnlessLoaded};
 ghost use Rattle.jc_classes.specs.UserLaws.{UsersAreUsed};
 
-/// A class has at most one part.
+/// A law: a class has at most one part.
 pub fn part_is_one()
     ensures { PartIsOne }
 {}
 
-/// Where the reach of a class holds no touched name, its reach and its part stay as they are.
+/// A law: if the reach of a class has no touched name, an edit changes neither its reach nor its part.
 pub fn locality()
     ensures { Locality }
 {}
 
-/// A class whose reach holds a touched name before an edit has one in its reach after it.
+/// A law: if the reach of a class has a touched name before an edit, it has one after the edit.
 pub fn affected_by_either()
     ensures { AffectedByEither }
 {}
 
-/// The errors of a class's instructions are those of the instructions that do not link, by method and then by offset,
-/// each once. A class that does not load has none.
+/// A law: the errors of a class's instructions are those of the instructions that do not link. They are sorted by
+/// method and then by offset, each once. A class that does not load has none.
 pub fn links_are_exact()
     ensures exact { LinksAreExact }
     ensures rising { LinksAreInOrder }
     ensures unless_loaded { NoLinksUnlessLoaded }
 {}
 
-/// Nothing uses a constant exactly if it is not among those that are used.
+/// A law: a constant has no user if and only if it is not used.
 pub fn users_are_used()
     ensures { UsersAreUsed }
 {}

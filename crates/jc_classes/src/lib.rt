@@ -1,5 +1,11 @@
-//! What linking keeps of a class file, and names by number; and the definitions of loading, resolution, access and
-//! the errors of instructions (JVMS 5.3.5, 5.4.3, 5.4.4, 6.5), with the laws over them.
+//! The facts of class files, and the definitions of linking.
+//!
+//! `Facts` has the data of a class file that linking uses: its names, flags, members, references and faults.
+//! `References` are shared parts of it. `Numbers` numbers distinct names. `TextList` keeps many texts in one buffer.
+//!
+//! The contracts say that `Facts` are those of the class file, and that look-up in one class finds the right members.
+//! `specs/` defines loading, access, resolution, errors of instructions and errors of inheritance (JVMS 4.10, 5.3.5,
+//! 5.4.3, 5.4.4, 6.5). The functions of `laws` state what follows from these definitions.
 #![tactic(auto)]
 
 mod alike;

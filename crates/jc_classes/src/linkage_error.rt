@@ -3,7 +3,7 @@
 ghost use Rattle.std.specs.Prelude.{◌≡◌};
 ghost use Rattle.jc_classes.specs.LinkageErrors.{error_code, error_name};
 
-/// Why a class does not load, a reference has no class, field or method, or an instruction does not link.
+/// An error of linkage: why a class does not load, a reference does not resolve, or an instruction does not link.
 #[derive(Clone, Copy)]
 pub enum LinkageError {
     /// No class has the name (`NoClassDefFoundError`, JVMS 5.3).
@@ -12,23 +12,22 @@ pub enum LinkageError {
     Format,
     /// The class is its own superclass or superinterface (`ClassCircularityError`, JVMS 5.3.5).
     Circular,
-    /// A class where an interface is wanted, or the other way round (`IncompatibleClassChangeError`,
-    /// JVMS 5.3.5, 5.4.3.3, 5.4.3.4); a static member where one of an instance is wanted, or the other way round
-    /// (JVMS 6.5).
+    /// A class where an interface is required, or the reverse (`IncompatibleClassChangeError`, JVMS 5.3.5, 5.4.3.3,
+    /// 5.4.3.4). Also a STATIC member where an instance member is required, or the reverse (JVMS 6.5).
     Incompatible,
-    /// The class or the member is not accessible (`IllegalAccessError`, JVMS 5.4.4), or the field is final (JVMS
-    /// 6.5).
+    /// The class or the member is not accessible (`IllegalAccessError`, JVMS 5.4.4). Also a store into a FINAL field
+    /// from outside its class or its initializer (JVMS 6.5).
     IllegalAccess,
     /// Look-up finds no field (`NoSuchFieldError`, JVMS 5.4.3.2).
     NoField,
     /// Look-up finds no method (`NoSuchMethodError`, JVMS 5.4.3.3, 5.4.3.4, 6.5).
     NoMethod,
-    /// The class is an interface or abstract, and `new` names it (`InstantiationError`, JVMS 6.5).
+    /// The class is an interface or ABSTRACT, and `new` names it (`InstantiationError`, JVMS 6.5).
     Instantiation,
 }
 
 impl LinkageError {
-    /// Its number in the report.
+    /// Returns its number in the report.
     pub fn code(self) -> u8
         ensures { result ≡ error_code self }
     {
@@ -44,7 +43,7 @@ impl LinkageError {
         }
     }
 
-    /// Its name in the report.
+    /// Returns its name in the report.
     pub fn name(self) -> &'static str
         ensures { result.now ≡ error_name self }
     {

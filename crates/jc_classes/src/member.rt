@@ -11,14 +11,14 @@ ghost use Rattle.jc_classes.specs.Lent.{key_lent, member_lent};
 use crate::names::same;
 use jc_file::AccessFlag;
 
-/// What a reference to a member asks for.
+/// The name and the descriptor of a member.
 #[derive(Clone, Copy)]
 pub struct Key<'a> {
     pub name: &'a [u8],
     pub descriptor: &'a [u8],
 }
 
-/// A field or a method.
+/// A field or a method, with its access flags.
 #[derive(Clone, Copy)]
 pub struct Member<'a> {
     pub name: &'a [u8],
@@ -27,21 +27,21 @@ pub struct Member<'a> {
 }
 
 impl<'a> Member<'a> {
-    /// Whether it has a flag.
+    /// Returns whether the member has an access flag.
     pub fn has(self, flag: AccessFlag) -> bool
         ensures { result ≡ has self.entry.flags (mask_of flag) }
     {
         flag.is_in(self.flags)
     }
 
-    /// Whether it has the name and the descriptor.
+    /// Returns whether the member has this name and descriptor.
     pub fn is_at(self, key: Key) -> bool
         ensures { result ≡ is_at (key_lent key.entry) (member_lent self.entry) }
     {
         same(self.name, key.name) && same(self.descriptor, key.descriptor)
     }
 
-    /// Whether it has the name and the descriptor of `clone` of `java/lang/Object`.
+    /// Returns whether the member has the name and the descriptor of `clone` of `java/lang/Object`.
     pub fn is_clone(self) -> bool
         ensures { result ≡ (same_name self.entry.name.now (codes "clone")
             && same_name self.entry.descriptor.now (codes "()Ljava/lang/Object;")) }
@@ -49,7 +49,7 @@ impl<'a> Member<'a> {
         same(self.name, b"clone") && same(self.descriptor, b"()Ljava/lang/Object;")
     }
 
-    /// Whether it has the descriptor and the flags of a signature polymorphic method (JVMS 2.9).
+    /// Returns whether the member has the descriptor and the flags of a signature polymorphic method (JVMS 2.9).
     pub fn is_polymorphic(self) -> bool
         ensures { result ≡ is_polymorphic (member_lent self.entry) }
     {
@@ -58,7 +58,7 @@ impl<'a> Member<'a> {
             && self.has(AccessFlag::Native)
     }
 
-    /// Whether it is neither PUBLIC, PROTECTED nor PRIVATE.
+    /// Returns whether the member is package-private: not PUBLIC, PROTECTED or PRIVATE.
     pub fn is_package_private(self) -> bool
         ensures { result ≡ is_package_private (member_lent self.entry) }
     {

@@ -18,11 +18,12 @@ use crate::text_list::TextList;
 use jc_file::AccessFlag;
 use std::cmp::Ordering;
 
-/// Of fewer members than these one after another is looked at.
+/// Fewer members than this are searched one after another.
 const FEW: usize = 16;
 
 impl Facts {
-    /// Its own field with a name and a descriptor.
+    /// Returns the field with this name and descriptor that the class declares. If there are several, it is the first
+    /// in the file. Does not allocate.
     pub fn field(&self, key: Key) -> Option<Member<'_>>
         ensures { option_map member_lent result ≡ member self.now.fields (key_lent key.entry) }
     {
@@ -34,21 +35,23 @@ impl Facts {
         fields.find(key)
     }
 
-    /// Its own method with a name and a descriptor.
+    /// Returns the method with this name and descriptor that the class declares. If there are several, it is the first
+    /// in the file. Does not allocate.
     pub fn method(&self, key: Key) -> Option<Member<'_>>
         ensures { option_map member_lent result ≡ member self.now.methods (key_lent key.entry) }
     {
         self.ordered_methods().find(key)
     }
 
-    /// The method of its own that has a name, where exactly one has, whatever the descriptor.
+    /// Returns the method with this name that the class declares, if exactly one method has the name. Does not
+    /// allocate.
     pub fn sole_named(&self, name: &[u8]) -> Option<Member<'_>>
         ensures { option_map member_lent result ≡ sole_named self.now.methods name.now }
     {
         self.ordered_methods().sole_named(name)
     }
 
-    /// Its methods, with their order.
+    /// Returns the methods, with the order in which they are searched.
     fn ordered_methods(&self) -> OrderedMembers<'_>
         ensures methods { shown result ≡ self.now.methods }
         ensures order { IsOrder self.now.methods result.order.now }
@@ -60,8 +63,8 @@ impl Facts {
         }
     }
 
-    /// The method that it gives to what is below it, if it is an interface: one that is neither PRIVATE
-    /// nor STATIC.
+    /// Returns the method with this name and descriptor that an interface declares, if it is neither PRIVATE nor
+    /// STATIC. A class that is no interface has none.
     pub fn given(&self, key: Key) -> Option<Member<'_>>
         ensures { option_map member_lent result ≡ given_by (stands.Class self.now) (key_lent key.entry) }
     {
@@ -82,7 +85,7 @@ impl Facts {
 }
 
 impl MemberEntry {
-    /// The member, with its texts.
+    /// Returns the member with its texts.
     pub(crate) fn lend(self, texts: &TextList) -> Member<'_>
         ensures { member_lent result ≡ member_shown texts.now self }
     {
@@ -95,7 +98,7 @@ impl MemberEntry {
 }
 
 impl MemberEntry {
-    /// Whether it has the name and the descriptor. Of most members the name tells.
+    /// Returns whether the member has this name and descriptor. For most members the name decides.
     fn is_at(self, texts: &TextList, key: Key) -> bool
         ensures { result ≡ is_at (key_lent key.entry) (member_shown texts.now self) }
     {
@@ -103,7 +106,7 @@ impl MemberEntry {
             && same(texts.text(self.descriptor as usize), key.descriptor)
     }
 
-    /// Whether it stands before a key: by name, then by descriptor.
+    /// Returns whether the member is less than a key: by name, then by descriptor.
     fn is_before(self, texts: &TextList, key: Key) -> bool
         ensures { result ≡ is_lt (key_cmp (key_of (member_shown texts.now self)) (key_lent key.entry)) }
     {
@@ -115,7 +118,7 @@ impl MemberEntry {
     }
 }
 
-/// Fields or methods, with the order by which they are found.
+/// Fields or methods, with the order in which they are searched.
 #[derive(Clone, Copy)]
 struct OrderedMembers<'a> {
     texts: &'a TextList,
@@ -124,7 +127,7 @@ struct OrderedMembers<'a> {
 }
 
 impl<'a> OrderedMembers<'a> {
-    /// The first in the file that has a name and a descriptor.
+    /// Returns the first member in the file with this name and descriptor.
     fn find(self, key: Key) -> Option<Member<'a>>
         requires { IsOrder (shown self) self.order.now }
         ensures { option_map member_lent result ≡ member (shown self.entry) (key_lent key.entry) }
@@ -136,7 +139,7 @@ impl<'a> OrderedMembers<'a> {
         }
     }
 
-    /// The same, looking at one after another.
+    /// Finds the member with a linear search.
     fn find_in_turn(self, key: Key) -> Option<Member<'a>>
         ensures { option_map member_lent result ≡ member (shown self.entry) (key_lent key.entry) }
     {
@@ -148,7 +151,7 @@ impl<'a> OrderedMembers<'a> {
         None
     }
 
-    /// The same, by the order.
+    /// Finds the member with a binary search.
     fn find_in_order(self, key: Key) -> Option<Member<'a>>
         requires { IsOrder (shown self) self.order.now }
         ensures { option_map member_lent result ≡ member (shown self.entry) (key_lent key.entry) }
@@ -161,7 +164,8 @@ impl<'a> OrderedMembers<'a> {
         }
     }
 
-    /// The one that has a name, where exactly one has. Those of a name stand together.
+    /// Returns the member with this name, if exactly one has it. Members with one name are next to each other in the
+    /// order.
     fn sole_named(self, name: &[u8]) -> Option<Member<'a>>
         requires { IsOrder (shown self) self.order.now }
         ensures { option_map member_lent result ≡ sole_named (shown self.entry) name.now }
@@ -178,7 +182,7 @@ impl<'a> OrderedMembers<'a> {
         }
     }
 
-    /// The one at a place of the order, if it has a name.
+    /// Returns the member at a place in the order, if it has this name.
     fn named(self, place: usize, name: &[u8]) -> Option<Member<'a>>
         requires { IsOrder (shown self) self.order.now }
         ensures { option_map member_lent result ≡ named_there (shown self.entry) self.entry.order.now place name.now }
@@ -191,7 +195,7 @@ impl<'a> OrderedMembers<'a> {
         }
     }
 
-    /// The one at a place of the order.
+    /// Returns the member at a place in the order.
     fn member(self, place: usize) -> Option<Member<'a>>
         requires { IsOrder (shown self) self.order.now }
         ensures { option_map member_lent result ≡ member_there (shown self.entry) self.entry.order.now place }
@@ -200,7 +204,7 @@ impl<'a> OrderedMembers<'a> {
         Some(self.members[number as usize].lend(self.texts))
     }
 
-    /// How many stand before a key.
+    /// Returns the number of members that are less than a key.
     fn place(self, key: Key) -> usize
         requires { IsOrder (shown self) self.order.now }
         ensures { IsPlace (shown self.entry) self.entry.order.now (key_lent key.entry) result }

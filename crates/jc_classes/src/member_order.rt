@@ -1,5 +1,5 @@
-//! The order by which members are found. Of many members the texts are compared once, to rank them, and the members
-//! then by the ranks: many members may share a long text.
+//! The order in which members are searched. If there are many members, texts are ranked first and members are then
+//! compared by rank, because many members may share a long text.
 
 ghost use Rattle.std.specs.Prelude.{◌≡◌, ◌<◌, ◌^◌, List, length, map, slice_index, IfOk};
 ghost use Rattle.std.specs.List.Sorted.{IsSorted};
@@ -14,10 +14,10 @@ use crate::text_list::TextList;
 use jc_base::NoMemory;
 use std::alloc::Global;
 
-/// Of fewer members than these the texts themselves are compared.
+/// Fewer members than this are compared by their texts.
 const FEW: usize = 256;
 
-/// The numbers of members in the order by which they are found.
+/// Returns the numbers of members in the order in which they are searched.
 pub(crate) fn order_members(
     alloc: Global,
     texts: &TextList,
@@ -34,7 +34,7 @@ pub(crate) fn order_members(
     order_by_ranks(alloc, &ranks, members)
 }
 
-/// The same, by the texts of names and descriptors.
+/// Sorts the members by the texts of names and descriptors.
 fn order_by_texts(
     alloc: Global,
     texts: &TextList,
@@ -53,7 +53,7 @@ fn order_by_texts(
     Ok(numbers)
 }
 
-/// Each member's name and descriptor, and its number.
+/// Returns each member's name, descriptor and number.
 fn name_members<'a>(
     alloc: Global,
     texts: &'a TextList,
@@ -72,7 +72,7 @@ fn name_members<'a>(
     Ok(named)
 }
 
-/// The ranks of texts by their bytes, each at the text's number. Texts of the same bytes have the same rank.
+/// Returns the rank of each text by its bytes, at the text's number. Equal texts have the same rank.
 pub(crate) fn rank_texts(alloc: Global, texts: &TextList) -> Result<Vec<usize>, NoMemory>
     ensures { IfOk result (λ ranks. AreRanks texts.now ranks.items) }
 {
@@ -84,7 +84,7 @@ pub(crate) fn rank_texts(alloc: Global, texts: &TextList) -> Result<Vec<usize>, 
     Ok(ranks)
 }
 
-/// The texts in the order of their bytes.
+/// Returns the texts, sorted by their bytes.
 fn sort_texts<'a>(alloc: Global, texts: &'a TextList) -> Result<Vec<&'a [u8]>, NoMemory>
     ensures { IfOk result (λ sorted. AreSorted texts.now (texts_lent sorted.items)) }
 {
@@ -96,7 +96,7 @@ fn sort_texts<'a>(alloc: Global, texts: &'a TextList) -> Result<Vec<&'a [u8]>, N
     Ok(sorted)
 }
 
-/// How many of these texts are less than a text.
+/// Returns the number of these texts that are less than a text.
 fn rank(sorted: &[&[u8]], text: &[u8]) -> usize
     requires { IsSorted name_cmp (texts_lent sorted.now) }
     ensures { IsRank (texts_lent sorted.now) text.now result }
@@ -104,7 +104,7 @@ fn rank(sorted: &[&[u8]], text: &[u8]) -> usize
     sorted.partition_point(|other| less(other, text))
 }
 
-/// The numbers of members in the order by which they are found, by the ranks of their texts.
+/// Sorts the members by the ranks of their names and descriptors.
 fn order_by_ranks(
     alloc: Global,
     ranks: &[usize],
@@ -120,7 +120,7 @@ fn order_by_ranks(
     numbers(alloc, ranked.as_slice())
 }
 
-/// The ranks of each member's name and descriptor, and its number.
+/// Returns the ranks of each member's name and descriptor, and the member's number.
 fn rank_members(
     alloc: Global,
     ranks: &[usize],
@@ -139,7 +139,7 @@ fn rank_members(
     Ok(ranked)
 }
 
-/// The numbers alone.
+/// Returns only the numbers.
 fn numbers(alloc: Global, ranked: &[(usize, usize, u16)]) -> Result<Vec<u16>, NoMemory>
     ensures { IfOk result (λ numbers. numbers.items ≡ map number_of ranked.now) }
 {

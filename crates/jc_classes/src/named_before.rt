@@ -1,4 +1,4 @@
-//! References that name the class of one before them. Most of a class's references do.
+//! References that name the same class as an earlier reference. Most of a class's references do.
 
 ghost use Rattle.std.specs.Prelude.{◌≡◌, ℕ, Some, length, slice_get, IfOk, IfSome};
 ghost use Rattle.jc_classes.specs.Facts.{IsNamedBefore};
@@ -9,10 +9,10 @@ use jc_base::NoMemory;
 use std::alloc::Global;
 
 impl Facts {
-    /// Of each reference the number of one before it that names the same class, told by the constants of the names:
-    /// of names that are the same and stand in several constants it may know none.
+    /// Returns for each reference the number of an earlier reference that names the same class, if one is known. It
+    /// compares the numbers of the names, so it may miss equal names in several constants.
     ///
-    /// Answers `NoMemory` only where memory was refused.
+    /// Returns `NoMemory` only when an allocation fails.
     pub fn named_before(&self, alloc: Global) -> Result<Vec<Option<usize>>, NoMemory>
         ensures size { IfOk result (λ before. length before.items ≡ length self.now.references) }
         ensures named { IfOk result (λ before. (number k : ℕ) → slice_get before.items number ≡ Some (Some k)
@@ -26,7 +26,7 @@ impl Facts {
     }
 }
 
-/// The same of references by the numbers of their texts, of which there are so many.
+/// Does this for references whose texts are numbered. `texts` is the number of texts.
 fn before_each(
     alloc: Global,
     entries: &[ReferenceEntry],
@@ -44,8 +44,8 @@ fn before_each(
     Ok(before)
 }
 
-/// The number of a reference before that names the same class, if it is the one that was noted last for the name;
-/// then this one is noted. What else stands among the notes is passed over.
+/// Notes a reference as the last one of its class. Returns the reference that was noted before for the class, if there
+/// is one. A note that is not about the class is ignored.
 fn note_class(last: &mut Vec<usize>, entries: &[ReferenceEntry], number: usize) -> Option<usize>
     ensures { IfSome result (IsOfOneClass entries.now number) }
 {

@@ -14,12 +14,12 @@ use std::collections::BTreeMap;
 use std::hash::{FoldHasher, Hasher};
 use std::marker::Model;
 
-/// Names, each once, with their numbers in the order in which they came.
+/// Distinct names, numbered from 0 in the order in which they were added.
 #[derive(Drop)]
 pub struct Numbers {
-    /// Of each digest the first name that has it.
+    /// The number of the first name with each digest.
     places: BTreeMap<u64, usize>,
-    /// The names whose digest one before them has.
+    /// The numbers of the names whose digest an earlier name has.
     others: ByteMap<usize>,
     names: Vec<Vec<u8>>,
 }
@@ -37,8 +37,7 @@ impl Model for Numbers {
     ghost invariant = { λ a. IsDigested (place_at a.places) a.others (names_of a.names.items) };
 }
 
-/// A number that hardly another name has: names that differ are told apart by it at once, and those that don't by
-/// their bytes.
+/// Returns a 64-bit hash of a name. Names with the same hash are distinguished by their bytes.
 fn digest(name: &[u8]) -> u64
     ensures { result ≡ digest_of name.now }
 {
@@ -47,7 +46,7 @@ fn digest(name: &[u8]) -> u64
     hasher.finish()
 }
 
-/// Puts the number of a name that has none at its digest, or beside it where another name has that.
+/// Adds the number of a new name under its digest, or under its bytes if another name has the digest.
 fn place(
     alloc: Global,
     places: &mut BTreeMap<u64, usize>,
@@ -69,7 +68,7 @@ fn place(
     Ok(())
 }
 
-/// Copies of names of which none stands twice, rising.
+/// Returns copies of distinct names, in ascending order.
 fn rising(alloc: Global, names: &[Vec<u8>]) -> Result<Vec<Vec<u8>>, NoMemory>
     requires { IsOnce (names_of names.now) }
     ensures { IfOk result (λ rising. IsRisingOf (names_of rising.items) (names_of names.now)) }
@@ -83,6 +82,7 @@ fn rising(alloc: Global, names: &[Vec<u8>]) -> Result<Vec<Vec<u8>>, NoMemory>
 }
 
 impl Numbers {
+    /// Returns an empty set of names. Does not allocate.
     pub fn new(alloc: Global) -> Numbers
         ensures { result ≡ [] }
     {
@@ -93,14 +93,14 @@ impl Numbers {
         }
     }
 
-    /// How many names there are.
+    /// Returns the number of names.
     pub fn len(&self) -> usize
         ensures { result ≡ length self.now }
     {
         self.names.len()
     }
 
-    /// The name of a number.
+    /// Returns the name of a number.
     pub fn name(&self, node: usize) -> &[u8]
         requires { node < length self.now }
         ensures { result.now ≡ name_at self.now node }
@@ -108,14 +108,14 @@ impl Numbers {
         self.names[node].as_slice()
     }
 
-    /// The names in the order of their numbers.
+    /// Returns the names in the order of their numbers.
     pub fn names(&self) -> &[Vec<u8>]
         ensures { names_of result.now ≡ self.now }
     {
         self.names.as_slice()
     }
 
-    /// The number of a name, if it has one.
+    /// Returns the number of a name, if it has one. Does not allocate.
     pub fn find(&self, name: &[u8]) -> Option<usize>
         ensures some { IfSome result (λ i. (i < length self.now) × (name_at self.now i ≡ name.now)) }
         ensures none { result ≡ None → (i : ℕ) → i < length self.now → name_at self.now i ≡ name.now → ⊥ }
@@ -134,8 +134,9 @@ impl Numbers {
         }
     }
 
-    /// Returns the number of a name. A name without a number gets the next one. After an error the names are as they
-    /// were.
+    /// Returns the number of a name. A name without a number gets the next one.
+    ///
+    /// Returns `NoMemory` only when an allocation fails. Then the names do not change.
     pub fn number(&mut self, alloc: Global, name: &[u8]) -> Result<usize, NoMemory>
         ensures node { IfOk result (λ i. (i < length self.new) × (name_at self.new i ≡ name.now)) }
         ensures grows { OnOk result (Grows self.old self.new (name.now ∷ [])) }
@@ -154,7 +155,10 @@ impl Numbers {
         Err(NoMemory)
     }
 
-    /// Adds the number of a name to a list. After an error the list is as it was, but the names may have gained this one.
+    /// Appends the number of a name to a list.
+    ///
+    /// Returns `NoMemory` only when an allocation fails. Then the list does not change, but the name may have been
+    /// added.
     pub fn number_into(
         &mut self,
         alloc: Global,
@@ -172,6 +176,8 @@ impl Numbers {
     }
 
     /// Returns copies of the names, in the order of their bytes.
+    ///
+    /// Returns `NoMemory` only when an allocation fails.
     pub fn rising(&self, alloc: Global) -> Result<Vec<Vec<u8>>, NoMemory>
         ensures { IfOk result (λ rising. IsRisingOf (names_of rising.items) self.now) }
     {

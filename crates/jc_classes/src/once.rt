@@ -1,4 +1,4 @@
-//! Names that are given several times.
+//! Removal of repeated names.
 
 ghost use Rattle.std.specs.Prelude.{◌≡◌, ◌<◌, List, length, map, IfOk};
 ghost use Rattle.std.specs.List.{All};
@@ -14,10 +14,10 @@ use crate::text_list::TextList;
 use jc_base::NoMemory;
 use std::alloc::Global;
 
-/// Fewer names than these are compared with each other.
+/// Fewer names than this are compared with each other.
 const FEW: usize = 16;
 
-/// The numbers of each name where it stands first.
+/// Returns the numbers of the names, each name once, where it occurs first.
 pub(crate) fn once(alloc: Global, texts: &TextList, names: Vec<u16>) -> Result<Vec<u16>, NoMemory>
     requires { All (λ name. name < length texts.now) names.items }
     ensures below { IfOk result (λ kept. All (λ name. name < length texts.now) kept.items) }
@@ -33,7 +33,7 @@ pub(crate) fn once(alloc: Global, texts: &TextList, names: Vec<u16>) -> Result<V
     once_by_ranks(alloc, &ranks, &names)
 }
 
-/// The same, comparing each with those before it.
+/// Compares each name with the names before it.
 fn once_in_turn(alloc: Global, texts: &TextList, names: &[u16]) -> Result<Vec<u16>, NoMemory>
     requires { All (λ name. name < length texts.now) names.now }
     ensures below { IfOk result (λ kept. All (λ name. name < length texts.now) kept.items) }
@@ -49,7 +49,7 @@ fn once_in_turn(alloc: Global, texts: &TextList, names: &[u16]) -> Result<Vec<u1
     Ok(kept)
 }
 
-/// Whether one of these names has a text.
+/// Returns whether one of these names has this text.
 fn has_text(texts: &TextList, names: &[u16], text: &[u8]) -> bool
     ensures { result ≡ has (map (text_at texts.now) names.now) text.now }
 {
@@ -61,7 +61,7 @@ fn has_text(texts: &TextList, names: &[u16], text: &[u8]) -> bool
     false
 }
 
-/// The same, by the ranks of the texts: texts of the same bytes have the same rank.
+/// Compares the ranks of the texts: equal texts have the same rank.
 fn once_by_ranks(alloc: Global, ranks: &[usize], names: &[u16]) -> Result<Vec<u16>, NoMemory>
     requires names { All (λ name. name < length ranks.now) names.now }
     requires ranks { All (λ rank. rank < length ranks.now) ranks.now }

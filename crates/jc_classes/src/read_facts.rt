@@ -1,4 +1,4 @@
-//! What is kept of a class file, read from its view.
+//! The facts of a class file, read from its view.
 
 ghost use Rattle.std.specs.Prelude.{◌≡◌, ◌+◌, ◌<◌, ◌^◌, ◌++◌, [], map, option_map, IfOk, OnOk};
 ghost use Rattle.std.specs.List.{All, flat_map};
@@ -36,9 +36,9 @@ use std::alloc::Global;
 use std::rc::Rc;
 
 impl Facts {
-    /// What is kept of a class file, and of the path where it stands.
+    /// Returns the facts of a class file at a path.
     ///
-    /// Answers `NoMemory` only where memory was refused.
+    /// Returns `NoMemory` only when an allocation fails.
     pub fn of(alloc: Global, class: &ClassView, path: &[u8]) -> Result<Facts, NoMemory>
         ensures { IfOk result (λ facts. facts ≡ facts_of path.now class.now) }
     {
@@ -51,7 +51,7 @@ impl Facts {
     }
 }
 
-/// What linking asks for of a class file, by the numbers of its texts.
+/// The entries of a class file that linking uses, by the numbers of their texts.
 #[derive(Drop)]
 struct Entries {
     name: u16,
@@ -64,8 +64,8 @@ struct Entries {
     references: Vec<ReferenceEntry>,
 }
 
-/// The facts of a class file without a format fault. Entries are read by the indexes of their texts, which are
-/// then numbered, so that no text is kept that linking does not ask for.
+/// Returns the facts of a class file without a format fault. Entries are first read by the indexes of their texts. Then
+/// these texts are numbered, so that only the texts that linking uses are kept.
 fn sound_facts(alloc: Global, class: &ClassView, path: &[u8]) -> Result<Facts, NoMemory>
     ensures { IfOk result (λ facts. facts ≡ sound_facts path.now class.now) }
 {
@@ -138,7 +138,7 @@ fn read_entries(texts: &mut ClassTexts, class: &ClassView) -> Result<Entries, No
     })
 }
 
-/// The facts of a class file with format faults.
+/// Returns the facts of a class file with format faults.
 fn faulty_facts(
     alloc: Global,
     class: &ClassView,
@@ -171,7 +171,7 @@ fn faulty_facts(
     })
 }
 
-/// Adds an entry, where there is one.
+/// Appends an entry, if there is one.
 pub(crate) fn push_some<T: Drop>(entries: &mut Vec<T>, entry: Option<T>) -> Result<(), NoMemory>
     ensures { OnOk result (entries.new.items ≡ entries.old.items ++ option_to_list entry) }
 {
@@ -181,7 +181,7 @@ pub(crate) fn push_some<T: Drop>(entries: &mut Vec<T>, entry: Option<T>) -> Resu
     Ok(())
 }
 
-/// The index of the class's own name.
+/// Returns the index of the class's own name.
 fn own_name_index(class: &ClassView) -> u16
     ensures { text_at (texts_of class.now) result ≡ class_name class.now }
 {
@@ -191,14 +191,14 @@ fn own_name_index(class: &ClassView) -> u16
     }
 }
 
-/// The index of the text of a Class constant.
+/// Returns the index of the text of a Class constant.
 pub(crate) fn name_index(class: &ClassView, index: ConstantIndex) -> Option<u16>
     ensures { option_map (text_at (texts_of class.now)) result ≡ class_text_at class.now index }
 {
     text_index(class, class.class_entry(index)?)
 }
 
-/// The index, where a Utf8 constant has it.
+/// Returns the index, if a Utf8 constant has it.
 fn text_index(class: &ClassView, index: ConstantIndex) -> Option<u16>
     ensures { option_map (text_at (texts_of class.now)) result ≡ utf8_at class.now index }
 {
@@ -209,7 +209,7 @@ fn text_index(class: &ClassView, index: ConstantIndex) -> Option<u16>
     }
 }
 
-/// The indexes of the texts of a NameAndType.
+/// Returns the indexes of the texts of a NameAndType.
 fn name_and_type(class: &ClassView, index: ConstantIndex) -> Option<(u16, u16)>
     ensures { option_map (key_shown (texts_of class.now)) result ≡ key_at class.now index }
 {
@@ -219,7 +219,7 @@ fn name_and_type(class: &ClassView, index: ConstantIndex) -> Option<(u16, u16)>
     Some((name, descriptor))
 }
 
-/// A field or a method, where its name and its descriptor are there.
+/// Returns a field or a method, if its name and its descriptor are Utf8 constants.
 pub(crate) fn member_entry(class: &ClassView, member: &Member) -> Option<MemberEntry>
     ensures { option_map (member_shown (texts_of class.now)) result ≡ member_of class.now member.now.member.member }
 {
@@ -232,7 +232,7 @@ pub(crate) fn member_entry(class: &ClassView, member: &Member) -> Option<MemberE
     })
 }
 
-/// The reference that the constant of an index is.
+/// Returns the reference that the constant at an index represents.
 pub(crate) fn reference_entry(class: &ClassView, index: u16) -> Option<ReferenceEntry>
     ensures { option_map (reference_shown (texts_of class.now)) result ≡ reference_at class.now index }
 {
@@ -254,7 +254,7 @@ pub(crate) fn reference_entry(class: &ClassView, index: u16) -> Option<Reference
     }
 }
 
-/// Whether constants of a kind are references to classes or to members (JVMS 4.4.1, 4.4.2).
+/// Returns whether constants of a kind are references to classes or to members (JVMS 4.4.1, 4.4.2).
 fn is_reference(kind: ConstantKind) -> bool
     ensures { result ≡ is_reference kind }
 {
@@ -267,7 +267,7 @@ fn is_reference(kind: ConstantKind) -> bool
     )
 }
 
-/// A reference to a class.
+/// Returns a reference to a class.
 fn class_entry(class: &ClassView, index: u16, name: ConstantIndex) -> Option<ReferenceEntry>
     ensures { option_map (reference_shown (texts_of class.now)) result ≡ class_reference class.now index name }
 {
@@ -281,7 +281,7 @@ fn class_entry(class: &ClassView, index: u16, name: ConstantIndex) -> Option<Ref
     })
 }
 
-/// A reference to a member.
+/// Returns a reference to a member.
 fn member_reference(
     class: &ClassView,
     index: u16,
@@ -302,20 +302,20 @@ fn member_reference(
     })
 }
 
-/// What is found in the code of all methods.
+/// The faults, uses and named constants of the code of all methods.
 #[derive(Drop)]
 struct Codes {
     /// The faults, each with the number of its method.
     faults: Vec<(usize, CodeFault)>,
-    /// What the instructions of methods without one do with the references that they name.
+    /// The uses of references by the instructions of methods without a fault.
     uses: Vec<MethodUse>,
-    /// The constants that are named, some perhaps several times.
+    /// The constants that are named. A constant may occur several times.
     names: Vec<ConstantIndex>,
     /// The first method whose code uses each constant.
     first: FirstUsers,
 }
 
-/// Looks at the code of all methods.
+/// Reads the code of all methods of a class file.
 fn read_codes(alloc: Global, class: &ClassView) -> Result<Codes, NoMemory>
     ensures faults { IfOk result (λ codes. codes.faults.items ≡ code_faults class.now) }
     ensures uses { IfOk result (λ codes. codes.uses.items ≡ uses class.now) }
@@ -325,7 +325,7 @@ fn read_codes(alloc: Global, class: &ClassView) -> Result<Codes, NoMemory>
     read_methods(alloc, &TextSizes::of(alloc, class)?)
 }
 
-/// The same of the class whose sizes these are.
+/// Reads the code of all methods, given the sizes of the class's texts.
 fn read_methods(alloc: Global, sizes: &TextSizes) -> Result<Codes, NoMemory>
     ensures faults { IfOk result (λ codes. codes.faults.items ≡ code_faults sizes.now) }
     ensures uses { IfOk result (λ codes. codes.uses.items ≡ uses sizes.now) }
@@ -346,7 +346,8 @@ fn read_methods(alloc: Global, sizes: &TextSizes) -> Result<Codes, NoMemory>
     Ok(codes)
 }
 
-/// Adds what is found in the code of a method, which is the first that uses what no method before it does.
+/// Adds the findings of a method's code. The method becomes the first user of the constants that no earlier method
+/// uses.
 fn read_method(
     alloc: Global,
     codes: &mut Codes,
@@ -374,7 +375,7 @@ fn read_method(
     Ok(())
 }
 
-/// Adds the faults of the code of a method, what its instructions do with references, and the constants that it names.
+/// Adds the faults of the code of a method, its uses of references, and the constants that it names.
 fn read_code(
     alloc: Global,
     codes: &mut Codes,
@@ -399,7 +400,7 @@ fn read_code(
     add_numbered(&mut codes.faults, number, &faults)
 }
 
-/// Adds faults, each with the number of its method.
+/// Appends faults, each with the number of its method.
 fn add_numbered(
     numbered: &mut Vec<(usize, CodeFault)>,
     number: usize,

@@ -9,7 +9,7 @@ ghost use Rattle.jc_classes.specs.NamedTexts.{class_in_descriptor, named_by, wit
 use crate::member::Key;
 use crate::reference_kind::ReferenceKind;
 
-/// A symbolic reference.
+/// A symbolic reference of a class file.
 #[derive(Clone, Copy)]
 pub struct Reference<'a> {
     /// The index of its constant.
@@ -17,20 +17,20 @@ pub struct Reference<'a> {
     pub kind: ReferenceKind,
     /// The text of the Class constant: the name of a class, or the descriptor of an array (JVMS 4.4.1).
     pub class: &'a [u8],
-    /// The name and the descriptor of the member; both are empty where it names a class.
+    /// The name and the descriptor of the member. Both are empty in a reference to a class.
     pub key: Key<'a>,
 }
 
 impl<'a> Reference<'a> {
-    /// Whether it names an array.
+    /// Returns whether the reference names an array.
     pub fn is_array(self) -> bool
         ensures { result ≡ is_array (named_by self.entry.class.now) }
     {
         is_array(self.class)
     }
 
-    /// The class that it names, or of an array the innermost one; `None` for an array of a primitive
-    /// type.
+    /// Returns the class that the reference names; for an array, its innermost class. Returns `None` for an array of a
+    /// primitive type.
     pub fn class_name(self) -> Option<&'a [u8]>
         ensures { option_copied result ≡ class_of (named_by self.entry.class.now) }
     {
@@ -45,8 +45,8 @@ fn is_array(text: &[u8]) -> bool
     text.first() == Some(&b'[')
 }
 
-/// Returns the class that the text of a Class constant names, or of an array the innermost one; `None` for an array of
-/// a primitive type.
+/// Returns the class that the text of a Class constant names; for an array, its innermost class. Returns `None` for an
+/// array of a primitive type.
 pub(crate) fn class_named(text: &[u8]) -> Option<&[u8]>
     ensures { option_copied result ≡ class_of (named_by text.now) }
 {
@@ -57,7 +57,7 @@ pub(crate) fn class_named(text: &[u8]) -> Option<&[u8]>
     }
 }
 
-/// A descriptor without the `[` in front.
+/// Returns a descriptor without the `[` in front.
 pub(crate) fn without_dimensions(descriptor: &[u8]) -> &[u8]
     ensures { result.now ≡ without_dimensions descriptor.now }
 {
@@ -68,7 +68,7 @@ pub(crate) fn without_dimensions(descriptor: &[u8]) -> &[u8]
     rest
 }
 
-/// The class between the `L` and the last character of a descriptor.
+/// Returns the class between the `L` and the last character of a descriptor.
 pub(crate) fn class_in_descriptor(descriptor: &[u8]) -> Option<&[u8]>
     ensures { option_copied result ≡ class_in_descriptor descriptor.now }
 {

@@ -1,6 +1,6 @@
 //! The kinds of symbolic references (JVMS 5.1).
 
-/// What a reference is to.
+/// The kind of a symbolic reference.
 #[derive(Clone, Copy, PartialEq, Eq, PartialOrd, Ord)]
 pub enum ReferenceKind {
     Class,

@@ -12,8 +12,8 @@ use jc_base::NoMemory;
 use std::marker::Model;
 use std::rc::Rc;
 
-/// The references of a class by rising index of their constants, with their texts, which they share with its
-/// facts. Seen as the list of them.
+/// The references of a class, in ascending order of the indexes of their constants. They share their texts with the
+/// facts of the class. The model is the list of references.
 #[derive(Drop)]
 pub struct References {
     pub(crate) texts: Rc<TextList>,
@@ -31,14 +31,14 @@ impl Model for References {
 }
 
 impl References {
-    /// How many there are. No memory.
+    /// Returns the number of references. Does not allocate.
     pub fn len(&self) -> usize
         ensures { result ≡ length self.now }
     {
         self.entries.as_ref().len()
     }
 
-    /// The reference of a number. No memory.
+    /// Returns the reference of a number. Does not allocate.
     pub fn at(&self, number: usize) -> Option<Reference<'_>>
         ensures { option_map reference_lent result ≡ slice_get self.now number }
     {
@@ -48,7 +48,7 @@ impl References {
         }
     }
 
-    /// The class that the reference of a number names, or the array by its descriptor. No memory.
+    /// Returns the class that the reference of a number names, or the descriptor of the array. Does not allocate.
     pub fn class(&self, number: usize) -> Option<&[u8]>
         ensures { option_copied result ≡ option_map (λ r. text_of r.named) (slice_get self.now number) }
     {
@@ -56,7 +56,8 @@ impl References {
         Some(self.texts.as_ref().text(entry.class as usize))
     }
 
-    /// Whether others are known to be the same: of equal ones whose texts stand otherwise it may say no. No memory.
+    /// Returns whether other references are known to be the same. It may return `false` for equal references whose
+    /// texts are numbered in another order. Does not allocate.
     pub fn is_same(&self, other: &References) -> bool
         ensures { IsTrue result → self.now ≡ other.now }
     {
@@ -64,9 +65,9 @@ impl References {
             && self.texts.as_ref().is_same(other.texts.as_ref())
     }
 
-    /// The same references, shared.
+    /// Returns the same references, shared.
     ///
-    /// Answers `NoMemory` only where they are shared as often as can be counted.
+    /// Returns `NoMemory` only when the count of owners would overflow.
     pub fn share(&self) -> Result<References, NoMemory>
         ensures { IfOk result (λ references. references ≡ self.now) }
     {

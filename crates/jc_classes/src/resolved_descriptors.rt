@@ -15,8 +15,8 @@ use jc_base::NoMemory;
 use jc_view::{ClassView, Constant, ConstantIndex};
 use std::alloc::Global;
 
-/// Returns the indexes of the descriptors that code resolves. `handles` has what method handles name, and `marks` the constants
-/// that code names.
+/// Returns the indexes of the descriptors that code resolves. `handles` has the constants that method handles name, and
+/// `marks` marks the named constants.
 ///
 /// Returns `NoMemory` only when an allocation fails.
 pub(crate) fn resolved_descriptors(
@@ -61,8 +61,8 @@ fn own_if_marked(class: &ClassView, marks: &[bool], index: u16) -> Option<Consta
     }
 }
 
-/// Returns the descriptor that is resolved with the constant at `index`: that of a method type, of a call site, or of
-/// a method that may be signature polymorphic.
+/// Returns the descriptor that is resolved with the constant at `index`. This is the descriptor of a method type, of a
+/// call site, or of a method that may be signature polymorphic.
 fn own_descriptor(class: &ClassView, index: u16) -> Option<ConstantIndex>
     ensures { result ≡ option_and_then (own_descriptor class.now) (constant_at class.now (record { 0 = index })) }
 {
@@ -74,7 +74,8 @@ fn own_descriptor(class: &ClassView, index: u16) -> Option<ConstantIndex>
     }
 }
 
-/// Returns the descriptor of a method of `java/lang/invoke/MethodHandle`, which may be signature polymorphic (JVMS 2.9).
+/// Returns the descriptor of a method of `java/lang/invoke/MethodHandle`. The method may be signature polymorphic (JVMS
+/// 2.9).
 fn polymorphic_descriptor(
     class: &ClassView,
     owner: ConstantIndex,

@@ -1,4 +1,4 @@
-//! Whether two class files give the same facts.
+//! Comparison of the facts of two class files.
 
 ghost use Rattle.std.specs.Prelude.{◌≡◌, Decides, map};
 ghost use Rattle.std.specs.Option.{option_copied};
@@ -13,8 +13,8 @@ use crate::reference::Reference;
 use crate::text_list::TextList;
 
 impl Facts {
-    /// Returns whether another class file gives the same facts. It compares texts, whatever constants they are in. Takes
-    /// time linear in the facts. Does not allocate.
+    /// Returns whether the facts of another class file are the same. It compares texts, in whatever constants they are.
+    /// Takes time linear in the facts. Does not allocate.
     pub fn is_same(&self, other: &Facts) -> bool
         ensures { Decides result (self.now ≡ other.now) }
     {
@@ -47,7 +47,7 @@ impl Facts {
     }
 }
 
-/// Returns whether two class files are at one path and give one name, the same flags and one superclass.
+/// Returns whether two class files have the same path, name, flags and superclass.
 fn is_same_head(facts: &Facts, other: &Facts) -> bool
     ensures { result ≡ same_head facts.now other.now }
 {
@@ -57,7 +57,7 @@ fn is_same_head(facts: &Facts, other: &Facts) -> bool
         && is_same_name(facts.superclass(), other.superclass())
 }
 
-/// Returns whether two names are the same, or there is neither.
+/// Returns whether two names are the same, or both are absent.
 fn is_same_name(name: Option<&[u8]>, other: Option<&[u8]>) -> bool
     ensures { result ≡ same_option (option_copied name.entry) (option_copied other.entry) }
 {
@@ -68,7 +68,7 @@ fn is_same_name(name: Option<&[u8]>, other: Option<&[u8]>) -> bool
     }
 }
 
-/// Returns whether two lists of names are the same, each by the numbers of its texts.
+/// Returns whether two lists of names are the same. Each list has the numbers of its own texts.
 fn are_same_names(texts: &TextList, names: &[u16], other_texts: &TextList, others: &[u16]) -> bool
     ensures { Decides result (map (text_at texts.now) names.now ≡ map (text_at other_texts.now) others.now) }
 {
@@ -84,7 +84,7 @@ fn are_same_names(texts: &TextList, names: &[u16], other_texts: &TextList, other
     true
 }
 
-/// Returns whether two lists of fields or of methods are the same, each by the numbers of its texts.
+/// Returns whether two lists of fields or of methods are the same. Each list has the numbers of its own texts.
 fn are_same_members(
     texts: &TextList,
     members: &[MemberEntry],
@@ -112,7 +112,7 @@ fn is_same_member(member: Member, other: Member) -> bool
         && member.flags == other.flags
 }
 
-/// Returns whether two lists of references are the same, each by the numbers of its texts.
+/// Returns whether two lists of references are the same. Each list has the numbers of its own texts.
 fn are_same_references(
     texts: &TextList,
     references: &[ReferenceEntry],
@@ -147,7 +147,7 @@ fn has_same_texts(reference: Reference, other: Reference) -> bool
         && same(reference.key.descriptor, other.key.descriptor)
 }
 
-/// Returns whether the instructions of two class files do the same with their references, and the same uses each.
+/// Returns whether two class files have the same uses of references, and the same user of each reference.
 fn is_same_use(facts: &Facts, other: &Facts) -> bool
     ensures { Decides result (IsSameUse facts.now other.now) }
 {

@@ -1,11 +1,14 @@
-//! What stands at a name.
+//! What a name is in a world.
 
 use crate::facts::Facts;
 
-/// What stands at a name: a class; a name that is outside, of which nothing more is known; or nothing.
+/// What a name is in a world.
 #[derive(Clone, Copy)]
 pub enum Standing<'a> {
+    /// A class, by its facts.
     Class(&'a Facts),
+    /// An outside name, of which nothing else is known.
     Outside,
+    /// Neither a class nor outside.
     Nothing,
 }

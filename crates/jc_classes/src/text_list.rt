@@ -8,7 +8,7 @@ use jc_base::NoMemory;
 use std::alloc::Global;
 use std::marker::Model;
 
-/// Texts, one behind the other. Seen as the list of them.
+/// Texts, one after another in a buffer. The model is the list of texts.
 #[derive(Drop)]
 pub struct TextList {
     bytes: Vec<u8>,
@@ -29,7 +29,7 @@ impl Model for TextList {
 }
 
 impl TextList {
-    /// A list without a text, which takes no memory.
+    /// Returns an empty list. Does not allocate.
     pub fn new(alloc: Global) -> TextList
         ensures { result ≡ [] }
     {
@@ -39,7 +39,9 @@ impl TextList {
         }
     }
 
-    /// A list without a text, with room for so many texts of so many bytes together.
+    /// Returns an empty list, with room for `texts` texts that have `bytes` bytes together.
+    ///
+    /// Returns `NoMemory` only when an allocation fails.
     pub fn with_room(alloc: Global, texts: usize, bytes: usize) -> Result<TextList, NoMemory>
         ensures { IfOk result (λ list. list ≡ []) }
     {
@@ -48,9 +50,10 @@ impl TextList {
         Ok(TextList { bytes, ends })
     }
 
-    /// Puts a text behind the others.
+    /// Appends a text. If there is an error, the list does not change.
     ///
-    /// Answers `NoMemory` too where the texts would have more than 4,294,967,295 bytes together.
+    /// Returns `NoMemory` when an allocation fails, and when the texts would have more than 4,294,967,295 bytes
+    /// together.
     pub fn push(&mut self, text: &[u8]) -> Result<(), NoMemory>
         ensures ok { OnOk result (self.new ≡ self.old ++ text.now ∷ []) }
         ensures err { OnErr result (self.new ≡ self.old) }
@@ -66,14 +69,14 @@ impl TextList {
         }
     }
 
-    /// How many texts there are.
+    /// Returns the number of texts.
     pub fn len(&self) -> usize
         ensures { result ≡ length self.now }
     {
         self.ends.len()
     }
 
-    /// Whether another list is known to be the same. No memory.
+    /// Returns whether another list is known to be the same. Does not allocate.
     pub fn is_same(&self, other: &TextList) -> bool
         ensures { IsTrue result → self.now ≡ other.now }
     {
@@ -81,7 +84,7 @@ impl TextList {
             && self.bytes.as_slice() == other.bytes.as_slice()
     }
 
-    /// The list with no room to spare. No memory.
+    /// Returns the list without spare room. Does not allocate.
     pub fn fitted(self) -> TextList
         ensures { result ≡ self }
     {
@@ -94,7 +97,7 @@ impl TextList {
         TextList { bytes, ends }
     }
 
-    /// The text of a number; an empty one past the last.
+    /// Returns the text of a number. Returns an empty text if there is none.
     pub fn text(&self, number: usize) -> &[u8]
         ensures { result.now ≡ slice_index_or self.now number [] }
     {
@@ -107,7 +110,7 @@ impl TextList {
     }
 }
 
-/// Adds where a text ends.
+/// Appends the place where a text ends.
 fn push_end(ends: &mut Vec<u32>, end: usize) -> Result<(), NoMemory>
     ensures ok { OnOk result (ends.new.items ≡ ends.old.items ++ end ∷ []) }
     ensures err { OnErr result (ends.new.items ≡ ends.old.items) }
@@ -118,7 +121,7 @@ fn push_end(ends: &mut Vec<u32>, end: usize) -> Result<(), NoMemory>
     }
 }
 
-/// Where the text of a number begins.
+/// Returns the place where the text of a number begins.
 fn start(ends: &[u32], number: usize) -> usize
     requires { number < length ends.now }
     ensures { result ≡ start_at 0 ends.now number }
@@ -129,7 +132,7 @@ fn start(ends: &[u32], number: usize) -> usize
     ends[number - 1] as usize
 }
 
-/// The bytes from one place up to another.
+/// Returns the bytes from `start` to `end`.
 fn part(bytes: &[u8], start: usize, end: usize) -> &[u8]
     requires rises { start ≤ end }
     requires within { end ≤ length bytes.now }

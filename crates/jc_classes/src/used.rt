@@ -1,4 +1,4 @@
-//! Which constants of a class file are used: code resolves no others.
+//! The constants of a class file that are used: code resolves no others.
 
 ghost use Rattle.std.specs.Prelude.{◌≡◌, ◌++◌, ◌<◌, ◌==◌, ◌^◌, None, length, IfOk, OnOk, if◌then◌else◌, option_and_then};
 ghost use Rattle.std.specs.List.{flat_map};
@@ -23,8 +23,8 @@ use std::alloc::Global;
 /// Returns a mark for each constant of a class file by its index, set if the constant is used.
 ///
 /// A constant is used if an instruction, an exception handler, a method handle or an argument of a bootstrap method
-/// names it. A Class constant is also used if a reference to a member that is named so is of this class, or if its
-/// class is in a descriptor that code resolves. `marks` has the constants that the code of methods names.
+/// names it. A Class constant is also used if it is the class of a named reference to a member. It is also used if its
+/// class is in a descriptor that code resolves. `marks` marks the constants that the code of methods names.
 ///
 /// Returns `NoMemory` only when an allocation fails.
 pub(crate) fn used(
@@ -45,7 +45,7 @@ pub(crate) fn used(
     Ok(marks)
 }
 
-/// Sets the marks of what method handles and bootstrap methods name. `handles` has what method handles name.
+/// Marks the constants that method handles and bootstrap methods name. `handles` has those that method handles name.
 fn mark_named(
     alloc: Global,
     class: &ClassView,
@@ -63,7 +63,7 @@ fn mark_named(
     Ok(())
 }
 
-/// Adds what method handles name.
+/// Adds the constants that method handles name.
 fn add_by_handles(names: &mut Vec<ConstantIndex>, class: &ClassView) -> Result<(), NoMemory>
     ensures { OnOk result (names.new.items ≡ names.old.items ++ by_constants named_by_handle class.now) }
 {
@@ -101,7 +101,7 @@ fn add_by_bootstraps(
     Ok(())
 }
 
-/// The same of one attribute.
+/// Adds the arguments of the bootstrap methods in an attribute.
 fn add_by_attribute(
     alloc: Global,
     names: &mut Vec<ConstantIndex>,
@@ -116,7 +116,7 @@ fn add_by_attribute(
     }
 }
 
-/// Adds the arguments in the bytes of an attribute, where they are a table of bootstrap methods and nothing else.
+/// Adds the arguments in the bytes of an attribute, if the bytes are exactly a table of bootstrap methods.
 fn add_by_table(alloc: Global, names: &mut Vec<ConstantIndex>, bytes: &[u8]) -> Result<(), NoMemory>
     ensures { OnOk result (names.new.items ≡ names.old.items ++ named_by_table bytes.now) }
 {
@@ -127,8 +127,8 @@ fn add_by_table(alloc: Global, names: &mut Vec<ConstantIndex>, bytes: &[u8]) -> 
     }
 }
 
-/// The arguments of the bootstrap methods in the table that stands here, behind its count; nothing where it is
-/// cut.
+/// Reads the arguments of the bootstrap methods in the table at the cursor, after its count. Returns `None` if the
+/// table is cut off.
 fn read_arguments(
     alloc: Global,
     cursor: &mut Cursor,
@@ -148,7 +148,7 @@ fn read_arguments(
     Ok(Some(arguments))
 }
 
-/// The arguments of the bootstrap method that stands here.
+/// Reads the arguments of the bootstrap method at the cursor.
 #[tactic(auto, unfolding(jc_view::specs::AttributeReading::after_bootstrap))]
 fn read_method<'a>(cursor: &mut Cursor<'a>) -> Option<Indexes<'a>>
     ensures { Lends (λ indexes. indexes) after_bootstrap (λ xs. (bootstrap_value xs).arguments) cursor.old result cursor.new }
@@ -166,7 +166,7 @@ fn add_indexes(names: &mut Vec<ConstantIndex>, indexes: Indexes) -> Result<(), N
     Ok(())
 }
 
-/// Adds the classes of the references to members that are marked.
+/// Adds the classes of the marked references to members.
 fn add_owners(
     names: &mut Vec<ConstantIndex>,
     class: &ClassView,
@@ -181,7 +181,7 @@ fn add_owners(
     Ok(())
 }
 
-/// The class of a reference to a member that is marked.
+/// Returns the class of a reference to a member, if the reference is marked.
 fn owner_if_marked(class: &ClassView, marks: &[bool], index: u16) -> Option<ConstantIndex>
     ensures { result ≡ (if mark_at marks.now index then option_and_then owner (constant_at class.now (record { 0 = index })) else None) }
 {
@@ -192,7 +192,7 @@ fn owner_if_marked(class: &ClassView, marks: &[bool], index: u16) -> Option<Cons
     }
 }
 
-/// Returns a mark for each constant by its index, set if the constant is among these.
+/// Returns a mark for each constant by its index, set if the constant is in `names`.
 pub(crate) fn marked(
     alloc: Global,
     class: &ClassView,
@@ -214,7 +214,7 @@ fn mark_all(marks: &mut Vec<bool>, indexes: &[ConstantIndex])
     }
 }
 
-/// Sets the mark of an index, where there is one.
+/// Sets the mark of an index, if the index has a mark.
 pub(crate) fn mark(marks: &mut Vec<bool>, index: ConstantIndex)
     ensures { Marks (λ i. index.0 == i) marks.old.items marks.new.items }
 {

@@ -16,8 +16,8 @@ use jc_base::NoMemory;
 use jc_view::ClassView;
 use std::alloc::Global;
 
-/// Returns what uses each of these references of a class file. `first` has what the code of all methods names and the first
-/// method that uses each constant.
+/// Returns what uses each of these references of a class file. `first` has the constants that the code of the methods
+/// names, and the first method that uses each constant.
 ///
 /// Returns `NoMemory` only when an allocation fails.
 pub(crate) fn users(

@@ -1,4 +1,4 @@
--- Classes with all that they reach.
+-- Class graphs: classes with all that they reach.
 use Rattle.std.specs.Prelude.{◌≡◌, List, map}
 use Rattle.std.specs.List.{Contains}
 use Rattle.jc_classes.specs.Facts.{Facts}
@@ -7,14 +7,14 @@ use Rattle.jc_classes.specs.Numbers.{IsOnce}
 use Rattle.jc_classes.specs.Parts.{Reach}
 use Rattle.jc_classes.specs.Worlds.{Stands, World}
 
--- classes, and names, each once, with what stands at each
+-- some classes, distinct names, and what each name is
 pub record ClassGraph : Type 0 where
   -- in the order in which they were given; each is one of the names
   pub classes : List Name
   pub names : List Name
   pub stands : List Stands
 
--- a world has at each name what stands there
+-- in the world m each name is what the graph says
 abbrev pub IsIn : World → ClassGraph → Type 0
 IsIn m g = g.stands ≡ map m g.names
 
@@ -22,7 +22,8 @@ IsIn m g = g.stands ≡ map m g.names
 abbrev pub IsReached : World → (classes : List Name) → Name → Type 0
 IsReached m classes x = (d : Name) × Contains classes d × Reach m d x
 
--- it is gathered in this world: its names are those that its classes reach; without a class it may have others
+-- the graph is that of its classes in the world m: its names are those that its classes reach. Without a class it may
+-- have other names
 pub record IsAround (m : World) (g : ClassGraph) : Type 0 where
   pub stands : IsIn m g
   pub once : IsOnce g.names

@@ -1,4 +1,4 @@
--- Prefixes of the names that are outside.
+-- The outside prefixes.
 use Rattle.std.specs.Prelude.{◌≡◌, ℕ, ◌==◌, nat_lt, nat_eq, Bool, ◌||◌, not, if◌then◌else◌, codes}
 use Rattle.std.specs.Prelude.{List, [], ◌∷◌, ◌++◌, map, length, Option, Some, None}
 use Rattle.std.specs.Borrow.{Bor}
@@ -13,7 +13,7 @@ standard_prefixes = codes "java/" ∷ codes "javax/" ∷ []
 abbrev pub is_bad_prefix : List ℕ → Bool
 is_bad_prefix prefix = length prefix == 0 || nat_lt 256 (length prefix)
 
--- the first fault of prefixes that are handed in
+-- the first error that applies to prefixes
 abbrev pub prefixes_fault : List (List ℕ) → Option OutsideError
 prefixes_fault prefixes =
     if list_any is_bad_prefix prefixes then Some BadPrefix
@@ -24,15 +24,15 @@ outside_error_code BadPrefix = 1
 outside_error_code TooManyPrefixes = 2
 outside_error_code NoMemory = 3
 
--- it is the first fault of prefixes that are lent
+-- this is the first error of the borrowed prefixes
 abbrev pub HasFault : List (Bor (List ℕ)) → OutsideError → Type 0
 HasFault prefixes fault = prefixes_fault (map (λ p. p.now) prefixes) ≡ Some fault
 
--- whether a prefix is one of those that are held
+-- whether the prefix is one of these
 abbrev pub holds : List Name → Name → Bool
 holds prefixes prefix = list_any (same_name prefix) prefixes
 
--- without one, and with one behind the others
+-- the prefixes without one of them, and the prefixes with one at the end
 abbrev pub without : List Name → Name → List Name
 without prefixes prefix = filter (λ p. not (same_name p prefix)) prefixes
 

@@ -8,23 +8,24 @@ use Rattle.jc_classes.specs.Parts.{Reach}
 use Rattle.jc_link.specs.Prefixes.{is_covered}
 use Rattle.jc_link.specs.Tables.{Places, class_at, class_found, world}
 
--- what is put into a place stands there, and all else as before
+-- putting or removing a place changes the class of its own name, and of no other name
 abbrev pub PlacesChange : Type 0
 PlacesChange = (places : Places) (name : Name) (place : Option Facts) (n : Name)
     → (class_at (map.insert places name place) n ≡ cond (same_name n name) place (class_at places n))
     × (class_at (map.remove places name) n ≡ cond (same_name n name) None (class_at places n))
 
--- where two tables have the same classes outside the touched names, so do their worlds
+-- if two tables have the same classes at all untouched names, their worlds agree at these names
 abbrev pub WorldsDiffer : Type 0
 WorldsDiffer = (touched : Name → Bool) (old new : Places) (prefixes : List Name)
     → ((n : Name) → touched n ≡ false → class_at old n ≡ class_at new n)
     → Differ touched (world old prefixes) (world new prefixes)
 
--- by other prefixes a class reaches the same names
+-- the reach of a class does not depend on the outside prefixes
 abbrev pub ReachStays : Type 0
 ReachStays = (places : Places) (old new : List Name) (d n : Name) → Reach (world places old) d n → Reach (world places new) d n
 
--- where two lists of prefixes cover the same names without a record outside the touched ones, their worlds are the same there
+-- if two lists of prefixes cover the same names among the untouched names without a class, their worlds agree at the
+-- untouched names
 abbrev pub PrefixesDiffer : Type 0
 PrefixesDiffer = (touched : Name → Bool) (places : Places) (old new : List Name)
     → ((n : Name) → touched n ≡ false → class_found places n ≡ None → is_covered old n ≡ is_covered new n)

@@ -10,7 +10,7 @@ use Rattle.jc_classes.specs.Worlds.{Stands, World}
 use Rattle.jc_classes.specs.BuiltIn.{object_facts}
 use Rattle.jc_link.specs.Prefixes.{is_covered}
 
--- the places of a table by name, each with a file's record or vacant
+-- the places of a table by name, each with the facts of a file, or vacant
 abbrev pub Places : Type 0
 Places = map.FinMap name_cmp (Option Facts)
 
@@ -18,7 +18,7 @@ abbrev pub placed : Option (Option Facts) → Option Facts
 placed None = None
 placed (Some facts) = facts
 
--- the record that a file gives
+-- the facts that a file gives for a name
 abbrev pub class_at : Places → Name → Option Facts
 class_at places name = placed (map.get places name)
 
@@ -29,7 +29,7 @@ classes_in places = flat_map (λ place. option_to_list place.1) places
 abbrev pub classes_of : Places → List Facts
 classes_of places = classes_in (map.entries places)
 
--- the built-in record
+-- the facts of the built-in java/lang/Object
 abbrev pub built_in : Name → Option Facts
 built_in name = cond (same_name name object) (Some object_facts) None
 
@@ -37,7 +37,7 @@ abbrev pub or_built_in : Option Facts → Name → Option Facts
 or_built_in (Some facts) name = Some facts
 or_built_in None name = built_in name
 
--- the record of a name: a file's, else the built-in one
+-- the facts of a name: those that a file gives, or else the built-in ones
 abbrev pub class_found : Places → Name → Option Facts
 class_found places name = or_built_in (class_at places name) name
 
@@ -45,6 +45,6 @@ abbrev pub stands_by : Option Facts → Bool → Stands
 stands_by (Some facts) outside = stands.Class facts
 stands_by None outside = cond outside stands.Outside stands.Nothing
 
--- what stands at each name: a record, else it is outside where it begins with a prefix
+-- what each name is: a class if it has facts, or else outside if it begins with a prefix
 abbrev pub world : Places → List Name → World
 world places prefixes name = stands_by (class_found places name) (is_covered prefixes name)

@@ -1,4 +1,4 @@
-//! The reach of a class with what stands at each of its names.
+//! The reach of a class, and the graph around the class.
 
 ghost use Rattle.std.specs.Prelude.{◌≡◌, ◌≤◌, ◌↔◌, IfOk, IsTrue, length};
 ghost use Rattle.std.specs.Option.{option_copied};
@@ -20,11 +20,11 @@ use jc_index::NameList;
 use std::alloc::Global;
 use std::marker::Model;
 
-/// The reach of a class, as it was gathered from a table: the graph around this one class, and its names in order.
+/// The reach of a class, as it was read from a table: the graph around this class, and its names in order.
 #[derive(Drop)]
 pub struct Closure<'t> {
     pub(crate) graph: ClassGraph<'t>,
-    /// The names of the graph, rising.
+    /// The names of the graph, in ascending order.
     pub(crate) names: NameList,
 }
 
@@ -40,8 +40,10 @@ impl<'t> Model for Closure<'t> {
     ghost invariant = { IsWhole };
 }
 
-/// Gathers the reach of a name: the name itself, `java/lang/Object`, the classes that its references name,
-/// and all that stands above these. The table is asked for each name once, also for one without a record.
+/// Finds the reach of a name: the name itself, `java/lang/Object`, the classes that its references name, and all their
+/// supertypes. It looks up each of these names once in the table, also names without a class.
+///
+/// Returns `NoMemory` when an allocation fails, and when there are more than 4,294,967,295 names.
 pub fn gather<'t>(
     alloc: Global,
     table: &'t Table,
@@ -63,7 +65,7 @@ pub fn gather<'t>(
 }
 
 impl<'t> Closure<'t> {
-    /// The names of the reach, rising. No memory.
+    /// Returns the names of the reach, in ascending order. Does not allocate.
     pub fn names(&self) -> &[Vec<u8>]
         ensures names { names_of result.now ≡ self.now.names }
         ensures reach { (m : World) (d : Name) → IsClosure m d self.now → Lists (names_of result.now) (Reach m d) }
@@ -71,7 +73,7 @@ impl<'t> Closure<'t> {
         self.names.names()
     }
 
-    /// Whether a name is in the reach. No memory.
+    /// Returns whether a name is in the reach. Does not allocate.
     pub fn holds(&self, name: &[u8]) -> bool
         ensures held { result ≡ has self.now.names name.now }
         ensures reach { (m : World) (d : Name) → IsClosure m d self.now → (IsTrue result ↔ Reach m d name.now) }
@@ -79,7 +81,7 @@ impl<'t> Closure<'t> {
         self.names.has(name)
     }
 
-    /// The record of the class itself. No memory.
+    /// Returns the facts of the class itself, if the name has facts. Does not allocate.
     pub fn record(&self) -> Option<&'t Facts>
         ensures { (m : World) (d : Name) → IsClosure m d self.now → option_copied result ≡ facts_standing (m d) }
     {

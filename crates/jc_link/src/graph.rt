@@ -1,4 +1,4 @@
-//! The classes of some names, with all that they reach, by numbers.
+//! Class graphs: numbered classes with all that they reach.
 
 ghost use Rattle.std.specs.Prelude.{◌≡◌, ◌<◌, ◌≤◌, ◌++◌, ℕ, List, [], IfOk, OnOk, length, map};
 ghost use Rattle.std.specs.List.{All, Contains};
@@ -30,9 +30,9 @@ use std::marker::Model;
 pub struct ClassGraph<'t> {
     /// The names by their numbers.
     pub(crate) names: Numbers,
-    /// What stands at each number.
+    /// What each name is.
     pub(crate) standing: Vec<Standing<'t>>,
-    /// The numbers of the supertypes of each number.
+    /// The numbers of the supertypes of each name.
     pub(crate) supertypes: Vec<Vec<usize>>,
     /// The numbers of the classes, in the order in which they were given.
     pub(crate) classes: Vec<usize>,
@@ -55,7 +55,9 @@ impl<'t> Model for ClassGraph<'t> {
 }
 
 impl<'t> ClassGraph<'t> {
-    /// Builds the graph of all classes of a table. The table is asked for each name once.
+    /// Builds the graph of all classes of a table. It looks up each name once.
+    ///
+    /// Returns `NoMemory` when an allocation fails, and when there are more than 4,294,967,295 names.
     pub fn of(
         alloc: Global,
         table: &'t Table,
@@ -74,8 +76,9 @@ impl<'t> ClassGraph<'t> {
         Ok(graph)
     }
 
-    /// Builds the graph of the classes of some names, and of one more if it is given. The table is asked for each name
-    /// once.
+    /// Builds the graph of the classes of some names, and of one more if it is given. It looks up each name once.
+    ///
+    /// Returns `NoMemory` when an allocation fails, and when there are more than 4,294,967,295 names.
     pub fn around(
         alloc: Global,
         table: &'t Table,
@@ -141,7 +144,7 @@ fn number_names(
     Ok(classes)
 }
 
-/// Builds the graph of the classes of these numbers, if no other names have numbers yet.
+/// Builds the graph of the classes of these numbers. No other names may have numbers yet.
 fn gather_graph<'t>(
     alloc: Global,
     table: &'t Table,

@@ -1,23 +1,24 @@
-//! Laws over the definitions alone.
+//! Laws about the definitions only.
 
 ghost use Rattle.jc_link.specs.TableLaws.{PlacesChange, PrefixesDiffer, ReachStays, WorldsDiffer};
 
-/// What is put into a place stands there, and what is taken out doesn't; all else stands as before.
+/// A law: putting or removing a place of a table changes the class of its own name, and of no other name.
 pub fn places_change()
     ensures { PlacesChange }
 {}
 
-/// An edit of files touches only what stands at the names that it touches.
+/// A law: an edit of files changes the world only at the names that it touches.
 pub fn worlds_differ()
     ensures { WorldsDiffer }
 {}
 
-/// An edit of outside prefixes touches only names without a record that are outside before or after it.
+/// A law: an edit of the outside prefixes changes the world only at names without a class that become outside or
+/// inside.
 pub fn prefixes_differ()
     ensures { PrefixesDiffer }
 {}
 
-/// What a class reaches doesn't depend on outside prefixes.
+/// A law: the reach of a class does not depend on the outside prefixes.
 pub fn reach_stays()
     ensures { ReachStays }
 {}

@@ -1,5 +1,12 @@
-//! Linking: the table of classes and the outside prefixes, the graph of classes with all that they reach, and what is
-//! found of a class: how it loads (JVMS 5.3.5) and the answers to its references (JVMS 5.4.3).
+//! Linking of classes: their table, their graph and their parts.
+//!
+//! `Table` has the classes that files give, and `Outside` the outside prefixes. `ClassGraph` has some classes with all
+//! that they reach. A `PartMaker` computes the `Part` and the reach of each class of a graph. A `Part` has the faults
+//! of a class, how it loads, its answers, and its instructions that do not link (JVMS 5.3.5, 5.4.3, 6.5). `gather` and
+//! `make_part` make the part of one class.
+//!
+//! The contracts say that a part is that of its class in the world of the table and the prefixes. A `Meter` counts the
+//! look-ups in a table and the parts that are computed.
 #![tactic(auto)]
 
 mod closure;

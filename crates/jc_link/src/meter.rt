@@ -1,10 +1,10 @@
-//! What linking has cost.
+//! Counts of the work of linking.
 
 ghost use Rattle.std.specs.Prelude.{◌≡◌, ◌<◌, ◌^◌};
 ghost use Rattle.jc_link.specs.Meters.{counted};
 
-/// How many classes a table was asked for, and how many parts were made. A count stays at its greatest
-/// value. Each table comes with one, and nothing else makes one.
+/// The number of look-ups in a table, and the number of parts that were computed. A count stops at its greatest value.
+/// [`Table::new`](crate::Table::new) returns a meter with each table, and nothing else makes one.
 #[derive(Drop)]
 pub struct Meter {
     asks: u64,
@@ -14,7 +14,7 @@ pub struct Meter {
 }
 
 impl Meter {
-    /// A meter at 0 and 0.
+    /// Returns a meter whose counts are 0.
     pub(crate) fn new() -> Meter
         ensures asks { result.asks ≡ 0 }
         ensures made { result.made ≡ 0 }
@@ -22,20 +22,21 @@ impl Meter {
         Meter { asks: 0, made: 0 }
     }
 
-    /// How often the table was asked for a class, found or not.
+    /// Returns the number of look-ups in the table, whether they found a class or not.
     pub fn asks(&self) -> u64
         ensures { result ≡ self.now.asks }
     {
         self.asks
     }
 
-    /// How many parts were made.
+    /// Returns the number of parts that were computed.
     pub fn made(&self) -> u64
         ensures { result ≡ self.now.made }
     {
         self.made
     }
 
+    /// Counts one look-up.
     pub(crate) fn count_ask(&mut self)
         ensures asks { self.new.asks ≡ counted self.old.asks 1 }
         ensures made { self.new.made ≡ self.old.made }
@@ -43,6 +44,7 @@ impl Meter {
         self.asks = self.asks.saturating_add(1);
     }
 
+    /// Counts one part.
     pub(crate) fn count_part(&mut self)
         ensures made { self.new.made ≡ counted self.old.made 1 }
         ensures asks { self.new.asks ≡ self.old.asks }

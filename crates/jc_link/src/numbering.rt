@@ -1,4 +1,4 @@
-//! Numbers for the classes that a class names.
+//! Numbers for the supertypes of a class, and for the classes that its references name.
 
 ghost use Rattle.jc_classes.specs.Worlds.{Stands as stands};
 ghost use Rattle.std.specs.Prelude.{◌≡◌, ◌<◌, [], IfOk, OnOk, length};
@@ -13,7 +13,7 @@ use jc_base::NoMemory;
 use jc_classes::{Facts, Numbers, Standing};
 use std::alloc::Global;
 
-/// The numbers of the supertypes of what stands at a name.
+/// Returns the numbers of the direct supertypes of a class. Other names have none.
 pub(crate) fn number_supertypes(
     alloc: Global,
     numbers: &mut Numbers,
@@ -43,7 +43,7 @@ fn number_supertypes_of(
     Ok(supertypes)
 }
 
-/// Adds the number of a name, if there is one.
+/// Appends the number of a name, if there is one.
 pub(crate) fn number_some(
     alloc: Global,
     numbers: &mut Numbers,
@@ -64,7 +64,7 @@ pub(crate) fn number_some(
     }
 }
 
-/// Adds the numbers of the direct superinterfaces.
+/// Appends the numbers of the direct superinterfaces.
 fn number_interfaces(
     alloc: Global,
     numbers: &mut Numbers,
@@ -82,7 +82,7 @@ fn number_interfaces(
     Ok(())
 }
 
-/// The name of the direct superinterface of a number; empty past the last.
+/// Returns the name of the direct superinterface of a number. Returns an empty name if there is none.
 fn interface_name(facts: &Facts, number: usize) -> &[u8]
     ensures { result.now ≡ name_at facts.now.interfaces number }
 {
@@ -92,7 +92,7 @@ fn interface_name(facts: &Facts, number: usize) -> &[u8]
     }
 }
 
-/// For each reference of what stands at a name, the number of the class that it names.
+/// Returns for each reference of a class the number of the class that it names. Other names have no references.
 pub(crate) fn number_references(
     alloc: Global,
     numbers: &mut Numbers,
@@ -128,8 +128,8 @@ fn number_references_of(
     Ok(nodes)
 }
 
-/// The number of the class that a reference names, or of an array the innermost one, if there is one. More than
-/// 4,294,967,295 names are refused as if there were no memory.
+/// Returns the number of the class that a reference names; for an array, of its innermost class, if there is one.
+/// Returns `NoMemory` when an allocation fails, and when there are more than 4,294,967,295 names.
 fn number_reference(
     alloc: Global,
     numbers: &mut Numbers,

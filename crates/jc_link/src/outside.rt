@@ -1,4 +1,4 @@
-//! Names that are outside: classes of which nothing is known but that they are there.
+//! Outside names: classes of which only the existence is known.
 
 ghost use Rattle.std.specs.Prelude.{◌≡◌, ◌↔◌, ◌++◌, ◌∷◌, [], IfOk, IsErrOf, OnOk, length, map};
 ghost use Rattle.std.specs.List.{Contains, list_any};
@@ -14,12 +14,13 @@ use jc_classes::same;
 use std::alloc::Global;
 use std::marker::Model;
 
+/// The greatest length of a prefix, in bytes.
 const LONGEST_PREFIX: usize = 256;
 
-/// So many prefixes may be held.
+/// The greatest number of prefixes that [`Outside::new`] accepts.
 pub const MOST_PREFIXES: usize = 64;
 
-/// The prefixes of the names that are outside, each once.
+/// The outside prefixes, each once. The model is the list of prefixes.
 #[derive(Drop)]
 pub struct Outside {
     prefixes: Prefixes,
@@ -31,14 +32,14 @@ enum Prefixes {
     Given(Vec<Vec<u8>>),
 }
 
-/// Why prefixes are refused: the first that applies.
+/// Why prefixes are refused. If several errors apply, it is the first in the order of the variants.
 #[derive(Clone, Copy, Debug, PartialEq, Eq)]
 pub enum OutsideError {
     /// A prefix is empty or longer than 256 bytes.
     BadPrefix,
-    /// More than 64 prefixes are handed in.
+    /// There are more than 64 prefixes.
     TooManyPrefixes,
-    /// Memory was refused.
+    /// An allocation fails.
     NoMemory,
 }
 
@@ -79,8 +80,7 @@ impl Model for Outside {
 }
 
 impl Outside {
-    /// The prefixes that are handed in. One that is handed in twice is held once, and counts twice for
-    /// the limit.
+    /// Returns these prefixes. A prefix that is given twice is kept once, but counts twice for the limit of 64.
     pub fn new(alloc: Global, prefixes: &[&[u8]]) -> Result<Outside, OutsideError>
         ensures bad { IsErrOf result errors.BadPrefix ↔ HasFault prefixes.now errors.BadPrefix }
         ensures many { IsErrOf result errors.TooManyPrefixes ↔ HasFault prefixes.now errors.TooManyPrefixes }
@@ -96,7 +96,7 @@ impl Outside {
         })
     }
 
-    /// The prefixes `java/` and `javax/`, which takes no memory.
+    /// Returns the prefixes `java/` and `javax/`. Does not allocate.
     pub fn standard() -> Outside
         ensures { result ≡ standard_prefixes }
     {
@@ -105,7 +105,8 @@ impl Outside {
         }
     }
 
-    /// Whether a name begins with one of the prefixes, each of which is held once.
+    /// Returns whether a name begins with one of the prefixes. The contract also says that each prefix is kept once.
+    /// Does not allocate.
     pub fn covers(&self, name: &[u8]) -> bool
         ensures covered { result ≡ is_covered self.now name.now }
         ensures once { IsOnce self.now }
@@ -116,7 +117,7 @@ impl Outside {
         }
     }
 
-    /// Whether a prefix is one of those that are held. No memory.
+    /// Returns whether a prefix is one of these. Does not allocate.
     pub fn has(&self, prefix: &[u8]) -> bool
         ensures { result ≡ holds self.now prefix.now }
     {
@@ -126,7 +127,7 @@ impl Outside {
         }
     }
 
-    /// How many prefixes are held. No memory.
+    /// Returns the number of prefixes. Does not allocate.
     pub fn len(&self) -> usize
         ensures { result ≡ length self.now }
     {
@@ -136,9 +137,9 @@ impl Outside {
         }
     }
 
-    /// These prefixes, and one behind the others.
+    /// Returns these prefixes with one at the end. If it is one of them, it is moved to the end.
     ///
-    /// Answers `NoMemory` only where memory was refused.
+    /// Returns `NoMemory` only when an allocation fails.
     pub fn plus(&self, alloc: Global, prefix: &[u8]) -> Result<Outside, NoMemory>
         ensures { IfOk result (λ o. o ≡ with_one self.now prefix.now) }
     {
@@ -149,9 +150,9 @@ impl Outside {
         })
     }
 
-    /// These prefixes without one.
+    /// Returns these prefixes without one.
     ///
-    /// Answers `NoMemory` only where memory was refused.
+    /// Returns `NoMemory` only when an allocation fails.
     pub fn minus(&self, alloc: Global, prefix: &[u8]) -> Result<Outside, NoMemory>
         ensures { IfOk result (λ o. o ≡ without self.now prefix.now) }
     {
@@ -161,7 +162,7 @@ impl Outside {
         })
     }
 
-    /// Copies of the prefixes but one.
+    /// Returns copies of the prefixes, without one of them.
     fn copy_without(&self, alloc: Global, prefix: &[u8]) -> Result<Vec<Vec<u8>>, NoMemory>
         ensures held { IfOk result (λ held. names_of held.items ≡ without self.now prefix.now) }
         ensures once { IsOnce self.now }
@@ -173,7 +174,7 @@ impl Outside {
     }
 }
 
-/// Copies of prefixes but one.
+/// Returns copies of prefixes, without one of them.
 fn copy_others(alloc: Global, prefixes: &[&[u8]], prefix: &[u8]) -> Result<Vec<Vec<u8>>, NoMemory>
     ensures { IfOk result (λ held. names_of held.items ≡ without (map (λ p. p.now) prefixes.now) prefix.now) }
 {
@@ -184,7 +185,7 @@ fn copy_others(alloc: Global, prefixes: &[&[u8]], prefix: &[u8]) -> Result<Vec<V
     Ok(held)
 }
 
-/// The same of prefixes that are held.
+/// Returns copies of prefixes in vectors, without one of them.
 fn copy_others_of(
     alloc: Global,
     prefixes: &[Vec<u8>],
@@ -199,7 +200,7 @@ fn copy_others_of(
     Ok(held)
 }
 
-/// Adds a copy of a prefix, unless it is this one.
+/// Appends a copy of a prefix, unless it is the one to leave out.
 fn copy_other(
     alloc: Global,
     held: &mut Vec<Vec<u8>>,
@@ -237,14 +238,14 @@ fn has_bad_prefix(prefixes: &[&[u8]]) -> bool
     false
 }
 
-/// Whether a prefix is empty or longer than 256 bytes.
+/// Returns whether a prefix is empty or longer than 256 bytes.
 pub fn is_bad_prefix(prefix: &[u8]) -> bool
     ensures { result ≡ is_bad_prefix prefix.now }
 {
     prefix.is_empty() || prefix.len() > LONGEST_PREFIX
 }
 
-/// Copies of the prefixes, each once.
+/// Returns copies of the prefixes, each once.
 fn hold_each(alloc: Global, prefixes: &[&[u8]]) -> Result<Vec<Vec<u8>>, NoMemory>
     ensures { IfOk result (λ o. IsHeldOf (names_of o.items) (map (λ p. p.now) prefixes.now)) }
 {
@@ -255,7 +256,7 @@ fn hold_each(alloc: Global, prefixes: &[&[u8]]) -> Result<Vec<Vec<u8>>, NoMemory
     Ok(held)
 }
 
-/// Adds a copy of the prefix where it isn't held.
+/// Appends a copy of a prefix, unless it is one of these already.
 fn hold(alloc: Global, held: &mut Vec<Vec<u8>>, prefix: &[u8]) -> Result<(), NoMemory>
     ensures { OnOk result (names_of held.new.items ≡ with_prefix (names_of held.old.items) prefix.now) }
 {

@@ -1,5 +1,5 @@
-//! What is found of a class: how it loads, whether it is circular, its faults, the answers to its references,
-//! and the errors of its instructions.
+//! The part of a class: how it loads, whether it is circular, its faults, its answers, and the errors of its
+//! instructions.
 
 ghost use Rattle.std.specs.Prelude.{◌≡◌, ◌<◌, ◌≤◌, ℕ, [], length, Some, IfOk, OnErr, OnOk};
 ghost use Rattle.std.specs.List.{Contains};
@@ -29,12 +29,13 @@ use std::alloc::Global;
 use std::marker::Model;
 use std::rc::Rc;
 
-/// What is found of a class. A name without a record has how it loads, and nothing else.
+/// What jclink finds out about a class. A name without a class has no answers and no faults: it is known only how it
+/// loads.
 #[derive(Drop)]
 pub struct Part {
     circular: bool,
     load: Loading,
-    /// Those of its facts, where it has a record.
+    /// The faults of its facts, if the name has facts.
     faults: Option<Rc<Faults>>,
     linked: Linked,
 }
@@ -50,21 +51,21 @@ impl Model for Part {
 }
 
 impl Part {
-    /// Whether the class is its own superclass or superinterface.
+    /// Returns whether the class is its own superclass or superinterface.
     pub fn is_circular(&self) -> bool
         ensures { result ≡ self.now.circular }
     {
         self.circular
     }
 
-    /// How the class loads (JVMS 5.3.5).
+    /// Returns how the class loads (JVMS 5.3.5).
     pub fn load(&self) -> &Loading
         ensures { loading_of result.now ≡ self.now.load }
     {
         &self.load
     }
 
-    /// The faults of its format, by rule and then by place.
+    /// Returns the faults of its format, by rule and then by place.
     pub fn format_faults(&self) -> &[Fault]
         ensures { result.now ≡ self.now.format_faults }
     {
@@ -74,7 +75,7 @@ impl Part {
         }
     }
 
-    /// The faults of its methods' code, each with the number of the method.
+    /// Returns the faults of its methods' code, each with the number of the method.
     pub fn code_faults(&self) -> &[(usize, CodeFault)]
         ensures { result.now ≡ self.now.code_faults }
     {
@@ -84,15 +85,15 @@ impl Part {
         }
     }
 
-    /// The answer to each of its references, in their order (JVMS 5.4.3).
+    /// Returns the answers to its references, in the order of the references (JVMS 5.4.3).
     pub fn answers(&self) -> &Answers
         ensures { result.now ≡ self.now.answers }
     {
         self.linked.answers()
     }
 
-    /// The instructions that do not link though their references resolve, by method, then by offset (JVMS 6.5). No
-    /// memory.
+    /// Returns the instructions that do not link although their references resolve, by method and then by offset (JVMS
+    /// 6.5). Does not allocate.
     pub fn links(&self) -> Links<'_>
         ensures { result ≡ self.now.links }
     {
@@ -100,7 +101,9 @@ impl Part {
     }
 }
 
-/// Makes the part of the class that a closure was gathered for.
+/// Computes the part of the class of a closure.
+///
+/// Returns `NoMemory` when an allocation fails. Then the meter counts no part.
 pub fn make_part(alloc: Global, closure: &Closure, meter: &mut Meter) -> Result<Part, NoMemory>
     ensures part { (m : World) (d : Name) → IsClosure m d closure.now → IfOk result (λ p. IsPart m d p) }
     ensures made { OnOk result (meter.new.made ≡ counted meter.old.made 1) }
@@ -112,8 +115,8 @@ pub fn make_part(alloc: Global, closure: &Closure, meter: &mut Meter) -> Result<
     maker.part(alloc, 0, meter)
 }
 
-/// The part of a class of a hierarchy, at whose name this stands and whose references name the classes of these
-/// numbers.
+/// Returns the part of a class of a hierarchy. `own` is the class itself, and `references` has the numbers of the
+/// classes that its references name.
 pub(crate) fn part_of(
     alloc: Global,
     hierarchy: &mut Hierarchy,
@@ -144,7 +147,7 @@ pub(crate) fn part_of(
     })
 }
 
-/// The faults of what stands at a name.
+/// Returns the faults of a class, shared. Other names have none.
 fn share_faults(standing: Standing<'_>) -> Result<Option<Rc<Faults>>, NoMemory>
     ensures format { IfOk result (λ faults. option_map_or (λ f. f.value.format.items) faults []
         ≡ format_faults_of (stands_of standing.entry)) }

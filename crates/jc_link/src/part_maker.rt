@@ -24,13 +24,13 @@ use jc_resolve::{Hierarchy, InheritanceErrors};
 use std::alloc::Global;
 use std::marker::Model;
 
-/// Makes the parts of the classes of a graph, for which it knows how each name loads. A class is asked for by its
-/// place among the classes of the graph.
+/// Computes the parts of the classes of a graph, for which it knows how each name loads. Its functions identify a class
+/// by its place among the classes of the graph. The model is the graph.
 #[derive(Drop)]
 pub struct PartMaker<'g, 't> {
     graph: &'g ClassGraph<'t>,
     hierarchy: Hierarchy<'g, 't>,
-    /// Room to walk in, once a reach was asked for.
+    /// Working memory for walks, if a reach was asked for before.
     seen: Option<Seen>,
 }
 
@@ -47,7 +47,9 @@ impl<'g, 't> Model for PartMaker<'g, 't> {
 }
 
 impl<'g, 't> PartMaker<'g, 't> {
-    /// Finds how each name of a graph loads.
+    /// Returns a part maker for a graph. It finds how each name of the graph loads.
+    ///
+    /// Returns `NoMemory` only when an allocation fails.
     pub fn new(alloc: Global, graph: &'g ClassGraph<'t>) -> Result<PartMaker<'g, 't>, NoMemory>
         ensures { IfOk result (λ maker. maker ≡ graph.now) }
     {
@@ -65,7 +67,9 @@ impl<'g, 't> PartMaker<'g, 't> {
         })
     }
 
-    /// Makes the part of the class at a place. An error counts no part.
+    /// Computes the part of the class at a place.
+    ///
+    /// Returns `NoMemory` when an allocation fails. Then the meter counts no part.
     pub fn part(&mut self, alloc: Global, place: usize, meter: &mut Meter) -> Result<Part, NoMemory>
         requires { place < length self.old.classes }
         ensures part { (m : World) → IsIn m self.old → IfOk result (IsPart m (name_at self.old.classes place)) }
@@ -86,7 +90,9 @@ impl<'g, 't> PartMaker<'g, 't> {
         self.graph.record(place)
     }
 
-    /// Finds the errors of inheritance of the class at a place.
+    /// Finds the errors of inheritance of the class at a place (JVMS 4.10).
+    ///
+    /// Returns `NoMemory` only when an allocation fails.
     pub fn inheritance_errors(
         &self,
         alloc: Global,
@@ -98,7 +104,9 @@ impl<'g, 't> PartMaker<'g, 't> {
         inheritance_at(alloc, self.graph, &self.hierarchy, place)
     }
 
-    /// Returns the names that the class at a place reaches.
+    /// Returns the names that the class at a place reaches, in ascending order.
+    ///
+    /// Returns `NoMemory` when an allocation fails, and when the names have more than 4,294,967,295 bytes together.
     pub fn reach(&mut self, alloc: Global, place: usize) -> Result<PackedNames, NoMemory>
         requires { place < length self.old.classes }
         ensures reach { (m : World) → IsIn m self.old
@@ -115,7 +123,7 @@ impl<'g, 't> PartMaker<'g, 't> {
     }
 }
 
-/// The part of the class at a place, over the hierarchy of its graph.
+/// Computes the part of the class at a place, over the hierarchy of its graph.
 fn part_at(
     alloc: Global,
     graph: &ClassGraph,
@@ -140,7 +148,7 @@ fn part_at(
     Ok(part)
 }
 
-/// The errors of inheritance of the class at a place, over the hierarchy of its graph.
+/// Finds the errors of inheritance of the class at a place, over the hierarchy of its graph.
 fn inheritance_at(
     alloc: Global,
     graph: &ClassGraph,
@@ -154,7 +162,7 @@ fn inheritance_at(
     hierarchy.inheritance_errors(alloc, graph.classes[place])
 }
 
-/// The room that was kept, or new room.
+/// Returns the working memory that was kept, or allocates it.
 fn room(alloc: Global, kept: Option<Seen>, graph: &ClassGraph) -> Result<Seen, NoMemory>
     requires { HasRoom graph.now kept }
     ensures { IfOk result (λ seen. length seen.flags ≡ length graph.now.names) }
@@ -165,7 +173,7 @@ fn room(alloc: Global, kept: Option<Seen>, graph: &ClassGraph) -> Result<Seen, N
     }
 }
 
-/// Sees what the class at a place reaches, by numbers.
+/// Finds the numbers of the names that the class at a place reaches.
 fn see_reach(
     alloc: Global,
     graph: &ClassGraph,
@@ -184,7 +192,7 @@ fn see_reach(
     seen.add_all(&starts)
 }
 
-/// The numbers of the class at a place, of `java/lang/Object` and of the classes that its references name.
+/// Returns the numbers of the class at a place, of `java/lang/Object` and of the classes that its references name.
 fn starts_of(alloc: Global, graph: &ClassGraph, place: usize) -> Result<Vec<usize>, NoMemory>
     requires { place < length graph.now.classes }
     ensures within { IfOk result (λ starts. All (λ v. v < length graph.now.names) starts.items) }
@@ -199,7 +207,7 @@ fn starts_of(alloc: Global, graph: &ClassGraph, place: usize) -> Result<Vec<usiz
     Ok(starts)
 }
 
-/// Adds those of these numbers that are there.
+/// Appends the numbers that are present.
 fn push_some(numbers: &mut Vec<usize>, others: &[Option<u32>]) -> Result<(), NoMemory>
     ensures { OnOk result (numbers.new.items ≡ numbers.old.items ++ flat_map option_to_list others.now) }
 {
@@ -211,7 +219,7 @@ fn push_some(numbers: &mut Vec<usize>, others: &[Option<u32>]) -> Result<(), NoM
     Ok(())
 }
 
-/// The names of these numbers, lent.
+/// Returns the names of these numbers, borrowed.
 fn names_at<'n>(
     alloc: Global,
     numbers: &'n Numbers,

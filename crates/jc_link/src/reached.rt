@@ -1,4 +1,4 @@
-//! What a table gives for the first of some names.
+//! What the first of some names are, by a table.
 
 ghost use Rattle.std.specs.Prelude.{◌≡◌, ◌≤◌, ℕ, List, [], IfOk, OnOk, length};
 ghost use Rattle.jc_classes.specs.Lent.{stands_of};
@@ -18,7 +18,7 @@ use jc_base::NoMemory;
 use jc_classes::{Numbers, Standing};
 use std::alloc::Global;
 
-/// What stands at the first of the names, and the numbers of their supertypes.
+/// For each of the first names, what it is and the numbers of its direct supertypes.
 #[derive(Drop)]
 pub(crate) struct Reached<'t> {
     pub(crate) standing: Vec<Standing<'t>>,
@@ -26,7 +26,7 @@ pub(crate) struct Reached<'t> {
 }
 
 impl<'t> Reached<'t> {
-    /// Nothing yet, with room for so many names.
+    /// Returns an empty value, with room for `room` names.
     pub(crate) fn with_room(alloc: Global, room: usize) -> Result<Self, NoMemory>
         ensures standing { IfOk result (λ r. stands_in r.standing.items ≡ []) }
         ensures supertypes { IfOk result (λ r. supertypes_in r.supertypes.items ≡ []) }
@@ -37,7 +37,7 @@ impl<'t> Reached<'t> {
         })
     }
 
-    /// Adds what stands at the next name, and numbers its supertypes.
+    /// Appends an item for the next name, and numbers its supertypes.
     fn push(
         &mut self,
         alloc: Global,
@@ -54,7 +54,7 @@ impl<'t> Reached<'t> {
     }
 }
 
-/// Asks a table for what stands at each name for which it was not asked yet, and numbers the supertypes.
+/// Looks up each name that was not looked up yet, and numbers its supertypes, which are then looked up too.
 pub(crate) fn ask_all<'t>(
     alloc: Global,
     table: &'t Table,
@@ -81,7 +81,7 @@ pub(crate) fn ask_all<'t>(
     Ok(())
 }
 
-/// What stands at a name.
+/// Looks up what a name is. The meter counts one look-up.
 fn stand_at<'t>(table: &'t Table, outside: &Outside, name: &[u8], meter: &mut Meter) -> Standing<'t>
     ensures stands { stands_of result ≡ world table.now outside.now name.now }
     ensures asks { meter.new.asks ≡ counted meter.old.asks 1 }

@@ -14,11 +14,11 @@ use std::alloc::{AllocFailed, Global};
 use std::marker::Model;
 use std::mem;
 
-/// The classes that files give, by name, and the built-in `java/lang/Object` beside them.
+/// The classes that files give, by name, and the built-in `java/lang/Object`.
 #[derive(Drop)]
 pub struct Table {
     alloc: Global,
-    /// A place may be vacant.
+    /// The place of each name. A vacant place has no facts.
     places: ByteMap<Option<Facts>>,
     object: Facts,
 }
@@ -41,7 +41,9 @@ impl Model for Table {
 }
 
 impl Table {
-    /// An empty table, and the meter that counts what is asked of it.
+    /// Returns an empty table, and the meter that counts its look-ups.
+    ///
+    /// Returns `NoMemory` only when an allocation fails.
     pub fn new(alloc: Global) -> Result<(Table, Meter), NoMemory>
         ensures empty { IfOk result (λ made. made.0 ≡ map.empty) }
         ensures asks { IfOk result (λ made. made.1.asks ≡ 0) }
@@ -56,8 +58,8 @@ impl Table {
         Ok((table, Meter::new()))
     }
 
-    /// The record of a name: the one that a file gives, or the built-in one where no file names
-    /// `java/lang/Object`. Each call is one ask. No memory.
+    /// Returns the facts that a file gives for a name, or the built-in ones if no file gives `java/lang/Object`. The
+    /// meter counts one look-up. Does not allocate.
     pub fn get(&self, name: &[u8], meter: &mut Meter) -> Option<&Facts>
         ensures found { option_copied result ≡ class_found self.now name.now }
         ensures asks { meter.new.asks ≡ counted meter.old.asks 1 }
@@ -70,7 +72,7 @@ impl Table {
         }
     }
 
-    /// Returns the record that a file gives of a name. No ask is counted. Does not allocate.
+    /// Returns the facts that a file gives for a name. No meter counts this look-up. Does not allocate.
     pub fn class(&self, name: &[u8]) -> Option<&Facts>
         ensures { option_copied result ≡ class_at self.now name.now }
     {
@@ -89,7 +91,7 @@ impl Table {
         None
     }
 
-    /// The classes that files give, in the order of their names. No ask is counted.
+    /// Returns the classes that files give, sorted by name. No meter counts a look-up.
     pub fn classes(&self) -> TableClasses<'_>
         ensures { result ≡ classes_of self.now }
     {
@@ -98,8 +100,8 @@ impl Table {
         }
     }
 
-    /// Puts the facts in the place of their class, and answers the file's record that stood there. Fails
-    /// only for want of memory where the name has no place, and then gives the facts back.
+    /// Puts facts at the place of their class, and returns the facts of the file that were there. Returns an error only
+    /// when an allocation fails, and only if the name has no place. The error has the facts.
     pub fn put(&mut self, facts: Facts) -> Result<Option<Facts>, Facts>
         ensures before { IfOk result (λ before. before ≡ class_at self.old facts.name) }
         ensures ok { OnOk result (self.new ≡ map.insert self.old facts.name (Some facts)) }
@@ -122,7 +124,7 @@ impl Table {
         }
     }
 
-    /// Takes a file's record and its place out. No memory.
+    /// Removes the facts of a file, with their place. Does not allocate.
     pub fn remove(&mut self, name: &[u8]) -> Option<Facts>
         ensures before { result ≡ class_at self.old name.now }
         ensures removed { self.new ≡ map.remove self.old name.now }
@@ -133,8 +135,8 @@ impl Table {
         }
     }
 
-    /// Takes a file's record out and keeps its place, so that the next `put` of its name takes no memory.
-    /// Without a record it changes nothing. No memory.
+    /// Removes the facts of a file, but keeps their place, so that the next `put` of this name does not allocate.
+    /// Changes nothing if there are no facts. Does not allocate.
     pub fn vacate(&mut self, name: &[u8]) -> Option<Facts>
         ensures before { result ≡ class_at self.old name.now }
         ensures vacated { OnSome result (self.new ≡ map.insert self.old name.now None) }
@@ -147,7 +149,7 @@ impl Table {
     }
 }
 
-/// The classes of a [`Table`] in the order of their names, seen as the list of those that are left.
+/// An iterator over the classes of a [`Table`], sorted by name. The model is the list of the classes that are left.
 #[derive(Drop)]
 pub struct TableClasses<'t> {
     places: byte_map::Iter<'t, Option<Facts>>,

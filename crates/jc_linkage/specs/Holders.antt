@@ -15,12 +15,12 @@ pub record IsHolder (classes : List Class) (row : Row) (name : Name) : Type 0 wh
   pub named : name_of class ≡ name
   pub gives : Contains (required_rows class.facts class.part) row
 
--- how many classes require the row, and none where there is no row
+-- n is the number of classes that require the row, and 0 if there is no row
 abbrev pub CountsHolders : List Class → Option Row → ℕ → Type 0
 CountsHolders classes None n = n ≡ 0
 CountsHolders classes (Some row) n = (names : List Name) × Lists names (IsHolder classes row) × (n ≡ length names)
 
--- how many require the row at this place of those that are required
+-- n is the number of classes that require the row at this place of the sorted required rows
 abbrev pub CountsHoldersAt : Linkage → (place n : ℕ) → Type 0
 CountsHoldersAt a place n =
     (classes : List Class) → AreHeldClasses a classes

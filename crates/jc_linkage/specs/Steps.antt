@@ -1,11 +1,11 @@
--- What an edit changes: what stands at a name, or at two.
+-- What an edit changes: the class of a name, or the classes of two names.
 use Rattle.std.specs.Prelude.{Bool, false, ◌&&◌, cond, Option, Some, None, is_some}
 use Rattle.jc_classes.specs.Facts.{Facts}
 use Rattle.jc_classes.specs.Names.{Name, same_name}
 use Rattle.jc_linkage.specs.declared.step.Step.{Step}
 use Rattle.jc_linkage.specs.declared.step.Step.TheVariants.{Put, Remove}
 
--- the class that files give of each name
+-- the class that files give for each name
 abbrev pub Classes : Type 0
 Classes = Name → Option Facts
 
@@ -20,13 +20,13 @@ step_class (Remove name) = None
 abbrev pub is_step : Step → Name → Bool
 is_step s n = same_name n (step_name s)
 
--- ---- a step and a class beside it
+-- ---- a step, and a class that is put after it
 
 abbrev pub is_class : Option Facts → Name → Bool
 is_class None n = false
 is_class (Some f) n = same_name n f.name
 
--- whether a step is at the name
+-- whether there is a step, and it is at the name
 abbrev pub at_step : Option Step → Name → Bool
 at_step None n = false
 at_step (Some s) n = is_step s n
@@ -35,6 +35,6 @@ abbrev pub class_by : Option Step → Option Facts
 class_by None = None
 class_by (Some s) = step_class s
 
--- the classes behind both. A step changes nothing where no class stands, and at the name of the class beside it
+-- the classes after both. The step has an effect only if its name has a class and is not the name of the put class
 abbrev pub changed : Classes → Option Step → Option Facts → Classes
 changed m first put n = cond (is_class put n) put (cond (at_step first n && is_some (m n)) (class_by first) (m n))

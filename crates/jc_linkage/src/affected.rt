@@ -14,7 +14,7 @@ use jc_classes::same;
 use jc_index::NameList;
 use std::alloc::Global;
 
-/// The classes whose reach holds one of two names, each once, but the one that goes.
+/// Returns the classes whose reach has one of two names, each once, without the removed class.
 pub(crate) fn users_of(
     alloc: Global,
     links: &Links,
@@ -32,14 +32,14 @@ pub(crate) fn users_of(
     Ok(users)
 }
 
-/// The classes whose reach holds a name.
+/// Returns the classes whose reach has a name.
 fn list_at<'a>(links: &'a Links, name: Option<&[u8]>) -> Option<&'a NameList>
     ensures { has_list result ≡ users_at links.now.reach (option_copied name.entry) }
 {
     links.reach.list(name?)
 }
 
-/// Adds those of a list that others lack, but the one that goes.
+/// Appends the names of a list that `others` lacks, without the removed class.
 fn add_users(
     alloc: Global,
     users: &mut Vec<Vec<u8>>,
@@ -59,7 +59,7 @@ fn add_users(
     Ok(())
 }
 
-/// Adds a name that others lack, unless it is the one that goes.
+/// Appends a name that `others` lacks, unless it is that of the removed class.
 fn add_user(
     alloc: Global,
     users: &mut Vec<Vec<u8>>,
@@ -85,7 +85,7 @@ fn is_among(list: Option<&NameList>, name: &[u8]) -> bool
     }
 }
 
-/// Whether this is the name.
+/// Returns whether this is the name.
 fn is_name(this: Option<&[u8]>, name: &[u8]) -> bool
     ensures { result ≡ is_name (option_copied this.entry) name.now }
 {

@@ -1,4 +1,4 @@
-//! An edit of what stands at one name or two.
+//! Edits of the classes of one or two names.
 
 ghost use Rattle.std.specs.Prelude.{◌≡◌, ◌≤◌, ◌&&◌, not, false, true, Decides, IfOk, IsSome, None, OnErr, OnOk, Some, cond, is_some};
 ghost use Rattle.std.specs.FinMap as map;
@@ -27,8 +27,8 @@ use jc_classes::{Facts, same};
 use jc_link::{Meter, Outside, Table};
 use std::alloc::Global;
 
-/// Returns the step, unless it changes nothing: no class stands at its name, the class beside it does, or the class that
-/// it leaves there.
+/// Returns the step, unless it changes nothing. It changes nothing if its name has no class, is the name of the put
+/// class, or has the step's class already.
 pub(crate) fn counting(table: &Table, first: Option<Step>, put: &Option<Facts>) -> Option<Step>
     ensures { IsCounting (class_at table.now) put.now first result }
 {
@@ -40,7 +40,7 @@ pub(crate) fn counting(table: &Table, first: Option<Step>, put: &Option<Facts>) 
     }
 }
 
-/// Returns the step that puts a class, if there is one, unless this class stands at its name.
+/// Returns the step that puts a class, if there is one, unless the class is at its name already.
 pub(crate) fn putting(table: &Table, put: Option<Facts>) -> Option<Step>
     ensures { IsPutting (class_at table.now) put result }
 {
@@ -62,7 +62,7 @@ fn is_idle(table: &Table, step: &Step, put: &Option<Facts>) -> bool
     }
 }
 
-/// Returns whether a step leaves this class at its name.
+/// Returns whether a step puts a class with these facts.
 fn leaves(step: &Step, there: &Facts) -> bool
     ensures { Decides result (step_class step.now ≡ Some there.now) }
 {
@@ -72,7 +72,7 @@ fn leaves(step: &Step, there: &Facts) -> bool
     }
 }
 
-/// Returns whether a class stands at its name.
+/// Returns whether the table has exactly these facts for their class.
 fn stands(table: &Table, facts: &Facts) -> bool
     ensures { Decides result (class_at table.now facts.now.name ≡ Some facts.now) }
 {
@@ -82,7 +82,7 @@ fn stands(table: &Table, facts: &Facts) -> bool
     }
 }
 
-/// Whether this is the name of the class.
+/// Returns whether this is the name of the put class.
 fn is_class(put: &Option<Facts>, name: &[u8]) -> bool
     ensures { result ≡ steps.is_class put.now name.now }
 {
@@ -92,7 +92,7 @@ fn is_class(put: &Option<Facts>, name: &[u8]) -> bool
     }
 }
 
-/// Changes what stands at the names of two steps. At want of memory all stands as before.
+/// Applies two steps, and recomputes the parts that they affect. If an allocation fails, the classes stay as they were.
 pub(crate) fn change_classes(
     alloc: Global,
     outside: &Outside,
@@ -130,8 +130,8 @@ pub(crate) fn change_classes(
     }
 }
 
-/// Makes the parts anew that two steps affect. Those that take them back are given, and the name of the class
-/// that is gone. At want of memory all is as before.
+/// Recomputes the parts that two steps affect. `first` and `second` undo the steps that were made, and `gone` is the
+/// name of the removed class. If an allocation fails, the table, the entries and the links stay as they were.
 fn remake(
     alloc: Global,
     outside: &Outside,
@@ -163,7 +163,7 @@ fn remake(
     Ok(())
 }
 
-/// Makes two steps, and answers those that take them back. At want of memory none is made.
+/// Makes two steps, and returns the steps that undo them. If an allocation fails, no step is made.
 fn make_both(
     alloc: Global,
     table: &mut Table,
@@ -190,7 +190,7 @@ fn make_both(
     }
 }
 
-/// Takes back two steps that were made. No memory.
+/// Undoes two steps that were made. Does not allocate.
 fn unmake_both(table: &mut Table, first: Option<Step>, second: Option<Step>)
     requires first { AreThere first table.old }
     requires second { AreThere second table.old }
@@ -202,7 +202,7 @@ fn unmake_both(table: &mut Table, first: Option<Step>, second: Option<Step>)
     unmake(table, first);
 }
 
-/// Makes a step if there is one, and answers the one that takes it back.
+/// Makes a step, if there is one, and returns the step that undoes it.
 fn make(alloc: Global, table: &mut Table, step: Option<Step>) -> Result<Option<Step>, NoMemory>
     requires { AreNamed table.old }
     ensures ok { OnOk result ((n : Name) → class_at table.new n ≡ stepped_by step (class_at table.old) n) }
@@ -218,7 +218,7 @@ fn make(alloc: Global, table: &mut Table, step: Option<Step>) -> Result<Option<S
     Ok(Some(back))
 }
 
-/// Takes a step back if there is one. No memory.
+/// Undoes a step, if there is one. Does not allocate.
 fn unmake(table: &mut Table, back: Option<Step>)
     requires { AreThere back table.old }
     ensures ok { (n : Name) → class_at table.new n ≡ stepped_by back (class_at table.old) n }
@@ -231,7 +231,7 @@ fn unmake(table: &mut Table, back: Option<Step>)
     take_back(table, back);
 }
 
-/// Whether a step takes a class out.
+/// Returns whether a step removes a class.
 fn takes_out(step: &Option<Step>) -> bool
     ensures { result ≡ is_some (holding.leaver step.now) }
 {
@@ -241,7 +241,7 @@ fn takes_out(step: &Option<Step>) -> bool
     }
 }
 
-/// The name at which a step took a class out.
+/// Returns the name of the class that a step removed.
 fn leaver(leaves: bool, back: &Option<Step>) -> Option<&[u8]>
     ensures { option_copied result ≡ cond leaves (holding.name_of back.now) None }
 {
@@ -257,7 +257,7 @@ fn name_of(step: &Option<Step>) -> Option<&[u8]>
     }
 }
 
-/// The name of a class that comes by a step.
+/// Returns the name of a step, if it has no entry: then its class is new.
 fn comer<'a>(kept: &ByteMap<Kept>, step: &'a Option<Step>) -> Option<&'a [u8]>
     ensures { option_copied result ≡ holding.comer kept.now step.now }
 {
@@ -269,7 +269,7 @@ fn comer<'a>(kept: &ByteMap<Kept>, step: &'a Option<Step>) -> Option<&'a [u8]>
     }
 }
 
-/// Lets a class go, and puts parts in the places of those that are kept. No memory.
+/// Removes a class, if there is one to remove, and replaces the entries of others. Does not allocate.
 fn finish(
     table: &mut Table,
     kept: &mut ByteMap<Kept>,
@@ -290,7 +290,7 @@ fn finish(
     commit(kept, links, fresh);
 }
 
-/// Lets a class go that stands nowhere any more, with its place. No memory.
+/// Removes a class that no file gives, with its entry and its place. Does not allocate.
 fn give_up(table: &mut Table, kept: &mut ByteMap<Kept>, links: &mut Links, gone: Option<&[u8]>)
     requires { (n : Name) → is_name (option_copied gone) n ≡ true → class_at table.old n ≡ None }
     ensures classes { (n : Name) → class_at table.new n ≡ class_at table.old n }

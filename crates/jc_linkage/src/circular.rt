@@ -1,11 +1,12 @@
-//! The circular classes that are held.
+//! The circular classes of a linkage.
 
 ghost use Rattle.std.specs.Iterator.{YieldsFirstRef, item_count};
 
 use crate::classes::HeldClasses;
 use std::marker::Model;
 
-/// The names of the circular classes of a [`crate::Linkage`], sorted, seen as the list of those that are left.
+/// An iterator over the names of the circular classes of a [`crate::Linkage`], sorted. The model is the list of the
+/// names that are left.
 #[derive(Drop)]
 pub struct Circular<'a> {
     pub(crate) classes: HeldClasses<'a>,

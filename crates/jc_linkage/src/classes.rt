@@ -1,4 +1,4 @@
-//! The classes that are held, with their parts.
+//! The classes of a linkage, with their parts.
 
 ghost use Rattle.std.specs.Iterator.{YieldsFirstBy, item_count};
 ghost use Rattle.jc_report.specs.ClassLent.{class_lent};
@@ -9,7 +9,8 @@ use jc_link::TableClasses;
 use jc_report::LentClass;
 use std::marker::Model;
 
-/// The classes of a [`crate::Linkage`] in the order of their names, seen as the list of those that are left.
+/// An iterator over the classes of a [`crate::Linkage`], sorted by name. The model is the list of the classes that are
+/// left.
 #[derive(Drop)]
 pub struct HeldClasses<'a> {
     pub(crate) classes: TableClasses<'a>,

@@ -1,4 +1,4 @@
-//! What is kept of a class.
+//! The entry of a class.
 
 ghost use Rattle.std.specs.Prelude.{◌≡◌, ◌<◌, ◌≤◌, ℕ, IfOk, OnOk, length};
 ghost use Rattle.std.specs.Option.{option_copied};
@@ -17,25 +17,25 @@ use jc_index::PackedNames;
 use jc_link::{Meter, Part, PartMaker};
 use std::alloc::Global;
 
-/// The part of a class, and the names that it depends on.
+/// The entry of a class: its part, the names of its reach, and the rows that it requires.
 #[derive(Drop)]
 pub(crate) struct Kept {
     pub(crate) part: Part,
-    /// The names of its reach.
+    /// The names of its reach, in ascending order.
     pub(crate) reach: PackedNames,
     /// The rows that it requires.
     pub(crate) required: RowList,
 }
 
-/// What is to be kept of a class.
+/// The new entry of a class.
 #[derive(Drop)]
 pub(crate) struct Fresh {
     pub(crate) name: Vec<u8>,
     pub(crate) kept: Kept,
 }
 
-/// Makes the parts of the first classes of a graph, which have these names. Of what is kept of them it takes over what
-/// stays.
+/// Computes the entries of the first classes of a graph, which have these names. It reuses the sorted rows of their old
+/// entries.
 pub(crate) fn make_fresh(
     alloc: Global,
     maker: &mut PartMaker,
@@ -60,8 +60,8 @@ pub(crate) fn make_fresh(
     Ok(fresh)
 }
 
-/// Makes the part of the class of a name, which is at a place of the graph. Of what is kept of the class before it takes
-/// over what stays.
+/// Computes the entry of the class with this name, which is at a place of the graph. It reuses the sorted rows of its
+/// old entry.
 pub(crate) fn make_one(
     alloc: Global,
     maker: &mut PartMaker,
@@ -93,7 +93,7 @@ pub(crate) fn make_one(
     })
 }
 
-/// The rows that a class requires by its record; none where it has none.
+/// Returns the rows that a class requires by its facts. A name without facts requires none.
 fn required_by(
     alloc: Global,
     own: Option<&Facts>,
@@ -108,7 +108,7 @@ fn required_by(
     }
 }
 
-/// The rows that are kept of a class.
+/// Returns the rows of an entry.
 fn rows_kept(kept: Option<&Kept>) -> Option<&RowList> {
     match kept {
         Some(kept) => Some(&kept.required),

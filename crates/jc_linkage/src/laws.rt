@@ -1,9 +1,9 @@
-//! Laws over the definitions alone.
+//! Laws about the definitions only.
 
 ghost use Rattle.jc_linkage.specs.Affected.{CountsAreBounded};
 
-/// An edit makes no more parts than classes are affected. It asks for no more names than the reaches of these classes
-/// have together, and two.
+/// A law: an edit computes at most as many parts as it affects classes. It looks up at most as many names as the
+/// reaches of these classes have together, plus two.
 pub fn counts_are_bounded()
     ensures { CountsAreBounded }
 {}

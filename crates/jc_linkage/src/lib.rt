@@ -1,5 +1,11 @@
-//! The classes of files with their parts: what an edit leaves standing, which parts it makes anew, and which
-//! classes depend on a name.
+//! The classes of a session with their parts, and their update by edits.
+//!
+//! `Linkage` has the classes that files give, each with its part, its reach and its required rows. `Step` is an edit of
+//! one class. `HeldClasses`, `Circular`, `Provided` and `Required` are iterators over a linkage.
+//!
+//! The contracts say that after each edit each part is that of its class in the world of all classes and the outside
+//! prefixes. An edit recomputes only the parts of affected classes, and looks up each name that they reach once. If an
+//! allocation fails, the classes stay as they were.
 #![tactic(auto)]
 
 mod affected;

@@ -1,4 +1,4 @@
-//! The classes of files, each with its part, and which of them depend on a name.
+//! The classes that files give, each with its part, and the classes that depend on a name.
 
 ghost use Rattle.std.specs.Prelude.{◌≡◌, ◌≤◌, IfOk, IfSome, List, OnErr, OnOk, is_some, option_map, true};
 ghost use Rattle.std.specs.FinMap as map;
@@ -28,8 +28,8 @@ use jc_report::LentClass;
 use std::alloc::Global;
 use std::marker::Model;
 
-/// The classes that files give, each with its part over all of them, seen as a record of the classes and
-/// of the prefixes of names that are outside.
+/// The classes that files give, each with its part in the world of all of them. The model is a record of the classes
+/// and of the outside prefixes.
 #[derive(Drop)]
 pub struct Linkage {
     alloc: Global,
@@ -56,7 +56,9 @@ impl Model for Linkage {
 }
 
 impl Linkage {
-    /// No classes, and the meter that counts what is asked of them and which parts are made.
+    /// Returns a linkage without classes, and the meter that counts its look-ups and the parts that it computes.
+    ///
+    /// Returns `NoMemory` only when an allocation fails.
     pub fn new(alloc: Global, outside: Outside) -> Result<(Linkage, Meter), NoMemory>
         ensures held { IfOk result (λ made. made.0 ≡ record { classes = map.empty; prefixes = outside }) }
         ensures asks { IfOk result (λ made. made.1.asks ≡ 0) }
@@ -73,9 +75,11 @@ impl Linkage {
         Ok((linkage, meter))
     }
 
-    /// Changes what stands at the name of a step, and puts a class. The step counts only where a class
-    /// stands at its name and the class that is put is another. Recomputes only the parts of the classes
-    /// whose reach holds a name at which the class changes. If an allocation fails, all classes stay as they were.
+    /// Applies a step and puts a class, if they are given. The step has an effect only if its name has a class and the
+    /// put class has another name. Recomputes only the parts of the classes whose reach has a name with a changed
+    /// class.
+    ///
+    /// Returns `NoMemory` when an allocation fails. Then all classes stay as they were.
     pub fn change(
         &mut self,
         first: Option<Step>,
@@ -103,8 +107,10 @@ impl Linkage {
         )
     }
 
-    /// Replaces the outside prefixes. Recomputes only the parts of the classes whose reach holds a name without a
-    /// record that becomes outside or inside. If an allocation fails, nothing changes.
+    /// Replaces the outside prefixes. Recomputes only the parts of the classes whose reach has a name without a class
+    /// that becomes outside or inside.
+    ///
+    /// Returns `NoMemory` when an allocation fails. Then nothing changes, except that the meter may have counted.
     pub fn change_outside(&mut self, outside: Outside, meter: &mut Meter) -> Result<(), NoMemory>
         ensures ok { OnOk result (self.new.prefixes ≡ outside) }
         ensures err { OnErr result (self.new.prefixes ≡ self.old.prefixes) }
@@ -126,21 +132,22 @@ impl Linkage {
         Ok(())
     }
 
-    /// The prefixes of the names that are outside. No memory.
+    /// Returns the outside prefixes. Does not allocate.
     pub fn outside(&self) -> &Outside
         ensures { result.now ≡ self.now.prefixes }
     {
         &self.outside
     }
 
-    /// The classes whose reach holds a name, rising, also of a name that no file gives. No memory.
+    /// Returns the classes whose reach has a name, in ascending order. No file needs to give the name. Does not
+    /// allocate.
     pub fn dependants(&self, name: &[u8]) -> &[Vec<u8>]
         ensures { Lists (names_of result.now) (λ d. (given self.now d ≡ true) × Reach (world_held self.now) d name.now) }
     {
         self.links.reach.users(name)
     }
 
-    /// The part of a class that files give. No memory.
+    /// Returns the part of a class, if files give the class. Does not allocate.
     pub fn part(&self, name: &[u8]) -> Option<&Part>
         ensures given { is_some result ≡ given self.now name.now }
         ensures part { IfSome result (λ part. IsPart (world_held self.now) name.now part.now) }
@@ -149,7 +156,8 @@ impl Linkage {
         Some(&kept.part)
     }
 
-    /// Returns the class of a name, if files give it, with its part. No ask is counted. Does not allocate.
+    /// Returns the class of a name with its part, if files give the class. The meter does not count this look-up. Does
+    /// not allocate.
     pub fn class(&self, name: &[u8]) -> Option<LentClass<'_>>
         ensures facts { option_map (λ class. class.facts.now) result ≡ class_at self.now.classes name.now }
         ensures part { IfSome result (λ class. IsPart (world_held self.now) name.now class.part.now) }
@@ -159,7 +167,7 @@ impl Linkage {
         Some(LentClass { facts, part })
     }
 
-    /// The classes that files give, in the order of their names, with their parts. No memory.
+    /// Returns the classes that files give, with their parts, sorted by name. Does not allocate.
     pub fn classes(&self) -> HeldClasses<'_>
         ensures { AreHeldClasses self.now result }
     {
@@ -178,7 +186,7 @@ impl Linkage {
         }
     }
 
-    /// The rows that the classes provide. No memory.
+    /// Returns the rows that the classes provide, sorted. Does not allocate.
     pub fn provided(&self) -> Provided<'_>
         ensures { AreRowsHeld provided_rows self.now result }
     {
@@ -188,7 +196,7 @@ impl Linkage {
         }
     }
 
-    /// The rows that the classes require. No memory.
+    /// Returns the rows that the classes require, sorted. Does not allocate.
     pub fn required(&self) -> Required<'_>
         ensures { AreRowsHeld required_rows self.now result }
     {
@@ -196,7 +204,8 @@ impl Linkage {
         self.links.required.rows()
     }
 
-    /// How many classes require the row at a place of [`Linkage::required`], from 0; 0 beyond the last. No memory.
+    /// Returns the number of classes that require the row at a place of [`Linkage::required`], from 0. Returns 0 if
+    /// there is no such row. Takes time linear in the place. Does not allocate.
     pub fn holders(&self, place: usize) -> usize
         ensures { CountsHoldersAt self.now place result }
     {

@@ -1,5 +1,5 @@
-//! Parts are put in the place of those that are kept: links are added first, which may be refused and is then
-//! undone, and taken out last, which can't fail.
+//! Replacement of entries. Links are added first: this may fail, and is then undone. Links are removed last, which
+//! cannot fail.
 
 ghost use Rattle.std.specs.Prelude.{◌≡◌, true, IsSome, None, OnErr, OnOk, Some};
 ghost use Rattle.std.specs.FinMap as map;
@@ -15,8 +15,8 @@ use crate::kept::{Fresh, Kept};
 use crate::links::Links;
 use jc_base::{ByteMap, NoMemory};
 
-/// Links each class to what is to be kept of it, where what is kept lacks the name. At want of memory some links may
-/// be there.
+/// Adds the links of new entries that the old entries lack. If an allocation fails, some of these links may have been
+/// added.
 pub(crate) fn link_fresh(
     links: &mut Links,
     kept: &ByteMap<Kept>,
@@ -32,7 +32,7 @@ pub(crate) fn link_fresh(
     Ok(())
 }
 
-/// The same for one class.
+/// Adds the links of one new entry.
 fn link_one(links: &mut Links, kept: &ByteMap<Kept>, one: &Fresh) -> Result<(), NoMemory>
     requires { (r : Relation) (n d : Name) → held_in r kept.now d n ≡ true → linked r links.old n d ≡ true }
     ensures ok { OnOk result (Adds (links_of one.now.name.items one.now.kept) links.old links.new) }
@@ -44,7 +44,7 @@ fn link_one(links: &mut Links, kept: &ByteMap<Kept>, one: &Fresh) -> Result<(), 
     }
 }
 
-/// Takes back links that were perhaps made for classes, where what is kept of them lacks the name. No memory.
+/// Removes the links of new entries that the old entries lack. Some of these links may be absent. Does not allocate.
 pub(crate) fn undo_fresh(links: &mut Links, kept: &ByteMap<Kept>, fresh: &[Fresh])
     ensures { TakesOut (without (all_fresh fresh.now) (all_held kept.now)) links.old links.new }
 {
@@ -53,7 +53,7 @@ pub(crate) fn undo_fresh(links: &mut Links, kept: &ByteMap<Kept>, fresh: &[Fresh
     }
 }
 
-/// The same for one class.
+/// Removes the links of one new entry that its old entry lacks.
 fn undo_one(links: &mut Links, kept: &ByteMap<Kept>, one: &Fresh)
     ensures { TakesOut (without (links_of one.now.name.items one.now.kept) (all_held kept.now)) links.old links.new }
 {
@@ -63,7 +63,8 @@ fn undo_one(links: &mut Links, kept: &ByteMap<Kept>, one: &Fresh)
     }
 }
 
-/// Takes back links that were perhaps made for classes, and for one of which nothing was kept. No memory.
+/// Removes the links of new entries that the old entries lack, and those of a class without an old entry. Does not
+/// allocate.
 pub(crate) fn undo_links(
     links: &mut Links,
     kept: &ByteMap<Kept>,
@@ -79,8 +80,7 @@ pub(crate) fn undo_links(
     undo_fresh(links, kept, fresh);
 }
 
-/// Puts parts in the places of those that are kept, and takes each class out at the names that it no longer
-/// depends on. No memory.
+/// Replaces entries, and removes the links that the new entries lack. Does not allocate.
 pub(crate) fn commit(kept: &mut ByteMap<Kept>, links: &mut Links, fresh: Vec<Fresh>)
     requires there { (d : Name) → has (fresh_names fresh.items) d ≡ true → IsSome (map.get kept.old d) }
     requires apart { NoRepeat (fresh_names fresh.items) }
@@ -94,7 +94,7 @@ pub(crate) fn commit(kept: &mut ByteMap<Kept>, links: &mut Links, fresh: Vec<Fre
     }
 }
 
-/// The same for one class.
+/// Replaces one entry, and removes the links that the new entry lacks.
 fn put_one(kept: &mut ByteMap<Kept>, links: &mut Links, one: Fresh)
     requires there { IsSome (map.get kept.old one.name.items) }
     ensures kept { kept.new ≡ map.insert kept.old one.name.items one.kept }
@@ -105,7 +105,7 @@ fn put_one(kept: &mut ByteMap<Kept>, links: &mut Links, one: Fresh)
     take_out(kept, links, &name, &old);
 }
 
-/// Takes a class out at the names that are no longer kept of it. No memory.
+/// Removes the links of the old entry of a class that its present entry lacks. Does not allocate.
 fn take_out(kept: &ByteMap<Kept>, links: &mut Links, name: &[u8], old: &Kept)
     ensures { (now : Kept) → map.get kept.now name.now ≡ Some now → TakesOut (links_but name.now old.now now) links.old links.new }
 {
@@ -114,7 +114,7 @@ fn take_out(kept: &ByteMap<Kept>, links: &mut Links, name: &[u8], old: &Kept)
     }
 }
 
-/// Puts what is to be kept of a class in the place of what is, which comes out. No memory.
+/// Replaces the entry of a class, and returns the old one. Does not allocate.
 fn exchange(kept: &mut ByteMap<Kept>, name: &[u8], now: Kept) -> Kept
     requires { IsSome (map.get kept.old name.now) }
     ensures old { map.get kept.old name.now ≡ Some result }
@@ -126,7 +126,7 @@ fn exchange(kept: &mut ByteMap<Kept>, name: &[u8], now: Kept) -> Kept
     }
 }
 
-/// Lets a class go. No memory.
+/// Removes the entry of a class, and its links. Does not allocate.
 pub(crate) fn let_go(kept: &mut ByteMap<Kept>, links: &mut Links, name: &[u8])
     ensures kept { kept.new ≡ map.remove kept.old name.now }
     ensures linked { TakesOut (links_held name.now kept.old) links.old links.new }

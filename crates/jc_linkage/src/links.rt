@@ -1,4 +1,4 @@
-//! Which classes depend on which names, and which require which rows.
+//! The classes that depend on a name, and the classes that require a row.
 
 ghost use Rattle.std.specs.Prelude.{◌≡◌, OnErr, OnOk, false};
 ghost use Rattle.jc_classes.specs.Names.{Name};
@@ -11,7 +11,7 @@ use jc_base::NoMemory;
 use jc_index::Index;
 use std::alloc::Global;
 
-/// For each name the classes whose reach holds it, and for each row the classes that require it.
+/// For each name the classes whose reach has it, and for each row the classes that require it.
 #[derive(Drop)]
 pub(crate) struct Links {
     pub(crate) reach: Index,
@@ -19,7 +19,7 @@ pub(crate) struct Links {
 }
 
 impl Links {
-    /// No links. No memory.
+    /// Returns an empty set of links. Does not allocate.
     pub(crate) fn new(alloc: Global) -> Links
         ensures { (r : Relation) (n d : Name) → linked r result n d ≡ false }
     {
@@ -29,7 +29,7 @@ impl Links {
         }
     }
 
-    /// Adds a class at each name that is kept of it. At want of memory it may be added at some of them.
+    /// Links a class to each name of its entry. If an allocation fails, some of these links may have been added.
     pub(crate) fn link(&mut self, class: &[u8], kept: &Kept) -> Result<(), NoMemory>
         ensures ok { OnOk result (Adds (links_of class.now kept.now) self.old self.new) }
         ensures err { OnErr result (AddsSome (links_of class.now kept.now) self.old self.new) }
@@ -38,8 +38,8 @@ impl Links {
         self.required.link_all(&kept.required, class)
     }
 
-    /// Adds a class at each name that is kept of it and not of another. At want of memory it may be added at some
-    /// of them.
+    /// Links a class to each name of its entry that another entry lacks. If an allocation fails, some of these links
+    /// may have been added.
     pub(crate) fn link_but(
         &mut self,
         class: &[u8],
@@ -54,7 +54,7 @@ impl Links {
             .link_all_but(&kept.required, &other.required, class)
     }
 
-    /// Takes a class out at each name that is kept of it. No memory.
+    /// Removes the links of a class to each name of an entry. Does not allocate.
     pub(crate) fn unlink(&mut self, class: &[u8], kept: &Kept)
         ensures { TakesOut (links_of class.now kept.now) self.old self.new }
     {
@@ -62,7 +62,7 @@ impl Links {
         self.required.unlink_all(&kept.required, class);
     }
 
-    /// Takes a class out at each name that one has and the other lacks. No memory.
+    /// Removes the links of a class to each name of an entry that another entry lacks. Does not allocate.
     pub(crate) fn unlink_but(&mut self, class: &[u8], kept: &Kept, other: &Kept)
         ensures { TakesOut (links_but class.now kept.now other.now) self.old self.new }
     {

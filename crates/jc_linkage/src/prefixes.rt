@@ -18,8 +18,8 @@ use jc_classes::same;
 use jc_link::{Meter, Outside, Table};
 use std::alloc::Global;
 
-/// Recomputes the parts of the classes whose reach holds a name that becomes outside or inside. If an allocation
-/// fails, nothing changes.
+/// Recomputes the parts of the classes whose reach has a name that becomes outside or inside. If an allocation fails,
+/// the entries stay right for the old prefixes.
 pub(crate) fn remake_switched(
     alloc: Global,
     table: &Table,
@@ -42,7 +42,7 @@ pub(crate) fn remake_switched(
     Ok(())
 }
 
-/// Returns the classes whose reach holds a name that becomes outside or inside, each once.
+/// Returns the classes whose reach has a name that becomes outside or inside, each once.
 fn users_of_switched(
     alloc: Global,
     kept: &ByteMap<Kept>,
@@ -63,7 +63,7 @@ fn users_of_switched(
     found.into_keys(alloc)
 }
 
-/// Returns whether a name becomes outside or inside by other prefixes.
+/// Returns whether a name becomes outside or inside when the prefixes change.
 fn switches(kept: &ByteMap<Kept>, old: &Outside, new: &Outside, name: &[u8]) -> bool
     ensures { result ≡ switches_by kept.now old.now new.now name.now }
 {
@@ -72,7 +72,7 @@ fn switches(kept: &ByteMap<Kept>, old: &Outside, new: &Outside, name: &[u8]) -> 
         && !same(name, b"java/lang/Object")
 }
 
-/// Adds names to others, each once.
+/// Adds names to a set.
 fn add_all(alloc: Global, found: &mut ByteMap<()>, names: &[Vec<u8>]) -> Result<(), NoMemory>
     ensures { OnOk result ((d : Name) → map.contains_key found.new d ≡ (map.contains_key found.old d || has (names_of names.now) d)) }
 {

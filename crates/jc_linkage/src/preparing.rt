@@ -1,4 +1,4 @@
-//! The parts that an edit needs are made and linked before anything is taken away.
+//! Computation and linking of the parts that an edit needs, before any outdated entry is removed.
 
 ghost use Rattle.std.specs.Prelude.{◌≡◌, ◌≤◌, ◌++◌, IfErr, IfOk, IfSome, None, OnErr, OnOk, Some, length};
 ghost use Rattle.std.specs.FinMap as map;
@@ -18,8 +18,8 @@ use jc_base::{ByteMap, NoMemory};
 use jc_link::{ClassGraph, Meter, Outside, PartMaker, Table};
 use std::alloc::{AllocFailed, Global};
 
-/// Makes the parts of the affected classes, and of one that comes, and links them; the newcomer is kept
-/// already. At want of memory the links and what is kept are as before.
+/// Computes the entries of the affected classes and of an added class, and adds their links. The entry of the added
+/// class is put into the map. If an allocation fails, the links and the map stay as they were.
 pub(crate) fn prepare(
     alloc: Global,
     table: &Table,
@@ -48,7 +48,7 @@ pub(crate) fn prepare(
     Ok(fresh)
 }
 
-/// The same over the graph of these classes.
+/// Does this over the graph of these classes.
 fn prepare_all(
     alloc: Global,
     maker: &mut PartMaker,
@@ -75,7 +75,7 @@ fn prepare_all(
     Ok(fresh)
 }
 
-/// Makes the part of the class that comes, which is at a place of the graph.
+/// Computes the entry of the added class, which is at a place of the graph.
 fn make_newcomer(
     alloc: Global,
     maker: &mut PartMaker,
@@ -97,8 +97,8 @@ fn make_newcomer(
     Ok(Some(newcomer))
 }
 
-/// Links parts, and that of a class that comes, which is kept. If an allocation fails, the links and what is kept are as
-/// before.
+/// Adds the links of new entries. The entry of an added class is put into the map. If an allocation fails, the links
+/// and the map stay as they were.
 fn link_all(
     kept: &mut ByteMap<Kept>,
     links: &mut Links,
@@ -124,8 +124,8 @@ fn link_all(
     }
 }
 
-/// Links parts and that of a newcomer, which is kept. At want of memory it comes back, and the links and what
-/// is kept are as before.
+/// Adds the links of new entries and of an added class, whose entry is put into the map. If an allocation fails, this
+/// entry is returned, and the links and the map stay as they were.
 fn link_and_keep(
     kept: &mut ByteMap<Kept>,
     links: &mut Links,
@@ -153,7 +153,8 @@ fn link_and_keep(
     }
 }
 
-/// Keeps a newcomer. At want of memory it comes back, and what is kept is as before.
+/// Puts the entry of an added class into the map. If an allocation fails, the entry is returned, and the map stays as
+/// it was.
 fn keep(kept: &mut ByteMap<Kept>, newcomer: Fresh) -> Result<(), Fresh>
     ensures ok { OnOk result (kept.new ≡ map.insert kept.old newcomer.name.items newcomer.kept) }
     ensures err { OnErr result (kept.new ≡ kept.old) }
@@ -169,7 +170,7 @@ fn keep(kept: &mut ByteMap<Kept>, newcomer: Fresh) -> Result<(), Fresh>
     }
 }
 
-/// Links parts and that of a newcomer. At want of memory the links are as before.
+/// Adds the links of new entries and of an added class. If an allocation fails, the links stay as they were.
 fn link_with(
     links: &mut Links,
     kept: &ByteMap<Kept>,
@@ -198,7 +199,7 @@ fn link_with(
     }
 }
 
-/// Links parts where no class comes. At want of memory the links are as before.
+/// Adds the links of new entries, if there is no added class. If an allocation fails, the links stay as they were.
 fn link_others(kept: &ByteMap<Kept>, links: &mut Links, fresh: &[Fresh]) -> Result<(), NoMemory>
     requires { AreLinked kept.now links.old }
     ensures ok { OnOk result (AreLinks (held_and_fresh kept.now fresh.now) links.new) }

@@ -1,4 +1,4 @@
-//! An index holds for each row the classes that require it.
+//! An index from rows to the classes that require them.
 
 ghost use Rattle.std.specs.Prelude.{◌≡◌, ◌&&◌, not, true, [], OnErr, OnOk, map as map_each, slice_get};
 ghost use Rattle.std.specs.FinMap as map;
@@ -19,8 +19,8 @@ use jc_report::{RequiredRow, Row};
 use std::alloc::Global;
 use std::marker::Model;
 
-/// For each of some rows its users, in the order of their bytes, seen as a map from the keys of rows to lists of
-/// names.
+/// For each row the classes that require it, its users, in the order of their bytes. The model is a map from the keys
+/// of rows to lists of names.
 #[derive(Drop)]
 pub struct RowIndex {
     alloc: Global,
@@ -43,7 +43,7 @@ impl Model for RowIndex {
 }
 
 impl RowIndex {
-    /// An index without users. No memory.
+    /// Returns an index without users. Does not allocate.
     pub fn new(alloc: Global) -> RowIndex
         ensures { (key : Name) → users_of result key ≡ [] }
     {
@@ -53,14 +53,15 @@ impl RowIndex {
         }
     }
 
-    /// A row has a place here only with a user.
+    /// Has no effect. Its contract says that each row in the index has a user.
     pub fn rows_have_users(&self)
         ensures { HaveUsers self.now }
     {
         let _lists = &self.lists;
     }
 
-    /// The users of the row at a place among those that have users, from 0; nothing beyond the last. No memory.
+    /// Returns the users of the row at a place in the order of rows, from 0, if there is such a row. Takes time linear
+    /// in the place. Does not allocate.
     pub fn nth(&self, place: usize) -> Option<&NameList>
         ensures { option_copied result ≡ option_map (λ entry. entry.1) (slice_get (map.entries self.now) place) }
     {
@@ -70,7 +71,7 @@ impl RowIndex {
         }
     }
 
-    /// The rows that have users, rising. No memory.
+    /// Returns the rows that have users, sorted. Does not allocate.
     pub fn rows(&self) -> Required<'_>
         ensures { map_each row_key result ≡ map.keys self.now }
     {
@@ -79,7 +80,7 @@ impl RowIndex {
         }
     }
 
-    /// Adds a user at a row.
+    /// Adds a user to a row.
     fn link(&mut self, row: &RequiredRow, user: &[u8]) -> Result<(), NoMemory>
         ensures ok { OnOk result (Linked self.old self.new (spelled row.now) user.now) }
         ensures err { OnErr result (self.new ≡ self.old) }
@@ -95,7 +96,7 @@ impl RowIndex {
         Ok(())
     }
 
-    /// Takes a user out at a row. No memory.
+    /// Removes a user from a row. Does not allocate.
     fn unlink(&mut self, row: &RequiredRow, user: &[u8])
         ensures { Unlinked self.old self.new (spelled row.now) user.now }
     {
@@ -107,7 +108,7 @@ impl RowIndex {
         }
     }
 
-    /// Adds a user at each of some rows. At want of memory it may be added at some of them.
+    /// Adds a user to each of some rows. If an allocation fails, it may have been added to some of them.
     pub fn link_all(&mut self, rows: &RowList, user: &[u8]) -> Result<(), NoMemory>
         ensures ok { OnOk result (LinkedAt self.old self.new (has (spelled_all rows.now)) user.now) }
         ensures err { OnErr result (LinkedAtSome self.old self.new (has (spelled_all rows.now)) user.now) }
@@ -116,7 +117,8 @@ impl RowIndex {
         self.link_all_but(rows, &none, user)
     }
 
-    /// Adds a user at each of some rows that others lack. At want of memory it may be added at some of them.
+    /// Adds a user to each of some rows that `others` lacks. If an allocation fails, it may have been added to some of
+    /// them.
     pub fn link_all_but(
         &mut self,
         rows: &RowList,
@@ -134,8 +136,8 @@ impl RowIndex {
         Ok(())
     }
 
-    /// Adds a user at a row, unless others have it, most likely near a place. Its number tells there if they are of its
-    /// references. Answers the place near which they have the next.
+    /// Adds a user to a row, unless `others` has the row. It tries the place `near` first, and compares there by number
+    /// if `is_like` is set. Returns the place at which to try for the next row.
     fn link_unless(
         &mut self,
         row: &RequiredRow,
@@ -157,7 +159,7 @@ impl RowIndex {
         }
     }
 
-    /// Takes a user out at each of some rows. No memory.
+    /// Removes a user from each of some rows. Does not allocate.
     pub fn unlink_all(&mut self, rows: &RowList, user: &[u8])
         ensures { UnlinkedAt self.old self.new (has (spelled_all rows.now)) user.now }
     {
@@ -166,7 +168,7 @@ impl RowIndex {
         }
     }
 
-    /// Takes a user out at each of some rows that others lack. No memory.
+    /// Removes a user from each of some rows that `others` lacks. Does not allocate.
     pub fn unlink_all_but(&mut self, rows: &RowList, others: &RowList, user: &[u8])
         ensures { UnlinkedAt self.old self.new (has_but (spelled_all rows.now) (spelled_all others.now)) user.now }
     {
@@ -177,7 +179,8 @@ impl RowIndex {
         }
     }
 
-    /// The same for taking a user out. No memory.
+    /// Removes a user from a row, unless `others` has the row. Returns the place at which to try for the next row. Does
+    /// not allocate.
     fn unlink_unless(
         &mut self,
         row: &RequiredRow,
@@ -199,7 +202,7 @@ impl RowIndex {
     }
 }
 
-/// The rows of a [`RowIndex`] that have users, in their order, seen as the list of those that are left.
+/// An iterator over the rows of a [`RowIndex`], sorted. The model is the list of the rows that are left.
 #[derive(Drop)]
 pub struct Required<'i> {
     rows: Rows<'i, NameList>,

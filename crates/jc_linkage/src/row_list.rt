@@ -1,4 +1,4 @@
-//! The rows that a class requires, in their order, each once.
+//! The rows that a class requires, sorted, each once.
 
 ghost use Rattle.std.specs.Prelude.{◌≡◌, ℕ, ◌⊎◌, ◌++◌, ◌∷◌, [], List, true, IfOk, IsTrue, OnOk, cond, is_ok, map, not};
 ghost use Rattle.std.specs.List.{Contains, filter};
@@ -19,10 +19,10 @@ use jc_report::{RequiredRow, required_numbers, rows_of};
 use std::alloc::Global;
 use std::marker::Model;
 
-/// The rows that a class requires, in their order, each once, seen as the list of them.
+/// The rows that a class requires, sorted, each once. The model is the list of rows.
 #[derive(Drop)]
 pub struct RowList {
-    /// The references whose rows they are, if the class has a record.
+    /// The references to which the rows belong, if the class has facts.
     references: Option<References>,
     rows: Vec<RequiredRow>,
 }
@@ -40,7 +40,7 @@ impl Model for RowList {
 }
 
 impl RowList {
-    /// No rows. Does not allocate.
+    /// Returns an empty list. Does not allocate.
     pub fn new(alloc: Global) -> RowList
         ensures { result ≡ [] }
     {
@@ -50,7 +50,8 @@ impl RowList {
         }
     }
 
-    /// Returns the rows that a class requires by its part. Rows that it required before are in order already.
+    /// Returns the rows that a class requires by its part. Rows of `before` are reused if they are of the same
+    /// references.
     pub fn of(
         alloc: Global,
         facts: &Facts,
@@ -78,8 +79,8 @@ impl RowList {
         }
     }
 
-    /// Returns whether another list is known to have rows of the same references: then rows of one number are the same.
-    /// Does not allocate.
+    /// Returns whether another list is known to have rows of the same references. Then rows with the same number are
+    /// the same. Does not allocate.
     pub(crate) fn is_like(&self, other: &RowList) -> bool
         ensures { IsTrue result → ShareReferences self.now other.now }
     {
@@ -97,8 +98,8 @@ impl RowList {
         self.rows.as_slice()
     }
 
-    /// Returns the place of a row, or else the place that it would have. It is looked for at a place first, where its
-    /// number tells if the rows are of its references. Does not allocate.
+    /// Returns the place of a row, or else the place where it would be inserted. It tries a place first, and compares
+    /// there by number if `is_like` is set. Then it does a binary search. Does not allocate.
     pub(crate) fn find_near(
         &self,
         place: usize,
@@ -115,7 +116,7 @@ impl RowList {
     }
 }
 
-/// Returns whether two rows are the same, which their numbers tell if they are of the same references. Does not
+/// Returns whether two rows are known to be the same. Rows of the same references are compared by number. Does not
 /// allocate.
 fn is_same(one: &RequiredRow, other: &RequiredRow, is_like: bool) -> bool
     requires { is_like ≡ true → one.now.references ≡ other.now.references }
@@ -128,7 +129,8 @@ fn is_same(one: &RequiredRow, other: &RequiredRow, is_like: bool) -> bool
     }
 }
 
-/// Returns the rows of some numbers, in their order, each once, after those of a list.
+/// Returns the rows with these numbers, sorted, each once. It reuses the rows of `before` if they are of the same
+/// references.
 fn rows_after(
     alloc: Global,
     before: Option<&RowList>,
@@ -145,8 +147,8 @@ fn rows_after(
     }
 }
 
-/// Returns the rows of some numbers, in their order, each once. Those that are among rows of the same references are in
-/// order already, and only others are put among them.
+/// Returns the rows with these numbers, sorted, each once. It keeps the rows of `before` that have such a number, and
+/// sorts only if there are other rows.
 fn changed(
     alloc: Global,
     before: &[RequiredRow],
@@ -166,7 +168,7 @@ fn changed(
     Ok(in_order(joined(rows, more)?))
 }
 
-/// Returns those of the rows that have one of some numbers below a count.
+/// Returns the rows that have one of these numbers. All numbers are below `count`.
 fn staying(
     alloc: Global,
     rows: &[RequiredRow],
@@ -179,7 +181,7 @@ fn staying(
     marked_rows(alloc, rows, &marks)
 }
 
-/// Returns those of some numbers below a count that no row has.
+/// Returns the numbers that no row has. All numbers are below `count`.
 fn coming(
     alloc: Global,
     numbers: &[usize],
@@ -205,7 +207,7 @@ fn numbers_of(alloc: Global, rows: &[RequiredRow]) -> Result<Vec<usize>, NoMemor
     Ok(numbers)
 }
 
-/// Returns a mark for each number below a count: it is set for those of these numbers.
+/// Returns a mark for each number below a count, set if the number is one of these.
 fn marks_of(alloc: Global, numbers: &[usize], count: usize) -> Result<Vec<bool>, NoMemory>
     ensures { IfOk result (λ marks. AreMarks numbers.now marks.items) }
 {
@@ -216,7 +218,7 @@ fn marks_of(alloc: Global, numbers: &[usize], count: usize) -> Result<Vec<bool>,
     Ok(marks)
 }
 
-/// Sets the mark of a number, if it has one. Does not allocate.
+/// Sets the mark of a number, if the number has a mark. Does not allocate.
 fn mark(marks: &mut Vec<bool>, number: usize)
     ensures { (n : ℕ) → is_marked marks.new.items n ≡ true → (is_marked marks.old.items n ≡ true) ⊎ (n ≡ number) }
 {
@@ -250,7 +252,7 @@ fn marked_rows(
     Ok(kept)
 }
 
-/// Adds a row, if it is wanted.
+/// Appends a row, if it is wanted.
 fn push_if(rows: &mut Vec<RequiredRow>, row: &RequiredRow, is_wanted: bool) -> Result<(), NoMemory>
     ensures { OnOk result (rows.new.items ≡ rows.old.items ++ cond is_wanted (row.now ∷ []) []) }
 {
@@ -283,7 +285,7 @@ fn joined(rows: Vec<RequiredRow>, more: Vec<RequiredRow>) -> Result<Vec<Required
     Ok(rows)
 }
 
-/// Puts rows in order, each once. Does not allocate.
+/// Sorts rows, and removes repeated ones. Does not allocate.
 fn in_order(rows: Vec<RequiredRow>) -> Vec<RequiredRow>
     ensures same { (key : Name) → has (spelled_all result.items) key ≡ has (spelled_all rows.items) key }
     ensures rises { IsStrictlySortedBy name_cmp (spelled_all result.items) }

@@ -1,4 +1,4 @@
-//! An ordered map keyed by rows, seen as a finite map from their keys.
+//! An ordered map from rows to values.
 
 ghost use Rattle.std.specs.Prelude.{◌≡◌, IfOk, IfErr, OnOk, OnErr, map as map_each};
 ghost use Rattle.std.specs.declared.option.Option.TheVariants.{None};
@@ -17,7 +17,7 @@ use std::alloc::{AllocFailed, Global};
 use std::collections::{BTreeMap, btree_map};
 use std::marker::Model;
 
-/// A map from rows to values, in the order of the rows.
+/// A map from rows to values, in the order of the rows. The model is a finite map from the keys of the rows.
 #[derive(Drop)]
 pub(crate) struct RowMap<V> {
     entries: BTreeMap<RequiredRow, V>,
@@ -37,7 +37,7 @@ impl<V> Model for RowMap<V> {
 }
 
 impl<V> RowMap<V> {
-    /// An empty map. No memory.
+    /// Returns an empty map. Does not allocate.
     pub(crate) fn new(alloc: Global) -> RowMap<V>
         ensures { result ≡ map.empty }
     {
@@ -46,8 +46,8 @@ impl<V> RowMap<V> {
         }
     }
 
-    /// Puts the value at the row, and answers the value that stood there. A row that is there stays, and the new
-    /// one is let go. Fails only for want of memory at a new row, and then gives the row and the value back.
+    /// Puts a value at a row, and returns the value that was there. If the map has the row, the new row is dropped.
+    /// Returns an error only when an allocation for a new row fails. The error has the row and the value.
     pub(crate) fn insert(
         &mut self,
         row: RequiredRow,
@@ -62,7 +62,7 @@ impl<V> RowMap<V> {
         self.entries.insert(row, value)
     }
 
-    /// Takes the row out, and answers the value that stood there. No memory.
+    /// Removes a row, and returns the value that was there. Does not allocate.
     pub(crate) fn remove(&mut self, row: &RequiredRow) -> Option<V>
         ensures before { result ≡ map.get self.old (spelled row.now) }
         ensures removed { self.new ≡ map.remove self.old (spelled row.now) }
@@ -70,7 +70,7 @@ impl<V> RowMap<V> {
         self.entries.remove(row)
     }
 
-    /// The value at the row, to be read and written in place. No memory.
+    /// Returns the value at a row, for change in place. Does not allocate.
     pub(crate) fn get_mut(&mut self, row: &RequiredRow) -> Option<&mut V>
         ensures value { option_copied_mut result ≡ map.get self.old (spelled row.now) }
         ensures* writes_back { sem 𝓛 (LendsIf (the_row V.row) V.row self.entry result
@@ -79,7 +79,7 @@ impl<V> RowMap<V> {
         self.entries.get_mut(row)
     }
 
-    /// The entries in the order of their rows. No memory.
+    /// Returns the entries, sorted by row. Does not allocate.
     pub(crate) fn iter(&self) -> Iter<'_, V>
         ensures { result ≡ map.entries self.now }
     {
@@ -88,7 +88,7 @@ impl<V> RowMap<V> {
         }
     }
 
-    /// The rows in their order. No memory.
+    /// Returns the rows, sorted. Does not allocate.
     pub(crate) fn rows(&self) -> Rows<'_, V>
         ensures { map_each row_key result ≡ map.keys self.now }
     {
@@ -98,7 +98,7 @@ impl<V> RowMap<V> {
     }
 }
 
-/// The entries of a [`RowMap`] in the order of their rows, seen as the list of those that are left.
+/// An iterator over the entries of a [`RowMap`], sorted by row. The model is the list of the entries that are left.
 #[derive(Drop)]
 pub(crate) struct Iter<'a, V> {
     entries: btree_map::Iter<'a, RequiredRow, V>,
@@ -126,7 +126,7 @@ impl<'a, V> Iterator for Iter<'a, V> {
     }
 }
 
-/// The rows of a [`RowMap`] in their order, seen as the list of those that are left.
+/// An iterator over the rows of a [`RowMap`], sorted. The model is the list of the rows that are left.
 #[derive(Drop)]
 pub(crate) struct Rows<'a, V> {
     rows: btree_map::Keys<'a, RequiredRow, V>,

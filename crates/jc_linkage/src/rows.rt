@@ -8,12 +8,12 @@ use crate::classes::HeldClasses;
 use jc_report::{ProvidedRows, Row, provided_in_order};
 use std::marker::Model;
 
-/// The rows that the classes of a [`crate::Linkage`] provide, in their order, lent from what is kept of their
-/// files, seen as the list of those that are left.
+/// An iterator over the rows that the classes of a [`crate::Linkage`] provide, sorted. The rows are borrowed from the
+/// facts of the classes. The model is the list of the rows that are left.
 #[derive(Drop)]
 pub struct Provided<'a> {
     pub(crate) classes: HeldClasses<'a>,
-    /// Those of one class.
+    /// The rows of the current class that are left.
     pub(crate) rows: Option<ProvidedRows<'a>>,
 }
 
@@ -45,7 +45,7 @@ impl<'a> Iterator for Provided<'a> {
     }
 }
 
-/// The next of some rows, if there are any.
+/// Returns the next of some rows, if there are any.
 fn next_row<'a>(rows: &mut Option<ProvidedRows<'a>>) -> Option<Row<'a>>
     ensures { YieldsFirstBy row_lent rows_left rows.old result rows.new }
 {

@@ -1,4 +1,4 @@
-//! What an edit changes: what stands at a name from then on.
+//! Edits of the class of one name.
 
 ghost use Rattle.std.specs.Prelude.{◌≡◌, false, IfOk, IsSome, OnErr, OnOk};
 ghost use Rattle.std.specs.FinMap as map;
@@ -14,17 +14,17 @@ use jc_classes::Facts;
 use jc_link::Table;
 use std::alloc::Global;
 
-/// What stands at a name from now on.
+/// An edit of the class that files give for one name.
 #[derive(Drop)]
 pub enum Step {
-    /// This class, at its name.
+    /// Puts this class at its name.
     Put(Facts),
-    /// No class of a file.
+    /// Removes the class of this name.
     Remove(Vec<u8>),
 }
 
 impl Step {
-    /// The name at which it is. No memory.
+    /// Returns the name of the step. Does not allocate.
     pub fn name(&self) -> &[u8]
         ensures { result.now ≡ step_name self.now }
     {
@@ -35,7 +35,7 @@ impl Step {
     }
 }
 
-/// Makes a step, and answers the one that takes it back.
+/// Makes a step, and returns the step that undoes it.
 pub(crate) fn make_step(alloc: Global, table: &mut Table, step: Step) -> Result<Step, NoMemory>
     requires { AreNamed table.old }
     ensures ok { OnOk result ((n : Name) → class_at table.new n ≡ stepped step (class_at table.old) n) }
@@ -79,7 +79,7 @@ fn vacate(table: &mut Table, name: Vec<u8>) -> Step
     }
 }
 
-/// Takes a step back. A class that it puts has its place. No memory.
+/// Undoes a step. If the undoing puts a class, its name must have a place. Does not allocate.
 pub(crate) fn take_back(table: &mut Table, back: Step)
     requires { IsThere back table.old }
     ensures ok { (n : Name) → class_at table.new n ≡ stepped back (class_at table.old) n }

@@ -1,4 +1,4 @@
-//! What is above a class.
+//! The transitive supertypes of a class.
 
 ghost use Rattle.std.specs.Prelude.{◌≡◌, ◌<◌, ◌∷◌, [], length, IfOk, OnOk, None};
 ghost use Rattle.std.specs.List.{All, filter};
@@ -13,21 +13,21 @@ use jc_base::NoMemory;
 use jc_graph::Seen;
 use std::alloc::Global;
 
-/// What is above the class that was asked for last. It is walked once for all that is asked of one class
-/// without another between.
+/// The transitive supertypes of the class that was asked for last. Consecutive calls for one class walk its supertypes
+/// once.
 #[derive(Drop)]
 pub struct Above {
     seen: Seen,
-    /// Those of them that are interfaces.
+    /// The interfaces among these supertypes.
     interfaces: Vec<usize>,
-    /// The class, where one was asked for.
+    /// The class, if one was asked for.
     start: Option<usize>,
-    /// The outside one with the least name.
+    /// The outside name among these supertypes that is least in the order of bytes.
     outside: Option<usize>,
 }
 
 impl Above {
-    /// Of no class yet, among so many.
+    /// Returns a value for no class yet. `count` is the number of nodes.
     pub fn new(alloc: Global, count: usize) -> Result<Above, NoMemory>
         ensures size { IfOk result (λ above. length above.seen.flags ≡ count) }
         ensures none { IfOk result (λ above. above.start ≡ None) }
@@ -40,7 +40,9 @@ impl Above {
         })
     }
 
-    /// Asks for what is above a class.
+    /// Finds the transitive supertypes of a class. Does nothing if the class was asked for last.
+    ///
+    /// Returns `NoMemory` only when an allocation fails.
     pub fn see(&mut self, alloc: Global, classes: &Classes, start: usize) -> Result<(), NoMemory>
         requires start { start < length classes.now.standing.now }
         requires above { Knows (length classes.now.standing.now) (indexed_of classes.now) self.old }
@@ -58,14 +60,14 @@ impl Above {
         Ok(())
     }
 
-    /// The interfaces above the class that was asked for, each once.
+    /// Returns the interfaces among the transitive supertypes, each once.
     pub fn interfaces(&self) -> &[usize]
         ensures { result.now ≡ self.now.interfaces.items }
     {
         self.interfaces.as_slice()
     }
 
-    /// The outside one of these with the least name.
+    /// Returns the outside name among the transitive supertypes that is least in the order of bytes.
     pub fn outside(&self) -> Option<usize>
         ensures { result ≡ self.now.outside }
     {
@@ -73,7 +75,7 @@ impl Above {
     }
 }
 
-/// The nodes that are interfaces.
+/// Returns the nodes that are interfaces.
 fn interfaces_among(
     alloc: Global,
     classes: &Classes,
@@ -91,7 +93,7 @@ fn interfaces_among(
     Ok(found)
 }
 
-/// The nodes that are outside.
+/// Returns the nodes that are outside.
 fn outsiders(alloc: Global, classes: &Classes, nodes: &[usize]) -> Result<Vec<usize>, NoMemory>
     requires { All (λ v. v < length classes.now.standing.now) nodes.now }
     ensures { IfOk result (λ r. r.items ≡ filter (lies_outside (indexed_of classes.now)) nodes.now) }
@@ -105,7 +107,7 @@ fn outsiders(alloc: Global, classes: &Classes, nodes: &[usize]) -> Result<Vec<us
     Ok(found)
 }
 
-/// The least outside name above a class, by what was seen above it.
+/// Returns the least outside name among the transitive supertypes of a class. `seen` has these supertypes.
 fn find_outside(
     alloc: Global,
     classes: &Classes,

@@ -1,4 +1,4 @@
-//! Access to members.
+//! Access to members (JVMS 5.4.4).
 
 ghost use Rattle.std.specs.Prelude.{◌≡◌, ◌<◌, length, true};
 ghost use Rattle.std.specs.Bool.{Decides};
@@ -15,13 +15,13 @@ use jc_file::AccessFlag;
 /// What a reference names: a class, or an array.
 #[derive(Clone, Copy)]
 pub enum Target {
-    /// The class of this number.
+    /// The class of this node.
     Class(usize),
-    /// An array of any kind.
+    /// An array of any type.
     Array,
 }
 
-/// Whether a class is another or a subclass of it.
+/// Returns whether a class is another or a subclass of it. Every class is within `java/lang/Object`.
 fn is_within(classes: &Classes, node: usize, other: usize) -> bool
     requires node { node < length classes.now.standing.now }
     requires other { other < length classes.now.standing.now }
@@ -35,7 +35,7 @@ fn is_within(classes: &Classes, node: usize, other: usize) -> bool
     }
 }
 
-/// Whether what is named is the class, a subclass of it or a superclass of it.
+/// Returns whether the reference names the class, a subclass of it or a superclass of it.
 fn is_related(classes: &Classes, target: Target, class: usize) -> bool
     requires target { IsTarget (length classes.now.standing.now) (indexed_of classes.now) target }
     requires class { class < length classes.now.standing.now }
@@ -54,7 +54,7 @@ fn is_related(classes: &Classes, target: Target, class: usize) -> bool
     }
 }
 
-/// Whether a member is PROTECTED and inherited by the class that uses it.
+/// Returns whether a member is PROTECTED and the class that uses it inherits it.
 fn is_inherited(classes: &Classes, target: Target, class: usize, hit: Hit) -> bool
     requires target { IsTarget (length classes.now.standing.now) (indexed_of classes.now) target }
     requires class { class < length classes.now.standing.now }
@@ -74,7 +74,7 @@ fn is_inherited(classes: &Classes, target: Target, class: usize, hit: Hit) -> bo
     is_related(classes, target, class)
 }
 
-/// Whether a member is open to its package, and the class is of that.
+/// Returns whether a member is PROTECTED or package-private, and the class is in the package of the member's class.
 fn is_in_package(classes: &Classes, class: usize, hit: Hit) -> bool
     requires class { class < length classes.now.standing.now }
     requires home { hit.node < length classes.now.standing.now }
@@ -86,7 +86,7 @@ fn is_in_package(classes: &Classes, class: usize, hit: Hit) -> bool
     classes.are_together(class, hit.node)
 }
 
-/// Whether a member is PRIVATE and the class's own.
+/// Returns whether a member is PRIVATE, and the class declares it.
 fn is_own(classes: &Classes, class: usize, hit: Hit) -> bool
     requires class { class < length classes.now.standing.now }
     requires home { hit.node < length classes.now.standing.now }
@@ -98,7 +98,7 @@ fn is_own(classes: &Classes, class: usize, hit: Hit) -> bool
     hit.node == class
 }
 
-/// Whether a member is PUBLIC, or clone of java/lang/Object where an array is named.
+/// Returns whether a member is PUBLIC, or is `clone` of `java/lang/Object` and the reference names an array.
 fn is_open(classes: &Classes, target: Target, hit: Hit) -> bool
     requires { hit.node < length classes.now.standing.now }
     ensures { TellsOpen (indexed_of classes.now) target hit.entry result }
@@ -114,7 +114,7 @@ fn is_open(classes: &Classes, target: Target, hit: Hit) -> bool
     }
 }
 
-/// Whether a class may use a member that it named so.
+/// Returns whether a class may use a member that it found through this target (JVMS 5.4.4).
 pub fn can_use(classes: &Classes, target: Target, class: usize, hit: Hit) -> bool
     requires target { IsTarget (length classes.now.standing.now) (indexed_of classes.now) target }
     requires class { class < length classes.now.standing.now }

@@ -8,7 +8,7 @@ ghost use Rattle.jc_numbered.specs.inside.Chain.{ExtendsNode};
 
 use crate::classes::Classes;
 
-/// Whether a class is another, or has it on its chain of superclasses.
+/// Returns whether a class is another, or has it in its chain of superclasses.
 pub(crate) fn extends(classes: &Classes, start: usize, other: usize) -> bool
     requires start { start < length classes.now.standing.now }
     requires good { good_at (indexed_of classes.now) start ≡ true }

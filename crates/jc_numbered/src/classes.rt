@@ -1,4 +1,4 @@
-//! The classes of a class graph, by numbers.
+//! The numbered classes of a class graph.
 
 ghost use Rattle.std.specs.Prelude.{◌≡◌, ◌<◌, ◌++◌, length, map, OnOk, option_map, reverse, slice_index_or};
 ghost use Rattle.std.specs.List.{All};
@@ -19,25 +19,26 @@ use jc_classes::{Key, Member, Standing, same};
 use jc_file::AccessFlag;
 use jc_graph::{Seen, mark_above};
 
-/// Classes by their numbers, each with the numbers of its supertypes: the superclass, if it has one,
-/// then its interfaces.
+/// The names of a class graph, numbered. A node is the number of a name. Each node has the nodes of its supertypes: the
+/// superclass, if there is one, and then the direct superinterfaces.
 #[derive(Drop)]
 pub struct Classes<'c, 't> {
-    /// Their names.
+    /// The name of each node.
     pub names: &'c [Vec<u8>],
-    /// What stands at each.
+    /// What each node is: a class, outside or nothing.
     pub standing: &'c [Standing<'t>],
-    /// The supertypes of each.
+    /// The supertypes of each node.
     pub supertypes: &'c [Vec<usize>],
-    /// The number of `java/lang/Object`.
+    /// The node of `java/lang/Object`.
     pub object: usize,
-    /// The place of each in an order of loading.
+    /// The place of each node in an order of loading.
     pub rank: Vec<usize>,
-    /// Whether each loads or is outside.
+    /// Whether each node loads or is outside.
     pub good: Vec<bool>,
-    /// Where the package of each name ends.
+    /// The length of the package of each name.
     pub package_ends: Vec<usize>,
-    /// How many classes are above each at most, itself among them. One that is circular may have more.
+    /// A bound on the number of transitive supertypes of each node, with the node itself. It does not hold for circular
+    /// nodes.
     pub most_above: Vec<usize>,
     pub ghost names_size: { length names.now ≡ length standing.now },
     pub ghost supertypes_size: { length supertypes.now ≡ length standing.now },
@@ -47,16 +48,16 @@ pub struct Classes<'c, 't> {
     pub ghost graph: { IsGraph (length standing.now) (filled names.now standing.now supertypes.now rank.items good.items) },
 }
 
-/// A member that was found, and the class that declares it.
+/// A member that look-up found, and the class that declares it.
 #[derive(Clone, Copy)]
 pub struct Hit<'a> {
-    /// The number of the class.
+    /// The node of the class.
     pub node: usize,
     /// The member.
     pub member: Member<'a>,
 }
 
-/// Adds nodes, the last first.
+/// Appends nodes, the last one first.
 fn push_back(stack: &mut Vec<usize>, nodes: &[usize]) -> Result<(), NoMemory>
     ensures { OnOk result (stack.new.items ≡ stack.old.items ++ reverse nodes.now) }
 {
@@ -70,14 +71,14 @@ impl<'c, 't> Classes<'c, 't> {
     ghost use Rattle.jc_numbered.specs.inside.Above.{SeesAbove};
     ghost use Rattle.jc_numbered.specs.inside.Shown.{indexed_of};
 
-    /// How many nodes there are.
+    /// Returns the number of nodes.
     pub fn len(&self) -> usize
         ensures { result ≡ length self.now.standing.now }
     {
         self.standing.len()
     }
 
-    /// The name of a node.
+    /// Returns the name of a node.
     pub fn name(&self, node: usize) -> &[u8]
         ensures { result.now ≡ indexed_name (indexed_of self.now) node }
     {
@@ -87,7 +88,8 @@ impl<'c, 't> Classes<'c, 't> {
         }
     }
 
-    /// How many nodes are above a node at most, itself among them. It says how long a walk may be, and no more.
+    /// Returns a bound on the number of transitive supertypes of a node, with the node itself. Only the cost of look-up
+    /// depends on it.
     pub fn most_above(&self, node: usize) -> usize
         ensures { result ≡ slice_index_or self.now.most_above.items node 1 }
     {
@@ -97,14 +99,14 @@ impl<'c, 't> Classes<'c, 't> {
         }
     }
 
-    /// Whether two nodes are of one package.
+    /// Returns whether two nodes are in one package.
     pub(crate) fn are_together(&self, node: usize, other: usize) -> bool
         ensures { result ≡ same_package (indexed_of self.now) node other }
     {
         same(self.package(node), self.package(other))
     }
 
-    /// The package of a node's name.
+    /// Returns the package of a node.
     pub(crate) fn package(&self, node: usize) -> &[u8]
         ensures { result.now ≡ package_of (indexed_name (indexed_of self.now) node) }
     {
@@ -114,7 +116,7 @@ impl<'c, 't> Classes<'c, 't> {
         }
     }
 
-    /// What stands at a node.
+    /// Returns what a node is.
     pub fn at(&self, node: usize) -> Standing<'t>
         requires { node < length self.now.standing.now }
         ensures { stands_of result ≡ standing_of (indexed_of self.now) node }
@@ -122,7 +124,7 @@ impl<'c, 't> Classes<'c, 't> {
         self.standing[node]
     }
 
-    /// Whether a node is outside.
+    /// Returns whether a node is outside.
     pub(crate) fn is_outside(&self, node: usize) -> bool
         requires { node < length self.now.standing.now }
         ensures { result ≡ lies_outside (indexed_of self.now) node }
@@ -133,7 +135,7 @@ impl<'c, 't> Classes<'c, 't> {
         }
     }
 
-    /// A node's access flags.
+    /// Returns the access flags of a node. Returns 0 if the node is no class.
     pub fn flags(&self, node: usize) -> u16
         requires { node < length self.now.standing.now }
         ensures { result ≡ flags_of (standing_of (indexed_of self.now) node) }
@@ -144,7 +146,7 @@ impl<'c, 't> Classes<'c, 't> {
         }
     }
 
-    /// Whether a node is an interface.
+    /// Returns whether a node is an interface.
     pub(crate) fn is_interface(&self, node: usize) -> bool
         requires { node < length self.now.standing.now }
         ensures { result ≡ is_interface_at (indexed_of self.now) node }
@@ -152,7 +154,7 @@ impl<'c, 't> Classes<'c, 't> {
         AccessFlag::Interface.is_in(self.flags(node))
     }
 
-    /// A node's own field.
+    /// Returns the field with this name and descriptor that the class of a node declares.
     pub fn field(&self, node: usize, key: Key) -> Option<Member<'_>>
         requires { node < length self.now.standing.now }
         ensures { option_map member_lent result ≡ member (fields_of (standing_of (indexed_of self.now) node)) (key_lent key.entry) }
@@ -163,7 +165,8 @@ impl<'c, 't> Classes<'c, 't> {
         }
     }
 
-    /// The method that a node itself answers.
+    /// Returns the method that look-up finds in the class of a node itself. It may be signature polymorphic (JVMS
+    /// 5.4.3.3).
     pub fn declared(&self, node: usize, key: Key) -> Option<Member<'_>>
         requires { node < length self.now.standing.now }
         ensures { option_map member_lent result ≡ declared_at (indexed_of self.now) node (key_lent key.entry) }
@@ -174,7 +177,7 @@ impl<'c, 't> Classes<'c, 't> {
         }
     }
 
-    /// A node's own method.
+    /// Returns the method with this name and descriptor that the class of a node declares.
     pub fn method(&self, node: usize, key: Key) -> Option<Member<'_>>
         requires { node < length self.now.standing.now }
         ensures { option_map member_lent result ≡ member (methods_of (standing_of (indexed_of self.now) node)) (key_lent key.entry) }
@@ -185,7 +188,8 @@ impl<'c, 't> Classes<'c, 't> {
         }
     }
 
-    /// A node's own public instance method.
+    /// Returns the method with this name and descriptor that the class of a node declares, if it is PUBLIC and not
+    /// STATIC.
     pub fn open_method(&self, node: usize, key: Key) -> Option<Member<'_>>
         requires { node < length self.now.standing.now }
         ensures { option_map member_lent result ≡ of_object (standing_of (indexed_of self.now) node) (key_lent key.entry) }
@@ -202,7 +206,7 @@ impl<'c, 't> Classes<'c, 't> {
         }
     }
 
-    /// A node's superclass.
+    /// Returns the superclass of a node.
     pub fn superclass(&self, node: usize) -> Option<usize>
         requires { node < length self.now.standing.now }
         ensures { result ≡ superclass_at (indexed_of self.now) node }
@@ -214,7 +218,8 @@ impl<'c, 't> Classes<'c, 't> {
         }
     }
 
-    /// The method that a node gives to what is below it, if it is an interface.
+    /// Returns the method with this name and descriptor that an interface declares, if it is neither PRIVATE nor
+    /// STATIC. Returns `None` if the node is no interface.
     pub fn given(&self, node: usize, key: Key) -> Option<Member<'_>>
         requires { node < length self.now.standing.now }
         ensures { option_map member_lent result ≡ gives (indexed_of self.now) (key_lent key.entry) node }
@@ -225,7 +230,7 @@ impl<'c, 't> Classes<'c, 't> {
         }
     }
 
-    /// Sees what is above some nodes, each node once.
+    /// Finds the transitive supertypes of some nodes, each once.
     pub fn see_above(&self, seen: &mut Seen, starts: &[usize]) -> Result<(), NoMemory>
         requires starts { All (λ v. v < length self.now.standing.now) starts.now }
         requires seen { length seen.old.flags ≡ length self.now.standing.now }
@@ -234,7 +239,7 @@ impl<'c, 't> Classes<'c, 't> {
         mark_above(self.supertypes, seen, starts)
     }
 
-    /// The supertypes of a node.
+    /// Returns the supertypes of a node.
     pub fn supertypes(&self, node: usize) -> &[usize]
         requires { node < length self.now.supertypes.now }
         ensures { result.now ≡ successors_of self.now.supertypes.now node }
@@ -242,7 +247,7 @@ impl<'c, 't> Classes<'c, 't> {
         self.supertypes[node].as_slice()
     }
 
-    /// How many supertypes stand before the interfaces.
+    /// Returns the number of superclasses of a node: 0 or 1. They are before the interfaces in its supertypes.
     fn superclass_count(&self, node: usize) -> usize
         requires { node < length self.now.standing.now }
         ensures { result ≡ superclass_count (standing_of (indexed_of self.now) node) }
@@ -256,7 +261,7 @@ impl<'c, 't> Classes<'c, 't> {
         }
     }
 
-    /// Adds the nodes where look-up of a field goes on, the first last.
+    /// Pushes the nodes where look-up of a field continues, so that the next one is on top of the stack.
     pub fn push_onward(&self, node: usize, stack: &mut Vec<usize>) -> Result<(), NoMemory>
         requires { node < length self.now.standing.now }
         ensures { OnOk result (reverse stack.new.items ≡ onward_nodes (indexed_of self.now) node ++ reverse stack.old.items) }

@@ -9,18 +9,18 @@ use crate::classes::Classes;
 use jc_classes::LinkageError;
 use jc_file::AccessFlag;
 
-/// How a class loads.
+/// How a node loads.
 #[derive(Clone, Copy)]
 pub enum Load {
-    /// It loads.
+    /// The class loads.
     Loaded,
-    /// It is outside.
+    /// The name is outside.
     Outside,
-    /// It fails, for what is known of the class of this number.
+    /// The class does not load. The node is that of the class at fault.
     Fails(LinkageError, usize),
 }
 
-/// Whether a node may use another.
+/// Returns whether the class of `other` is accessible to the class of `node` (JVMS 5.4.4).
 pub fn can_see(classes: &Classes, node: usize, other: usize) -> bool
     requires node { node < length classes.now.standing.now }
     requires other { other < length classes.now.standing.now }
@@ -29,7 +29,7 @@ pub fn can_see(classes: &Classes, node: usize, other: usize) -> bool
     AccessFlag::Public.is_in(classes.flags(other)) || classes.are_together(node, other)
 }
 
-/// Whether a supertype is an interface just where a class is wanted, or a class where an interface is.
+/// Returns whether a supertype is an interface where a class is required, or a class where an interface is required.
 fn is_wrong(classes: &Classes, other: usize, is_class: bool) -> bool
     requires { other < length classes.now.standing.now }
     ensures { result ≡ is_wrong_kind (indexed_of classes.now) is_class other }
@@ -37,7 +37,7 @@ fn is_wrong(classes: &Classes, other: usize, is_class: bool) -> bool
     AccessFlag::Interface.is_in(classes.flags(other)) == is_class
 }
 
-/// The error that a supertype makes, if it makes one.
+/// Returns the error that a supertype causes, if it causes one.
 fn judge(
     classes: &Classes,
     loads: &[Load],
@@ -65,7 +65,8 @@ fn judge(
     }
 }
 
-/// The first error that a supertype makes, in order.
+/// Returns the first error that a supertype causes, in the order of supertypes. Returns `Loaded` if there is none.
+/// `has_superclass` says whether the first supertype is the superclass.
 pub fn judge_each(
     classes: &Classes,
     loads: &[Load],

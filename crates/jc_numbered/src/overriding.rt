@@ -14,8 +14,10 @@ use jc_classes::{Key, Member};
 use jc_file::AccessFlag;
 use std::alloc::Global;
 
-/// Returns the nearest superclass whose method of this name and descriptor is FINAL and overridden by that of the
-/// class.
+/// Returns the nearest superclass with a FINAL method that the method of this name and descriptor of the class
+/// overrides.
+///
+/// Returns `NoMemory` only when an allocation fails.
 pub fn find_final(
     alloc: Global,
     classes: &Classes,
@@ -32,7 +34,7 @@ pub fn find_final(
     }
 }
 
-/// Returns the same for a class with such a method that may override others.
+/// Searches the superclasses of a class that declares such a method, neither STATIC nor PRIVATE.
 fn find_overridden(
     alloc: Global,
     classes: &Classes,
@@ -44,8 +46,8 @@ fn find_overridden(
     requires overrides { is_some (overridable_at (indexed_of classes.now) (key_lent key) class) ≡ true }
     ensures { IfOk result (TellsFinal (indexed_of classes.now) (key_lent key.entry) class) }
 {
-    // The packages of the classes whose methods are overridden: a class of the same package has its method overridden
-    // too, even if that is package-private.
+    // The packages of the classes whose methods are overridden. A package-private method is also overridden if its
+    // class is in one of these packages.
     let mut packages = ByteMap::new(alloc);
     let mut node = class;
     while let Some(above) = classes.superclass(node) {
@@ -57,7 +59,8 @@ fn find_overridden(
     Ok(None)
 }
 
-/// Returns whether the method of a superclass is overridden and FINAL. If it is overridden, its package is added.
+/// Returns whether the method of a superclass is overridden and FINAL. If it is overridden, the package of the
+/// superclass is added.
 fn is_final_overridden(
     alloc: Global,
     classes: &Classes,

@@ -1,4 +1,4 @@
-//! Where the packages of names end.
+//! Packages of names.
 
 ghost use Rattle.std.specs.Prelude.{◌≡◌, map, IfOk};
 ghost use Rattle.jc_classes.specs.Names.{names_of};
@@ -7,7 +7,7 @@ ghost use Rattle.jc_numbered.specs.inside.Packages.{package_end};
 use jc_base::NoMemory;
 use std::alloc::Global;
 
-/// Where the package of each name ends.
+/// Returns the length of the package of each name (JVMS 5.3).
 pub fn package_ends(alloc: Global, names: &[Vec<u8>]) -> Result<Vec<usize>, NoMemory>
     ensures { IfOk result (λ ends. ends.items ≡ map package_end (names_of names.now)) }
 {
@@ -18,7 +18,7 @@ pub fn package_ends(alloc: Global, names: &[Vec<u8>]) -> Result<Vec<usize>, NoMe
     Ok(ends)
 }
 
-/// Where the package of a name ends: before its last slash (JVMS 5.3).
+/// Returns the length of the package of a name: the place of its last slash, and 0 if there is none (JVMS 5.3).
 fn package_end(name: &[u8]) -> usize
     ensures { result ≡ package_end name.now }
 {

@@ -1,4 +1,4 @@
-//! What may be chosen among superinterface methods.
+//! The candidates among superinterface methods, and the choice among them (JVMS 5.4.3.3, 5.4.3.4).
 
 ghost use Rattle.std.specs.Prelude.{◌≡◌, ◌<◌, length, IfOk};
 ghost use Rattle.std.specs.List.{All, filter};
@@ -13,7 +13,7 @@ use jc_file::AccessFlag;
 use jc_graph::Seen;
 use std::alloc::Global;
 
-/// The nodes that offer a method.
+/// Returns the interfaces that declare a method with this name and descriptor, neither PRIVATE nor STATIC.
 pub fn candidates(
     alloc: Global,
     classes: &Classes,
@@ -32,7 +32,8 @@ pub fn candidates(
     Ok(found)
 }
 
-/// Whether no candidate stands below a node, and its method is not abstract.
+/// Returns whether the method of a node is not ABSTRACT, and the node is not in `covered`. If `covered` has the
+/// supertypes of all candidates, the method is maximally-specific.
 pub fn is_pick(classes: &Classes, covered: &Seen, node: usize, key: Key) -> bool
     requires node { node < length classes.now.standing.now }
     requires covered { length covered.now.flags ≡ length classes.now.standing.now }
@@ -47,7 +48,7 @@ pub fn is_pick(classes: &Classes, covered: &Seen, node: usize, key: Key) -> bool
     }
 }
 
-/// The one of two nodes whose name is less.
+/// Returns the one of two nodes whose name is less.
 fn lesser(classes: &Classes, node: usize, other: usize) -> usize
     requires node { node < length classes.now.names.now }
     requires other { other < length classes.now.names.now }
@@ -63,7 +64,7 @@ fn lesser(classes: &Classes, node: usize, other: usize) -> usize
     }
 }
 
-/// The node whose name is least.
+/// Returns the node whose name is least in the order of bytes.
 pub fn lowest(classes: &Classes, nodes: &[usize]) -> Option<usize>
     requires { All (λ v. v < length classes.now.names.now) nodes.now }
     ensures { TellsLowest (indexed_of classes.now) nodes.now result }

@@ -7,8 +7,8 @@ ghost use Rattle.jc_classes.specs.MethodLookup.{declared, polymorphic};
 
 use jc_classes::{Facts, Key, Member, same};
 
-/// The method that the class of this name itself answers: a signature polymorphic one by its name
-/// (JVMS 5.4.3.3), else the one with the name and the descriptor.
+/// Returns the method that look-up finds in the class of this name itself. It is the signature polymorphic method of
+/// the name, or else the method with the name and the descriptor (JVMS 5.4.3.3).
 pub(crate) fn declared<'a>(facts: &'a Facts, class: &[u8], key: Key) -> Option<Member<'a>>
     ensures { option_map member_lent result ≡ declared class.now (stands.Class facts.now) (key_lent key.entry) }
 {
@@ -18,7 +18,7 @@ pub(crate) fn declared<'a>(facts: &'a Facts, class: &[u8], key: Key) -> Option<M
     }
 }
 
-/// The signature polymorphic method of a name, the only one of its name in its class.
+/// Returns the signature polymorphic method with this name. It must be the only method of its class with this name.
 fn find_polymorphic<'a>(facts: &'a Facts, class: &[u8], name: &[u8]) -> Option<Member<'a>>
     ensures { option_map member_lent result ≡ polymorphic class.now facts.now.methods name.now }
 {

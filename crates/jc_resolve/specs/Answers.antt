@@ -1,4 +1,4 @@
--- Answers and loading of the code, seen as those of the definitions.
+-- The answers and the results of loading of the code, as those of the definitions.
 use Rattle.jc_classes.specs.Loading.{Loading as How}
 use Rattle.jc_classes.specs.Loading.{Loading as how}
 use Rattle.jc_resolve.specs.declared.hierarchy.Loading.{Loading}
@@ -18,7 +18,7 @@ answer_of (made.Outside n) = answer.Outside n.now
 answer_of made.NotLoaded = answer.NotLoaded
 answer_of (made.Error e n) = answer.Error e n.now
 
--- what an answer says, without its texts
+-- the kind of an answer, without its texts
 abbrev pub kind_of : defs.Answer → AnswerKind
 kind_of (answer.ToClass n flags) = kinds.Found
 kind_of (answer.ToMember n x) = kinds.Found

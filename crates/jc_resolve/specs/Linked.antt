@@ -8,6 +8,6 @@ pub record Linked : Type 0 where
   pub answers : List Answer
   pub links : List LinkFault
 
--- as it is lent
+-- a borrowed error of an instruction, as data
 abbrev pub link_lent : Link → LinkFault
 link_lent link = record { method = link.method; place = link.place; error = link.error; class = link.class.now }

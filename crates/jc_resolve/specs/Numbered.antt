@@ -1,4 +1,4 @@
--- Classes by numbers.
+-- Numbered classes.
 use Rattle.std.specs.Prelude.{◌≡◌, ℕ, ◌<◌, List, [], map, length, slice_index_or, Option, option_map}
 use Rattle.std.specs.List.{Contains}
 use Rattle.std.specs.declared.vec.Vec.{Vec}
@@ -15,7 +15,7 @@ use Rattle.jc_classes.specs.Worlds.Stands.{Nothing}
 use Rattle.jc_classes.specs.Lent.{stands_of}
 use Rattle.jc_classes.specs.declared.standing.Standing.{Standing}
 
--- names, what stands at each, and the numbers of its supertypes
+-- names, what each name is, and the numbers of its supertypes
 pub record Numbered : Type 0 where
   pub names : List Name
   pub standing : List Stands
@@ -30,7 +30,7 @@ standing_at h i = slice_index_or h.standing i Nothing
 abbrev pub supertypes_at : Numbered → ℕ → List ℕ
 supertypes_at h i = slice_index_or h.supertypes i []
 
--- as they are lent
+-- the data of borrowed slices
 abbrev pub numbered : List (Vec ℕ Global) → List Standing → List (Vec ℕ Global) → Numbered
 numbered names standing supertypes = record {
   names = names_of names;
@@ -38,7 +38,7 @@ numbered names standing supertypes = record {
   supertypes = map (λ (v : Vec ℕ Global). v.items) supertypes;
 }
 
--- each name stands once, and what is named as a supertype has a number
+-- the names are distinct, and all supertypes have numbers
 pub record IsClosed (h : Numbered) : Type 0 where
   pub standing : length h.standing ≡ length h.names
   pub size : length h.supertypes ≡ length h.names
@@ -46,7 +46,7 @@ pub record IsClosed (h : Numbered) : Type 0 where
   pub within : (a b : ℕ) → Contains (supertypes_at h a) b → b < length h.names
   pub supertypes : (i : ℕ) → i < length h.names → map (name_at h.names) (supertypes_at h i) ≡ supertypes_of (standing_at h i)
 
--- a world has at each name what stands there
+-- the world agrees with h: in it each name is what h says
 abbrev pub Agrees : World → Numbered → Type 0
 Agrees m h = (i : ℕ) → i < length h.names → m (name_at h.names i) ≡ standing_at h i
 
@@ -59,11 +59,11 @@ references_at h i = references_of (standing_at h i)
 abbrev pub NumberReferences : List Name → List (Option ℕ) → List Reference → Type 0
 NumberReferences names nodes references = map (option_map (name_at names)) nodes ≡ map (λ (r : Reference). class_of r.named) references
 
--- the errors of its instructions, where its references have these answers
+-- the errors of the class's instructions, if its references have these answers
 abbrev pub links_at : Numbered → ℕ → List Answer → List LinkFault
 links_at h i answers = links_of (node_name h i) (standing_at h i) answers
 
--- the answers to them, in every world that agrees
+-- the answers to the references of the class, in every world that agrees with h
 abbrev pub TellsAnswers : Numbered → ℕ → List Answer → Type 0
 TellsAnswers h i answers = (m : World) (how : Loading) → Agrees m h → Load m (node_name h i) how
     → AreAnswers m (node_name h i) how (references_at h i) answers

@@ -19,11 +19,11 @@ use jc_classes::{Facts, Standing};
 use jc_numbered::{Classes, Load};
 use std::alloc::Global;
 
-/// So many classes may be walked over in vain: with fewer, for all references together, those that name the same class
-/// are not brought together.
+/// If the walks over supertypes visit fewer classes than this, for all references together, references to one class are
+/// not grouped.
 const FEW: usize = 65_536;
 
-/// How many classes a walk over what is above each of these may see, for all of them together.
+/// Returns a bound on the number of classes that the walks over the supertypes of all these nodes visit together.
 fn most_walked(classes: &Classes, nodes: &[Option<u32>]) -> usize {
     let mut walked = 0usize;
     for node in nodes {
@@ -34,9 +34,8 @@ fn most_walked(classes: &Classes, nodes: &[Option<u32>]) -> usize {
     walked
 }
 
-/// The numbers of the references in the order in which they are answered: those that ask for the same side by side.
-/// Where it may cost more to walk over what is above the classes than to sort, those that name one class are side by
-/// side too.
+/// Returns the numbers of the references in the order in which they are resolved, with equal references next to each
+/// other. References to one class are also next to each other if the walks over supertypes may cost more than sorting.
 fn by_class(
     alloc: Global,
     classes: &Classes,
@@ -52,7 +51,7 @@ fn by_class(
     Ok(order)
 }
 
-/// The same number, to index with.
+/// Returns the same node as a `usize`.
 fn wide(node: Option<u32>) -> Option<usize>
     ensures { result ≡ node }
 {
@@ -62,7 +61,7 @@ fn wide(node: Option<u32>) -> Option<usize>
     }
 }
 
-/// Answers the reference of a number.
+/// Resolves the reference of a number, and stores its answer.
 fn answer_one(
     alloc: Global,
     look: &Look,
@@ -88,8 +87,8 @@ fn answer_one(
     Ok(())
 }
 
-/// Answers the reference of a number behind another that has its answer, which is the same where both ask for the
-/// same.
+/// Resolves the reference of a number. If it is equal to the reference before it, which has its answer, the answer is
+/// copied.
 fn answer_next(
     alloc: Global,
     look: &Look,
@@ -118,8 +117,8 @@ fn answer_next(
     answer_one(alloc, look, room, facts, nodes, entries, number)
 }
 
-/// Answers each reference of a class that loads. What is above a class that several name is walked once, and what
-/// several ask for is looked up once.
+/// Resolves each reference of a class that loads. Equal references are resolved once. If references to one class are
+/// next to each other, its supertypes are walked once.
 fn answer_each(
     alloc: Global,
     look: &Look,
@@ -144,7 +143,7 @@ fn answer_each(
     Ok(())
 }
 
-/// The answers to the references of a class that loads, by the numbers of classes.
+/// Returns the answers to the references of a class that loads, by nodes.
 fn answer_all(
     alloc: Global,
     look: &Look,
@@ -162,7 +161,8 @@ fn answer_all(
     Ok(entries)
 }
 
-/// The same in the room that is kept, which is made where there is none. At want of memory none is kept.
+/// Returns the answers, with working memory that is kept for the next class. If there is none, it is allocated. If an
+/// allocation fails, none is kept.
 fn answer_kept(
     alloc: Global,
     look: &Look,
@@ -181,7 +181,7 @@ fn answer_kept(
     Ok(entries)
 }
 
-/// The answers to the references of a class that does not load.
+/// Returns the answers to the references of a class that does not load.
 fn none_loaded(alloc: Global, facts: &Facts) -> Result<Vec<Entry<usize>>, NoMemory>
     ensures { IfOk result (λ entries. entries.items ≡ map (λ (r : Reference). Entry.NotLoaded) facts.now.references) }
 {
@@ -189,7 +189,7 @@ fn none_loaded(alloc: Global, facts: &Facts) -> Result<Vec<Entry<usize>>, NoMemo
     Ok(entries)
 }
 
-/// The answers to the references of a class, by the numbers of classes.
+/// Returns the answers to the references of a class, by nodes.
 fn entries_of(
     alloc: Global,
     classes: &Classes,
@@ -219,8 +219,8 @@ fn entries_of(
     }
 }
 
-/// The answers to the references of a class, and the errors of its instructions. A class that does not load needs no
-/// room. `places` has an item for each class, with anything.
+/// Returns the answers to the references of a class, and the errors of its instructions. A class that does not load
+/// needs no working memory. `places` has an item with any value for each class.
 pub(crate) fn linked(
     alloc: Global,
     classes: &Classes,

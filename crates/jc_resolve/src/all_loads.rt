@@ -1,4 +1,4 @@
-//! How each node loads.
+//! How all nodes load.
 
 ghost use Rattle.std.specs.Prelude.{◌≡◌, ◌<◌, length, map, IfOk};
 ghost use Rattle.std.specs.List.{All};
@@ -14,7 +14,7 @@ use jc_graph::Sorted;
 use jc_numbered::{Classes, Load, judge_each};
 use std::alloc::Global;
 
-/// How a node loads, where it is known how its supertypes do.
+/// Returns how a node loads, by how its supertypes load.
 fn load_one(classes: &Classes, circular: &[bool], loads: &[Load], node: usize) -> Load
     requires node { node < length classes.now.standing.now }
     requires circular { length circular.now ≡ length classes.now.standing.now }
@@ -42,7 +42,7 @@ fn load_one(classes: &Classes, circular: &[bool], loads: &[Load], node: usize) -
     }
 }
 
-/// How each node loads.
+/// Returns how each node loads.
 pub(crate) fn load_all(
     alloc: Global,
     classes: &Classes,
@@ -63,7 +63,7 @@ pub(crate) fn load_all(
     Ok(loads)
 }
 
-/// The first place of each node in an order.
+/// Returns the first place of each node in an order.
 pub(crate) fn rank_all(alloc: Global, order: &[usize], count: usize) -> Result<Vec<usize>, NoMemory>
     requires { All (λ v. v < count) order.now }
     ensures { IfOk result (λ r. TellsRank count order.now r.items) }
@@ -77,7 +77,7 @@ pub(crate) fn rank_all(alloc: Global, order: &[usize], count: usize) -> Result<V
     Ok(ranks)
 }
 
-/// One more than the supertypes of a node have together.
+/// Returns one more than the sum of these numbers for the supertypes of a node.
 fn most_with(most: &[usize], supertypes: &[usize]) -> usize {
     let mut sum = 1usize;
     for node in supertypes {
@@ -90,7 +90,8 @@ fn most_with(most: &[usize], supertypes: &[usize]) -> usize {
     sum
 }
 
-/// How many nodes are above each at most, itself among them, by an order in which those stand before it.
+/// Returns a bound on the number of transitive supertypes of each node, with the node itself. In the order, supertypes
+/// are before their subtypes.
 pub(crate) fn most_above_all(
     alloc: Global,
     supertypes: &[Vec<usize>],
@@ -106,7 +107,7 @@ pub(crate) fn most_above_all(
     Ok(most)
 }
 
-/// Whether it is no error.
+/// Returns whether a node loads or is outside.
 fn is_good(load: Load) -> bool
     ensures { result ≡ is_good load }
 {
@@ -116,7 +117,7 @@ fn is_good(load: Load) -> bool
     }
 }
 
-/// Which nodes load or are outside.
+/// Returns for each node whether it loads or is outside.
 pub(crate) fn good_all(alloc: Global, loads: &[Load]) -> Result<Vec<bool>, NoMemory>
     ensures { IfOk result (λ r. r.items ≡ map is_good loads.now) }
 {

@@ -1,4 +1,4 @@
-//! Answers in the order of their references.
+//! The answers to the references of a class, as they are kept.
 
 ghost use Rattle.std.specs.Prelude.{◌≡◌, ◌<◌, ℕ, [], Some, length, option_map, slice_get, slice_set, IfOk, IfSome, IsTrue, OnOk};
 ghost use Rattle.jc_classes.specs.Facts.{Reference as Refers};
@@ -21,15 +21,15 @@ use jc_numbered::Classes;
 use std::alloc::Global;
 use std::marker::Model;
 
-/// The answers to the references of a class, in their order. The texts of the references are those of the
-/// class's facts. An answer mostly tells the class that its reference names; the names of other classes are listed,
-/// each once.
+/// The answers to the references of a class, in the order of the references. They share the texts of the references
+/// with the facts of the class. Most answers name the class that the reference names; the names of other classes are
+/// listed, each once.
 #[derive(Drop)]
 pub struct Answers {
     references: Option<References>,
     names: TextList,
-    /// The answer to each reference. A class has the number 0 if the reference names it, or an array of it. The
-    /// listed names are counted from 1.
+    /// The answer to each reference. The number 0 is that of the class that the reference names, or of its innermost
+    /// class for an array. The listed names are counted from 1.
     entries: Vec<Entry<u32>>,
 }
 
@@ -46,20 +46,22 @@ impl Model for Answers {
     ghost invariant = { λ a. length a.entries.items ≡ length (references_in a.references) };
 }
 
-/// So many names of so many bytes together have room at once. Most classes need no more.
+/// There is room for this number of names from the start. Most classes need no more.
 const FEW_NAMES: usize = 8;
 
+/// There is room for this number of bytes of names from the start.
 const FEW_BYTES: usize = 256;
 
-/// Names of classes, each once, by numbers of their own.
+/// Distinct names of classes, numbered.
 #[derive(Drop)]
 struct Naming {
     texts: TextList,
-    /// The class of each name.
+    /// The node of each name.
     nodes: Vec<usize>,
 }
 
-/// The place of the name of a class, if it is listed. `places` has it at such a class, and anything at others.
+/// Returns the place of the name of a class, if it is listed. `places` has the place for such a class, and any value
+/// for others.
 fn known(places: &[usize], nodes: &[usize], node: usize) -> Option<usize>
     ensures { IfSome result (λ place. slice_get nodes.now place ≡ Some node) }
 {
@@ -80,7 +82,7 @@ fn note(places: &mut [usize], node: usize, place: usize)
     }
 }
 
-/// Whether the class that a reference names, `own`, is known to be that of a node.
+/// Returns whether the class that a reference names, `own`, is known to be that of a node.
 fn is_own(own: Option<u32>, node: usize) -> bool
     ensures { IsTrue result → own ≡ Some node }
 {
@@ -90,7 +92,7 @@ fn is_own(own: Option<u32>, node: usize) -> bool
     }
 }
 
-/// A number in less room. More than 4,294,967,295 names are refused as if there were no memory.
+/// Returns a number as a `u32`. Returns `NoMemory` for more than 4,294,967,295 names.
 fn small(number: usize) -> Result<u32, NoMemory>
     ensures { IfOk result (λ kept. kept ≡ number) }
 {
@@ -101,7 +103,7 @@ fn small(number: usize) -> Result<u32, NoMemory>
 }
 
 impl Naming {
-    /// None yet.
+    /// Returns an empty list of names.
     fn new(alloc: Global) -> Result<Naming, NoMemory>
         ensures { (name : ℕ → Name) → IfOk result (AreNames name) }
     {
@@ -111,7 +113,7 @@ impl Naming {
         })
     }
 
-    /// The number by which an answer tells the class of a node. `own` is the class that its reference names.
+    /// Returns the number of the class of a node in an answer. `own` is the class that the reference names.
     fn number(
         &mut self,
         classes: &Classes,
@@ -130,7 +132,7 @@ impl Naming {
         self.listed(classes, places, node)
     }
 
-    /// The number of the name of a class, which is listed if it is not yet.
+    /// Returns the number of the name of a class. A name that is not listed is added.
     fn listed(
         &mut self,
         classes: &Classes,
@@ -151,7 +153,7 @@ impl Naming {
         }
     }
 
-    /// Lists the name of a class.
+    /// Adds the name of a class to the list.
     fn add(&mut self, classes: &Classes, places: &mut [usize], node: usize) -> Result<u32, NoMemory>
         requires { AreNames (indexed_name (indexed_of classes.now)) self.old }
         ensures names { OnOk result (AreNames (indexed_name (indexed_of classes.now)) self.new) }
@@ -166,7 +168,7 @@ impl Naming {
         Ok(number)
     }
 
-    /// An answer by the numbers of names. `own` is the class that its reference names.
+    /// Returns an answer with the number of a name in place of a node. `own` is the class that the reference names.
     fn entry(
         &mut self,
         classes: &Classes,
@@ -216,7 +218,7 @@ fn with_number(entry: Entry<usize>, number: u32) -> Entry<u32>
 }
 
 impl Answers {
-    /// None, of a name without a record.
+    /// Returns no answers, for a name without a class.
     pub(crate) fn none(alloc: Global) -> Answers
         ensures { result ≡ [] }
     {
@@ -227,8 +229,8 @@ impl Answers {
         }
     }
 
-    /// The answers to these references, of which each stands by the numbers of classes. `nodes` are the classes that
-    /// the references name. `places` has an item for each class, with anything.
+    /// Returns the answers to these references, given by nodes. `nodes` are the classes that the references name.
+    /// `places` has an item with any value for each class.
     pub(crate) fn of(
         alloc: Global,
         classes: &Classes,
@@ -249,14 +251,14 @@ impl Answers {
         })
     }
 
-    /// How many there are.
+    /// Returns the number of answers. Does not allocate.
     pub fn len(&self) -> usize
         ensures { result ≡ length self.now }
     {
         self.entries.len()
     }
 
-    /// What the answer to the reference of a number says, without its texts. No memory.
+    /// Returns the kind of the answer to the reference of a number, without its texts. Does not allocate.
     pub fn kind(&self, number: usize) -> AnswerKind
         requires { number < length self.now }
         ensures { option_map kind_of (slice_get self.now number) ≡ Some result }
@@ -264,7 +266,7 @@ impl Answers {
         kind_of(self.entries[number])
     }
 
-    /// What the answer to the reference of a number finds, if it finds anything. No memory.
+    /// Returns what the answer to the reference of a number finds, if it finds anything. Does not allocate.
     pub(crate) fn found(&self, number: usize) -> Option<Found>
         ensures { (answer : Told) → slice_get self.now number ≡ Some answer → found_of answer ≡ result }
     {
@@ -274,7 +276,7 @@ impl Answers {
         found_of(self.entries[number])
     }
 
-    /// The answer to the reference of a number. No memory.
+    /// Returns the answer to the reference of a number. Does not allocate.
     pub fn at(&self, number: usize) -> Answer<'_>
         requires { number < length self.now }
         ensures { slice_get self.now number ≡ Some (answer_of result) }
@@ -286,7 +288,7 @@ impl Answers {
     }
 }
 
-/// What an answer says, without its texts.
+/// Returns the kind of an answer, without its texts.
 fn kind_of(entry: Entry<u32>) -> AnswerKind
     ensures { (name : ℕ → Name) (r : Refers) → kind_of (entry_shown name r entry) ≡ result }
 {
@@ -298,7 +300,7 @@ fn kind_of(entry: Entry<u32>) -> AnswerKind
     }
 }
 
-/// What an answer finds.
+/// Returns what an answer finds.
 fn found_of(entry: Entry<u32>) -> Option<Found>
     ensures { (name : ℕ → Name) (r : Refers) → found_of (entry_shown name r entry) ≡ result }
 {
@@ -309,14 +311,14 @@ fn found_of(entry: Entry<u32>) -> Option<Found>
     }
 }
 
-/// Answers by the numbers of names, and these.
+/// Answers with the numbers of names, and these names.
 #[derive(Drop)]
 struct Named {
     texts: TextList,
     entries: Vec<Entry<u32>>,
 }
 
-/// Adds answers with the numbers of the names in them, and lists these names.
+/// Appends answers with the numbers of the names in them, and lists these names.
 fn name_each(
     classes: &Classes,
     places: &mut [usize],
@@ -338,7 +340,7 @@ fn name_each(
     Ok(())
 }
 
-/// Numbers the names that answers tell.
+/// Numbers the names in answers.
 fn name_entries(
     alloc: Global,
     classes: &Classes,
@@ -359,7 +361,7 @@ fn name_entries(
     })
 }
 
-/// The reference of a number.
+/// Returns the reference of a number.
 fn reference_at(references: &Option<References>, number: usize) -> Option<Reference<'_>>
     ensures { option_map reference_lent result ≡ slice_get (references_in references.now) number }
 {
@@ -369,7 +371,7 @@ fn reference_at(references: &Option<References>, number: usize) -> Option<Refere
     }
 }
 
-/// The class that an answer to a reference tells by a number.
+/// Returns the class that an answer to a reference names by a number.
 fn told<'a>(names: &'a TextList, reference: Reference<'a>, number: u32) -> &'a [u8]
     ensures { result.now ≡ name_told names.now (reference_lent reference.entry) number }
 {
@@ -379,7 +381,7 @@ fn told<'a>(names: &'a TextList, reference: Reference<'a>, number: u32) -> &'a [
     names.text(number as usize - 1)
 }
 
-/// An answer, with its texts.
+/// Returns an answer with its texts.
 fn lend<'a>(names: &'a TextList, reference: Reference<'a>, entry: Entry<u32>) -> Answer<'a>
     ensures { answer_of result ≡ entry_shown (name_told names.now (reference_lent reference.entry)) (reference_lent reference.entry) entry }
 {

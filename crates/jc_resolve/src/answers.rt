@@ -1,4 +1,4 @@
-//! The answer of each reference of a class.
+//! The answer to a reference of a class.
 
 ghost use Rattle.std.specs.Prelude.{◌<◌};
 ghost use Rattle.jc_resolve.specs.inside.Looks.{size_of, TellsClass, TellsNode};
@@ -10,45 +10,45 @@ use crate::resolve::NamedNode;
 use jc_classes::{LinkageError, Member};
 use jc_numbered::{Load, can_see};
 
-/// The answer of a reference, with lent texts.
+/// The answer to a reference, with borrowed texts.
 #[derive(Clone, Copy)]
 pub enum Answer<'a> {
-    /// It names this class, with its access flags, or this array, which has none.
+    /// The reference resolves to this class, with its access flags, or to this array, with the flags 0.
     ToClass(&'a [u8], u16),
-    /// It names this field or method, which the class declares.
+    /// The reference resolves to this field or method. The text is the name of the class that declares it.
     ToMember(&'a [u8], Member<'a>),
-    /// It depends on this outside name.
+    /// The answer depends on this outside name.
     Outside(&'a [u8]),
     /// The class that has the reference does not load.
     NotLoaded,
-    /// It fails, for what is known of this name.
+    /// The reference does not resolve. The text is the name of the class at fault, or the text of the array.
     Error(LinkageError, &'a [u8]),
 }
 
-/// What an answer says, without its texts.
+/// The kind of an answer, without its texts.
 #[derive(Clone, Copy)]
 pub enum AnswerKind {
-    /// What the reference names is there.
+    /// The reference resolves to a class or a member.
     Found,
-    /// It depends on an outside name.
+    /// The answer depends on an outside name.
     Outside,
     /// The class that has the reference does not load.
     NotLoaded,
-    /// It fails.
+    /// The reference does not resolve.
     Error(LinkageError),
 }
 
-/// What an answer finds, with its access flags.
+/// What an answer finds, by its access flags.
 #[derive(Clone, Copy)]
 pub(crate) enum Found {
-    /// A class, or an array, which has no flags.
+    /// A class, or an array, which has the flags 0.
     Class(u16),
     /// A field or a method.
     Member(u16),
 }
 
 impl<'l, 'c, 't> Look<'l, 'c, 't> {
-    /// The answer of a reference to the class of a node, which has these flags, or to an array of it.
+    /// Returns the answer to a reference to the class of a node with these flags, or to an array of it.
     fn node_entry(&self, node: usize, flags: u16) -> Entry<usize>
         requires { node < size_of self.now }
         ensures { TellsNode self.now node flags result }
@@ -66,7 +66,7 @@ impl<'l, 'c, 't> Look<'l, 'c, 't> {
         }
     }
 
-    /// The answer of a reference to a class (JVMS 5.4.3.1).
+    /// Returns the answer to a reference to a class (JVMS 5.4.3.1).
     pub(crate) fn class_entry(&self, named: NamedNode) -> Entry<usize>
         requires { IsWithinAll (size_of self.now) named }
         ensures { TellsClass self.now named result }

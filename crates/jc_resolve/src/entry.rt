@@ -1,4 +1,4 @@
-//! Answers by numbers.
+//! Answers in which classes are numbers.
 
 ghost use Rattle.std.specs.Prelude.{◌≡◌};
 ghost use Rattle.jc_classes.specs.Lent.{key_lent};
@@ -8,23 +8,24 @@ use jc_classes::{Key, LinkageError, same};
 use jc_numbered::Hit;
 use std::alloc::AllocError;
 
-/// The answer of a reference. Its texts are the reference's own, or the name of a class by its number: a `usize` where
-/// that is one of all classes, a `u32` where it is one of the names that are kept with the answers.
+/// The answer to a reference. Its texts are those of the reference, or the name of a class by its number. The number is
+/// a node if it is a `usize`. It is the number of a name that is kept with the answers if it is a `u32`.
 #[derive(Copy)]
 pub(crate) enum Entry<N> {
-    /// The class that the reference names is there, with these access flags, or the array, which has none.
+    /// The reference resolves to the class that it names, with these access flags, or to the array, with the flags 0.
     ToClass(u16),
-    /// A member with these access flags is there, which the class of this number declares.
+    /// The reference resolves to a member with these access flags. The class of this number declares it.
     ToMember(u16, N),
-    /// The same of a signature polymorphic method of the name (JVMS 2.9).
+    /// The reference resolves to a signature polymorphic method with these access flags. The class of this number
+    /// declares it (JVMS 2.9).
     ToPolymorphic(u16, N),
-    /// It depends on the outside class of this number.
+    /// The answer depends on the outside name of this number.
     Outside(N),
     /// The class that has the reference does not load.
     NotLoaded,
-    /// It fails, for what is known of the class of this number.
+    /// The reference does not resolve. The class at fault has this number.
     Error(LinkageError, N),
-    /// It fails, for what is known of what the reference names.
+    /// The reference does not resolve. The class or array that the reference names is at fault.
     OwnError(LinkageError),
 }
 
@@ -36,7 +37,7 @@ impl<N: Copy> Clone for Entry<N> {
     }
 }
 
-/// The answer of a reference that finds a member.
+/// Returns the answer to a reference whose look-up finds this member.
 pub(crate) fn hit_entry(hit: Hit<'_>, key: Key<'_>) -> Entry<usize>
     ensures { ShowsHit (key_lent key.entry) hit.entry result }
 {

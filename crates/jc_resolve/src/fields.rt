@@ -13,7 +13,7 @@ use jc_classes::Key;
 use jc_graph::Seen;
 use jc_numbered::{Classes, Hit};
 
-/// The field that a class has or inherits. It goes over the classes by way of a stack, whatever is left on it.
+/// Finds the field that a class declares or inherits (JVMS 5.4.3.2). `stack` is working memory.
 pub(crate) fn find_field<'a>(
     classes: &'a Classes,
     seen: &mut Seen,

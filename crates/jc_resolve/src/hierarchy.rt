@@ -1,5 +1,5 @@
-//! Classes by numbers, of which it is known how each loads (JVMS 5.3.5), and the answers to their references
-//! (JVMS 5.4.3).
+//! The numbered classes of a class graph, with how each loads (JVMS 5.3.5), and the answers to their references (JVMS
+//! 5.4.3).
 
 ghost use Rattle.std.specs.Prelude.{◌≡◌, ◌<◌, ℕ, length, Some, IfOk};
 ghost use Rattle.std.specs.Bool.{Decides};
@@ -29,22 +29,23 @@ use std::marker::Model;
 /// How a class loads.
 #[derive(Drop)]
 pub enum Loading {
+    /// The class loads.
     Loaded,
+    /// The name is outside.
     Outside,
-    /// It fails, for what is known of the class of this name.
+    /// The class does not load. The text is the name of the class at fault.
     Fails(LinkageError, Vec<u8>),
 }
 
-/// The classes of a class graph by numbers, with how each of them loads.
+/// The numbered classes of a class graph, with how each of them loads.
 #[derive(Drop)]
 pub struct Hierarchy<'c, 't> {
     classes: Classes<'c, 't>,
     loads: Vec<Load>,
     circular: Vec<bool>,
-    /// Room to look references up in, once a class needed it.
+    /// Working memory for look-up, if a class needed it before.
     room: Option<Room>,
-    /// The place of the name of each class among the names that answers list. What other answers left there is passed
-    /// over.
+    /// The place of the name of each class among the listed names. Values that earlier answers left are ignored.
     places: Vec<usize>,
 }
 
@@ -59,7 +60,7 @@ impl<'c, 't> Model for Hierarchy<'c, 't> {
     ghost invariant = { λ a. IsHeld a.classes a.loads.items a.circular.items a.room };
 }
 
-/// How a class loads, by name.
+/// Returns how a class loads, with the name of the class at fault.
 fn name_loading(alloc: Global, classes: &Classes, load: Load) -> Result<Loading, NoMemory>
     ensures { IfOk result (λ s. loading_of s ≡ loading_at (indexed_of classes.now) load) }
 {
@@ -74,7 +75,9 @@ fn name_loading(alloc: Global, classes: &Classes, load: Load) -> Result<Loading,
 }
 
 impl<'c, 't> Hierarchy<'c, 't> {
-    /// Finds how each class loads. `object` is the number of `java/lang/Object`.
+    /// Returns these classes with how each loads. `object` is the number of `java/lang/Object`.
+    ///
+    /// Returns `NoMemory` only when an allocation fails.
     pub fn new(
         alloc: Global,
         names: &'c [Vec<u8>],
@@ -98,7 +101,7 @@ impl<'c, 't> Hierarchy<'c, 't> {
         })
     }
 
-    /// Whether a class is its own superclass or superinterface.
+    /// Returns whether a class is its own superclass or superinterface. Does not allocate.
     pub fn is_circular(&self, class: usize) -> bool
         requires { class < length self.now.names }
         ensures { (m : World) → Agrees m self.now → Decides result (Above m (node_name self.now class) (node_name self.now class)) }
@@ -106,7 +109,9 @@ impl<'c, 't> Hierarchy<'c, 't> {
         self.circular[class]
     }
 
-    /// How a class loads.
+    /// Returns how a class loads. It copies the name of the class at fault.
+    ///
+    /// Returns `NoMemory` only when an allocation fails.
     pub fn loading(&self, alloc: Global, class: usize) -> Result<Loading, NoMemory>
         requires { class < length self.now.names }
         ensures { IfOk result (λ l. (m : World) → Agrees m self.now → Loads m (node_name self.now class) (loading_of l)) }
@@ -114,9 +119,11 @@ impl<'c, 't> Hierarchy<'c, 't> {
         name_loading(alloc, &self.classes, self.loads[class])
     }
 
-    /// The answers to the references of a class, in their order, and the errors of its instructions. `nodes` are
-    /// the numbers of the classes that the references name. It takes as long as what is looked up, however many
-    /// classes there are, but for room that is made once.
+    /// Returns the answers to the references of a class, in their order, and the errors of its instructions. `nodes`
+    /// are the numbers of the classes that the references name. The cost depends on what is looked up, not on the
+    /// number of classes, except for working memory that is allocated once.
+    ///
+    /// Returns `NoMemory` when an allocation fails.
     pub fn linked(
         &mut self,
         alloc: Global,
@@ -141,8 +148,10 @@ impl<'c, 't> Hierarchy<'c, 't> {
         )
     }
 
-    /// Finds the errors of inheritance of a class (JVMS 4.10). Takes as long as its methods are looked up in each of its
-    /// superclasses.
+    /// Finds the errors of inheritance of a class (JVMS 4.10). It looks up each method of the class at most once in
+    /// each superclass.
+    ///
+    /// Returns `NoMemory` only when an allocation fails.
     pub fn inheritance_errors(
         &self,
         alloc: Global,

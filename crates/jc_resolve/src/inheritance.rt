@@ -146,7 +146,7 @@ fn overridden(alloc: Global, classes: &Classes, class: usize) -> Result<Vec<Inhe
     }
 }
 
-/// The same for the facts of the class.
+/// Returns these methods, given the facts of the class.
 fn overridden_by(
     alloc: Global,
     classes: &Classes,

@@ -1,6 +1,10 @@
-//! Loading, look-up and resolution (JVMS 5.3.5, 5.4.3, 6.5) over the classes of a class graph, by their numbers:
-//! how each class loads, the answer to each reference of a class, which of its instructions do not link, and which FINAL
-//! methods and classes it overrides and extends.
+//! Loading, look-up and resolution over the numbered classes of a class graph.
+//!
+//! `Hierarchy` has the classes of a graph, with how each loads (JVMS 5.3.5). It finds the answers to the references of
+//! a class and its instructions that do not link, which are a `Linked` (JVMS 5.4.3, 6.5). It also finds the
+//! `InheritanceErrors` of a class (JVMS 4.10).
+//!
+//! The contracts say that these results are right in every world that has the classes of the graph.
 #![tactic(auto)]
 
 mod all_answers;

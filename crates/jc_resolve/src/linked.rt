@@ -1,4 +1,4 @@
-//! The answers to the references of a class, and which of its instructions do not link (JVMS 6.5).
+//! The answers to the references of a class, and its instructions that do not link (JVMS 6.5).
 
 ghost use Rattle.std.specs.Prelude.{◌≡◌, List, [], ◌++◌, length, map, option_map, slice_get, IfOk, OnOk};
 ghost use Rattle.std.specs.Iterator.{YieldsFirstBy, item_count};
@@ -21,11 +21,11 @@ use std::alloc::Global;
 use std::marker::Model;
 use std::slice;
 
-/// The answers to the references of a class, and the errors of its instructions. Seen as a record of both.
+/// The answers to the references of a class, and the errors of its instructions. The model is a record of both.
 #[derive(Drop)]
 pub struct Linked {
     answers: Answers,
-    /// The references once more, where an instruction does not link.
+    /// The references of the class, if one of its instructions does not link.
     references: Option<References>,
     links: Vec<LinkEntry>,
 }
@@ -39,12 +39,12 @@ struct LinkEntry {
     error: LinkageError,
 }
 
-/// An instruction that does not link, though its reference resolves (JVMS 6.5).
+/// An instruction that does not link, although its reference resolves (JVMS 6.5).
 #[derive(Clone, Copy)]
 pub struct Link<'a> {
     /// The number of its method.
     pub method: u16,
-    /// Its offset from the front of the code.
+    /// Its offset from the start of the code, in bytes.
     pub place: u16,
     pub error: LinkageError,
     /// The class at fault.
@@ -61,7 +61,7 @@ impl Model for Linked {
 }
 
 impl Linked {
-    /// Of a name without a record: neither answers nor errors.
+    /// Returns no answers and no errors, for a name without a class.
     pub(crate) fn none(alloc: Global) -> Linked
         ensures { result ≡ record { answers = []; links = [] } }
     {
@@ -91,14 +91,14 @@ impl Linked {
         })
     }
 
-    /// The answer to each reference, in their order (JVMS 5.4.3). No memory.
+    /// Returns the answers to the references, in their order (JVMS 5.4.3). Does not allocate.
     pub fn answers(&self) -> &Answers
         ensures { result.now ≡ self.now.answers }
     {
         &self.answers
     }
 
-    /// The instructions that do not link, by method, then by offset. No memory.
+    /// Returns the instructions that do not link, by method and then by offset. Does not allocate.
     pub fn links(&self) -> Links<'_>
         ensures { result ≡ self.now.links }
     {
@@ -110,7 +110,7 @@ impl Linked {
     }
 }
 
-/// The instructions of a class that do not link, seen as the list of those that are left.
+/// An iterator over the instructions of a class that do not link. The model is the list of those that are left.
 #[derive(Drop)]
 pub struct Links<'a> {
     answers: &'a Answers,
@@ -143,7 +143,7 @@ impl<'a> Iterator for Links<'a> {
     }
 }
 
-/// An instruction that does not link, with the name of the class at fault.
+/// Returns an instruction that does not link, with the name of the class at fault.
 fn lend<'a>(references: &'a Option<References>, answers: &'a Answers, entry: LinkEntry) -> Link<'a>
     ensures { link_lent result ≡ link_shown (references_in references.now) answers.now entry }
 {
@@ -159,7 +159,7 @@ fn lend<'a>(references: &'a Option<References>, answers: &'a Answers, entry: Lin
     }
 }
 
-/// What the reference of a number names.
+/// Returns the class or array that the reference of a number names.
 fn class_named(references: &Option<References>, reference: usize) -> &[u8]
     ensures { result.now ≡ option_map_or (λ r. text_of r.named) (slice_get (references_in references.now) reference) [] }
 {
@@ -183,7 +183,7 @@ fn kept_references(facts: &Facts, links: &[LinkEntry]) -> Result<Option<Referenc
     Ok(Some(references))
 }
 
-/// The errors of the instructions of the class of this name.
+/// Returns the errors of the instructions of the class of this name.
 fn links_of(
     alloc: Global,
     own: &[u8],
@@ -201,8 +201,8 @@ fn links_of(
     Ok(links)
 }
 
-/// The error of an instruction of the class of this name, if it has one. `numbers` are those of the references by the
-/// indexes of their constants.
+/// Returns the error of an instruction of the class of this name, if it has one. `numbers` has the numbers of the
+/// references by the indexes of their constants.
 fn entry_of(
     own: &[u8],
     facts: &Facts,
@@ -231,7 +231,7 @@ fn entry_of(
     })
 }
 
-/// Adds an entry, if there is one.
+/// Appends an entry, if there is one.
 fn push_some(links: &mut Vec<LinkEntry>, entry: Option<LinkEntry>) -> Result<(), NoMemory>
     ensures { OnOk result (links.new.items ≡ links.old.items ++ option_to_list entry) }
 {

@@ -1,4 +1,4 @@
-//! From classes that are gathered to classes of which it is known how they load.
+//! How the classes of a graph load.
 
 ghost use Rattle.std.specs.Prelude.{◌≡◌, ◌<◌, ℕ, length, map, false, IfOk};
 ghost use Rattle.std.specs.List.{All};
@@ -18,7 +18,7 @@ use jc_graph::{Sorted, sort_nodes};
 use jc_numbered::{Classes, Load, package_ends};
 use std::alloc::Global;
 
-/// Classes with how each loads, and whether it is circular.
+/// Numbered classes, with how each loads and whether it is circular.
 #[derive(Drop)]
 pub(crate) struct Loaded<'c, 't> {
     pub(crate) classes: Classes<'c, 't>,
@@ -26,7 +26,7 @@ pub(crate) struct Loaded<'c, 't> {
     pub(crate) circular: Vec<bool>,
 }
 
-/// Flags of which none is set.
+/// Returns flags of which none is set.
 fn unset(alloc: Global, count: usize) -> Result<Vec<bool>, NoMemory>
     ensures size { IfOk result (λ r. length r.items ≡ count) }
     ensures none { IfOk result (λ r. (v : ℕ) → flag_at r.items v ≡ false) }
@@ -34,7 +34,8 @@ fn unset(alloc: Global, count: usize) -> Result<Vec<bool>, NoMemory>
     Ok(vec![in alloc; false; count]?)
 }
 
-/// The place of each class in the order of loading, whether it loads, and a bound on the number of its supertypes.
+/// The place of each class in the order of loading, whether it is good, and a bound on the number of its transitive
+/// supertypes. A good class loads or is outside.
 #[derive(Drop)]
 struct Rated {
     rank: Vec<usize>,

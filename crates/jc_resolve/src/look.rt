@@ -1,4 +1,4 @@
-//! What a class looks its references up with.
+//! The data for the look-ups of a class.
 
 ghost use Rattle.std.specs.Prelude.{◌≡◌, ◌<◌, length, true};
 ghost use Rattle.jc_numbered.specs.inside.Loading.{load_at};
@@ -7,14 +7,14 @@ ghost use Rattle.jc_resolve.specs.inside.Resolved.{has_loaded, TellsGood};
 
 use jc_numbered::{Classes, Load};
 
-/// A class that asks, among classes of which it is known how each loads.
+/// A class whose references are resolved, among classes of which it is known how they load.
 #[derive(Clone, Copy)]
 pub(crate) struct Look<'l, 'c, 't> {
     /// The classes of its reach, or of a larger graph.
     pub(crate) classes: &'l Classes<'c, 't>,
     /// How each of them loads.
     pub(crate) loads: &'l [Load],
-    /// The number of the class that asks.
+    /// The node of the class.
     pub(crate) class: usize,
     pub ghost size: { length loads.now ≡ length classes.now.standing.now },
     pub ghost good: { TellsGood (indexed_of classes.now) loads.now },

@@ -16,7 +16,7 @@ use jc_classes::Key;
 use jc_numbered::{Classes, Hit};
 use std::alloc::Global;
 
-/// The method that a class or one of its superclasses answers.
+/// Finds the method that a class or one of its superclasses declares (JVMS 5.4.3.3).
 pub(crate) fn find_in_classes<'a>(classes: &'a Classes, start: usize, key: Key) -> Option<Hit<'a>>
     requires start { start < length classes.now.standing.now }
     requires good { good_at (indexed_of classes.now) start ≡ true }
@@ -36,7 +36,7 @@ pub(crate) fn find_in_classes<'a>(classes: &'a Classes, start: usize, key: Key) 
     }
 }
 
-/// The method that a reference to a method finds.
+/// Finds the method for a reference to a method (JVMS 5.4.3.3).
 pub(crate) fn find_method<'a>(
     alloc: Global,
     classes: &'a Classes,
@@ -58,7 +58,7 @@ pub(crate) fn find_method<'a>(
     }
 }
 
-/// The method that a reference to an interface method finds.
+/// Finds the method for a reference to an interface method (JVMS 5.4.3.4).
 pub(crate) fn find_interface_method<'a>(
     alloc: Global,
     classes: &'a Classes,

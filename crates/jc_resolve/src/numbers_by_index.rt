@@ -1,4 +1,4 @@
-//! The references of a class by the indexes of their constants.
+//! The numbers of the references of a class, by the indexes of their constants.
 
 ghost use Rattle.std.specs.Prelude.{◌≡◌, None, slice_index_or, IfOk, OnOk, Some};
 ghost use Rattle.jc_resolve.specs.inside.Numbers.{AreNumbersBy, IsPut};
@@ -7,7 +7,7 @@ use jc_base::NoMemory;
 use jc_classes::Facts;
 use std::alloc::Global;
 
-/// The numbers of the references of a class, by the indexes of their constants.
+/// Returns the numbers of the references of a class, by the indexes of their constants.
 pub(crate) fn numbers_by_index(alloc: Global, facts: &Facts) -> Result<Vec<Option<usize>>, NoMemory>
     ensures { IfOk result (λ numbers. AreNumbersBy facts.now.references 0 numbers.items) }
 {
@@ -22,7 +22,7 @@ pub(crate) fn numbers_by_index(alloc: Global, facts: &Facts) -> Result<Vec<Optio
     Ok(numbers)
 }
 
-/// Puts the number of an index in the place of what it had.
+/// Puts a number at an index, and replaces the number that was there.
 fn put(numbers: &mut Vec<Option<usize>>, index: u16, number: usize) -> Result<(), NoMemory>
     ensures { OnOk result (IsPut index (Some number) numbers.old.items numbers.new.items) }
 {
@@ -34,7 +34,7 @@ fn put(numbers: &mut Vec<Option<usize>>, index: u16, number: usize) -> Result<()
     Ok(())
 }
 
-/// The number of the reference of an index.
+/// Returns the number of the reference at an index.
 pub(crate) fn number_at(numbers: &[Option<usize>], index: u16) -> Option<usize>
     ensures { result ≡ slice_index_or numbers.now index None }
 {

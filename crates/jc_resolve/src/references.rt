@@ -1,4 +1,4 @@
-//! The answer of a reference of any kind.
+//! The answer to a reference of any kind.
 
 ghost use Rattle.std.specs.Prelude.{IfOk, OnOk};
 ghost use Rattle.jc_classes.specs.Lent.{reference_lent};
@@ -15,7 +15,7 @@ use jc_base::NoMemory;
 use jc_classes::{Reference, ReferenceKind};
 use std::alloc::Global;
 
-/// What a reference names, by the node of its class.
+/// Returns what a reference names, by the node of its class.
 fn named(reference: Reference, node: Option<usize>) -> NamedNode
     ensures named { TellsNamed reference.entry.class.now node result }
     ensures within { TellsNamedWithin reference.entry.class.now node result }
@@ -30,7 +30,7 @@ fn named(reference: Reference, node: Option<usize>) -> NamedNode
 }
 
 impl<'l, 'c, 't> Look<'l, 'c, 't> {
-    /// The answer of a reference. `node` is the node of the class that it names.
+    /// Resolves a reference. `node` is the node of the class that it names; for an array, of its innermost class.
     pub(crate) fn resolve(
         &self,
         alloc: Global,

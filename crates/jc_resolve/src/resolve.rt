@@ -1,4 +1,4 @@
-//! The answer of a reference to a member.
+//! The answer to a reference to a member.
 
 ghost use Rattle.std.specs.Prelude.{◌≡◌, ◌<◌, ℕ, true, IfOk, Ok, OnOk};
 ghost use Rattle.std.specs.Option.{IfSome};
@@ -31,8 +31,8 @@ pub(crate) enum NamedNode {
     Array(Option<usize>),
 }
 
-/// Where look-up begins for a class, by how it loads and whether it is accessible. The error is the answer without
-/// look-up.
+/// Returns the class in which look-up begins, by how it loads and whether it is accessible. The error is the answer
+/// without look-up.
 fn start_in_class(sees: bool, load: Load, node: usize) -> Result<usize, Entry<usize>>
     ensures start { StartsInClass sees load node result }
     ensures at { (v : ℕ) → result ≡ Ok v → (v ≡ node) × (load ≡ Load.Loaded) }
@@ -50,7 +50,7 @@ fn start_in_class(sees: bool, load: Load, node: usize) -> Result<usize, Entry<us
     }
 }
 
-/// Where look-up begins for an array of a primitive type: at `java/lang/Object`.
+/// Returns the class in which look-up begins for an array of a primitive type: `java/lang/Object`.
 fn start_in_object(object: usize, load: Load) -> Result<usize, Entry<usize>>
     ensures start { StartsInObject object load result }
     ensures at { (v : ℕ) → result ≡ Ok v → (v ≡ object) × (load ≡ Load.Loaded) }
@@ -62,7 +62,8 @@ fn start_in_object(object: usize, load: Load) -> Result<usize, Entry<usize>>
     }
 }
 
-/// Where look-up begins for an array of a class, by how that loads and whether it is accessible.
+/// Returns the class in which look-up begins for an array of a class, by how this class loads and whether it is
+/// accessible.
 fn start_in_array(
     sees: bool,
     load: Load,
@@ -86,7 +87,7 @@ fn start_in_array(
     }
 }
 
-/// What a reference names, without names.
+/// Returns what a reference names, without the class of an array.
 pub(crate) fn target_of(reference: NamedNode) -> Target
     ensures named { (x : Indexed) (text : Name) → named_at x result text (element_of x reference) ≡ named_of x reference text }
     ensures target { result ≡ target_at reference }
@@ -98,7 +99,7 @@ pub(crate) fn target_of(reference: NamedNode) -> Target
 }
 
 impl<'l, 'c, 't> Look<'l, 'c, 't> {
-    /// Where look-up of a member begins. The error is the answer without look-up.
+    /// Returns the class in which look-up of a member begins. The error is the answer without look-up.
     fn begin(&self, named: NamedNode) -> Result<usize, Entry<usize>>
         requires { IsWithinAll (size_of self.now) named }
         ensures at { (v : ℕ) → result ≡ Ok v → (v < size_of self.now) × (good_at (reach_of self.now) v ≡ true) }
@@ -123,7 +124,7 @@ impl<'l, 'c, 't> Look<'l, 'c, 't> {
         }
     }
 
-    /// The answer once look-up from the class at `start` found this. `missing` is the error where nothing is there.
+    /// Returns the answer, by what look-up from the class at `start` found. `missing` is the error if it found nothing.
     fn settle(
         &self,
         alloc: Global,
@@ -161,7 +162,7 @@ impl<'l, 'c, 't> Look<'l, 'c, 't> {
         }
     }
 
-    /// The answer of a reference to a field (JVMS 5.4.3.2).
+    /// Returns the answer to a reference to a field (JVMS 5.4.3.2).
     pub(crate) fn field(
         &self,
         alloc: Global,
@@ -184,7 +185,7 @@ impl<'l, 'c, 't> Look<'l, 'c, 't> {
         }
     }
 
-    /// The answer of a reference to a method (JVMS 5.4.3.3).
+    /// Returns the answer to a reference to a method (JVMS 5.4.3.3).
     pub(crate) fn method(
         &self,
         alloc: Global,
@@ -218,7 +219,7 @@ impl<'l, 'c, 't> Look<'l, 'c, 't> {
         }
     }
 
-    /// The answer of a reference to an interface method (JVMS 5.4.3.4).
+    /// Returns the answer to a reference to an interface method (JVMS 5.4.3.4).
     pub(crate) fn interface_method(
         &self,
         alloc: Global,

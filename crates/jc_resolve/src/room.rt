@@ -1,4 +1,4 @@
-//! Room to look in.
+//! Working memory for look-up.
 
 ghost use Rattle.std.specs.Prelude.{IfOk, IfSome};
 ghost use Rattle.jc_resolve.specs.inside.Rooms.{IsRoom};
@@ -8,19 +8,20 @@ use jc_graph::Seen;
 use jc_numbered::{Above, Classes};
 use std::alloc::Global;
 
-/// Room to look in, which the references of all classes share.
+/// Working memory for look-up, which all classes share.
 #[derive(Drop)]
 pub(crate) struct Room {
-    /// What is above the class that was asked for last.
+    /// The transitive supertypes of the class that was asked for last.
     pub(crate) above: Above,
-    /// The classes where a field was looked for, or those above the interfaces that may be chosen among.
+    /// The classes in which a field was looked for, or the supertypes of the candidates in a choice among
+    /// superinterfaces.
     pub(crate) covered: Seen,
-    /// The classes where a field is still to be looked for, the next last.
+    /// The classes in which a field is still to be looked for, the next one last.
     pub(crate) stack: Vec<usize>,
 }
 
 impl Room {
-    /// Room for so many classes.
+    /// Returns working memory that fits these classes.
     pub(crate) fn new(alloc: Global, classes: &Classes) -> Result<Room, NoMemory>
         ensures { IfOk result (IsRoom classes.now) }
     {
@@ -31,7 +32,7 @@ impl Room {
         })
     }
 
-    /// The room that was kept for these classes, or new room.
+    /// Returns the working memory that was kept for these classes, or allocates it.
     pub(crate) fn of(alloc: Global, kept: Option<Room>, classes: &Classes) -> Result<Room, NoMemory>
         requires { IfSome kept (IsRoom classes.now) }
         ensures { IfOk result (IsRoom classes.now) }

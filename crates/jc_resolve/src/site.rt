@@ -1,4 +1,4 @@
-//! How an instruction is judged, by the answer to the reference that it names (JVMS 6.5).
+//! The judgement of an instruction, by the answer to the reference that it names (JVMS 6.5).
 
 ghost use Rattle.std.specs.Prelude.{◌≡◌, ◌&&◌, false, [], slice_get};
 ghost use Rattle.std.specs.Option.{option_map_or};
@@ -14,7 +14,7 @@ use jc_classes::{Facts, LinkageError, same};
 use jc_code::{LinkKind, MethodUse};
 use jc_file::AccessFlag;
 
-/// An instruction, and what it is judged by.
+/// An instruction, and the data by which it is judged.
 #[derive(Clone, Copy)]
 pub(crate) struct Site<'a> {
     /// The name of its class.
@@ -29,7 +29,7 @@ pub(crate) struct Site<'a> {
 }
 
 impl<'a> Site<'a> {
-    /// The error at the instruction; the first line that applies decides (JVMS 6.5).
+    /// Returns the error of the instruction; the first condition that applies decides (JVMS 6.5).
     pub(crate) fn judge(&self) -> Option<LinkageError>
         ensures { TellsError self.now result }
     {
@@ -40,7 +40,7 @@ impl<'a> Site<'a> {
         }
     }
 
-    /// The error where the reference finds a member with these access flags.
+    /// Returns the error of the instruction if the reference finds a member with these access flags.
     fn judge_member(&self, flags: u16) -> Option<LinkageError>
         ensures { TellsMemberError self.now flags result }
     {
@@ -61,7 +61,8 @@ impl<'a> Site<'a> {
         }
     }
 
-    /// The error of a store into a field with these access flags. The method that may initialize it has this name.
+    /// Returns the error of a store into a field with these access flags. `initializer` is the name of the method that
+    /// may initialize the field.
     fn judge_final(&self, flags: u16, initializer: &[u8]) -> Option<LinkageError>
         ensures { TellsFinal self.now flags initializer.now result }
     {
@@ -71,7 +72,7 @@ impl<'a> Site<'a> {
         line(!self.may_store(initializer), LinkageError::IllegalAccess)
     }
 
-    /// Whether its class declares the member, and its method has this name.
+    /// Returns whether the instruction's class declares the member, and its method has this name.
     fn may_store(&self, initializer: &[u8]) -> bool
         ensures { result ≡ (same_name (option_map_or class_told (slice_get self.now.answers.now self.now.reference) []) self.now.class.now
             && same_name (method_name self.now.facts.now self.now.one.method) initializer.now) }
@@ -80,7 +81,7 @@ impl<'a> Site<'a> {
             && same(self.method(), initializer)
     }
 
-    /// Whether the member is an `<init>` that another class declares than the one that is named.
+    /// Returns whether the member is a method `<init>` that another class than the named one declares.
     fn is_other_init(&self) -> bool
         ensures { result ≡ option_map_or (is_other_init (option_map_or (λ r. text_of r.named) (slice_get self.now.facts.now.references self.now.reference) []))
             (slice_get self.now.answers.now self.now.reference) false }
@@ -96,8 +97,8 @@ impl<'a> Site<'a> {
         }
     }
 
-    /// The name of its method. A class without a format fault keeps each of its methods, so the numbers are those of
-    /// the file.
+    /// Returns the name of the instruction's method. A class without a format fault keeps each of its methods, so the
+    /// numbers are those of the file.
     fn method(&self) -> &[u8]
         ensures { result.now ≡ method_name self.now.facts.now self.now.one.method }
     {
@@ -107,7 +108,7 @@ impl<'a> Site<'a> {
         }
     }
 
-    /// The text of what its reference names.
+    /// Returns the text of the class or array that the reference names.
     fn named(&self) -> &[u8]
         ensures { result.now ≡ option_map_or (λ r. text_of r.named) (slice_get self.now.facts.now.references self.now.reference) [] }
     {
@@ -118,7 +119,8 @@ impl<'a> Site<'a> {
     }
 }
 
-/// The error at an instruction that names a class with these access flags. Only `new` needs one that has instances.
+/// Returns the error of an instruction that names a class with these access flags. Only `new` requires a class that has
+/// instances.
 fn judge_class(kind: LinkKind, flags: u16) -> Option<LinkageError>
     ensures { (class : Name) → result ≡ error_of (class_fault kind class flags) }
 {
@@ -131,7 +133,7 @@ fn judge_class(kind: LinkKind, flags: u16) -> Option<LinkageError>
     }
 }
 
-/// The class that the answer to the reference of a number tells.
+/// Returns the class of the answer to the reference of a number.
 pub(crate) fn class_told(answers: &Answers, reference: usize) -> &[u8]
     ensures { result.now ≡ option_map_or class_told (slice_get answers.now reference) [] }
 {
@@ -144,14 +146,14 @@ pub(crate) fn class_told(answers: &Answers, reference: usize) -> &[u8]
     }
 }
 
-/// An instance is wanted where there is none, or the other way round.
+/// Returns an error if the member is STATIC where an instance member is required, or the reverse.
 fn incompatible(applies: bool) -> Option<LinkageError>
     ensures { (class : Name) → result ≡ error_of (static_fault applies class None) }
 {
     line(applies, LinkageError::Incompatible)
 }
 
-/// An error, where a line of the table applies.
+/// Returns an error, if its condition applies.
 fn line(applies: bool, error: LinkageError) -> Option<LinkageError>
     ensures { (class : Name) → result ≡ error_of (line applies error class None) }
 {

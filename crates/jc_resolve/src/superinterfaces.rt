@@ -1,4 +1,4 @@
-//! Look-up of methods in superinterfaces.
+//! Look-up of methods in superinterfaces (JVMS 5.4.3.3, 5.4.3.4).
 
 ghost use Rattle.std.specs.Prelude.{◌≡◌, ◌<◌, length, IfOk, OnOk};
 ghost use Rattle.std.specs.Bool.{Decides};
@@ -19,7 +19,7 @@ use jc_graph::Seen;
 use jc_numbered::{Classes, Hit, candidates, is_pick, lowest};
 use std::alloc::Global;
 
-/// The first node that is a pick.
+/// Returns the first node that is a pick: its method is maximally-specific and not ABSTRACT.
 fn first_pick(classes: &Classes, covered: &Seen, nodes: &[usize], key: Key) -> Option<usize>
     requires nodes { All (λ v. v < length classes.now.standing.now) nodes.now }
     requires covered { length covered.now.flags ≡ length classes.now.standing.now }
@@ -33,7 +33,7 @@ fn first_pick(classes: &Classes, covered: &Seen, nodes: &[usize], key: Key) -> O
     None
 }
 
-/// Whether no other node is a pick.
+/// Returns whether no other node is a pick.
 fn is_only(classes: &Classes, covered: &Seen, nodes: &[usize], key: Key, first: usize) -> bool
     requires nodes { All (λ v. v < length classes.now.standing.now) nodes.now }
     requires covered { length covered.now.flags ≡ length classes.now.standing.now }
@@ -47,7 +47,7 @@ fn is_only(classes: &Classes, covered: &Seen, nodes: &[usize], key: Key, first: 
     true
 }
 
-/// The node that is the only pick.
+/// Returns the node that is the only pick.
 fn sole_pick(classes: &Classes, covered: &Seen, nodes: &[usize], key: Key) -> Option<usize>
     requires nodes { All (λ v. v < length classes.now.standing.now) nodes.now }
     requires covered { length covered.now.flags ≡ length classes.now.standing.now }
@@ -65,7 +65,7 @@ fn sole_pick(classes: &Classes, covered: &Seen, nodes: &[usize], key: Key) -> Op
     }
 }
 
-/// The node whose method is chosen.
+/// Returns the node whose method is chosen.
 fn pick(classes: &Classes, covered: &Seen, nodes: &[usize], key: Key) -> Option<usize>
     requires nodes { All (λ v. v < length classes.now.standing.now) nodes.now }
     requires covered { length covered.now.flags ≡ length classes.now.standing.now }
@@ -77,7 +77,7 @@ fn pick(classes: &Classes, covered: &Seen, nodes: &[usize], key: Key) -> Option<
     }
 }
 
-/// Chooses among the methods that interfaces have.
+/// Chooses among the methods that interfaces declare.
 fn choose<'a>(
     classes: &'a Classes,
     covered: &mut Seen,
@@ -101,9 +101,9 @@ fn choose<'a>(
     }
 }
 
-/// The method that a class has from its superinterfaces: the only maximally specific one that is not
-/// abstract, or else that of the interface with the least name. What is above the class is seen once, what is
-/// above the interfaces that give one besides.
+/// Finds the method that a class inherits from its superinterfaces. It is the only maximally-specific one that is not
+/// ABSTRACT, or else that of the interface with the least name. It walks the supertypes of the class once, and those of
+/// the candidates once.
 pub(crate) fn find_above<'a>(
     alloc: Global,
     classes: &'a Classes,

@@ -1,4 +1,4 @@
--- References that ask for the same, by the numbers of their texts.
+-- References with the same kind, class and key, by the numbers of their texts.
 use Rattle.std.specs.Prelude.{◌≡◌, ℕ, ◌<◌, List, Some, slice_get}
 use Rattle.jc_classes.specs.declared.facts.ReferenceEntry.{ReferenceEntry}
 
@@ -8,7 +8,7 @@ pub record AskAlike (a b : ReferenceEntry) : Type 0 where
   pub name : a.name ≡ b.name
   pub descriptor : a.descriptor ≡ b.descriptor
 
--- of two references, by their numbers, the one is before the other and has its class's name in the same constant
+-- the reference of number k is before that of `number`, and the names of both classes have the same number
 abbrev pub IsOfOneClass : List ReferenceEntry → ℕ → ℕ → Type 0
 IsOfOneClass entries number k =
     (k < number) × ((a b : ReferenceEntry) → slice_get entries k ≡ Some a → slice_get entries number ≡ Some b → a.class ≡ b.class)

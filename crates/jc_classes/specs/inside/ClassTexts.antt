@@ -1,4 +1,4 @@
--- The texts of a class file that were asked for, by number.
+-- The texts of a class file that were looked up, by number.
 use Rattle.std.specs.Prelude.{◌≡◌, ℕ, suc, ◌+◌, ◌<◌, List, [], ◌∷◌}
 use Rattle.std.specs.Prelude.{length, map, Option, Some, None, option_map, slice_index_or, ◌^◌}
 use Rattle.std.specs.List.{flat_map}
@@ -16,13 +16,13 @@ pub record KeptTexts : Type 0 where
   pub class : ClassFile
   pub texts : List (List ℕ)
 
--- how many indexes have a number
+-- the number of indexes that have a number
 abbrev pub count_numbered : List (Option ℕ) → ℕ
 count_numbered [] = 0
 count_numbered (None ∷ numbers) = count_numbered numbers
 count_numbered (Some number ∷ numbers) = suc (count_numbered numbers)
 
--- the texts are the empty one and one for each index that has a number
+-- the texts are the empty text and one for each index that has a number
 pub record AreNumbered (c : ClassFile) (numbers : List (Option ℕ)) (texts : List (List ℕ)) : Type 0 where
   pub size : length numbers ≡ 1 + all_slots c.constants
   pub few : length numbers < 2 ^ 16
@@ -31,13 +31,13 @@ pub record AreNumbered (c : ClassFile) (numbers : List (Option ℕ)) (texts : Li
   pub text : (index number : ℕ) → slice_index_or numbers index None ≡ Some number
       → (number < length texts) × (text_at texts number ≡ text_at (texts_of c) index)
 
--- no text goes and no number changes, and something holds of the texts, however many more there will be
+-- texts were only appended, and Holds is true of the texts, whatever texts are appended later
 pub record Tells (old new : KeptTexts) (Holds : List (List ℕ) → Type 0) : Type 0 where
   pub class : new.class ≡ old.class
   pub front : BeginsWith new.texts old.texts
   pub holds : (texts : List (List ℕ)) → BeginsWith texts new.texts → Holds texts
 
--- ---- what is by number among the texts as it is by index in the class file
+-- ---- the number of a text, for the index of the text in the class file
 
 abbrev pub TellsText : KeptTexts → KeptTexts → ℕ → ℕ → Type 0
 TellsText old new index number = Tells old new (λ texts. text_at texts number ≡ text_at (texts_of old.class) index)
@@ -50,7 +50,7 @@ abbrev pub TellsMember : KeptTexts → KeptTexts → Option MemberEntry → Opti
 TellsMember old new entry numbered =
     Tells old new (λ texts. option_map (member_shown texts) numbered ≡ option_map (member_shown (texts_of old.class)) entry)
 
--- of the members, those that have a name and a descriptor
+-- the members that have a name and a descriptor
 abbrev pub TellsMembers : KeptTexts → KeptTexts → List PlacedMember → List MemberEntry → Type 0
 TellsMembers old new members entries =
     Tells old new

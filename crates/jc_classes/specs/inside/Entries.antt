@@ -1,4 +1,4 @@
--- What linking asks for of a class file, by the numbers of its texts.
+-- The facts of a class file, by the numbers of its texts.
 use Rattle.std.specs.Prelude.{◌≡◌, ℕ, List, map, option_map}
 use Rattle.jc_view.specs.ClassFile.{ClassFile, class_text_at}
 use Rattle.jc_classes.specs.FactsOf.{class_name, interfaces_in, members_in, once, references_in}

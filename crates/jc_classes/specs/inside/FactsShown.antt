@@ -1,4 +1,4 @@
--- Facts by the numbers of their texts.
+-- The facts whose texts are given by number.
 use Rattle.std.specs.Prelude.{ℕ, List, [], map, option_map, slice_index_or}
 use Rattle.jc_classes.specs.Facts.{Facts, Member, Reference}
 use Rattle.jc_classes.specs.NamedTexts.{named_by}

@@ -1,4 +1,4 @@
--- Members in the order by which they are found, and the order of references and of uses.
+-- Members in the order in which they are searched, and the order of references and of uses.
 use Rattle.std.specs.Prelude.{◌≡◌, ℕ, ◌<◌, ◌≤◌, false, cond, List, length}
 use Rattle.std.specs.Prelude.{map, slice_get, slice_index, Option, Some, None, option_and_then}
 use Rattle.std.specs.declared.cmp.Ordering.TheVariants.{Less}
@@ -16,28 +16,28 @@ pub record AreOrdered (a : Inside) : Type 0 where
   pub references : AreByIndex (map (reference_shown a.texts.value) a.references.value.items)
   pub uses : AreByPlace a.uses.items
 
--- the key of the member at a place of the order
+-- the key of the member at a place in the order
 abbrev pub key_there : List Member → List ℕ → ℕ → Key
 key_there members order place = key_at members (slice_index order place)
 
--- the members before low stand before a key, and those from high on don't
+-- the members before `low` are less than the key, and those from `high` on are not
 pub record IsNarrowed (members : List Member) (order : List ℕ) (key : Key) (low high : ℕ) : Type 0 where
   pub ordered : low ≤ high
   pub fits : high ≤ length order
   pub below : (place : ℕ) → place < low → key_cmp (key_there members order place) key ≡ Less
   pub above : (place : ℕ) → high ≤ place → place < length order → is_lt (key_cmp (key_there members order place) key) ≡ false
 
--- so many members stand before a key
+-- `place` is the number of members that are less than a key
 abbrev pub IsPlace : List Member → List ℕ → Key → ℕ → Type 0
 IsPlace members order key place = IsNarrowed members order key place place
 
--- the member at a place of the order
+-- the member at a place in the order
 abbrev pub member_there : List Member → List ℕ → ℕ → Option Member
 member_there members order place = option_and_then (slice_get members) (slice_get order place)
 
 abbrev pub if_named : Name → Member → Option Member
 if_named name x = cond (same_name x.name name) (Some x) None
 
--- the same, if it has a name
+-- the member at a place in the order, if it has this name
 abbrev pub named_there : List Member → List ℕ → ℕ → Name → Option Member
 named_there members order place name = option_and_then (if_named name) (member_there members order place)

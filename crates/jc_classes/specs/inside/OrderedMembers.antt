@@ -1,4 +1,4 @@
--- Members that are lent with the order by which they are found.
+-- Borrowed members, with the order in which they are searched.
 use Rattle.std.specs.Prelude.{List, map}
 use Rattle.jc_classes.specs.Facts.{Member}
 use Rattle.jc_classes.specs.declared.member_lookup.OrderedMembers.{OrderedMembers}

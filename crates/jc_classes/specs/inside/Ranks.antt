@@ -8,19 +8,19 @@ use Rattle.jc_classes.specs.Names.{Name, name_cmp}
 use Rattle.jc_classes.specs.declared.facts.MemberEntry.{MemberEntry}
 use Rattle.jc_classes.specs.inside.FactsShown.{text_at}
 
--- the same texts in the order of their bytes
+-- the texts in ascending order of their bytes
 pub record AreSorted (texts sorted : List Name) : Type 0 where
   pub rises : IsSorted name_cmp sorted
   pub size : length sorted ≡ length texts
   pub complete : (number : ℕ) → number < length texts → Contains sorted (text_at texts number)
 
--- so many of the sorted texts are less than this one
+-- `rank` is the number of sorted texts that are less than the text
 pub record IsRank (sorted : List Name) (text : Name) (rank : ℕ) : Type 0 where
   pub fits : rank ≤ length sorted
   pub below : (place : ℕ) → place < rank → is_lt (name_cmp (text_at sorted place) text) ≡ true
   pub above : (place : ℕ) → rank ≤ place → place < length sorted → is_lt (name_cmp (text_at sorted place) text) ≡ false
 
--- ranks of texts, by their numbers, that are in the order of the texts' bytes
+-- the ranks of texts, at the numbers of the texts. They compare as the bytes of the texts do
 pub record AreRanks (texts : List Name) (ranks : List ℕ) : Type 0 where
   pub size : length ranks ≡ length texts
   pub within : (number : ℕ) → number < length texts → slice_index ranks number < length texts
@@ -37,7 +37,7 @@ texts_lent texts = map (λ (text : Bor (List ℕ)). text.now) texts
 abbrev pub named_lent : Bor (List ℕ) × Bor (List ℕ) × ℕ → Name × Name × ℕ
 named_lent named = (named.0.now, named.1.now, named.2)
 
--- what is at each member's name and descriptor, and its number, of which the first is this
+-- for each member the values at its name and at its descriptor, and its number. The first number is `number`
 abbrev pub placed_from : {K : Type 0} → (ℕ → K) → ℕ → List MemberEntry → List (K × K × ℕ)
 placed_from at number [] = []
 placed_from at number (entry ∷ members) = (at entry.name, at entry.descriptor, number) ∷ placed_from at (number + 1) members

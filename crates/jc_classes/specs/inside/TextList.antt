@@ -1,12 +1,12 @@
 -- Many texts in one buffer.
 use Rattle.std.specs.Prelude.{◌≡◌, ℕ, zero, suc, ◌-◌, ◌≤◌, List, [], ◌∷◌, take, drop, slice_index_or}
 
--- the texts that end at these places, the first of which begins at a place
+-- the texts that end at these places; the first one begins at `from`
 unfoldable pub texts_from : List ℕ → ℕ → List ℕ → List (List ℕ)
 texts_from bytes from [] = []
 texts_from bytes from (end ∷ ends) = take (end - from) (drop from bytes) ∷ texts_from bytes end ends
 
--- the places don't fall, and the last text ends with the buffer
+-- the places are in ascending order, and the last text ends with the buffer
 abbrev pub AreEnds : ℕ → ℕ → List ℕ → Type 0
 AreEnds size from [] = from ≡ size
 AreEnds size from (end ∷ ends) = (from ≤ end) × AreEnds size end ends

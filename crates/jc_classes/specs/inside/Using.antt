@@ -1,4 +1,4 @@
--- How the constants that are used are found.
+-- The search for the used constants.
 use Rattle.std.specs.Prelude.{◌≡◌, ℕ, ◌+◌, ◌<◌, ◌||◌, Bool, false, List, [], cond, length, map, option_and_then, if◌then◌else◌, None, slice_index_or}
 use Rattle.std.specs.List.{flat_map, range_with_len}
 use Rattle.std.specs.Option.{option_to_list}
@@ -12,15 +12,15 @@ use Rattle.jc_view.specs.Reading.{table_value}
 use Rattle.jc_view.specs.Lookups.{owner}
 use Rattle.jc_classes.specs.UsedConstants.{is_among, named_by_table}
 
--- what an attribute of the class names, if it tells bootstrap methods
+-- the constants that an attribute of the class names, if it is a BootstrapMethods attribute
 abbrev pub named_by_attribute : ClassFile → PlacedAttribute → List ConstantIndex
 named_by_attribute c a = cond (is_recognised c kinds.BootstrapMethods a.holder a.attribute) (named_by_table a.attribute.bytes) []
 
--- of all bootstrap methods in the table behind its count at the front of the bytes
+-- the arguments of all bootstrap methods in the table at the front of the bytes, after its count
 abbrev pub arguments_at : List ℕ → List ConstantIndex
 arguments_at xs = flat_map (λ m. m.arguments) (table_value after_bootstrap bootstrap_value xs)
 
--- the classes of the references to members among these
+-- the classes of those of these constants that are references to members
 abbrev pub owners : ClassFile → List ConstantIndex → List ConstantIndex
 owners c names =
     flat_map
@@ -30,11 +30,11 @@ owners c names =
 abbrev pub mark_at : List Bool → ℕ → Bool
 mark_at marks i = slice_index_or marks i false
 
--- those that pass are marked besides
+-- the indexes that pass the test were marked as well
 pub record Marks (test : ℕ → Bool) (old new : List Bool) : Type 0 where
   pub size : length new ≡ length old
   pub marks : (i : ℕ) → i < length old → mark_at new i ≡ (mark_at old i || test i)
 
--- of each index of the constants whether it is among these
+-- for each index of a constant, whether it is in `names`
 abbrev pub are_marks : ClassFile → List ConstantIndex → List Bool
 are_marks c names = map (is_among names) (range_with_len 0 (1 + all_slots c.constants))

@@ -1,4 +1,4 @@
--- Names and what stands at them, by numbers, while they are gathered.
+-- Numbered names and what each of them is, while a graph is built.
 use Rattle.std.specs.Prelude.{◌≡◌, ◌++◌, ◌∷◌, ◌<◌, ℕ, List, [], map, length, slice_get, slice_index_or}
 use Rattle.std.specs.Prelude.{Option, option_map, Some}
 use Rattle.std.specs.List.{Contains}
@@ -26,7 +26,7 @@ stands_in standing = map stands_of standing
 abbrev pub supertypes_in : List (Vec ℕ Global) → List (List ℕ)
 supertypes_in supertypes = map (λ (v : Vec ℕ Global). v.items) supertypes
 
--- the numbers of the classes that these references name were added
+-- the numbers of the classes that these references name were appended
 pub record Nodes (old : List Name) (nodes : List (Option ℕ)) (new : List Name) (nodes2 : List (Option ℕ))
     (added : List Reference) : Type 0 where
   pub grows : Grows old new (names_in added)
@@ -35,12 +35,12 @@ pub record Nodes (old : List Name) (nodes : List (Option ℕ)) (new : List Name)
       map (option_map (name_at new)) nodes2
       ≡ map (option_map (name_at old)) nodes ++ map (λ (r : Reference). class_of r.named) added
 
--- of the reference at this place the number of its class was added
+-- `node` is the number of the class that the reference at this place names, and this name is numbered
 abbrev pub NumbersAt : (old new : List Name) → List Reference → (place : ℕ) → Option ℕ → Type 0
 NumbersAt old new references place node =
     (r : Reference) → slice_get references place ≡ Some r → Nodes old [] new (node ∷ []) (r ∷ [])
 
--- what stands at the next name was added, with its direct supertypes, which were numbered
+-- the next name was looked up: what it is and the numbers of its direct supertypes were appended
 pub record IsReached (old : List Name) (stands : List Stands) (supertypes : List (List ℕ)) (next : Stands)
     (new : List Name) (stands2 : List Stands) (supertypes2 : List (List ℕ)) : Type 0 where
   pub direct : List ℕ
@@ -48,7 +48,7 @@ pub record IsReached (old : List Name) (stands : List Stands) (supertypes : List
   pub stands_more : stands2 ≡ stands ++ next ∷ []
   pub supertypes_more : supertypes2 ≡ supertypes ++ direct ∷ []
 
--- what stands at the first names, and their supertypes; other names wait
+-- for each of the first names, what it is and its supertypes; the other names are not looked up yet
 pub record IsAsked (m : World) (names : List Name) (stands : List Stands) (supertypes : List (List ℕ)) : Type 0 where
   pub once : IsOnce names
   pub size : length supertypes ≡ length stands
@@ -56,7 +56,7 @@ pub record IsAsked (m : World) (names : List Name) (stands : List Stands) (super
   pub within : (a b : ℕ) → Contains (supertypes_at supertypes a) b → b < length names
   pub above : (i : ℕ) → i < length stands → map (name_at names) (supertypes_at supertypes i) ≡ supertypes_of (m (name_at names i))
 
--- names with what stands at each and the numbers of its supertypes, and `java/lang/Object` among them
+-- names, what each name is, and the numbers of its supertypes; `java/lang/Object` is one of the names
 pub record IsClosedGraph (names : List Name) (stands : List Stands) (supertypes : List (List ℕ)) (at_object : ℕ) : Type 0 where
   pub closed : IsClosed (record { names = names; standing = stands; supertypes = supertypes })
   pub object : (at_object < length names) × (name_at names at_object ≡ object)

@@ -1,4 +1,4 @@
--- A graph while it is built, from what the code holds.
+-- A graph while it is built, from the data of the code.
 use Rattle.std.specs.Prelude.{ℕ, ◌<◌, ◌≤◌, List, length, map, Option, Some}
 use Rattle.std.specs.List.{All, Contains}
 use Rattle.jc_classes.specs.Names.{Name}
@@ -9,27 +9,27 @@ use Rattle.jc_link.specs.declared.reached.Reached.{Reached}
 use Rattle.jc_link.specs.inside.Gathering.{IsAsked, IsReached, supertypes_in, stands_in}
 use Rattle.jc_link.specs.inside.GraphShown.{class_at, nodes_at}
 
--- how many were asked for
+-- the number of names that were looked up
 abbrev pub asked_count : Reached → ℕ
 asked_count r = length (stands_in r.standing.items)
 
--- what stands at the first names, and their supertypes; other names wait
+-- for each of the first names, what it is and its supertypes; the other names are not looked up yet
 abbrev pub IsAskedBy : World → (names : List Name) → Reached → Type 0
 IsAskedBy m names r = IsAsked m names (stands_in r.standing.items) (supertypes_in r.supertypes.items)
 
--- what stands at the next name was added
+-- the next name was looked up: what it is and the numbers of its direct supertypes were appended
 abbrev pub IsMore : (old_names : List Name) → (old : Reached) → Stands → (new_names : List Name) → (new : Reached) → Type 0
 IsMore old_names old next new_names new =
     IsReached old_names (stands_in old.standing.items) (supertypes_in old.supertypes.items) next
     new_names (stands_in new.standing.items) (supertypes_in new.supertypes.items)
 
--- the numbers of classes, where there are no other names
+-- the numbers of the classes, if no other names are numbered
 pub record AreClasses (names : List Name) (classes : List ℕ) : Type 0 where
   pub once : IsOnce names
   pub within : All (λ v. v < length names) classes
   pub only : (i : ℕ) → i < length names → Contains (map (name_at names) classes) (name_at names i)
 
--- of each of the first classes, in a world, the numbers of the classes that its references name
+-- for each of the first classes, in a world, the numbers of the classes that its references name
 pub record AreReferredIn (m : World) (names : List Name) (classes : List ℕ) (references : List (List (Option ℕ))) : Type 0 where
   pub few : length references ≤ length classes
   pub named : (i : ℕ) → i < length references

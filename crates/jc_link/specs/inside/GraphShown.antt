@@ -41,7 +41,7 @@ pub record IsWhole (a : Inside) : Type 0 where
   pub graph : IsClosedGraph a.names (stands_in a.standing.items) (supertypes_in a.supertypes.items) a.object
   pub referred : AreReferred a.names (stands_in a.standing.items) a.classes.items (nodes_in a.references.items)
 
--- a class reaches each of these names
+-- the classes reach each of these names
 abbrev pub AllReached : World → (classes names : List Name) → Type 0
 AllReached m classes names = (i : ℕ) → i < length names → IsReached m classes (name_at names i)
 
@@ -52,16 +52,16 @@ pub record AreStarts (m : World) (d : Name) (names : List Name) (starts : List �
   pub always : (v : ℕ) × Contains starts v × (name_at names v ≡ java_lang_object)
   pub named : (n : Name) → Contains (names_in (references_of (m d))) n → (v : ℕ) × Contains starts v × (name_at names v ≡ n)
 
--- the numbers of the names of which P holds
+-- the numbers of the names that have the property P
 pub record AreNumbersOf (names : List Name) (P : Name → Type 0) (numbers : List ℕ) : Type 0 where
   pub sound : (v : ℕ) → Contains numbers v → P (name_at names v)
   pub complete : (n : Name) → P n → (v : ℕ) × Contains numbers v × (name_at names v ≡ n)
 
--- room to walk in, where it is kept, has a flag for each name
+-- the working memory of a walk, if it is kept, has a flag for each name
 abbrev pub HasRoom : ClassGraph → Option SeenNodes → Type 0
 HasRoom g kept = IfSome kept (λ (s : SeenNodes). length s.flags ≡ length g.names)
 
--- names were added behind those that were there
+-- names were only appended
 pub record AreKept (old new : List Name) : Type 0 where
   pub longer : length old ≤ length new
   pub same : (i : ℕ) → i < length old → name_at new i ≡ name_at old i

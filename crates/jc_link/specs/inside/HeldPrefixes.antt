@@ -1,4 +1,4 @@
--- The prefixes that are held.
+-- The outside prefixes, as the code keeps them.
 use Rattle.std.specs.Prelude.{ℕ, List, ◌++◌, ◌∷◌, [], ◌↔◌, if◌then◌else◌}
 use Rattle.std.specs.List.{Contains, list_any}
 use Rattle.jc_classes.specs.Names.{Name, names_of, same_name}
@@ -11,11 +11,11 @@ abbrev pub prefixes_held : Prefixes → List (List ℕ)
 prefixes_held Standard = standard_prefixes
 prefixes_held (Given prefixes) = names_of prefixes.items
 
--- a prefix behind others, unless it is one of them
+-- the prefixes with one at the end, unless it is one of them
 abbrev pub with_prefix : List Name → Name → List Name
 with_prefix held prefix = if list_any (same_name prefix) held then held else held ++ prefix ∷ []
 
--- these are held, each once
+-- the prefixes are the given ones, each once
 pub record IsHeldOf (held given : List Name) : Type 0 where
   pub same : (p : Name) → Contains held p ↔ Contains given p
   pub once : IsOnce held

@@ -1,4 +1,4 @@
--- What is held of classes.
+-- The entries of classes and the links of a linkage.
 use Rattle.std.specs.Prelude.{◌≡◌, ◌⊎◌, Bool, Decides, true, false, ◌||◌, if◌then◌else◌}
 use Rattle.std.specs.Prelude.{List, Option, Some, None, IsSome, is_some, refl, OnOk, Result}
 use Rattle.std.specs.FinMap as fin
@@ -19,17 +19,17 @@ use Rattle.jc_linkage.specs.inside.Stepping.{IsBack, IsThere, stepped}
 abbrev pub given_in : Places → Name → Bool
 given_in places n = is_some (class_at places n)
 
--- of each class its part and its reach over all of them, and the links turn them round
+-- `kept` has the part and the reach of each class in the world of all classes, and `links` is its inverse
 pub record IsHeld (places : Places) (prefixes : List Name) (kept : KeptMap) (links : Links) : Type 0 where
   pub parts : IsKept (given_in places) (world places prefixes) kept
   pub linked : AreLinked kept links
 
--- the meter counted the parts and the asks of an edit that touched these names
+-- the meter counted the parts and the look-ups of an edit that touched these names
 abbrev pub IsCountedOver : Places → (prefixes : List Name) → (touched : Name → Bool) → (old new : Meter) → Type 0
 IsCountedOver places prefixes touched old new =
     IsCounted (given_in places) (world places prefixes) touched (counts_of old) (counts_of new)
 
--- a class stands at its name
+-- each class is at its own name
 abbrev pub AreNamed : Places → Type 0
 AreNamed places = (name : Name) (facts : Facts) → class_at places name ≡ Some facts → facts.name ≡ name
 
@@ -38,7 +38,7 @@ linkage_code places prefixes =
     code_by (Places × List Name) (coded× places prefixes)
     (λ a. (a.classes, a.prefixes)) (λ p. record { classes = p.0; prefixes = p.1 }) (λ _. refl)
 
--- ---- a step or none
+-- ---- an optional step
 
 abbrev pub name_of : Option Step → Option Name
 name_of None = None
@@ -51,17 +51,17 @@ abbrev pub stepped_by : Option Step → Classes → Classes
 stepped_by None m n = m n
 stepped_by (Some s) m n = stepped s m n
 
--- the name of the class that goes by the step
+-- the name of the class that the step removes
 abbrev pub leaver : Option Step → Option Name
 leaver None = None
 leaver (Some s) = if is_some (step_class s) then None else Some (step_name s)
 
--- the name of the step, where nothing is kept of it
+-- the name of the step, if it has no entry
 abbrev pub comer : KeptMap → Option Step → Option Name
 comer kept None = None
 comer kept (Some s) = if is_some (fin.get kept (step_name s)) then None else Some (step_name s)
 
--- the step changes nothing: no class stands at its name, the class beside it does, or the class that it leaves there
+-- the step changes nothing: its name has no class, or is that of the put class, or has the step's class already
 abbrev pub IsIdle : Classes → Option Facts → Step → Type 0
 IsIdle m put s = (m (step_name s) ≡ None) ⊎ ((is_class put (step_name s) ≡ true) ⊎ (step_class s ≡ m (step_name s)))
 
@@ -70,12 +70,12 @@ abbrev pub IsCounting : Classes → Option Facts → (first result : Option Step
 IsCounting m put None result = result ≡ None
 IsCounting m put (Some s) result = (idle : Bool) × Decides idle (IsIdle m put s) × (result ≡ (if idle then None else Some s))
 
--- the step that puts a class, unless it stands at its name
+-- the step that puts a class, unless the class is at its name already
 abbrev pub IsPutting : Classes → Option Facts → (result : Option Step) → Type 0
 IsPutting m None result = result ≡ None
 IsPutting m (Some f) result = (stands : Bool) × Decides stands (m f.name ≡ Some f) × (result ≡ (if stands then None else Some (Put f)))
 
--- it is at the name of a class, and the other step is at another
+-- the step is at the name of a class, and the other step is at another name
 abbrev pub CountsStep : Classes → Option Step → Option Step → Type 0
 CountsStep m None other = Unit {0}
 CountsStep m (Some s) other = IsSome (m (step_name s)) × (at_step other (step_name s) ≡ false)
@@ -94,8 +94,9 @@ abbrev pub AreThere : Option Step → Places → Type 0
 AreThere None places = Unit {0}
 AreThere (Some s) places = IsThere s places
 
--- whatever classes stood before two steps, of which the first is at the name of one: what was held of them is, where a
--- call answers `Ok`, held of what stands now, and the parts and asks are counted
+-- if the call succeeds, it has updated the entries and links after two steps. `old` are any classes before the steps,
+-- and the first step is at the name of one of them. If `kept` and `links` are right for `old`, then `kept_now` and
+-- `links_now` are right for `now`. The meter counted the parts and the look-ups
 abbrev pub Holds : {T E : Type 0} → Result T E → (first second : Option Step) → (prefixes : List Name) → (stepped now : Places)
     → (kept kept_now : KeptMap) → (links links_now : Links) → (before behind : Meter) → Type 0
 Holds result first second prefixes stepped now kept kept_now links links_now before behind = OnOk result (

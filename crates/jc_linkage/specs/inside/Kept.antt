@@ -1,4 +1,4 @@
--- What is kept of each class.
+-- The entry of each class: its part, the names that it reaches, and the rows that it requires.
 use Rattle.std.specs.Prelude.{◌≡◌, Bool, true, false, ◌&&◌, ◌||◌, if◌then◌else◌}
 use Rattle.std.specs.Prelude.{ℕ, ◌<◌, List, [], ◌∷◌, length, map, Option, Some, None, IsSome}
 use Rattle.std.specs.FinMap as fin
@@ -19,21 +19,21 @@ use Rattle.jc_linkage.specs.declared.kept.Kept.{Kept}
 use Rattle.jc_linkage.specs.declared.kept.Fresh.{Fresh}
 use Rattle.jc_linkage.specs.declared.links.Links.{Links}
 
--- ---- what is kept of a class
+-- ---- entries
 
 abbrev pub required_by : Option Facts → Part → List Row
 required_by (Some f) p = required_rows f p
 required_by None p = []
 
--- the keys of the rows, and no others
+-- the keys are exactly those of the rows
 abbrev pub AreKeys : (keys : List Name) → List Row → Type 0
 AreKeys keys rows = (key : Name) → has keys key ≡ has (map row_key rows) key
 
--- of the rows that are kept
+-- the keys of the rows in the entry
 abbrev pub keys_of : Kept → List Name
 keys_of k = spelled_all k.required
 
--- of the rows that the class requires by its part
+-- the keys are those of the rows that the class requires by its part
 abbrev pub HasKeysOf : World → Name → (keys : List Name) → Part → Type 0
 HasKeysOf m d keys part = AreKeys keys (required_by (facts_standing (m d)) part)
 
@@ -45,7 +45,7 @@ pub record IsKeptOf (m : World) (d : Name) (k : Kept) : Type 0 where
 abbrev pub KeptMap : Type 0
 KeptMap = fin.FinMap name_cmp Kept
 
--- what is kept of each given class, and of no other
+-- each given class has its entry, and no other name has an entry
 pub record IsKept (given : Name → Bool) (m : World) (kept : KeptMap) : Type 0 where
   pub only : (d : Name) (k : Kept) → fin.get kept d ≡ Some k → given d ≡ true
   pub sound : (d : Name) (k : Kept) → fin.get kept d ≡ Some k → IsKeptOf m d k
@@ -53,7 +53,7 @@ pub record IsKept (given : Name → Bool) (m : World) (kept : KeptMap) : Type 0 
 
 -- ---- links
 
--- a class reaches names and requires rows
+-- the relations of a class to names: it reaches them, or it requires rows that have them as keys
 pub data Relation : Type 0 where
   Reaches : Relation
   Requires : Relation
@@ -66,11 +66,11 @@ abbrev pub names_kept : Relation → Option Kept → List Name
 names_kept r None = []
 names_kept r (Some k) = names_by r k
 
--- whether a class is kept with a name
+-- whether the class has the relation to the name by its entry in the map
 abbrev pub held_in : Relation → KeptMap → (class name : Name) → Bool
 held_in r kept d n = has (names_kept r (fin.get kept d)) n
 
--- the reach that is kept of the class holds a touched name
+-- the reach in the entry of the class has a touched name
 abbrev pub KeptHits : (touched : Name → Bool) → KeptMap → Name → Type 0
 KeptHits touched kept d = (n : Name) × (touched n ≡ true) × (held_in Reaches kept d n ≡ true)
 
@@ -78,15 +78,15 @@ abbrev pub lists_by : Relation → Links → UserLists
 lists_by Reaches links = links.reach
 lists_by Requires links = links.required
 
--- whether a class is linked to a name
+-- whether the class is linked to the name
 abbrev pub linked : Relation → Links → (name class : Name) → Bool
 linked r links n d = has (users_of (lists_by r links) n) d
 
--- the links turn round what is kept
+-- the links are the inverse of the entries
 abbrev pub AreLinked : KeptMap → Links → Type 0
 AreLinked kept links = (r : Relation) (n d : Name) → linked r links n d ≡ held_in r kept d n
 
--- ---- what is to be kept
+-- ---- new entries
 
 -- the class at a place of a graph has this name
 abbrev pub IsClassAt : ClassGraph → (place : ℕ) → Name → Type 0
@@ -95,7 +95,7 @@ IsClassAt g place name = (place < length g.classes) × (name_at g.classes place 
 abbrev pub fresh_names : List Fresh → List Name
 fresh_names fresh = map (λ (x : Fresh). x.name.items) fresh
 
--- whether a class is among these with a name
+-- whether the class has the relation to the name by its new entry
 abbrev pub fresh_has : Relation → List Fresh → (class name : Name) → Bool
 fresh_has r [] d n = false
 fresh_has r (x ∷ xs) d n = (same_name d x.name.items && has (names_by r x.kept) n) || fresh_has r xs d n
@@ -104,7 +104,7 @@ abbrev pub AllFresh : World → List Fresh → Type 0
 AllFresh m [] = Unit {0}
 AllFresh m (x ∷ xs) = IsKeptOf m x.name.items x.kept × AllFresh m xs
 
--- what is fresh of a class, else o
+-- the new entry of a class, and o if there is none
 abbrev pub fresh_at : List Fresh → Name → Option Kept → Option Kept
 fresh_at [] d o = o
 fresh_at (x ∷ xs) d o = if same_name d x.name.items then Some x.kept else fresh_at xs d o

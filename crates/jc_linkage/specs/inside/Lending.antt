@@ -1,11 +1,11 @@
--- Classes as they are lent.
+-- Borrowed classes.
 use Rattle.std.specs.Prelude.{List, [], ◌∷◌}
 use Rattle.jc_classes.specs.Facts.{Facts}
 use Rattle.jc_classes.specs.Names.{Name}
 use Rattle.jc_report.specs.Reports as reports
 use Rattle.jc_linkage.specs.declared.kept.Kept.{Kept}
 
--- classes with what is kept of them, in order
+-- classes with the parts of their entries, in order
 abbrev pub with_parts : List Facts → List (Name × Kept) → List reports.Class
 with_parts [] kept = []
 with_parts (f ∷ fs) [] = []

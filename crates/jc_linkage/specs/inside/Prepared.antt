@@ -1,4 +1,4 @@
--- Parts that are made before an edit is committed.
+-- Parts that are computed before an edit is committed.
 use Rattle.std.specs.Prelude.{◌≡◌, ℕ, List, ◌++◌, length, IfOk, Option, Result}
 use Rattle.std.specs.Borrow.{Bor}
 use Rattle.std.specs.FinMap as map
@@ -15,7 +15,7 @@ use Rattle.jc_linkage.specs.Affected.{Enumerates}
 use Rattle.jc_linkage.specs.declared.kept.Fresh.{Fresh}
 use Rattle.jc_linkage.specs.inside.Kept.{AllFresh, KeptMap, fresh_at, fresh_names}
 
--- parts were made for the names and for the one that comes, which alone is kept already
+-- entries were computed for the names and for the added class. Only that of the added class is in the map
 pub record IsPrepared (m : World) (names : List Name) (comes : Option Name) (kept now : KeptMap) (fresh : List Fresh)
     (old new : Meter) : Type 0 where
   pub last : List Fresh
@@ -25,19 +25,19 @@ pub record IsPrepared (m : World) (names : List Name) (comes : Option Name) (kep
   pub at : (d : Name) → map.get now d ≡ fresh_at last d (map.get kept d)
   pub made : new.made ≡ counted old.made (length (fresh_names (fresh ++ last)))
 
--- a table was asked for each name that these classes reach, once
+-- each name that these classes reach was looked up once in a table
 pub record HasAskedFor (m : World) (classes : List Name) (old new : Meter) : Type 0 where
   pub reached : List Name
   pub are_reached : Enumerates reached (IsReached m classes)
   pub asks : new.asks ≡ counted old.asks (length reached)
 
--- parts were made over a table, which was asked for what they reach
+-- entries were computed over a table, in which the names that they reach were looked up
 pub record IsPreparedOver (table : Places) (outside : List Name) (names : List (Vec ℕ Global)) (comes : Option (Bor (List ℕ)))
     (kept now : KeptMap) (fresh : List Fresh) (old new : Meter) : Type 0 where
   pub ready : IsPrepared (world table outside) (names_of names) (option_copied comes) kept now fresh old new
   pub asked : HasAskedFor (world table outside) (fresh_names (fresh ++ ready.last)) old new
 
--- what a call answers is so
+-- the entries that a successful call returns are prepared
 abbrev pub Prepares : {E : Type 0} → Result (Vec Fresh Global) E → (table : Places) → (outside : List Name)
     → List (Vec ℕ Global) → (comes : Option (Bor (List ℕ))) → (kept now : KeptMap) → (old new : Meter) → Type 0
 Prepares result table outside names comes kept now old new =

@@ -1,4 +1,4 @@
--- Rows in their order, and how those of other numbers are found among them.
+-- Sorted rows of a class, and their update for other reference numbers.
 use Rattle.std.specs.Prelude.{◌≡◌, ℕ, Bool, true, false, List, map, Option, Some, slice_index_or}
 use Rattle.std.specs.List.{Contains, filter}
 use Rattle.std.specs.List.Sorted.{IsStrictlySortedBy}
@@ -9,18 +9,18 @@ use Rattle.jc_report.specs.RequiredRows.{AreOf, rows_numbered, spelled_all}
 use Rattle.jc_report.specs.RowKeys.{row_key}
 use Rattle.jc_report.specs.declared.required_row.RequiredRow.{RequiredRow}
 
--- the rows rise, and are of the references
+-- the rows are sorted, and belong to the references
 pub record IsRowList (references : Option (List Reference)) (rows : List RequiredRow) : Type 0 where
   pub rises : IsStrictlySortedBy name_cmp (spelled_all rows)
   pub of : (own : List Reference) → references ≡ Some own → AreOf own rows
 
--- the rows of the numbers, rising
+-- the rows of the references with these numbers, sorted, each once
 pub record AreInOrder (references : List Reference) (numbers : List ℕ) (rows : List RequiredRow) : Type 0 where
   pub rises : IsStrictlySortedBy name_cmp (spelled_all rows)
   pub of : AreOf references rows
   pub same : (key : Name) → has (spelled_all rows) key ≡ has (map row_key (rows_numbered references numbers)) key
 
--- both are rows of these references
+-- both lists are rows of the same references
 pub record ShareReferences (rows others : List RequiredRow) : Type 0 where
   pub references : List Reference
   pub own : AreOf references rows
@@ -28,7 +28,7 @@ pub record ShareReferences (rows others : List RequiredRow) : Type 0 where
 
 -- ---- rows by their numbers
 
--- those that pass a test, which only rows of these numbers do
+-- the rows that pass a test, which only rows with these numbers pass
 pub record Stay (rows : List RequiredRow) (numbers : List ℕ) (kept : List RequiredRow) : Type 0 where
   pub test : RequiredRow → Bool
   pub passed : kept ≡ filter test rows

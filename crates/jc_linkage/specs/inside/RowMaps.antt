@@ -1,11 +1,11 @@
--- A map keyed by rows, as a finite map.
+-- A map from rows, as a finite map from their keys.
 use Rattle.std.specs.Prelude.{List, map}
 use Rattle.std.specs.Borrow.{Bor}
 use Rattle.jc_classes.specs.Names.{Name}
 use Rattle.jc_report.specs.RequiredRows.{spelled}
 use Rattle.jc_report.specs.declared.required_row.RequiredRow.{RequiredRow}
 
--- the entries, with each row as its key
+-- the entries, with the key of each row
 abbrev pub keyed : {V : Type 0} → List (RequiredRow × V) → List (Name × V)
 keyed entries = map (λ e. (spelled e.0, e.1)) entries
 

@@ -1,4 +1,4 @@
--- The outside names above a class.
+-- The outside names among the supertypes of a class.
 use Rattle.jc_classes.specs.Worlds.{Stands as stands}
 use Rattle.std.specs.Prelude.{◌≡◌, ℕ, Bool, true, false, Option, Some, None}
 use Rattle.jc_classes.specs.Names.{Name, name_less}
@@ -15,12 +15,12 @@ is_outside stands.Nothing = false
 abbrev pub lies_outside : Indexed → ℕ → Bool
 lies_outside x v = is_outside (standing_of x v)
 
--- the least outside name above a class
+-- the least outside name among the transitive supertypes of a class
 abbrev pub TellsOutside : World → Indexed → Name → Option ℕ → Type 0
 TellsOutside m x c None = (j : Name) → IsOutsideAbove m c j → ⊥
 TellsOutside m x c (Some v) =
     IsOutsideAbove m c (indexed_name x v) × ((j : Name) → IsOutsideAbove m c j → name_less j (indexed_name x v) ≡ false)
 
--- so of a node, in every world that has what stands at the names of x
+-- this for a node, in every world that agrees with x
 abbrev pub TellsOutsideAbove : Indexed → ℕ → Option ℕ → Type 0
 TellsOutsideAbove x start r = (m : World) → IsIndexed m x → TellsOutside m x (indexed_name x start) r

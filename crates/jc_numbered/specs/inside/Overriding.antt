@@ -1,4 +1,4 @@
--- FINAL methods that a class overrides, by numbers.
+-- FINAL methods that a class overrides, among numbered classes.
 use Rattle.std.specs.Prelude.{◌≡◌, ℕ, ◌<◌, ◌⊎◌, Bool, true, false, ◌||◌, ◌&&◌, length, Option, Some, None}
 use Rattle.std.specs.FinMap as map
 use Rattle.jc_base.specs.Bytes.{bytes_cmp}
@@ -36,12 +36,13 @@ abbrev pub is_final : Option Member → Bool
 is_final None = false
 is_final (Some y) = has y.flags final
 
--- the nearest FINAL method that the method of c overrides, in every world that has what stands at the nodes
+-- the nearest FINAL method that the method of c overrides, in every world that agrees with x
 abbrev pub TellsFinal : Indexed → Key → ℕ → Option ℕ → Type 0
 TellsFinal x k c None = (m : World) → IsIndexed m x → (a : Name) → IsFinalAbove m k (indexed_name x c) a → ⊥
 TellsFinal x k c (Some v) = (m : World) → IsIndexed m x → OverridesFinal m k (indexed_name x c) (indexed_name x v)
 
--- the superclasses of c up to v are passed: the packages are of those whose methods c overrides, and none is FINAL
+-- the superclasses of c up to v are passed. The packages are those of the classes whose methods the method of c
+-- overrides, and none of these methods is FINAL
 pub record IsPassed (m : World) (x : Indexed) (k : Key) (c v : ℕ) (packages : Packages) : Type 0 where
   pub chain : Extends m (indexed_name x c) (indexed_name x v)
   pub sound : (p : Name) → map.contains_key packages p ≡ true

@@ -1,4 +1,4 @@
--- What may be chosen among superinterface methods.
+-- The candidates among superinterface methods, and the choice among them.
 use Rattle.std.specs.Prelude.{◌≡◌, ℕ, ◌<◌, Bool, false, not, ◌&&◌, List, Option, Some, None, is_some, cond}
 use Rattle.std.specs.List.{Contains}
 use Rattle.jc_classes.specs.Names.{name_less}
@@ -22,7 +22,7 @@ abbrev pub is_concrete : Option Member → Bool
 is_concrete None = false
 is_concrete (Some y) = not (has y.flags abstract)
 
--- no candidate stands below the node, and its method is not abstract
+-- the method of the node is not ABSTRACT, and the node is not in `covered`, the supertypes of the candidates
 abbrev pub is_pick : Indexed → Key → List Bool → ℕ → Bool
 is_pick x k covered v = not (flag_at covered v) && is_concrete (gives x k v)
 
@@ -35,7 +35,7 @@ abbrev pub TellsLowest : Indexed → List ℕ → Option ℕ → Type 0
 TellsLowest x nodes None = (v : ℕ) → Contains nodes v → ⊥
 TellsLowest x nodes (Some v) = IsLowest x nodes v
 
--- as far as the first i nodes
+-- v is in the list, and no name of the first i nodes is less than that of v
 pub record LowestSoFar (x : Indexed) (nodes : List ℕ) (v i : ℕ) : Type 0 where
   pub listed : Contains nodes v
   pub least : (j : ℕ) → j < i → name_less (indexed_name x (node_at nodes j)) (indexed_name x v) ≡ false

@@ -5,7 +5,7 @@ use Rattle.jc_classes.specs.Facts.{Key}
 use Rattle.jc_classes.specs.MethodLookup.{FindsInClasses}
 use Rattle.jc_numbered.specs.inside.Indexed.{Indexed, indexed_name, IsIndexed}
 
--- what look-up from this node of the chain finds is what the start finds
+-- what look-up from the node `at` finds is what look-up from the node `start` finds
 abbrev pub Leads : Indexed → Key → ℕ → ℕ → Type 0
 Leads x k start at = (m : World) → IsIndexed m x → (a : Option Found)
     → FindsInClasses m k (indexed_name x at) a → FindsInClasses m k (indexed_name x start) a

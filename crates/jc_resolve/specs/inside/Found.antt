@@ -1,4 +1,4 @@
--- What look-up finds from a node, in every world that has what stands at the names of the nodes.
+-- What look-up from a node finds, in every world that agrees with the nodes.
 use Rattle.std.specs.Prelude.{◌≡◌, ℕ, ◌<◌, List, [], ◌∷◌, Option, option_map}
 use Rattle.std.specs.List.{filter}
 use Rattle.jc_classes.specs.Facts.{Key}
@@ -15,15 +15,15 @@ use Rattle.jc_numbered.specs.inside.Shown.{found_at}
 abbrev pub TellsField : Indexed → Key → ℕ → Option Hit → Type 0
 TellsField x k start hit = (m : World) → IsIndexed m x → FindsField m k (indexed_name x start) (option_map (found_at x) hit)
 
--- of a method, among the class and its superclasses
+-- the method that look-up finds in the class and its superclasses
 abbrev pub TellsInClasses : Indexed → Key → ℕ → Option Hit → Type 0
 TellsInClasses x k start hit = (m : World) → IsIndexed m x → FindsInClasses m k (indexed_name x start) (option_map (found_at x) hit)
 
--- among its superinterfaces
+-- the method that look-up finds in the superinterfaces of the class
 abbrev pub TellsInInterfaces : Indexed → Key → ℕ → Option Hit → Type 0
 TellsInInterfaces x k start hit = (m : World) → IsIndexed m x → FindsAbove m k (indexed_name x start) (option_map (found_at x) hit)
 
--- so for each class above which these nodes are what offers one
+-- this for each class, if these nodes are the transitive supertypes that offer such a method
 abbrev pub TellsChosen : ℕ → Indexed → Key → List ℕ → Option Hit → Type 0
 TellsChosen count x k nodes hit = (start : ℕ) (seen : Seen) → start < count → SeesAbove count x (start ∷ []) seen
     → nodes ≡ filter (offers x k) seen.list → TellsInInterfaces x k start hit

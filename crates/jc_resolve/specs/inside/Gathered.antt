@@ -1,4 +1,4 @@
--- Classes as they are gathered, by numbers alone.
+-- Numbered classes, before it is known how they load.
 use Rattle.std.specs.Prelude.{◌≡◌, ℕ, ◌<◌, [], List, map, length}
 use Rattle.std.specs.List.{Contains}
 use Rattle.jc_classes.specs.Worlds.{supertypes_of}
@@ -7,7 +7,7 @@ use Rattle.jc_numbered.specs.inside.Indexed.{Indexed, filled, indexed_name, stan
 use Rattle.std.specs.declared.vec.Vec.{Vec}
 use Rattle.std.specs.declared.alloc.Global.{Global}
 
--- names that stand once, each with the supertypes of what stands there
+-- the names are distinct, and each node has the supertypes of its class
 pub record IsGathered (count : ℕ) (x : Indexed) : Type 0 where
   pub names : length x.names ≡ count
   pub standing : length x.standing ≡ count
@@ -15,6 +15,6 @@ pub record IsGathered (count : ℕ) (x : Indexed) : Type 0 where
   pub nodes : (a b : ℕ) → Contains (x.supertypes a) b → (a < count) × (b < count)
   pub supertypes : (i : ℕ) → i < length x.names → map (indexed_name x) (x.supertypes i) ≡ supertypes_of (standing_of x i)
 
--- what is gathered, before its loads are known
+-- these classes, before it is known how they load
 abbrev pub bare : List (Vec ℕ Global) → List Standing → List (Vec ℕ Global) → Indexed
 bare names standing supertypes = filled names standing supertypes [] []

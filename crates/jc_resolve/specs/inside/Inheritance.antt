@@ -1,4 +1,4 @@
--- Errors of inheritance, by numbers, in every world that has what stands at the nodes.
+-- Errors of inheritance of a node, in every world that agrees with the nodes.
 use Rattle.std.specs.Prelude.{◌≡◌, ℕ, ◌⊎◌, List, [], ◌∷◌, ◌++◌, map}
 use Rattle.jc_classes.specs.Facts.{Key}
 use Rattle.jc_classes.specs.Inheritance.{AreErrors, AreOverridden, Inherited, InheritanceErrors}
@@ -11,14 +11,14 @@ use Rattle.jc_numbered.specs.inside.Indexed.{Indexed, IsIndexed, indexed_name, s
 abbrev pub TellsErrors : Indexed → ℕ → InheritanceErrors → Type 0
 TellsErrors x c e = (m : World) → IsIndexed m x → AreErrors m (indexed_name x c) e
 
--- the FINAL methods that the methods of c override, in an order of those
+-- the FINAL methods that the methods of c override, in the order of the methods of c
 pub record TellsOverridden (x : Indexed) (c : ℕ) (found : List Inherited) : Type 0 where
   pub order : List ℕ
   pub is_order : IsOrder (methods_of (standing_of x c)) order
   pub are : (m : World) → IsIndexed m x
       → AreOverridden m (indexed_name x c) (map (key_at (methods_of (standing_of x c))) order) found
 
--- the FINAL method that the method of c overrides is added, or there is none
+-- the FINAL method that the method of c overrides was appended, or there is none
 abbrev pub AddsOverridden : Indexed → ℕ → Key → (old new : List Inherited) → Type 0
 AddsOverridden x c k old new =
     ((a : Name) × ((m : World) → IsIndexed m x → OverridesFinal m k (indexed_name x c) a) × (new ≡ old ++ (record { home = a; key = k } ∷ [])))

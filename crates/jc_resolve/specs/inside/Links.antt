@@ -14,7 +14,8 @@ use Rattle.jc_resolve.specs.declared.linked.Linked.TheInside.{Inside}
 use Rattle.jc_resolve.specs.inside.Sites.{class_told}
 use Rattle.jc_resolve.specs.inside.Naming.{references_in}
 
--- the class at fault, by the number of a reference: what it names where it has no such method, and else the class that its answer tells
+-- the class at fault, by the number of a reference: for NoMethod the class that it names, and else the class of its
+-- answer
 abbrev pub class_at : List Reference → List Answer → ℕ → LinkageError → Name
 class_at rs answers number errors.NoMethod = option_map_or (λ r. text_of r.named) (slice_get rs number) []
 class_at rs answers number error = option_map_or class_told (slice_get answers number) []

@@ -1,4 +1,4 @@
--- Classes with how each of them loads.
+-- Numbered classes, with how each of them loads.
 use Rattle.std.specs.Prelude.{◌≡◌, ℕ, Bool, List, length}
 use Rattle.jc_graph.specs.Graph.{TellsCircular}
 use Rattle.jc_numbered.specs.inside.Indexed.{Indexed}

@@ -25,7 +25,7 @@ abbrev pub load_of : Indexed → List Bool → List Load → ℕ → Load
 load_of x flags loads v =
     load_by (standing_of x v) (slice_index_or flags v false) v (judged_each x loads v (has_superclass (standing_of x v)) (x.supertypes v))
 
--- the answer that is held for a node is how its name loads
+-- the name of the node loads as `a` says, in every world that agrees with x
 abbrev pub IsTold : Indexed → ℕ → Load → Type 0
 IsTold x v a = (m : World) → IsIndexed m x → defs.Load m (indexed_name x v) (loading_of x a)
 
@@ -34,7 +34,7 @@ is_good Loaded = true
 is_good Outside = true
 is_good (Fails f v) = false
 
--- an order in which a class comes behind its supertypes
+-- an order of the nodes in which each is after its supertypes, unless it is circular
 abbrev pub IsSorted : ℕ → Indexed → Sorted → Type 0
 IsSorted count x s = IsOrder x.supertypes count s.circular.items s.order.items
 

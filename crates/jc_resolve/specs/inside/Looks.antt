@@ -1,5 +1,5 @@
--- What a class that asks is told, in every world that has what stands at the names of its reach and in which each class
--- loads as is known.
+-- The results of look-up for a class. They hold in every world that agrees with the classes of its reach and in which
+-- these load as `loads` says.
 use Rattle.std.specs.Prelude.{◌≡◌, ℕ, Option, Result, length, option_map}
 use Rattle.jc_classes.specs.Facts.{Key, Named, Reference}
 use Rattle.jc_classes.specs.Names.{Name}
@@ -23,40 +23,40 @@ size_of l = length l.classes.now.standing.now
 abbrev pub reach_of : Look → Indexed
 reach_of l = indexed_of l.classes.now
 
--- the name of the class that asks
+-- the name of the class whose references are resolved
 abbrev pub asker_of : Look → Name
 asker_of l = indexed_name (reach_of l) l.class
 
--- where look-up of a member begins, or the answer without it, of a reference that names this
+-- where look-up of a member begins, or the answer without look-up, for a reference that names `named`
 abbrev pub TellsStart : Look → NamedNode → Result ℕ (Entry ℕ) → Type 0
 TellsStart l named b = (m : World) (r : Reference) → TellsLoads m (reach_of l) (size_of l) l.loads.now → IsIndexed m (reach_of l)
     → NamesSo (reach_of l) named r → Starts m (asker_of l) r.named (start_shown (reach_of l) r b)
 
--- the answer of a reference to a member, by the relation for members of its kind
+-- the answer to a reference to a member; Resolves is the relation for references of its kind
 abbrev pub TellsMember : (World → Name → Named → Key → Answer → Type 0) → Look → NamedNode → Key → Entry ℕ → Type 0
 TellsMember Resolves l named k e = (m : World) (r : Reference) → TellsLoads m (reach_of l) (size_of l) l.loads.now → IsIndexed m (reach_of l)
     → NamesSo (reach_of l) named r → r.key ≡ k → Resolves m (asker_of l) r.named k (entry_shown (indexed_name (reach_of l)) r e)
 
--- what becomes of what look-up of a member found from a node, where `missing` is the error if nothing is there
+-- the answer to a reference to a member, by what look-up from `start` found; `missing` is the error if it found nothing
 abbrev pub TellsOutcome : Look → NamedNode → Key → LinkageError → ℕ → Option Hit → Entry ℕ → Type 0
 TellsOutcome l named k missing start found e = (m : World) (r : Reference) → IsIndexed m (reach_of l)
     → NamesSo (reach_of l) named r → r.key ≡ k
     → Settles m (asker_of l) r.named (indexed_name (reach_of l) start) missing
     (option_map (found_at (reach_of l)) found) (entry_shown (indexed_name (reach_of l)) r e)
 
--- the answer of a reference to the class of a node with these flags, or to an array of it
+-- the answer to a reference to the class of a node with these flags, or to an array of it
 abbrev pub TellsNode : Look → ℕ → ℕ → Entry ℕ → Type 0
 TellsNode l node flags e = (r : Reference) → entry_shown (indexed_name (reach_of l)) r e
     ≡ class_answer (text_of r.named) (indexed_name (reach_of l) node) (loading_of (reach_of l) (load_at l.loads.now node))
     (sees (reach_of l) l.class node) flags
 
--- the answer of a reference to a class
+-- the answer to a reference to a class
 abbrev pub TellsClass : Look → NamedNode → Entry ℕ → Type 0
 TellsClass l named e = (m : World) (r : Reference) → TellsLoads m (reach_of l) (size_of l) l.loads.now → IsIndexed m (reach_of l)
     → NamesSo (reach_of l) named r
     → ResolvesClass m (asker_of l) r.named (entry_shown (indexed_name (reach_of l)) r e)
 
--- the answer of a reference of any kind
+-- the answer to a reference of any kind
 abbrev pub TellsReference : Look → Reference → Entry ℕ → Type 0
 TellsReference l r e = (m : World) → TellsLoads m (reach_of l) (size_of l) l.loads.now → IsIndexed m (reach_of l)
     → ResolvesOf m (asker_of l) r.kind r (entry_shown (indexed_name (reach_of l)) r e)

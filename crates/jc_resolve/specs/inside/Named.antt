@@ -1,4 +1,4 @@
--- What a text of a Class constant names, by the node of its class.
+-- What the text of a Class constant names, by the node of its class.
 use Rattle.std.specs.Prelude.{◌≡◌, ℕ, Option, option_map}
 use Rattle.jc_classes.specs.NamedTexts.{named_by}
 use Rattle.jc_classes.specs.Names.{Name}
@@ -7,7 +7,7 @@ use Rattle.jc_numbered.specs.inside.Indexed.{Indexed, indexed_name}
 use Rattle.jc_resolve.specs.declared.resolve.NamedNode.{NamedNode}
 use Rattle.jc_resolve.specs.inside.Resolved.{named_of, IsWithinAll, IsWithinSome}
 
--- the class that a text names, or the innermost one of an array, is that of the node
+-- the node is that of the class that the text names; for an array, of its innermost class
 abbrev pub IsNodeOf : Indexed → Name → Option ℕ → Type 0
 IsNodeOf x text node = class_of (named_by text) ≡ option_map (indexed_name x) node
 

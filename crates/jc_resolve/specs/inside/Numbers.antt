@@ -2,16 +2,16 @@
 use Rattle.std.specs.Prelude.{◌≡◌, ℕ, ◌+◌, ◌==◌, if◌then◌else◌, List, [], ◌∷◌, Option, Some, None, drop, slice_index_or}
 use Rattle.jc_classes.specs.Facts.{Reference}
 
--- the first reference of an index, where the first of these has this number
+-- the number of the first of these references with this index; the references are numbered from `number`
 abbrev pub number_from : ℕ → ℕ → List Reference → Option ℕ
 number_from number index [] = None
 number_from number index (r ∷ rs) = if r.index == index then Some number else number_from (number + 1) index rs
 
--- a table has this at an index, and else what it had
+-- the table has this number at the index, and is otherwise unchanged
 abbrev pub IsPut : ℕ → Option ℕ → List (Option ℕ) → List (Option ℕ) → Type 0
 IsPut index number old new = (at : ℕ)
     → slice_index_or new at None ≡ (if index == at then number else slice_index_or old at None)
 
--- the table has the references from a number on
+-- the table has the references from `number` on
 abbrev pub AreNumbersBy : List Reference → ℕ → List (Option ℕ) → Type 0
 AreNumbersBy rs number table = (index : ℕ) → slice_index_or table index None ≡ number_from number index (drop number rs)

@@ -5,11 +5,11 @@ use Rattle.jc_classes.specs.Facts.{Key}
 use Rattle.jc_numbered.specs.inside.Indexed.{Indexed}
 use Rattle.jc_numbered.specs.inside.Picks.{is_pick, IsLowest}
 
--- no other node of a list passes a test
+-- no other node of the list passes the test
 abbrev pub NoOther : (ℕ → Bool) → List ℕ → ℕ → Type 0
 NoOther p nodes v = (w : ℕ) → Contains nodes w → p w ≡ true → w ≡ v
 
--- the one node of a list that passes a test
+-- the only node of the list that passes the test
 pub record IsSole (p : ℕ → Bool) (nodes : List ℕ) (v : ℕ) : Type 0 where
   pub listed : Contains nodes v
   pub passes : p v ≡ true
@@ -23,7 +23,7 @@ abbrev pub TellsFirst : (ℕ → Bool) → List ℕ → Option ℕ → Type 0
 TellsFirst p nodes None = (v : ℕ) → Contains nodes v → p v ≡ false
 TellsFirst p nodes (Some v) = Contains nodes v × (p v ≡ true)
 
--- the one that is sole, or else the least
+-- the node that is the only pick, or else the node with the least name
 abbrev pub TellsPick : Indexed → Key → List Bool → List ℕ → Option ℕ → Type 0
 TellsPick x k covered nodes None = (v : ℕ) → Contains nodes v → ⊥
 TellsPick x k covered nodes (Some v) =

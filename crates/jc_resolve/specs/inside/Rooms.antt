@@ -1,4 +1,4 @@
--- Room to look in.
+-- Working memory for look-up.
 use Rattle.std.specs.Prelude.{◌≡◌, Bool, IfSome, List, Option, length}
 use Rattle.jc_numbered.specs.declared.classes.Classes.{Classes}
 use Rattle.jc_numbered.specs.declared.loads.Load.{Load}
@@ -7,12 +7,12 @@ use Rattle.jc_numbered.specs.inside.Shown.{indexed_of}
 use Rattle.jc_resolve.specs.declared.room.Room.{Room}
 use Rattle.jc_resolve.specs.inside.Loaded.{IsLoaded}
 
--- it is room for these classes
+-- the working memory fits these classes
 pub record IsRoom (c : Classes) (r : Room) : Type 0 where
   pub above : Knows (length c.standing.now) (indexed_of c) r.above
   pub covered : length r.covered.flags ≡ length c.standing.now
 
--- classes with how each loads, and the room that is kept for them, if any is
+-- how the classes load, and working memory that fits them, if there is any
 pub record IsHeld (c : Classes) (loads : List Load) (circular : List Bool) (kept : Option Room) : Type 0 where
   pub loaded : IsLoaded (length c.standing.now) (indexed_of c) loads circular
   pub room : IfSome kept (IsRoom c)

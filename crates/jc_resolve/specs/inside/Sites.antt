@@ -1,4 +1,4 @@
--- What instructions are judged by.
+-- The data by which instructions are judged.
 use Rattle.std.specs.Prelude.{◌≡◌, ℕ, ◌&&◌, Bool, false, not, List, [], Option, Some, None, option_map, slice_get}
 use Rattle.jc_classes.specs.Facts.{Member, Reference}
 use Rattle.jc_classes.specs.LinkErrors as defs
@@ -11,7 +11,7 @@ use Rattle.jc_resolve.specs.declared.answers.Found.{Found}
 use Rattle.jc_resolve.specs.declared.answers.Found.TheVariants as found
 use Rattle.jc_resolve.specs.declared.site.Site.{Site}
 
--- what an answer finds
+-- what an answer finds, by its access flags
 abbrev pub found_of : Answer → Option Found
 found_of (answer.ToClass c flags) = Some (found.Class flags)
 found_of (answer.ToMember home x) = Some (found.Member x.flags)
@@ -19,7 +19,7 @@ found_of (answer.Outside n) = None
 found_of answer.NotLoaded = None
 found_of (answer.Error e n) = None
 
--- the class that an answer tells: the one that is named, or the one that declares the member
+-- the class of an answer: the class that the reference names, or the class that declares the member
 abbrev pub class_told : Answer → Name
 class_told (answer.ToClass c flags) = c
 class_told (answer.ToMember home x) = home
@@ -27,7 +27,7 @@ class_told (answer.Outside n) = []
 class_told answer.NotLoaded = []
 class_told (answer.Error e n) = []
 
--- it tells an `<init>` that another class declares than the one of this text
+-- the answer is a method `<init>` that another class than that of this name declares
 abbrev pub is_other_init : Name → Answer → Bool
 is_other_init text (answer.ToClass c flags) = false
 is_other_init text (answer.ToMember home x) = is_init x && not (same_name home text)
@@ -40,7 +40,7 @@ is_other_init text (answer.Error e n) = false
 abbrev pub error_of : Option Fault → Option LinkageError
 error_of fault = option_map (λ (f : Fault). f.0) fault
 
--- the site has this reference and this answer
+-- these are the reference of the site and its answer
 pub record IsAt (s : Site) (r : Reference) (a : Answer) : Type 0 where
   pub reference : slice_get s.facts.now.references s.reference ≡ Some r
   pub answer : slice_get s.answers.now s.reference ≡ Some a
@@ -51,12 +51,12 @@ site_at s r = site_of s.class.now s.facts.now s.one r
 abbrev pub TellsError : Site → Option LinkageError → Type 0
 TellsError s error = (r : Reference) (a : Answer) → IsAt s r a → error ≡ error_of (link_fault (site_at s r) s.one.kind a)
 
--- at a member with these flags
+-- the error for a member with these flags
 abbrev pub TellsMemberError : Site → ℕ → Option LinkageError → Type 0
 TellsMemberError s flags error = (r : Reference) (home : Name) (x : Member) → IsAt s r (answer.ToMember home x) → flags ≡ x.flags
     → error ≡ error_of (member_fault (site_at s r) s.one.kind home x)
 
--- of a store into it
+-- the error for a store into the member
 abbrev pub TellsFinal : Site → ℕ → List ℕ → Option LinkageError → Type 0
 TellsFinal s flags initializer error = (r : Reference) (home : Name) (x : Member) → IsAt s r (answer.ToMember home x) → flags ≡ x.flags
     → error ≡ error_of (final_fault (site_at s r) initializer home x)
