@@ -1,6 +1,7 @@
 pub mod Behind
 pub mod Tables
 pub mod SwitchParts
+pub mod SwitchSizes
 pub mod Opcodes
 pub mod Reading
 pub mod Shorter

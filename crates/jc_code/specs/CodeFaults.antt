@@ -19,11 +19,11 @@ use Rattle.jc_code.specs.CodeRules.{breaks_s18, breaks_s19, breaks_s20, breaks_s
 
 -- ---- the code of a method
 
--- those of a method's Code attributes that are well-formed
+-- the well-formed Code attributes of a method
 abbrev pub well_formed : List Attribute → List Code
 well_formed attributes = flat_map (λ a. option_map_or (λ k. k ∷ []) (code_in a.bytes) []) attributes
 
--- the one that stands there alone
+-- the item of a list of one item
 abbrev pub only : {X : Type 0} → List X → Option X
 only [] = None
 only (x ∷ []) = Some x
@@ -32,13 +32,13 @@ only (x ∷ y ∷ xs) = None
 abbrev pub code_of_member : ClassFile → Member → Option Code
 code_of_member c m = only (well_formed (codes_of c m))
 
--- the code of the method of a number
+-- the code of a method, by the method's number
 abbrev pub code_of_method : ClassFile → ℕ → Option Code
 code_of_method c n = option_and_then (code_of_member c) (slice_get c.methods n)
 
 -- ---- where a rule is broken
 
--- a rule over instructions
+-- whether an instruction breaks a rule
 unfoldable pub insn_breaks : CodeRule → Scope → Insn → Bool
 insn_breaks rules.S2 s insn = breaks_s2 s insn
 insn_breaks rules.S3 s insn = breaks_s3 s insn
@@ -63,17 +63,17 @@ insn_breaks rules.S21 s insn = breaks_s21 s insn
 insn_breaks rules.S22 s insn = breaks_s22 s insn
 insn_breaks rule s insn = false
 
--- a rule over exception handlers
+-- whether an exception handler breaks a rule
 unfoldable pub handler_breaks : CodeRule → Scope → Handler → Bool
 handler_breaks rules.S23 s h = breaks_s23 s h
 handler_breaks rules.S24 s h = breaks_s24 s h
 handler_breaks rule s h = false
 
--- the places of those that pass
+-- the places of the instructions that pass a test
 abbrev pub places_of : (Insn → Bool) → List (ℕ × Insn) → List ℕ
 places_of test items = map (λ item. item.0) (filter (λ item. test item.1) items)
 
--- the numbers of those that pass, the first of which is n
+-- the numbers of the items that pass a test; the first item has the number n
 abbrev pub numbers_of : {X : Type 0} → (X → Bool) → ℕ → List X → List ℕ
 numbers_of test n [] = []
 numbers_of test n (x ∷ xs) = cond (test x) (n ∷ []) [] ++ numbers_of test (n + 1) xs
@@ -81,44 +81,44 @@ numbers_of test n (x ∷ xs) = cond (test x) (n ∷ []) [] ++ numbers_of test (n
 abbrev pub fault_at : CodeRule → ℕ → CodeFault
 fault_at rule place = record { rule = rule; place = place }
 
--- where instructions break a rule, and then, by number, where handlers do
+-- the places of instructions that break a rule, then the numbers of handlers that break it
 abbrev pub places : Scope → List (ℕ × Insn) → List Handler → CodeRule → List ℕ
 places s items handlers rule = places_of (insn_breaks rule s) items ++ numbers_of (handler_breaks rule s) 0 handlers
 
--- the faults against a rule
+-- the faults that break a rule
 abbrev pub faults_against : Scope → List (ℕ × Insn) → List Handler → CodeRule → List CodeFault
 faults_against s items handlers rule = map (fault_at rule) (places s items handlers rule)
 
--- what the rules look at, where instructions start at these places
+-- the scope of the rules, with the starts of instructions
 abbrev pub scope_with : ClassFile → Code → List ℕ → Scope
 scope_with c k starts = record { class = c; max_locals = k.max_locals; size = length k.code; starts = starts }
 
 abbrev pub scope_of : ClassFile → Code → List (ℕ × Insn) → Scope
 scope_of c k items = scope_with c k (map (λ item. item.0) items)
 
--- all faults of a code whose instructions these are, up to an end: by rule, in the order of the rules, and then by place;
--- only one where they end before the code
+-- the faults of a code, from its instructions and their end: in the order of the rules, and then by place.
+-- If the instructions end before the code does, the only fault is S1
 unfoldable pub faults_over : ClassFile → Code → List (ℕ × Insn) → ℕ → List CodeFault
 faults_over c k items end =
     if end == length k.code
     then flat_map (faults_against (scope_of c k items) items k.handlers) ALL
     else fault_at rules.S1 end ∷ []
 
--- the faults of a code, by the instructions that are read in it
+-- the faults of a code, from the instructions that are decoded from it
 unfoldable pub faults_of : ClassFile → Code → List CodeFault
 faults_of c k = faults_over c k (insns_of k.code) (end_of k.code)
 
--- the faults of a code
+-- a list has exactly the faults of a code
 pub record AreFaultsOf (c : ClassFile) (k : Code) (found : List CodeFault) : Type 0 where
   pub items : List (ℕ × Insn)
   pub end : ℕ
   pub is_code : IsCode k.code items end
   pub listed : found ≡ faults_over c k items end
 
--- those of the code, if there is one
+-- the same for a code that may be missing: without a code there is no fault
 abbrev pub AreFaultsIfAny : ClassFile → Option Code → List CodeFault → Type 0
 AreFaultsIfAny c code found = MatchOption code (found ≡ []) (λ k. AreFaultsOf c k found)
 
--- the faults of a method: none, where it has no code
+-- a list has exactly the faults of a method, by the method's number
 abbrev pub AreFaultsOfMethod : ClassFile → ℕ → List CodeFault → Type 0
 AreFaultsOfMethod c n found = AreFaultsIfAny c (code_of_method c n) found

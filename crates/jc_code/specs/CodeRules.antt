@@ -1,5 +1,5 @@
--- Which instructions and which exception handlers break a static constraint: a test for each rule (JVMS 4.7.3, 4.9.1). A rule
--- over an entry or a text that is missing is not broken, unless it asks for it.
+-- A test for each static constraint: whether an instruction or an exception handler breaks it (JVMS 4.7.3, 4.9.1).
+-- A missing entry or text breaks only the rules that require it.
 use Rattle.std.specs.Prelude.{ℕ, ◌+◌, ℤ, pos, negsuc, int_lt, Bool, true, false, not, ◌&&◌, ◌||◌, ◌==◌}
 use Rattle.std.specs.Prelude.{nat_lt, nat_le, List, [], ◌∷◌, map, sum_by, Option, Some, None, option_and_then}
 use Rattle.std.specs.List.{list_all, list_any}
@@ -21,7 +21,7 @@ use Rattle.jc_code.specs.declared.opcode.Operands.TheVariants as operands
 use Rattle.jc_code.specs.Opcodes.{operands_of}
 use Rattle.jc_code.specs.Insns.{anewarray, invokespecial, invokevirtual, jsr, jsr_w, ldc2_w, new}
 
--- what the rules look at: the class, how many local variables the code has, how many bytes, and where its instructions start
+-- the scope of the rules: the class, max_locals, the number of bytes of the code, and where its instructions start
 pub record Scope : Type 0 where
   pub class : ClassFile
   pub max_locals : ℕ
@@ -33,28 +33,28 @@ pub record Scope : Type 0 where
 abbrev pub is_start : Scope → ℕ → Bool
 is_start s place = list_any (λ start. start == place) s.starts
 
--- a target may lie outside the code
+-- a target may be outside the code
 abbrev pub is_target : Scope → ℤ → Bool
 is_target s (pos place) = is_start s place
 is_target s (negsuc n) = false
 
--- jsr and jsr_w are not for files of these versions (JVMS 4.9.1)
+-- jsr and jsr_w are not allowed in files of these versions (JVMS 4.9.1)
 abbrev pub breaks_s2 : Scope → Insn → Bool
 breaks_s2 s (insns.Branch opcode target) = opcode == jsr || opcode == jsr_w
 breaks_s2 s insn = false
 
--- the target of a branch is an instruction
+-- the target of a branch is not an instruction
 abbrev pub breaks_s3 : Scope → Insn → Bool
 breaks_s3 s (insns.Branch opcode target) = not (is_target s target)
 breaks_s3 s insn = false
 
--- the targets of a switch are instructions
+-- a target of a switch is not an instruction
 abbrev pub breaks_s4 : Scope → Insn → Bool
 breaks_s4 s (insns.TableSwitch switch) = not (is_target s switch.default && list_all (is_target s) switch.targets.left)
 breaks_s4 s (insns.LookupSwitch switch) = not (is_target s switch.default && list_all (λ case. is_target s case.target) switch.cases.left)
 breaks_s4 s insn = false
 
--- each is above the one before it
+-- the values are in strictly ascending order
 abbrev pub rise_from : ℤ → List ℤ → Bool
 rise_from low [] = true
 rise_from low (z ∷ zs) = int_lt low z && rise_from z zs
@@ -63,7 +63,7 @@ abbrev pub do_rise : List ℤ → Bool
 do_rise [] = true
 do_rise (z ∷ zs) = rise_from z zs
 
--- the values of a lookupswitch rise
+-- the values of a lookupswitch are not in strictly ascending order
 abbrev pub breaks_s5 : Scope → Insn → Bool
 breaks_s5 s (insns.LookupSwitch switch) = not (do_rise (map (λ case. case.value) switch.cases.left))
 breaks_s5 s insn = false
@@ -79,36 +79,36 @@ single_kinds = kinds.Integer ∷ kinds.Float ∷ kinds.String ∷ kinds.Class �
 abbrev pub double_kinds : List ConstantKind
 double_kinds = kinds.Long ∷ kinds.Double ∷ []
 
--- ldc and ldc_w load what takes one slot
+-- ldc or ldc_w loads a constant that does not take one slot
 abbrev pub breaks_s6 : Scope → Insn → Bool
 breaks_s6 s (insns.Load opcode index) = not (opcode == ldc2_w) && not (is_one_of s.class single_kinds index)
 breaks_s6 s insn = false
 
--- ldc2_w loads a Long or a Double
+-- ldc2_w loads neither a Long nor a Double
 abbrev pub breaks_s7 : Scope → Insn → Bool
 breaks_s7 s (insns.Load opcode index) = opcode == ldc2_w && not (is_one_of s.class double_kinds index)
 breaks_s7 s insn = false
 
--- an instruction over fields names a Fieldref
+-- a field instruction does not name a Fieldref
 abbrev pub breaks_s8 : Scope → Insn → Bool
 breaks_s8 s (insns.Field opcode index) = not (is_entry s.class kinds.Fieldref index)
 breaks_s8 s insn = false
 
--- invokevirtual names a Methodref
+-- invokevirtual does not name a Methodref
 abbrev pub breaks_s9 : Scope → Insn → Bool
 breaks_s9 s (insns.Invoke opcode index) = opcode == invokevirtual && not (is_entry s.class kinds.Methodref index)
 breaks_s9 s insn = false
 
--- a Methodref, and from 52 on also an InterfaceMethodref
+-- a Methodref or, from version 52 on, an InterfaceMethodref
 abbrev pub is_either_method : ClassFile → ConstantIndex → Bool
 is_either_method c index = is_entry c kinds.Methodref index || nat_le 52 c.major && is_entry c kinds.InterfaceMethodref index
 
--- invokespecial and invokestatic name one of these
+-- invokespecial or invokestatic names neither of these
 abbrev pub breaks_s10 : Scope → Insn → Bool
 breaks_s10 s (insns.Invoke opcode index) = not (opcode == invokevirtual) && not (is_either_method s.class index)
 breaks_s10 s insn = false
 
--- invokeinterface names an InterfaceMethodref
+-- invokeinterface does not name an InterfaceMethodref
 abbrev pub breaks_s11 : Scope → Insn → Bool
 breaks_s11 s (insns.InvokeInterface index count last) = not (is_entry s.class kinds.InterfaceMethodref index)
 breaks_s11 s insn = false
@@ -118,36 +118,36 @@ abbrev pub referred_descriptor : ClassFile → ConstantIndex → Option (List �
 referred_descriptor c index =
     option_and_then (λ entry. option_and_then (member_descriptor_at c) (signature_entry entry)) (constant_at c index)
 
--- its name
+-- the name of that method
 abbrev pub referred_name : ClassFile → ConstantIndex → Option (List ℕ)
 referred_name c index =
     option_and_then (λ entry. option_and_then (member_name_at c) (signature_entry entry)) (constant_at c index)
 
--- how many slots the parameters of a method take
+-- the number of slots of a method's parameters
 abbrev pub slots_at : ClassFile → ConstantIndex → Option ℕ
 slots_at c index = option_map (λ type. sum_by slots_of type.params) (option_and_then method_type_of (referred_descriptor c index))
 
--- the count is not that of the slots of an interface's method and the receiver
+-- the count differs from the number of slots of an interface method's parameters and the receiver
 abbrev pub is_other_count : ClassFile → ConstantIndex → ℕ → Bool
 is_other_count c index count =
     is_entry c kinds.InterfaceMethodref index && fails (λ slots. count == slots + 1) (slots_at c index)
 
--- the count of invokeinterface is that of the descriptor's slots and the receiver
+-- the count of invokeinterface is wrong
 abbrev pub breaks_s12 : Scope → Insn → Bool
 breaks_s12 s (insns.InvokeInterface index count last) = is_other_count s.class index count
 breaks_s12 s insn = false
 
--- its last byte is 0
+-- the last byte of invokeinterface is not 0
 abbrev pub breaks_s13 : Scope → Insn → Bool
 breaks_s13 s (insns.InvokeInterface index count last) = not (last == 0)
 breaks_s13 s insn = false
 
--- invokedynamic names an InvokeDynamic
+-- invokedynamic does not name an InvokeDynamic
 abbrev pub breaks_s14 : Scope → Insn → Bool
 breaks_s14 s (insns.InvokeDynamic index last) = not (is_entry s.class kinds.InvokeDynamic index)
 breaks_s14 s insn = false
 
--- its last two bytes are 0
+-- the last two bytes of invokedynamic are not 0
 abbrev pub breaks_s15 : Scope → Insn → Bool
 breaks_s15 s (insns.InvokeDynamic index last) = not (last == 0)
 breaks_s15 s insn = false
@@ -159,62 +159,62 @@ is_init name = same_bytes name (codes "<init>")
 abbrev pub is_special : List ℕ → Bool
 is_special name = begins_with 60 name
 
--- an invocation names an entry that it may name
+-- an invocation names an entry of a kind that it may name
 abbrev pub is_right_entry : Scope → ℕ → ConstantIndex → Bool
 is_right_entry s opcode index =
     not (breaks_s9 s (insns.Invoke opcode index)) && not (breaks_s10 s (insns.Invoke opcode index))
 
--- it names a special method that it may not invoke: any but `<init>` by invokespecial
+-- an invocation names a special method that it may not invoke: any, except `<init>` by invokespecial
 abbrev pub is_bad_special : ClassFile → ℕ → ConstantIndex → Bool
 is_bad_special c opcode index =
     passes (λ name. is_special name && not (opcode == invokespecial && is_init name)) (referred_name c index)
 
--- of a right entry: a special method is not invoked, but `<init>` by invokespecial
+-- an invocation of an entry of the right kind invokes a special method, except `<init>` by invokespecial
 abbrev pub breaks_s16 : Scope → Insn → Bool
 breaks_s16 s (insns.Invoke opcode index) = is_right_entry s opcode index && is_bad_special s.class opcode index
 breaks_s16 s (insns.InvokeInterface index count last) =
     is_entry s.class kinds.InterfaceMethodref index && passes is_special (referred_name s.class index)
 breaks_s16 s insn = false
 
--- new, anewarray, checkcast, instanceof and multianewarray name a Class
+-- new, anewarray, checkcast, instanceof or multianewarray does not name a Class
 abbrev pub breaks_s17 : Scope → Insn → Bool
 breaks_s17 s (insns.Type opcode index) = not (is_entry s.class kinds.Class index)
 breaks_s17 s (insns.MultiNewArray index dimensions) = not (is_entry s.class kinds.Class index)
 breaks_s17 s insn = false
 
--- how many dimensions a class has: none, unless its text is the descriptor of an array
+-- the dimensions of a class: 0, unless its text is the descriptor of an array
 abbrev pub dimensions_of : List ℕ → ℕ
 dimensions_of text = option_map_or (λ type. type.dims) (field_type_of text) 0
 
--- new makes no array
+-- new creates an array
 abbrev pub breaks_s18 : Scope → Insn → Bool
 breaks_s18 s (insns.Type opcode index) = opcode == new && passes (λ text. nat_lt 0 (dimensions_of text)) (class_text_at s.class index)
 breaks_s18 s insn = false
 
--- anewarray makes no array of more than 255 dimensions
+-- anewarray creates an array of more than 255 dimensions
 abbrev pub breaks_s19 : Scope → Insn → Bool
 breaks_s19 s (insns.Type opcode index) = opcode == anewarray && passes (λ text. dimensions_of text == 255) (class_text_at s.class index)
 breaks_s19 s insn = false
 
--- multianewarray makes one dimension at least, and no more than the class has
+-- multianewarray creates no dimension, or more dimensions than the class has
 abbrev pub breaks_s20 : Scope → Insn → Bool
 breaks_s20 s (insns.MultiNewArray index dimensions) =
     dimensions == 0 || passes (λ text. nat_lt (dimensions_of text) dimensions) (class_text_at s.class index)
 breaks_s20 s insn = false
 
--- the numbers of the primitive types are 4 to 11 (JVMS 6.5, newarray)
+-- newarray has a number that is not that of a primitive type, 4 to 11 (JVMS 6.5, newarray)
 abbrev pub breaks_s21 : Scope → Insn → Bool
 breaks_s21 s (insns.NewArray element) = not (nat_le 4 element && nat_le element 11)
 breaks_s21 s insn = false
 
 -- ---- local variables
 
--- the local variable that an opcode tells by itself, and its slots
+-- the local variable that an opcode implies, and its slots
 abbrev pub implicit_local : Operands → Option (ℕ × ℕ)
 implicit_local (operands.ImplicitLocal index slots) = Some (index, slots)
 implicit_local what = None
 
--- how many slots a load or a store is of
+-- the number of slots of a load or a store
 abbrev pub local_slots : Operands → Option ℕ
 local_slots (operands.Local slots) = Some slots
 local_slots what = None
@@ -226,18 +226,18 @@ local_of (insns.Local opcode index is_wide) = option_map (λ slots. (index, slot
 local_of (insns.Increment index amount is_wide) = Some (index, 1)
 local_of insn = None
 
--- a local variable lies below max_locals, with both slots of a long or a double
+-- a slot of a local variable is not below max_locals; a long and a double have two slots
 abbrev pub breaks_s22 : Scope → Insn → Bool
 breaks_s22 s insn = passes (λ local. nat_lt s.max_locals (local.0 + local.1)) (local_of insn)
 
 -- ---- exception handlers
 
--- a handler is for whole instructions, some, and begins with one
+-- a handler's range is empty or does not consist of whole instructions, or its handler_pc is not an instruction
 abbrev pub breaks_s23 : Scope → Handler → Bool
 breaks_s23 s h =
     not (is_start s h.start_pc) || not (is_start s h.handler_pc)
     || not (is_start s h.end_pc || h.end_pc == s.size) || not (nat_lt h.start_pc h.end_pc)
 
--- it catches a Class, or anything
+-- a handler catches neither a Class nor everything
 abbrev pub breaks_s24 : Scope → Handler → Bool
 breaks_s24 s h = not (h.catch_type.0 == 0) && not (is_entry s.class kinds.Class h.catch_type)

@@ -1,4 +1,4 @@
--- What it means that a static constraint is broken at a place of a method's code (JVMS 4.7.3, 4.9.1).
+-- What it means that a method's code breaks a static constraint at a place (JVMS 4.7.3, 4.9.1).
 use Rattle.std.specs.Prelude.{◌≡◌, ◌↔◌, ◌⊎◌, ℕ, ◌<◌, List, Contains, IsTrue, length, Some, slice_get}
 use Rattle.std.specs.List.Sorted.{IsStrictlySortedBy}
 use Rattle.jc_code.specs.declared.code_fault.CodeFault.{CodeFault}
@@ -12,15 +12,15 @@ use Rattle.jc_code.specs.CodeRules.{Scope}
 use Rattle.jc_code.specs.CodeFaultOrder.{fault_cmp}
 use Rattle.jc_code.specs.CodeFaults.{code_of_method, faults_over, handler_breaks, insn_breaks, scope_of}
 
--- the instruction that stands at the place breaks the rule
+-- the instruction at the place breaks the rule
 abbrev pub AtInsn : CodeRule → Scope → List (ℕ × Insn) → ℕ → Type 0
 AtInsn rule s items place = (insn : Insn) × Contains items (place, insn) × IsTrue (insn_breaks rule s insn)
 
--- the handler of this number breaks it
+-- the handler of this number breaks the rule
 abbrev pub AtHandler : CodeRule → Scope → List Handler → ℕ → Type 0
 AtHandler rule s handlers n = (h : Handler) × (slice_get handlers n ≡ Some h) × IsTrue (handler_breaks rule s h)
 
--- the instructions end at the place, before the code does: then no other rule is looked at
+-- the instructions end at the place, before the code does; then no other rule is checked
 abbrev pub IsCut : CodeRule → Code → ℕ → ℕ → Type 0
 IsCut rule k end place = (rule ≡ rules.S1) × (end < length k.code) × (place ≡ end)
 
@@ -29,11 +29,11 @@ ViolatesIn rule c k items end place =
     IsCut rule k end place
     ⊎ (end ≡ length k.code) × (AtInsn rule (scope_of c k items) items place ⊎ AtHandler rule (scope_of c k items) k.handlers place)
 
--- the faults stand by rule and then by place, each once
+-- the faults are sorted by rule and then by place, without duplicates
 abbrev pub AreInOrder : ClassFile → Code → List (ℕ × Insn) → ℕ → Type 0
 AreInOrder c k items end = IsStrictlySortedBy fault_cmp (faults_over c k items end)
 
--- there is a fault for each place where a rule is broken, and no other
+-- the faults are exactly the places where a rule is broken
 abbrev pub AreExact : ClassFile → Code → List (ℕ × Insn) → ℕ → Type 0
 AreExact c k items end =
     (fault : CodeFault) → Contains (faults_over c k items end) fault ↔ ViolatesIn fault.rule c k items end fault.place

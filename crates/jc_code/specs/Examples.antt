@@ -1,7 +1,7 @@
--- Codes and the instructions that stand in them.
+-- Examples of codes and their instructions.
 use Rattle.std.specs.Prelude.{ℕ, pos, true, List, [], ◌∷◌}
 use Rattle.jc_code.specs.declared.insn.Insn.{Insn}
-use Rattle.jc_code.specs.declared.switch.TableSwitch.{TableSwitch}
+use Rattle.jc_code.specs.Switches.{TableSwitch}
 use Rattle.jc_code.specs.declared.insn.Insn.TheVariants as insns
 
 -- aload_0, invokespecial #1, return
@@ -11,7 +11,7 @@ plain_code = 0x2a ∷ 0xb7 ∷ 0 ∷ 1 ∷ 0xb1 ∷ []
 abbrev pub plain_insns : List (ℕ × Insn)
 plain_insns = (0, insns.Plain 0x2a) ∷ (1, insns.Invoke 0xb7 (record { 0 = 1 })) ∷ (4, insns.Plain 0xb1) ∷ []
 
--- nop, and a number that is no opcode
+-- nop, and a number that is not an opcode
 abbrev pub cut_code : List ℕ
 cut_code = 0 ∷ 0xca ∷ []
 
@@ -32,7 +32,7 @@ wide_code = 0xc4 ∷ 0x15 ∷ 0 ∷ 1 ∷ 0x57 ∷ 0xb1 ∷ []
 abbrev pub wide_insns : List (ℕ × Insn)
 wide_insns = (0, insns.Local 0x15 1 true) ∷ (4, insns.Plain 0x57) ∷ (5, insns.Plain 0xb1) ∷ []
 
--- a tableswitch from 1 to 2 whose targets are the return behind it
+-- a tableswitch from 1 to 2, whose targets are the return after it
 abbrev pub switch_code : List ℕ
 switch_code =
     0xaa ∷ 0 ∷ 0 ∷ 0 ∷ 0 ∷ 0 ∷ 0 ∷ 0x18 ∷ 0 ∷ 0 ∷ 0 ∷ 1 ∷ 0 ∷ 0 ∷ 0 ∷ 2

@@ -1,5 +1,5 @@
--- Which instructions are read from the front of bytes, by functions that compute: the law `codes_are_read` says that they
--- are what `Insns` defines.
+-- The instructions that are decoded from bytes, as functions that compute.
+-- The law `codes_are_read` says that they are the instructions of `Insns`.
 use Rattle.std.specs.Prelude.{ℕ, zero, suc, ◌+◌, ◌-◌, ◌*◌, ◌%◌, ◌^◌, ℤ, pos}
 use Rattle.std.specs.Prelude.{◌+ℤ◌, ◌-ℤ◌, int_le, nat_abs, true, false, List, [], ◌∷◌}
 use Rattle.std.specs.Prelude.{length, drop, Option, Some, None, if◌then◌else◌, nat_lt, option_and_then}
@@ -26,7 +26,7 @@ short_value xs = cast_signed w16 (big_number 2 xs)
 abbrev pub int_value : List ℕ → ℤ
 int_value xs = cast_signed w32 (big_number 4 xs)
 
--- the target that an instruction at a place tells by an offset
+-- the target of an instruction at a place, from its offset
 abbrev pub target_value : ℕ → List ℕ → ℤ
 target_value at xs = pos at +ℤ int_value xs
 
@@ -35,18 +35,18 @@ target_value at xs = pos at +ℤ int_value xs
 abbrev pub case_value : ℕ → List ℕ → Case
 case_value at xs = record { value = int_value xs; target = target_value at (drop 4 xs) }
 
--- how many bytes of pad stand behind the opcode of a switch at a place
+-- the number of bytes of the pad, which follows the opcode of a switch at a place
 abbrev pub pad : ℕ → ℕ
 pad at = 3 - at % 4
 
--- the default stands behind the pad, and then the two numbers of a tableswitch
+-- in a tableswitch the default target follows the pad, then the lowest and the highest value
 abbrev pub low_value : ℕ → List ℕ → ℤ
 low_value at xs = int_value (drop (pad at + 4) xs)
 
 abbrev pub high_value : ℕ → List ℕ → ℤ
 high_value at xs = int_value (drop (pad at + 8) xs)
 
--- how many targets a tableswitch has, where it is one
+-- the number of targets of a tableswitch; none if the lowest value is above the highest
 abbrev pub target_count : ℤ → ℤ → Option ℕ
 target_count low high = if int_le low high then Some (nat_abs (high -ℤ low) + 1) else None
 
@@ -68,7 +68,7 @@ table_switch_value at xs =
       };
     })
 
--- how many cases a lookupswitch tells
+-- the number of cases of a lookupswitch
 abbrev pub case_count : ℕ → List ℕ → ℕ
 case_count at xs = big_number 4 (drop (pad at + 4) xs)
 
@@ -87,7 +87,7 @@ lookup_switch_value at xs =
 
 -- ---- operands
 
--- behind `wide`: what is left behind the operands in their wide form
+-- what is left after operands in their wide form
 abbrev pub after_widened : Operands → List ℕ → Option (List ℕ)
 after_widened (operands.Local slots) xs = after 2 xs
 after_widened operands.Increment xs = after 4 xs
@@ -97,7 +97,7 @@ abbrev pub widened_value : ℕ → Operands → List ℕ → Insn
 widened_value opcode operands.Increment xs = insns.Increment (big_number 2 xs) (short_value (drop 2 xs)) true
 widened_value opcode what xs = insns.Local opcode (big_number 2 xs) true
 
--- the first byte, as an opcode with what stands behind it
+-- the kind of operands of the opcode in the first byte
 abbrev pub first_operands : List ℕ → Option Operands
 first_operands [] = None
 first_operands (opcode ∷ xs) = operands_of opcode
@@ -139,15 +139,15 @@ operands_value at opcode operands.Wide xs = wide_value xs
 
 -- ---- instructions
 
--- what is left behind the instruction at the front, which stands at a place
+-- what is left after the first instruction, which is at a place of the code
 unfoldable pub after_insn : ℕ → List ℕ → Option (List ℕ)
 after_insn at xs = option_and_then (λ what. after_operands at what (drop 1 xs)) (first_operands xs)
 
--- the instruction
+-- the first instruction
 unfoldable pub insn_value : ℕ → List ℕ → Insn
 insn_value at xs = option_map_or (λ what. operands_value at (big_number 1 xs) what (drop 1 xs)) (first_operands xs) (insns.Plain 0)
 
--- so many instructions at most, from a place on, and where they end
+-- at most `fuel` instructions from a place on, and where they end
 unfoldable pub insns_within : ℕ → ℕ → List ℕ → List (ℕ × Insn)
 insns_within zero at xs = []
 insns_within (suc fuel) at xs =
@@ -163,12 +163,12 @@ insns_from at xs = insns_within (length xs) at xs
 unfoldable pub end_from : ℕ → List ℕ → ℕ
 end_from at xs = end_within (length xs) at xs
 
--- ---- of a code
+-- ---- the instructions of a code
 
--- the instructions that stand in a code one after another from its front
+-- the instructions of a code, one after another from its start
 abbrev pub insns_of : List ℕ → List (ℕ × Insn)
 insns_of code = insns_from 0 code
 
--- and where they end
+-- the place where these instructions end
 abbrev pub end_of : List ℕ → ℕ
 end_of code = end_from 0 code

@@ -1,4 +1,4 @@
--- Instructions and how they are spelled, and the code of a method as instructions that stand one after another (JVMS 4.9.1, 6.5).
+-- Instructions and their bytes, and the code of a method as a sequence of instructions (JVMS 4.9.1, 6.5).
 use Rattle.std.specs.Prelude.{◌≡◌, ◌⊎◌, ℕ, ◌+◌, ◌%◌, ◌<◌, ◌^◌, ℤ, pos, ◌+ℤ◌}
 use Rattle.std.specs.Prelude.{◌-ℤ◌, ◌≤ℤ◌, FitsSigned, true, false, List, [], ◌∷◌, ◌++◌}
 use Rattle.std.specs.Prelude.{length, Option, Some, None, option_map, if◌then◌else◌, ◌==◌, ◌*◌, ◌/◌, take, drop}
@@ -11,13 +11,12 @@ use Rattle.jc_code.specs.declared.insn.Insn.TheVariants as insns
 use Rattle.jc_code.specs.declared.insn.LinkKind.{LinkKind}
 use Rattle.jc_code.specs.declared.insn.LinkKind.TheVariants as links
 use Rattle.jc_code.specs.declared.switch.Case.{Case}
-use Rattle.jc_code.specs.declared.switch.TableSwitch.{TableSwitch}
-use Rattle.jc_code.specs.declared.switch.LookupSwitch.{LookupSwitch}
+use Rattle.jc_code.specs.Switches.{TableSwitch, LookupSwitch}
 use Rattle.jc_code.specs.declared.opcode.Operands.{Operands}
 use Rattle.jc_code.specs.declared.opcode.Operands.TheVariants as operands
 use Rattle.jc_code.specs.Opcodes.{operands_of}
 
--- ---- opcodes that are spoken of by name
+-- ---- opcodes that definitions name
 
 abbrev pub iinc : ℕ
 iinc = 132
@@ -96,7 +95,7 @@ opcode_of (insns.Type opcode index) = opcode
 opcode_of (insns.NewArray element) = newarray
 opcode_of (insns.MultiNewArray index dimensions) = multianewarray
 
--- what the opcodes of Field do with the field that they name
+-- how an opcode of Field uses the field that it names
 abbrev pub field_use : ℕ → Option LinkKind
 field_use opcode =
     if opcode == getstatic then Some links.GetStatic
@@ -105,7 +104,7 @@ field_use opcode =
     else if opcode == putfield then Some links.PutField
     else None
 
--- what the opcodes of Invoke do with the method that they name
+-- how an opcode of Invoke uses the method that it names
 abbrev pub invoke_use : ℕ → Option LinkKind
 invoke_use opcode =
     if opcode == invokevirtual then Some links.InvokeVirtual
@@ -113,7 +112,7 @@ invoke_use opcode =
     else if opcode == invokestatic then Some links.InvokeStatic
     else None
 
--- what an instruction does with the reference that it names, and the index of that
+-- how an instruction uses the reference that it names, and the index of the reference
 abbrev pub link_use : Insn → Option (LinkKind × ℕ)
 link_use (insns.Field opcode index) = option_map (λ kind. (kind, index.0)) (field_use opcode)
 link_use (insns.Invoke opcode index) = option_map (λ kind. (kind, index.0)) (invoke_use opcode)
@@ -121,7 +120,7 @@ link_use (insns.InvokeInterface index count last) = Some (links.InvokeInterface,
 link_use (insns.Type opcode index) = if opcode == new then Some (links.New, index.0) else None
 link_use insn = None
 
--- ---- how an instruction is spelled
+-- ---- the bytes of an instruction
 
 -- signed numbers, in two's complement
 abbrev pub byte_bytes : ℤ → List ℕ
@@ -133,15 +132,15 @@ short_bytes z = big_bytes 2 (cast_unsigned w16 z)
 abbrev pub int_bytes : ℤ → List ℕ
 int_bytes z = big_bytes 4 (cast_unsigned w32 z)
 
--- how far a target lies behind the instruction at a place
+-- the distance from an instruction at a place to its target
 abbrev pub offset_to : ℕ → ℤ → ℤ
 offset_to at target = target -ℤ pos at
 
--- what stands behind the opcode
+-- an opcode has operands of this kind
 abbrev pub Has : ℕ → Operands → Type 0
 Has opcode what = operands_of opcode ≡ Some what
 
--- so many bytes of pad stand between the opcode of a switch and its default, which begins at a multiple of four from the front of the code
+-- the bytes between the opcode of a switch and its default target, which begins at a multiple of four from the start of the code
 abbrev pub IsPad : ℕ → List ℕ → Type 0
 IsPad at pad = (length pad < 4) × ((at + 1 + length pad) % 4 ≡ 0)
 
@@ -182,7 +181,7 @@ pub record IsLookupSwitch (at : ℕ) (switch : LookupSwitch) (s : List ℕ) : Ty
       s ≡ lookupswitch ∷ pad ++ target_bytes at switch.default ++ big_bytes 4 (length switch.cases.left)
       ++ flat_map (case_bytes at) switch.cases.left
 
--- the bytes are an instruction that stands at a place of the code
+-- the bytes are those of an instruction at a place of the code
 abbrev pub IsSpelling : ℕ → Insn → List ℕ → Type 0
 IsSpelling at (insns.Plain opcode) s =
     (Has opcode operands.Empty ⊎ (index : ℕ) × (slots : ℕ) × Has opcode (operands.ImplicitLocal index slots))
@@ -220,7 +219,7 @@ IsSpelling at (insns.MultiNewArray index dimensions) s =
 
 -- ---- code
 
--- the instruction stands in the code at a place, with this spelling
+-- the code has the instruction at a place, as these bytes
 pub record StandsAs (code : List ℕ) (at : ℕ) (insn : Insn) (s : List ℕ) : Type 0 where
   pub before : List ℕ
   pub behind : List ℕ
@@ -231,7 +230,7 @@ pub record StandsAs (code : List ℕ) (at : ℕ) (insn : Insn) (s : List ℕ) : 
 abbrev pub Stands : List ℕ → ℕ → Insn → Type 0
 Stands code at insn = (s : List ℕ) × StandsAs code at insn s
 
--- these instructions stand one after another from a place up to an end, where none stands
+-- the code has exactly these instructions from a place to an end, one after another, and no instruction at the end
 abbrev pub StandFrom : List ℕ → ℕ → List (ℕ × Insn) → ℕ → Type 0
 StandFrom code at [] end = (at ≡ end) × ((insn : Insn) → ¬ Stands code end insn)
 StandFrom code at (item ∷ items) end =
@@ -241,17 +240,17 @@ StandFrom code at (item ∷ items) end =
 abbrev pub IsCode : List ℕ → List (ℕ × Insn) → ℕ → Type 0
 IsCode code items end = StandFrom code 0 items end
 
--- ---- where the table of a switch stands
+-- ---- the place of a switch's table
 
--- the first multiple of four behind a place
+-- the first multiple of four after a place
 abbrev pub aligned : ℕ → ℕ
 aligned at = 4 * (at / 4 + 1)
 
--- the targets stand behind the default, the lowest and the highest value
+-- the targets follow the default target, the lowest and the highest value
 abbrev pub targets_place : ℕ → ℕ
 targets_place at = aligned at + 12
 
--- the cases stand behind the default and their count
+-- the cases follow the default target and their count
 abbrev pub cases_place : ℕ → ℕ
 cases_place at = aligned at + 8
 
@@ -259,12 +258,12 @@ cases_place at = aligned at + 8
 abbrev pub IsPartAt : List ℕ → ℕ → List ℕ → Type 0
 IsPartAt code place bytes = take (length bytes) (drop place code) ≡ bytes
 
--- the bytes of the targets of a switch that stands at a place are the part of the code there
+-- the bytes of the targets of a tableswitch are the part of the code where its table is
 abbrev pub TargetsLieIn : List ℕ → ℕ → TableSwitch → Type 0
 TargetsLieIn code at switch =
     IsPartAt code (targets_place at) (flat_map (target_bytes switch.targets.place) switch.targets.left)
 
--- and those of the cases
+-- the bytes of the cases of a lookupswitch are the part of the code where its table is
 abbrev pub CasesLieIn : List ℕ → ℕ → LookupSwitch → Type 0
 CasesLieIn code at switch =
     IsPartAt code (cases_place at) (flat_map (case_bytes switch.cases.place) switch.cases.left)

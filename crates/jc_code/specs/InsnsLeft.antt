@@ -1,4 +1,4 @@
--- What an iterator over instructions has still to give.
+-- What is left of an iterator over instructions.
 use Rattle.std.specs.Prelude.{◌≡◌, ℕ, List, [], ◌∷◌, Option}
 use Rattle.std.specs.Option.{MatchOption}
 use Rattle.jc_code.specs.declared.insn.Insn.{Insn}
@@ -9,7 +9,7 @@ pub record InsnsLeft : Type 0 where
   pub left : List (ℕ × Insn)
   pub end : ℕ
 
--- one step: the first that is left, which stands at the place reached; and where none is, the end is reached
+-- one step: the first instruction that is left, which is at the place reached. If none is left, the end is reached
 abbrev pub GivesInsn : InsnsLeft → Option (ℕ × Insn) → InsnsLeft → Type 0
 GivesInsn old result new =
     (new.end ≡ old.end)

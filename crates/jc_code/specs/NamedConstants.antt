@@ -1,4 +1,4 @@
--- Which constants the code of a method names: instructions, and exception handlers (JVMS 4.7.3, 6.5).
+-- The constants that the instructions and the exception handlers of a code name (JVMS 4.7.3, 6.5).
 use Rattle.std.specs.Prelude.{ℕ, List, [], ◌++◌, map, Option, Some, None}
 use Rattle.std.specs.List.{flat_map}
 use Rattle.std.specs.Option.{option_map_or, option_to_list}
@@ -20,14 +20,14 @@ named_by_insn (insns.Type opcode index) = Some index
 named_by_insn (insns.MultiNewArray index dimensions) = Some index
 named_by_insn insn = None
 
--- in their order
+-- the constants that several instructions name, in their order
 abbrev pub named_by_insns : List (ℕ × Insn) → List ConstantIndex
 named_by_insns items = flat_map (λ item. option_to_list (named_by_insn item.1)) items
 
--- by its instructions, and by its handlers
+-- the constants that a code names: its instructions, then its handlers
 abbrev pub named_by_code : Code → List ConstantIndex
 named_by_code k = named_by_insns (insns_of k.code) ++ map (λ h. h.catch_type) k.handlers
 
--- by a method with exactly one well-formed Code
+-- the constants that a method's code names, if it has exactly one well-formed Code
 abbrev pub named_by_method : ClassFile → Member → List ConstantIndex
 named_by_method c m = option_map_or named_by_code (code_of_member c m) []

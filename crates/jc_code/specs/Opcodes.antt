@@ -1,4 +1,4 @@
--- The opcodes, their mnemonics and what stands behind them (JVMS 6.5, 7).
+-- The opcodes, their mnemonics and their kinds of operands (JVMS 6.5, 7).
 use Rattle.std.specs.Prelude.{◌≡◌, ℕ, ◌+◌, Bool, true, ◌&&◌, ◌==◌, length, ⊤, List, [], ◌∷◌}
 use Rattle.std.specs.Prelude.{◌++◌, map, Option, Some, None, slice_get, nat_lt, if◌then◌else◌, codes}
 use Rattle.std.specs.List.{flat_map}
@@ -10,7 +10,7 @@ pub record Entry : Type 0 where
   pub mnemonic : List ℕ
   pub operands : Operands
 
--- opcodes that follow one another and are followed by the same: the number of the first, and their mnemonics
+-- consecutive opcodes with the same kind of operands: the number of the first, and their mnemonics
 pub record Group : Type 0 where
   pub first : ℕ
   pub mnemonics : List (List ℕ)
@@ -19,7 +19,7 @@ pub record Group : Type 0 where
 abbrev from : ℕ → List (List ℕ) → Operands → List Group
 from first mnemonics operands = record { first = first; mnemonics = mnemonics; operands = operands } ∷ []
 
--- a load or a store that tells its local variable by the opcode: with _0 to _3 behind its mnemonic
+-- the loads or stores whose opcode implies the local variable: the mnemonic with _0 to _3 appended
 abbrev by_number : ℕ → List ℕ → ℕ → List Group
 by_number first mnemonic slots =
     from first ((mnemonic ++ codes "_0") ∷ []) (operands.ImplicitLocal 0 slots)
@@ -99,7 +99,7 @@ groups =
     ++ from 198 (codes "ifnull" ∷ codes "ifnonnull" ∷ []) operands.Branch
     ++ from 200 (codes "goto_w" ∷ codes "jsr_w" ∷ []) operands.WideBranch
 
--- each group begins with the number of opcodes in those before it
+-- each group begins with the number of opcodes of the groups before it
 abbrev pub begin_in_order : ℕ → List Group → Bool
 begin_in_order number [] = true
 begin_in_order number (group ∷ others) = group.first == number && begin_in_order (number + length group.mnemonics) others
@@ -123,7 +123,7 @@ operands_of opcode = option_map (λ entry. entry.operands) (slice_get opcodes op
 
 -- ---- lengths
 
--- how many bytes stand behind an opcode, where that is always the same
+-- the number of bytes of operands, if it is always the same
 abbrev pub operand_size : Operands → ℕ
 operand_size operands.Empty = 0
 operand_size (operands.ImplicitLocal index slots) = 0
@@ -152,6 +152,6 @@ HasSize operands.LookupSwitch = ⊥
 HasSize operands.Wide = ⊥
 HasSize what = ⊤
 
--- behind the opcode stand as many bytes as the sort of its operands says, where that is always the same
+-- the operands of an opcode have the number of bytes of their kind, if it is always the same
 abbrev pub IsSized : ℕ → List ℕ → Type 0
 IsSized opcode s = (what : Operands) → operands_of opcode ≡ Some what → HasSize what → length s ≡ operand_size what

@@ -1,19 +1,31 @@
--- What the table of a switch has still to give, as data (JVMS 6.5).
+-- Switches and the iterators over their tables, as data (JVMS 6.5).
 use Rattle.std.specs.Prelude.{◌≡◌, ℕ, ℤ, List, [], ◌∷◌, Option}
 use Rattle.std.specs.Option.{MatchOption}
 use Rattle.jc_code.specs.declared.switch.Case.{Case}
 
--- targets of a tableswitch that stands at a place in the code
+-- the targets of a tableswitch at a place of the code
 pub record TargetsLeft : Type 0 where
   pub place : ℕ
   pub left : List ℤ
 
--- values of a lookupswitch, and their targets
+-- the cases of a lookupswitch at a place of the code
 pub record CasesLeft : Type 0 where
   pub place : ℕ
   pub left : List Case
 
--- one step: the first that is left
+-- the target for all other values, the lowest and the highest value, and the targets of the values between them
+pub record TableSwitch : Type 0 where
+  pub default : ℤ
+  pub low : ℤ
+  pub high : ℤ
+  pub targets : TargetsLeft
+
+-- the target for all other values, and the cases
+pub record LookupSwitch : Type 0 where
+  pub default : ℤ
+  pub cases : CasesLeft
+
+-- one step of an iterator: the first item that is left
 abbrev pub GivesTarget : TargetsLeft → Option ℤ → TargetsLeft → Type 0
 GivesTarget old result new =
     (new.place ≡ old.place) × MatchOption result ((old.left ≡ []) × (new.left ≡ [])) (λ target. old.left ≡ target ∷ new.left)

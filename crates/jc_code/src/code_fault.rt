@@ -3,19 +3,20 @@
 ghost use Rattle.std.specs.Prelude.{◌≡◌};
 ghost use Rattle.jc_code.specs.CodeFaultOrder.{rule_number};
 
-/// A static constraint of a method's code. A rule over an entry or a text that is missing, or of the
-/// wrong kind, is not broken unless it asks for that itself.
+/// A static constraint of a method's code.
+///
+/// An entry or a text that is missing or of the wrong kind breaks only the rules that require it.
 #[derive(Clone, Copy, PartialEq, Eq)]
 pub enum CodeRule {
-    /// Instructions stand from the first byte of the code to its last (JVMS 4.9.1).
+    /// The code consists of instructions, from its first byte to its last (JVMS 4.9.1).
     S1,
     /// There is no `jsr` and no `jsr_w` (JVMS 4.9.1).
     S2,
     /// The target of a branch is an instruction of the method (JVMS 4.9.1).
     S3,
-    /// So is each target of a switch (JVMS 4.9.1).
+    /// Each target of a switch is an instruction of the method (JVMS 4.9.1).
     S4,
-    /// The values of a `lookupswitch` rise (JVMS 6.5, lookupswitch).
+    /// The values of a `lookupswitch` are in strictly ascending order (JVMS 6.5, lookupswitch).
     S5,
     /// `ldc` and `ldc_w` load an `Integer`, a `Float`, a `String`, a `Class`, a `MethodType` or a
     /// `MethodHandle` (JVMS 4.9.1).
@@ -31,38 +32,39 @@ pub enum CodeRule {
     S10,
     /// `invokeinterface` names an `InterfaceMethodref` (JVMS 4.9.1).
     S11,
-    /// Its count is that of the slots of the descriptor's parameters and of the receiver (JVMS 4.9.1).
+    /// The count of `invokeinterface` is the number of slots of the descriptor's parameters and of the
+    /// receiver (JVMS 4.9.1).
     S12,
-    /// Its last byte is 0 (JVMS 4.9.1).
+    /// The last byte of `invokeinterface` is 0 (JVMS 4.9.1).
     S13,
     /// `invokedynamic` names an `InvokeDynamic` (JVMS 4.9.1).
     S14,
-    /// Its last two bytes are 0 (JVMS 4.9.1).
+    /// The last two bytes of `invokedynamic` are 0 (JVMS 4.9.1).
     S15,
-    /// Only `invokespecial` invokes `<init>`, and nothing another method whose name begins with `<`
-    /// (JVMS 4.9.1).
+    /// Only `invokespecial` invokes `<init>`, and no instruction invokes another method whose name
+    /// begins with `<` (JVMS 4.9.1).
     S16,
     /// `new`, `anewarray`, `checkcast`, `instanceof` and `multianewarray` name a `Class` (JVMS 4.9.1).
     S17,
-    /// `new` makes no array (JVMS 4.9.1).
+    /// `new` does not create an array (JVMS 4.9.1).
     S18,
-    /// `anewarray` makes no array of more than 255 dimensions (JVMS 4.9.1).
+    /// `anewarray` does not create an array of more than 255 dimensions (JVMS 4.9.1).
     S19,
-    /// `multianewarray` makes at least one dimension, and no more than the class has (JVMS 4.9.1).
+    /// `multianewarray` creates at least one dimension, and no more than the class has (JVMS 4.9.1).
     S20,
-    /// `newarray` tells a primitive type: 4 to 11 (JVMS 4.9.1).
+    /// `newarray` has the number of a primitive type, 4 to 11 (JVMS 4.9.1).
     S21,
-    /// A local variable lies below max_locals, with both slots of a `long` or a `double` (JVMS 4.9.1).
+    /// A local variable is below `max_locals`, with both slots of a `long` or a `double` (JVMS 4.9.1).
     S22,
-    /// A handler is for the instructions from one to another or to the end of the code, and begins
-    /// with one (JVMS 4.7.3).
+    /// A handler's range is from one instruction to a later one or to the end of the code, and its
+    /// `handler_pc` is an instruction (JVMS 4.7.3).
     S23,
-    /// A handler catches a `Class`, or anything (JVMS 4.7.3).
+    /// A handler catches a `Class`, or everything (JVMS 4.7.3).
     S24,
 }
 
 impl CodeRule {
-    /// Its number, from 1.
+    /// Returns the number of the rule, from 1.
     pub fn number(self) -> u8
         ensures { result ≡ rule_number self }
     {
@@ -123,8 +125,9 @@ impl CodeRule {
     ];
 }
 
-/// Where a rule is broken: the offset of the instruction in the code, or of S23 and S24 the number of
-/// the handler from 0.
+/// A place where a rule is broken.
+///
+/// The place is the offset of the instruction or, for S23 and S24, the number of the handler, from 0.
 #[derive(Clone, Copy, PartialEq, Eq)]
 pub struct CodeFault {
     pub rule: CodeRule,

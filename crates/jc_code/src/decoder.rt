@@ -1,4 +1,4 @@
-//! The instruction at a cursor (JVMS 6.5).
+//! Decoding of an instruction (JVMS 6.5).
 
 ghost use Rattle.std.specs.Prelude.{◌≡◌, ◌+◌, ◌<◌, ◌^◌, Some, length};
 ghost use Rattle.jc_view.specs.Reading.{after};
@@ -7,16 +7,16 @@ ghost use Rattle.jc_code.specs.declared.opcode.Operands.TheVariants as operands;
 ghost use Rattle.jc_code.specs.InsnReading.{pad, target_count, after_insn, after_lookup_switch, after_operands};
 ghost use Rattle.jc_code.specs.InsnReading.{after_table_switch, after_wide, after_widened, insn_value, lookup_switch_value};
 ghost use Rattle.jc_code.specs.InsnReading.{operands_value, table_switch_value, wide_value, widened_value};
-ghost use Rattle.jc_code.specs.inside.Decoding.{same, LendsOperands, table_head_value, lookup_head_value};
+ghost use Rattle.jc_code.specs.inside.Decoding.{same, LendsOperands, table_size, lookup_size};
 
 use crate::insn::Insn;
-use crate::numbers::{read_byte, read_int, read_short, target};
+use crate::numbers::{int_at, read_byte, read_int, read_short, target, word_at};
 use crate::opcode::{Opcode, Operands};
-use crate::switch::{Cases, LookupSwitch, TableSwitch, Targets};
+use crate::switch::{LookupSwitch, TableSwitch};
 use jc_base::Cursor;
 use jc_view::{ConstantIndex, read_index};
 
-/// The instruction at the cursor, whose place counts from the front of the code.
+/// Reads an instruction. The cursor's place is the offset from the start of the code.
 #[tactic(auto, unfolding(crate::specs::InsnReading::after_insn, crate::specs::InsnReading::insn_value))]
 pub(crate) fn read_insn<'a>(cursor: &mut Cursor<'a>) -> Option<Insn<'a>>
     requires { cursor.old.place + length cursor.old.rest < 2 ^ 16 }
@@ -27,7 +27,7 @@ pub(crate) fn read_insn<'a>(cursor: &mut Cursor<'a>) -> Option<Insn<'a>>
     read_operands(place, opcode, cursor)
 }
 
-/// The instruction at a place whose opcode stands before the cursor.
+/// Reads the operands of an instruction at a place, after its opcode.
 fn read_operands<'a>(place: u32, opcode: Opcode, cursor: &mut Cursor<'a>) -> Option<Insn<'a>>
     requires { cursor.old.place + length cursor.old.rest < 2 ^ 16 }
     ensures { LendsOperands (after_operands place) (operands_value place opcode) opcode cursor.old result cursor.new }
@@ -134,7 +134,7 @@ fn read_multi_new_array<'a>(cursor: &mut Cursor<'a>) -> Option<Insn<'a>>
     Some(Insn::MultiNewArray { index, dimensions })
 }
 
-/// What stands behind `wide`: an opcode and its operands in their wide form.
+/// Reads what follows `wide`: an opcode, and its operands in their wide form.
 fn read_wide<'a>(cursor: &mut Cursor<'a>) -> Option<Insn<'a>>
     ensures { Lends same after_wide wide_value cursor.old result cursor.new }
 {
@@ -142,7 +142,7 @@ fn read_wide<'a>(cursor: &mut Cursor<'a>) -> Option<Insn<'a>>
     read_widened(opcode, cursor)
 }
 
-/// A load, a store, `ret` or `iinc`, with operands of two bytes.
+/// Reads the operands of a load, a store, `ret` or `iinc`, of two bytes each.
 fn read_widened<'a>(opcode: Opcode, cursor: &mut Cursor<'a>) -> Option<Insn<'a>>
     ensures { LendsOperands after_widened (widened_value opcode) opcode cursor.old result cursor.new }
 {
@@ -165,7 +165,7 @@ fn read_widened<'a>(opcode: Opcode, cursor: &mut Cursor<'a>) -> Option<Insn<'a>>
     }
 }
 
-/// Takes the pad of a switch at a place: up to the next multiple of four from the front of the code.
+/// Skips the pad of a switch at a place: the bytes up to the next multiple of four from the start of the code.
 fn skip_pad(place: u32, cursor: &mut Cursor) -> Option<()>
     ensures { Lends same (after (pad place)) (λ _. tt) cursor.old result cursor.new }
 {
@@ -174,45 +174,31 @@ fn skip_pad(place: u32, cursor: &mut Cursor) -> Option<()>
     Some(())
 }
 
-/// What stands before the table of a `tableswitch`.
-#[derive(Clone, Copy)]
-struct TableHead {
-    default: i64,
-    low: i32,
-    high: i32,
-}
-
-fn read_table_head(place: u32, cursor: &mut Cursor) -> Option<TableHead>
-    ensures { Lends same (after (pad place + 12)) (table_head_value place) cursor.old result cursor.new }
-{
-    skip_pad(place, cursor)?;
-    let offset = read_int(cursor)?;
-    let default = target(place, offset);
-    let low = read_int(cursor)?;
-    let high = read_int(cursor)?;
-    Some(TableHead { default, low, high })
-}
-
+/// Reads the operands of a `tableswitch` at a place.
 fn read_table_switch<'a>(place: u32, cursor: &mut Cursor<'a>) -> Option<Insn<'a>>
     requires { cursor.old.place + length cursor.old.rest < 2 ^ 16 }
     ensures { Lends same (after_table_switch place) (table_switch_value place) cursor.old result cursor.new }
 {
-    let head = read_table_head(place, cursor)?;
-    let count = target_count(head.low, head.high)?;
-    let table = cursor.part(4 * count)?;
-    Some(Insn::TableSwitch(TableSwitch {
-        default: head.default,
-        low: head.low,
-        high: head.high,
-        targets: Targets {
-            place,
-            left: count as u16,
-            cursor: table,
-        },
-    }))
+    skip_pad(place, cursor)?;
+    let size = table_size(cursor.rest())?;
+    let bytes = cursor.take(size)?;
+    Some(Insn::TableSwitch(TableSwitch { place, bytes }))
 }
 
-/// How many values there are from the lowest to the highest; `None` where the lowest is above it.
+/// Returns the number of bytes of a `tableswitch` from its default target on.
+///
+/// `None` if the bytes before the targets are not all there, or if the lowest value is above the highest.
+fn table_size(bytes: &[u8]) -> Option<usize>
+    ensures { result ≡ table_size bytes.now }
+{
+    if bytes.len() < 12 {
+        return None;
+    }
+    let count = target_count(int_at(bytes, 4), int_at(bytes, 8))?;
+    Some(12 + 4 * count)
+}
+
+/// Returns the number of values from the lowest to the highest, or `None` if the lowest is above the highest.
 fn target_count(low: i32, high: i32) -> Option<usize>
     ensures { result ≡ target_count low high }
 {
@@ -222,38 +208,29 @@ fn target_count(low: i32, high: i32) -> Option<usize>
     Some((i64::from(high) - i64::from(low) + 1) as usize)
 }
 
-/// What stands before the table of a `lookupswitch`.
-#[derive(Clone, Copy)]
-struct LookupHead {
-    default: i64,
-    count: u32,
-}
-
-fn read_lookup_head(place: u32, cursor: &mut Cursor) -> Option<LookupHead>
-    ensures { Lends same (after (pad place + 8)) (lookup_head_value place) cursor.old result cursor.new }
-{
-    skip_pad(place, cursor)?;
-    let offset = read_int(cursor)?;
-    let default = target(place, offset);
-    let count = cursor.u4()?;
-    Some(LookupHead { default, count })
-}
-
+/// Reads the operands of a `lookupswitch` at a place.
 fn read_lookup_switch<'a>(place: u32, cursor: &mut Cursor<'a>) -> Option<Insn<'a>>
     requires { cursor.old.place + length cursor.old.rest < 2 ^ 16 }
     ensures { Lends same (after_lookup_switch place) (lookup_switch_value place) cursor.old result cursor.new }
 {
-    let head = read_lookup_head(place, cursor)?;
-    if head.count >= 1 << 31 {
+    skip_pad(place, cursor)?;
+    let size = lookup_size(cursor.rest())?;
+    let bytes = cursor.take(size)?;
+    Some(Insn::LookupSwitch(LookupSwitch { place, bytes }))
+}
+
+/// Returns the number of bytes of a `lookupswitch` from its default target on.
+///
+/// `None` if the bytes before the cases are not all there, or if the number of cases is negative.
+fn lookup_size(bytes: &[u8]) -> Option<usize>
+    ensures { result ≡ lookup_size bytes.now }
+{
+    if bytes.len() < 8 {
         return None;
     }
-    let table = cursor.part(8 * head.count as usize)?;
-    Some(Insn::LookupSwitch(LookupSwitch {
-        default: head.default,
-        cases: Cases {
-            place,
-            left: head.count as u16,
-            cursor: table,
-        },
-    }))
+    let count = word_at(bytes, 4);
+    if count >= 1 << 31 {
+        return None;
+    }
+    Some(8 + 8 * count as usize)
 }

@@ -7,8 +7,8 @@ ghost use Rattle.jc_code.specs.declared.insn.Insn.{Insn};
 ghost use Rattle.jc_code.specs.Insns.{IsCode};
 ghost use Rattle.jc_code.specs.CodeViolations.{AreExact, AreInOrder};
 
-/// The faults of a code stand by rule and then by place, each once, and there is one for each place
-/// where a rule is broken.
+/// The faults of a code are sorted by rule and then by place, without duplicates. They are exactly the
+/// places where a rule is broken.
 pub fn faults_are_exact()
     ensures rising { (c : ClassFile) (k : Code) (items : List (ℕ × Insn)) (end : ℕ) → IsCode k.code items end
         → AreInOrder c k items end }

@@ -36,12 +36,13 @@ use jc_base::NoMemory;
 use jc_view::{ClassView, Code, ConstantIndex, ExceptionHandler, Member};
 use std::alloc::Global;
 
-/// All places of a method's code where a static constraint is broken, by rule and then by place: only
-/// S1 where no instruction stands at some offset. Nothing for a method that has not exactly one
-/// well-formed `Code`, and nothing where no method has this number.
+/// Returns all places of a method's code where a static constraint is broken, by rule and then by place.
 ///
-/// Answers `NoMemory` only where memory was refused. To go through all methods of a class, call
-/// `faults_in` with the code of each: this looks for the method by its number.
+/// If the code does not consist of instructions to its end, S1 is the only fault. A method without
+/// exactly one well-formed `Code` has no fault, nor does a number without a method.
+///
+/// Returns `NoMemory` only when an allocation fails. To check all methods of a class, call `faults_in`
+/// with the code of each, because this function first searches for the method.
 pub fn code_faults(
     alloc: Global,
     class: &ClassView,
@@ -56,7 +57,7 @@ pub fn code_faults(
     list_method_faults(alloc, class, method)
 }
 
-/// The faults of the method of a number, in their order.
+/// Returns the faults of a method in their order, by the method's number.
 fn list_method_faults(
     alloc: Global,
     class: &ClassView,
@@ -70,7 +71,7 @@ fn list_method_faults(
     }
 }
 
-/// The faults of a method of the class, in their order.
+/// Returns the faults of a method of the class, in their order.
 fn list_member_faults(
     alloc: Global,
     class: &ClassView,
@@ -86,7 +87,7 @@ fn list_member_faults(
     }
 }
 
-/// The code of a method, where it has exactly one well-formed `Code` (JVMS 4.7.3).
+/// Returns the code of a method, if it has exactly one well-formed `Code` (JVMS 4.7.3).
 pub fn method_code<'v, 'a>(member: &Member<'v, 'a>) -> Option<Code<'v, 'a>>
     ensures { member.now.member.holder ≡ holders.Method
         → option_map (λ lent. lent.code) result ≡ code_of_member member.now.class member.now.member.member }
@@ -103,9 +104,10 @@ pub fn method_code<'v, 'a>(member: &Member<'v, 'a>) -> Option<Code<'v, 'a>>
     found
 }
 
-/// The faults of a code of the class whose sizes these are: made once, they serve all its methods.
+/// Returns the faults of the code of a method, in the order of [`code_faults`].
 ///
-/// Answers `NoMemory` only where memory was refused.
+/// The sizes are those of the method's class, and are computed once for all its methods. Returns
+/// `NoMemory` only when an allocation fails.
 pub fn faults_in(alloc: Global, sizes: &TextSizes, code: &Code) -> Result<Vec<CodeFault>, NoMemory>
     ensures listed { IfOk result (λ found. AreFaultsOf sizes.now code.now.code found.items) }
     ensures violated { IfOk result (λ found. (fault : CodeFault)
@@ -157,7 +159,9 @@ pub fn faults_and_uses(
     }
 }
 
-/// The faults of the code of a method, in their order. Appends all uses, and all constants that the code names.
+/// Returns the faults of the code of a method, in their order.
+///
+/// Appends all uses, and all constants that the code names.
 fn list_and_name(
     alloc: Global,
     sizes: &TextSizes,
@@ -177,7 +181,7 @@ fn list_and_name(
     Ok(faults)
 }
 
-/// The faults of a code, in their order.
+/// Returns the faults of a code, in their order.
 fn faults_alone(alloc: Global, sizes: &TextSizes, code: &Code) -> Result<Vec<CodeFault>, NoMemory>
     ensures { IfOk result (λ found. AreFaultsOf sizes.now code.now.code found.items) }
 {
@@ -186,7 +190,9 @@ fn faults_alone(alloc: Global, sizes: &TextSizes, code: &Code) -> Result<Vec<Cod
     list_faults(alloc, sizes, code, 0, &mut uses, &mut names)
 }
 
-/// The faults of the code of a method, in their order. Appends all uses, and the constants that instructions name.
+/// Returns the faults of the code of a method, in their order.
+///
+/// Appends all uses, and the constants that instructions name.
 fn list_faults(
     alloc: Global,
     sizes: &TextSizes,
@@ -206,7 +212,7 @@ fn list_faults(
     list_passed(alloc, sizes, code, pass)
 }
 
-/// The faults of a code that was looked at once.
+/// Returns the faults of a code, from the result of the pass over its instructions.
 fn list_passed(
     alloc: Global,
     sizes: &TextSizes,
@@ -226,8 +232,9 @@ fn list_passed(
     list_all(alloc, &scope, code, end, &jumps, &mut found)
 }
 
-/// The faults that were found, and those of the instructions with targets and of the handlers: only S1 if the instructions
-/// end before the code does.
+/// Returns the faults that were found, with the faults of the instructions with targets and of the handlers.
+///
+/// If the instructions end before the code does, S1 is the only fault.
 fn list_all(
     alloc: Global,
     scope: &Scope,
@@ -248,7 +255,7 @@ fn list_all(
     by_rule(alloc, found)
 }
 
-/// The fault of a code whose instructions end here, before the code does.
+/// Returns the fault of a code whose instructions end at a place before the end of the code.
 fn only_s1(alloc: Global, place: u32) -> Result<Vec<CodeFault>, NoMemory>
     ensures { IfOk result (λ faults. faults.items ≡ fault_at rules.S1 place ∷ []) }
 {
@@ -257,7 +264,7 @@ fn only_s1(alloc: Global, place: u32) -> Result<Vec<CodeFault>, NoMemory>
     Ok(faults)
 }
 
-/// What the rules look at in a code, with these starts of instructions.
+/// Returns the scope of the rules in a code, with these starts of instructions.
 fn scope_with<'c, 'a>(sizes: &'c TextSizes<'c, 'a>, code: &Code, starts: Starts) -> Scope<'c, 'a>
     ensures { result ≡ scope_with sizes.now code.now.code starts }
 {
@@ -297,7 +304,7 @@ fn add_handler_faults(
     Ok(())
 }
 
-/// Adds the faults of an exception handler of this number.
+/// Adds the faults of the exception handler of a number.
 #[tactic(auto, unfolding(crate::specs::CodeFaults::handler_breaks))]
 fn add_of_handler(
     found: &mut Vec<CodeFault>,

@@ -1,4 +1,4 @@
-//! One look at each instruction of a code, in their order.
+//! One pass over the instructions of a method's code.
 
 ghost use Rattle.std.specs.Prelude.{◌≡◌, ◌<◌, ◌^◌, ◌++◌, ◌∷◌, [], cond, length, IfOk, OnOk};
 ghost use Rattle.jc_code.specs.InsnReading.{insns_of};
@@ -20,8 +20,10 @@ use jc_base::NoMemory;
 use jc_view::ConstantIndex;
 use std::alloc::Global;
 
-/// What one look finds: where instructions start and where they end, those whose targets are still to be compared with
-/// the starts, with their places, and the faults of all others.
+/// What one pass finds: where instructions start, where they end, and the faults of the instructions without targets.
+///
+/// The instructions with targets, and their offsets, are in `jumps`. Their targets can be checked only when all starts are
+/// known.
 #[derive(Drop)]
 pub(crate) struct FirstPass<'a> {
     pub(crate) starts: Starts,
@@ -30,8 +32,9 @@ pub(crate) struct FirstPass<'a> {
     pub(crate) found: Vec<CodeFault>,
 }
 
-/// Looks at each instruction of the code of a method once. No start is known to the scope. Appends uses, and the constants
-/// that instructions name.
+/// Decodes each instruction of a method's code once, with a scope that has no starts yet.
+///
+/// Appends the uses of references to `uses`, and the constants that instructions name to `names`.
 pub(crate) fn first_pass<'a>(
     alloc: Global,
     scope: &Scope,
@@ -55,7 +58,11 @@ pub(crate) fn first_pass<'a>(
         marks[place as usize] = true;
         push_use(uses, method, place as u16, &insn)?;
         push_named(names, &insn)?;
-        look(&mut found, &mut jumps, scope, place, insn)?;
+        if has_targets(&insn) {
+            jumps.push((place, insn))?;
+        } else {
+            add_insn_faults(&mut found, scope, place, &insn)?;
+        }
     }
     Ok(FirstPass {
         starts: Starts { marks },
@@ -65,25 +72,7 @@ pub(crate) fn first_pass<'a>(
     })
 }
 
-/// Adds an instruction with targets to the others of its sort, or else its faults.
-fn look<'a>(
-    found: &mut Vec<CodeFault>,
-    jumps: &mut Vec<(u32, Insn<'a>)>,
-    scope: &Scope,
-    place: u32,
-    insn: Insn<'a>,
-) -> Result<(), NoMemory>
-    ensures jumps { OnOk result (jumps.new.items ≡ jumps.old.items ++ cond (has_targets insn.entry) ((place, insn.entry) ∷ []) []) }
-    ensures found { OnOk result (found.new.items ≡ found.old.items ++ cond (has_targets insn.entry) [] (insn_faults scope.now (place, insn.entry))) }
-{
-    if has_targets(&insn) {
-        jumps.push((place, insn))?;
-        return Ok(());
-    }
-    add_insn_faults(found, scope, place, &insn)
-}
-
-/// Whether the rules over an instruction ask where instructions start.
+/// Returns whether the rules over an instruction need the starts of instructions.
 fn has_targets(insn: &Insn) -> bool
     ensures { result ≡ has_targets insn.now }
 {

@@ -8,11 +8,12 @@ use crate::opcode::Opcode;
 use crate::switch::{LookupSwitch, TableSwitch};
 use jc_view::ConstantIndex;
 
-/// An instruction and its operands. Targets are exact: offsets from the front of the code, that can
-/// lie outside it, below 0 too.
+/// An instruction and its operands.
+///
+/// A target is an offset from the start of the code. It can be negative or past the end of the code.
 #[derive(Drop)]
 pub enum Insn<'a> {
-    /// An instruction without operands, as `nop`, `iload_0` or `return`.
+    /// An instruction without operands, such as `nop`, `iload_0` or `return`.
     Plain {
         opcode: Opcode,
     },
@@ -38,7 +39,7 @@ pub enum Insn<'a> {
         amount: i16,
         wide: bool,
     },
-    /// A jump, conditional or not, and `jsr`; with an offset of two bytes or of four.
+    /// A jump, conditional or not, and `jsr`. The offset has two bytes or four.
     Branch {
         opcode: Opcode,
         target: i64,
@@ -55,13 +56,13 @@ pub enum Insn<'a> {
         opcode: Opcode,
         index: ConstantIndex,
     },
-    /// `invokeinterface`: the slots of its arguments with the receiver, and a byte that is to be 0.
+    /// `invokeinterface`: the number of slots of its arguments and the receiver, and a byte that must be 0.
     InvokeInterface {
         index: ConstantIndex,
         count: u8,
         last: u8,
     },
-    /// `invokedynamic`, and two bytes that are to be 0.
+    /// `invokedynamic`, and two bytes that must be 0.
     InvokeDynamic {
         index: ConstantIndex,
         last: u16,
@@ -82,7 +83,7 @@ pub enum Insn<'a> {
     },
 }
 
-/// The instructions whose reference, once resolved, may still not link (JVMS 6.5).
+/// The kinds of instructions that may fail to link although their reference resolves (JVMS 6.5).
 #[derive(Clone, Copy, PartialEq, Eq)]
 pub enum LinkKind {
     GetStatic,
@@ -97,7 +98,7 @@ pub enum LinkKind {
 }
 
 impl<'a> Insn<'a> {
-    /// The opcode; behind `wide` that which it widens.
+    /// Returns the opcode. For `wide`, it is the opcode of the widened instruction.
     pub fn opcode(&self) -> Opcode
         ensures { result ≡ opcode_of self.now }
     {
@@ -120,15 +121,16 @@ impl<'a> Insn<'a> {
         }
     }
 
-    /// Its mnemonic; behind `wide` that of the opcode which it widens.
+    /// Returns the mnemonic. For `wide`, it is the mnemonic of the widened instruction.
     pub fn mnemonic(&self) -> &'static str
         ensures { Some result.now ≡ mnemonic_of (opcode_of self.now) }
     {
         self.opcode().mnemonic()
     }
 
-    /// What the instruction does with the reference that it names, and the index of that; `None` for
-    /// an instruction that links wherever its reference resolves.
+    /// Returns how the instruction uses the reference that it names, and the index of the reference.
+    ///
+    /// `None` for an instruction that links whenever its reference resolves.
     pub fn link_use(&self) -> Option<(LinkKind, u16)>
         ensures { result ≡ link_use self.now }
     {
@@ -144,7 +146,7 @@ impl<'a> Insn<'a> {
     }
 }
 
-/// What an opcode of `Insn::Field` does with the field that it names.
+/// Returns how an opcode of `Insn::Field` uses the field that it names.
 fn field_use(opcode: Opcode) -> Option<LinkKind>
     ensures { result ≡ field_use opcode }
 {
@@ -161,7 +163,7 @@ fn field_use(opcode: Opcode) -> Option<LinkKind>
     }
 }
 
-/// What an opcode of `Insn::Invoke` does with the method that it names.
+/// Returns how an opcode of `Insn::Invoke` uses the method that it names.
 fn invoke_use(opcode: Opcode) -> Option<LinkKind>
     ensures { result ≡ invoke_use opcode }
 {

@@ -9,10 +9,10 @@ use crate::insn::Insn;
 use jc_base::Cursor;
 use std::marker::Model;
 
-/// Instructions, each with its offset from the front of the code. They end at the end of the code or
-/// before the first offset at which no instruction stands.
+/// An iterator over the instructions of a code, each with its offset from the start of the code.
 ///
-/// Seen as those that are left, the offset reached, and the offset at which they end.
+/// It ends at the end of the code, or at the first offset without an instruction. Its view has the
+/// instructions that are left, the offset reached, and the offset where the instructions end.
 #[derive(Drop)]
 pub struct Insns<'a> {
     cursor: Cursor<'a>,
@@ -32,7 +32,7 @@ impl<'a> Model for Insns<'a> {
 }
 
 impl<'a> Insns<'a> {
-    /// The instructions of a code, which has at most 65,535 bytes.
+    /// Returns an iterator over the instructions of a code of at most 65,535 bytes.
     pub fn new(code: &'a [u8]) -> Insns<'a>
         requires { length code.now < 2 ^ 16 }
         ensures code { IsCode code.now result.left result.end }
@@ -43,8 +43,7 @@ impl<'a> Insns<'a> {
         }
     }
 
-    /// The offset reached: that of the first instruction that is left, and where none is, the offset
-    /// at which they end.
+    /// Returns the offset of the next instruction. If none is left, it is where the instructions end.
     pub fn rest(&self) -> u32
         ensures place { result ≡ self.now.place }
         ensures ended { self.now.left ≡ [] → result ≡ self.now.end }

@@ -1,5 +1,5 @@
-//! Descriptors of methods that were read, so that none is read twice. Any number of constants may name
-//! the same long text.
+//! The descriptors of methods that were parsed. Each is parsed once, although any number of constants
+//! may name the same long text.
 
 ghost use Rattle.std.specs.Prelude.{◌≡◌, IfOk, None, slice_index_or};
 ghost use Rattle.jc_code.specs.inside.TextSizes.{entry_slots, slots_in, slots_of_text};
@@ -9,12 +9,13 @@ use jc_view::{ClassView, ConstantIndex};
 use std::alloc::Global;
 use std::marker::Model;
 
-/// How many slots the parameters of methods take, by the index of the descriptor, once that was asked
-/// for. Seen as the class file.
+/// The numbers of slots of methods' parameters, by the index of the descriptor.
+///
+/// A descriptor is parsed on its first use. The view is the class file.
 #[derive(Drop)]
 pub(crate) struct KnownSlots<'c, 'a> {
     class: &'c ClassView<'a>,
-    /// `Some(None)` at a text that was read and is no descriptor of a method.
+    /// `Some(None)` for a text that was parsed and is not the descriptor of a method.
     known: Vec<Option<Option<u8>>>,
 }
 
@@ -31,7 +32,7 @@ impl<'c, 'a> Model for KnownSlots<'c, 'a> {
 }
 
 impl<'c, 'a> KnownSlots<'c, 'a> {
-    /// With none known, which takes no memory.
+    /// Returns a table without entries. Does not allocate.
     pub(crate) fn new(alloc: Global, class: &'c ClassView<'a>) -> KnownSlots<'c, 'a>
         ensures { result ≡ class.now }
     {
@@ -47,7 +48,7 @@ impl<'c, 'a> KnownSlots<'c, 'a> {
         self.class
     }
 
-    /// The slots by the `NameAndType` of an index.
+    /// Returns the number of slots, by the index of a `NameAndType`.
     pub(crate) fn by_entry(&mut self, index: ConstantIndex) -> Result<Option<u8>, NoMemory>
         ensures class { self.new ≡ self.old }
         ensures slots { IfOk result (λ slots. slots ≡ entry_slots self.old index) }
@@ -58,7 +59,7 @@ impl<'c, 'a> KnownSlots<'c, 'a> {
         }
     }
 
-    /// The slots by the descriptor of an index, which is read unless they are known.
+    /// Returns the number of slots, by the index of a descriptor. Parses the descriptor on its first use.
     fn by_descriptor(&mut self, index: ConstantIndex) -> Result<Option<u8>, NoMemory>
         ensures class { self.new ≡ self.old }
         ensures slots { IfOk result (λ slots. slots ≡ slots_in self.old index.0) }
@@ -74,7 +75,7 @@ impl<'c, 'a> KnownSlots<'c, 'a> {
         Ok(slots)
     }
 
-    /// Notes the slots by the descriptor of an index.
+    /// Records the number of slots, by the index of a descriptor.
     fn note(&mut self, index: ConstantIndex, slots: Option<u8>) -> Result<(), NoMemory>
         requires { slots ≡ slots_in self.old index.0 }
         ensures { self.new ≡ self.old }
@@ -88,14 +89,14 @@ impl<'c, 'a> KnownSlots<'c, 'a> {
     }
 }
 
-/// What is known at an index.
+/// Returns the entry at an index, if there is one.
 fn known_at(known: &[Option<Option<u8>>], index: ConstantIndex) -> Option<Option<u8>>
     ensures { result ≡ slice_index_or known.now index.0 None }
 {
     *known.get(index.0 as usize)?
 }
 
-/// How many slots the parameters take of the method whose descriptor a text is.
+/// Returns the number of slots of a method's parameters, from the text of its descriptor.
 fn slots_of(text: &[u8]) -> Option<u8>
     ensures { result ≡ slots_of_text text.now }
 {

@@ -2,8 +2,7 @@
 
 ghost use Rattle.std.specs.Prelude.{◌≡◌, ℕ, List, ◌∷◌, length, IsTrue};
 ghost use Rattle.jc_code.specs.declared.insn.Insn.{Insn};
-ghost use Rattle.jc_code.specs.declared.switch.TableSwitch.{TableSwitch};
-ghost use Rattle.jc_code.specs.declared.switch.LookupSwitch.{LookupSwitch};
+ghost use Rattle.jc_code.specs.Switches.{LookupSwitch, TableSwitch};
 ghost use Rattle.jc_code.specs.Opcodes.{groups, opcodes, begin_in_order, IsSized};
 ghost use Rattle.jc_code.specs.Insns.{IsSpelling, Stands, IsCode, TargetsLieIn, CasesLieIn};
 ghost use Rattle.jc_code.specs.InsnReading.{end_of, insns_of};
@@ -11,8 +10,8 @@ ghost use Rattle.jc_view.specs.Outcome.{AreBytes};
 ghost use Rattle.jc_code.specs.Examples.{plain_code, plain_insns, cut_code, cut_insns, falling_code};
 ghost use Rattle.jc_code.specs.Examples.{falling_insns, wide_code, wide_insns, switch_code, switch_insns};
 
-/// At a place of a code stands one instruction at most, and a code is the instructions of one list
-/// and ends at one place.
+/// A code has at most one instruction at each place. It has one list of instructions, which ends at one
+/// place.
 pub fn instructions_are_apart()
     ensures one { (code : List ℕ) (at : ℕ) (a b : Insn) → Stands code at a → Stands code at b → a ≡ b }
     ensures items { (code : List ℕ) (items more : List (ℕ × Insn)) (end last : ℕ)
@@ -21,21 +20,21 @@ pub fn instructions_are_apart()
         → IsCode code items end → IsCode code more last → end ≡ last }
 {}
 
-/// Each code of bytes is instructions up to an end: those that are read from its front.
+/// The instructions of a code are those that are decoded from its start.
 pub fn codes_are_read()
     ensures { (code : List ℕ) → AreBytes code → IsCode code (insns_of code) (end_of code) }
 {}
 
-/// There are 202 opcodes, each group of them begins at the number that it says, and behind an opcode
-/// stand as many bytes as its sort of operands says.
+/// There are 202 opcodes. Each group of opcodes begins at its number. The operands of an opcode have the
+/// number of bytes of their kind.
 pub fn opcode_table()
     ensures count { length opcodes ≡ 202 }
     ensures groups { IsTrue (begin_in_order 0 groups) }
     ensures lengths { (at : ℕ) (insn : Insn) (opcode : ℕ) (s : List ℕ) → IsSpelling at insn (opcode ∷ s) → IsSized opcode s }
 {}
 
-/// The bytes of the table of a switch are the part of the code behind the numbers that stand before
-/// it, the first of them at the first multiple of four behind the switch.
+/// The table of a switch is the part of the code after the switch's numbers. The first of these numbers
+/// is at the first multiple of four after the place of the switch.
 pub fn switch_tables_lie_in_the_code()
     ensures targets { (code : List ℕ) (at : ℕ) (switch : TableSwitch)
         → Stands code at (Insn.TableSwitch switch) → TargetsLieIn code at switch }
@@ -43,7 +42,7 @@ pub fn switch_tables_lie_in_the_code()
         → Stands code at (Insn.LookupSwitch switch) → CasesLieIn code at switch }
 {}
 
-/// A few codes, and where they end.
+/// The instructions of some codes, and where they end.
 pub fn decoding_examples()
     ensures plain { IsCode plain_code plain_insns 5 }
     ensures cut { IsCode cut_code cut_insns 1 }

@@ -1,5 +1,4 @@
-//! The code of methods: its instructions, and the static constraints that they keep (JVMS 4.7.3,
-//! 4.9.1, 6).
+//! The code of methods: its instructions, and the static constraints on them (JVMS 4.7.3, 4.9.1, 6).
 #![tactic(auto)]
 
 mod code_fault;

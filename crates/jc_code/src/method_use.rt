@@ -1,4 +1,4 @@
-//! What the instructions of methods do with the references that they name (JVMS 6.5).
+//! How the instructions of methods use the references that they name (JVMS 6.5).
 
 ghost use Rattle.std.specs.Prelude.{◌≡◌, ◌++◌, OnErr, OnOk};
 ghost use Rattle.std.specs.Option.{option_to_list};
@@ -7,19 +7,19 @@ ghost use Rattle.jc_code.specs.MethodUses.{use_at};
 use crate::insn::{Insn, LinkKind};
 use jc_base::NoMemory;
 
-/// An instruction whose reference, once resolved, may still not link.
+/// An instruction that may fail to link although its reference resolves.
 #[derive(Clone, Copy, PartialEq, Eq)]
 pub struct MethodUse {
-    /// The number of its method.
+    /// The number of the method that contains the instruction.
     pub method: u16,
-    /// Its offset from the front of the code.
+    /// The offset of the instruction from the start of the code.
     pub place: u16,
     pub kind: LinkKind,
-    /// The index of the reference's constant.
+    /// The index of the constant that is the reference.
     pub index: u16,
 }
 
-/// Adds the use that an instruction is, if it is one.
+/// Adds the use of a reference by an instruction, if it may fail to link.
 pub(crate) fn push_use(
     uses: &mut Vec<MethodUse>,
     method: u16,

@@ -1,4 +1,4 @@
-//! Which constants the code of a method names (JVMS 4.7.3, 6.5).
+//! The constants that the code of a method names (JVMS 4.7.3, 6.5).
 
 ghost use Rattle.std.specs.Prelude.{◌≡◌, ◌++◌, map, OnErr, OnOk};
 ghost use Rattle.std.specs.Option.{option_to_list};
@@ -20,7 +20,7 @@ pub(crate) fn push_named(names: &mut Vec<ConstantIndex>, insn: &Insn) -> Result<
     Ok(())
 }
 
-/// The constant that an instruction names.
+/// Returns the constant that an instruction names, if it names one.
 fn named_by_insn(insn: &Insn) -> Option<ConstantIndex>
     ensures { result ≡ named_by_insn insn.now }
 {

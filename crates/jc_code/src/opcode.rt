@@ -1,4 +1,4 @@
-//! Opcodes: their mnemonics, and what stands behind them (JVMS 6.5, 7).
+//! Opcodes: their mnemonics, and their kinds of operands (JVMS 6.5, 7).
 
 ghost use Rattle.std.specs.Prelude.{◌≡◌, ◌<◌, Some, length, map, slice_get};
 ghost use Rattle.jc_code.specs.Opcodes.{opcode_at, opcodes, mnemonic_of, operands_of};
@@ -6,14 +6,14 @@ ghost use Rattle.jc_code.specs.inside.Entries.{entry_of};
 
 use std::marker::Model;
 
-/// What stands behind an opcode.
+/// A kind of operands.
 #[derive(Clone, Copy)]
 pub enum Operands {
     /// Nothing.
     Empty,
-    /// Nothing: the local variable is told by the opcode, and takes so many slots.
+    /// Nothing: the opcode implies the local variable, which has this number of slots.
     ImplicitLocal { index: u16, slots: u16 },
-    /// A local variable of so many slots, in a byte; behind `wide` in two.
+    /// The index of a local variable, in one byte, or in two after `wide`; and its number of slots.
     Local { slots: u16 },
     /// A signed byte.
     Byte,
@@ -23,15 +23,15 @@ pub enum Operands {
     ShortLoad,
     /// A constant, by its index.
     Load,
-    /// A local variable and a signed byte; behind `wide` two bytes each.
+    /// The index of a local variable and a signed number, of one byte each, or of two after `wide`.
     Increment,
     /// A signed offset of two bytes.
     Branch,
     /// A signed offset of four bytes.
     WideBranch,
-    /// A pad, a default, the lowest and the highest value, and an offset for each value.
+    /// A pad, a default offset, the lowest and the highest value, and an offset for each value.
     TableSwitch,
-    /// A pad, a default, a count, and so many pairs of a value and an offset.
+    /// A pad, a default offset, and a counted list of pairs of a value and an offset.
     LookupSwitch,
     /// A field, by its index.
     Field,
@@ -43,7 +43,7 @@ pub enum Operands {
     InvokeDynamic,
     /// A class, by its index.
     Type,
-    /// A byte that tells a primitive type.
+    /// A byte, which is the number of a primitive type.
     NewArray,
     /// A class, by its index, and a number of dimensions.
     MultiNewArray,
@@ -69,7 +69,7 @@ impl Model for Opcode {
     ghost invariant = { λ o. o.number < 202 };
 }
 
-/// A row of the table of opcodes: the mnemonic, and what stands behind the opcode.
+/// A row of the table of opcodes: the mnemonic, and the kind of operands.
 #[derive(Clone, Copy)]
 struct Entry(&'static str, Operands);
 
@@ -116,7 +116,7 @@ impl Opcode {
 
     pub const JSR_W: Opcode = Opcode { number: 201 };
 
-    /// The opcode of a number, if there is one.
+    /// Returns the opcode of a number, if there is one.
     pub fn new(number: u8) -> Option<Opcode>
         ensures { result ≡ opcode_at number }
     {
@@ -126,21 +126,21 @@ impl Opcode {
         Some(Opcode { number })
     }
 
-    /// Its number.
+    /// Returns the number of the opcode.
     pub fn number(self) -> u8
         ensures { result ≡ self }
     {
         self.number
     }
 
-    /// Its mnemonic.
+    /// Returns the mnemonic of the opcode.
     pub fn mnemonic(self) -> &'static str
         ensures { Some result.now ≡ mnemonic_of self }
     {
         self.entry().0
     }
 
-    /// What stands behind it.
+    /// Returns the kind of operands of the opcode.
     pub fn operands(self) -> Operands
         ensures { Some result ≡ operands_of self }
     {
@@ -154,7 +154,7 @@ impl Opcode {
     }
 }
 
-/// The row of a number in a table.
+/// Returns the row of a number in a table.
 fn row<'a>(rows: &'a [Entry], number: u8) -> &'a Entry
     requires { number < length rows.now }
     ensures { Some (entry_of result.now) ≡ slice_get (map entry_of rows.now) number }

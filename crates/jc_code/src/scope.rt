@@ -1,4 +1,4 @@
-//! What the rules look at.
+//! The scope of the rules: what they need to know about a code.
 
 ghost use Rattle.std.specs.Prelude.{◌≡◌};
 ghost use Rattle.jc_code.specs.CodeRules.{is_start, is_target};
@@ -8,8 +8,8 @@ use crate::text_sizes::TextSizes;
 use jc_view::ClassView;
 use std::marker::Model;
 
-/// The class with the sizes of its texts, how many local variables the code has, how many bytes, and where
-/// its instructions start.
+/// The class with the sizes of its texts, and the code's `max_locals`, number of bytes and starts of
+/// instructions.
 #[derive(Drop)]
 pub(crate) struct Scope<'c, 'a> {
     pub(crate) sizes: &'c TextSizes<'c, 'a>,
@@ -33,14 +33,14 @@ impl<'c, 'a> Scope<'c, 'a> {
         self.sizes.class()
     }
 
-    /// Whether an instruction starts at a place.
+    /// Returns whether an instruction starts at a place.
     pub(crate) fn is_start(&self, place: usize) -> bool
         ensures { result ≡ is_start self.now place }
     {
         self.starts.has(place)
     }
 
-    /// Whether a target is one.
+    /// Returns whether a target is the start of an instruction.
     pub(crate) fn is_target(&self, target: i64) -> bool
         ensures { result ≡ is_target self.now target }
     {

@@ -1,4 +1,4 @@
-//! Where the instructions of a code start.
+//! The starts of the instructions of a code.
 
 ghost use Rattle.std.specs.Prelude.{◌≡◌, ◌==◌, []};
 ghost use Rattle.std.specs.List.{list_any};
@@ -6,7 +6,9 @@ ghost use Rattle.std.specs.List.{list_any};
 use std::alloc::Global;
 use std::marker::Model;
 
-/// Starts of instructions, as a mark for each offset. Seen as the offsets that are marked.
+/// Starts of instructions, as a mark for each offset.
+///
+/// The view is the list of the marked offsets.
 #[derive(Drop)]
 pub(crate) struct Starts {
     pub(crate) marks: Vec<bool>,
@@ -23,7 +25,7 @@ impl Model for Starts {
 }
 
 impl Starts {
-    /// None, which takes no memory.
+    /// Returns no starts. Does not allocate.
     pub(crate) fn none(alloc: Global) -> Starts
         ensures { result ≡ [] }
     {
@@ -32,7 +34,7 @@ impl Starts {
         }
     }
 
-    /// Whether an instruction starts at a place.
+    /// Returns whether an instruction starts at a place.
     pub(crate) fn has(&self, place: usize) -> bool
         ensures { result ≡ list_any (λ start. start == place) self.now }
     {

@@ -8,31 +8,70 @@ ghost use Rattle.jc_code.specs.Insns.{target_bytes, case_bytes};
 ghost use Rattle.jc_code.specs.InsnReading.{case_value};
 ghost use Rattle.jc_code.specs.inside.Decoding.{same};
 
-use crate::numbers::{as_bytes, read_int, target};
+use crate::numbers::{as_bytes, int_at, read_int, target};
 use jc_base::Cursor;
 use std::marker::Model;
 
-/// A `tableswitch`: a target for each value from `low` to `high`, and one for all others.
+/// A `tableswitch`: a target for each value from `low` to `high`, and one for all other values.
+///
+/// Its view has these numbers and the targets.
 #[derive(Drop)]
 pub struct TableSwitch<'a> {
-    /// The target for a value below `low` or above `high`.
-    pub default: i64,
-    pub low: i32,
-    pub high: i32,
-    pub(crate) targets: Targets<'a>,
+    pub(crate) place: u32,
+    /// The default target, `low`, `high` and the targets.
+    pub(crate) bytes: &'a [u8],
+}
+
+impl<'a> Model for TableSwitch<'a> {
+    ghost use Rattle.jc_code.specs.Switches.{TableSwitch};
+
+    ghost Value = { TableSwitch };
+
+    ghost use Rattle.jc_code.specs.inside.Decoding.{table_switch, IsTableBytes};
+
+    ghost view = { table_switch };
+
+    ghost invariant = { IsTableBytes };
 }
 
 impl<'a> TableSwitch<'a> {
-    /// The targets, that of `low` first.
+    /// Returns the target for a value below `low` or above `high`.
+    pub fn default(&self) -> i64
+        ensures { result ≡ self.now.default }
+    {
+        target(self.place, int_at(self.bytes, 0))
+    }
+
+    /// Returns the lowest value that has a target of its own.
+    pub fn low(&self) -> i32
+        ensures { result ≡ self.now.low }
+    {
+        int_at(self.bytes, 4)
+    }
+
+    /// Returns the highest value that has a target of its own.
+    pub fn high(&self) -> i32
+        ensures { result ≡ self.now.high }
+    {
+        int_at(self.bytes, 8)
+    }
+
+    /// Returns an iterator over the targets, from that of `low` to that of `high`.
     pub fn targets(&self) -> Targets<'a>
         ensures { result ≡ self.now.targets }
     {
-        self.targets.fork()
+        let (_, table) = self.bytes.split_at(12);
+        Targets {
+            place: self.place,
+            left: (table.len() / 4) as u16,
+            cursor: Cursor::new(table),
+        }
     }
 }
 
-/// The targets of a `tableswitch`, read from its table as they are asked for. Seen as those that are
-/// left.
+/// An iterator over the targets of a `tableswitch`, which decodes each target when it reaches it.
+///
+/// Its view is the list of the targets that are left.
 #[derive(Drop)]
 pub struct Targets<'a> {
     pub(crate) place: u32,
@@ -53,24 +92,14 @@ impl<'a> Model for Targets<'a> {
 }
 
 impl<'a> Targets<'a> {
-    fn fork(&self) -> Targets<'a>
-        ensures { result ≡ self.now }
-    {
-        Targets {
-            place: self.place,
-            left: self.left,
-            cursor: self.cursor.fork(),
-        }
-    }
-
-    /// How many are left.
+    /// Returns the number of targets that are left.
     pub fn len(&self) -> u16
         ensures { result ≡ length self.now.left }
     {
         self.left
     }
 
-    /// The bytes of those that are left, as the part of the code that they are.
+    /// Returns the bytes of the targets that are left, as a slice of the code.
     pub fn bytes(&self) -> &'a [u8]
         ensures { result.now ≡ flat_map (target_bytes self.now.place) self.now.left }
     {
@@ -95,20 +124,46 @@ impl<'a> Iterator for Targets<'a> {
     }
 }
 
-/// A `lookupswitch`: values with a target each, and a target for all others.
+/// A `lookupswitch`: values with a target each, and a target for all other values.
+///
+/// Its view has the default target and the cases.
 #[derive(Drop)]
 pub struct LookupSwitch<'a> {
-    /// The target for a value that no case has.
-    pub default: i64,
-    pub(crate) cases: Cases<'a>,
+    pub(crate) place: u32,
+    /// The default target, the number of cases, and the cases.
+    pub(crate) bytes: &'a [u8],
+}
+
+impl<'a> Model for LookupSwitch<'a> {
+    ghost use Rattle.jc_code.specs.Switches.{LookupSwitch};
+
+    ghost Value = { LookupSwitch };
+
+    ghost use Rattle.jc_code.specs.inside.Decoding.{lookup_switch, IsLookupBytes};
+
+    ghost view = { lookup_switch };
+
+    ghost invariant = { IsLookupBytes };
 }
 
 impl<'a> LookupSwitch<'a> {
-    /// The values and their targets, in the order of the table.
+    /// Returns the target for a value that no case has.
+    pub fn default(&self) -> i64
+        ensures { result ≡ self.now.default }
+    {
+        target(self.place, int_at(self.bytes, 0))
+    }
+
+    /// Returns an iterator over the cases, in the order of the table.
     pub fn cases(&self) -> Cases<'a>
         ensures { result ≡ self.now.cases }
     {
-        self.cases.fork()
+        let (_, table) = self.bytes.split_at(8);
+        Cases {
+            place: self.place,
+            left: (table.len() / 8) as u16,
+            cursor: Cursor::new(table),
+        }
     }
 }
 
@@ -119,8 +174,9 @@ pub struct Case {
     pub target: i64,
 }
 
-/// The cases of a `lookupswitch`, read from its table as they are asked for. Seen as those that are
-/// left.
+/// An iterator over the cases of a `lookupswitch`, which decodes each case when it reaches it.
+///
+/// Its view is the list of the cases that are left.
 #[derive(Drop)]
 pub struct Cases<'a> {
     pub(crate) place: u32,
@@ -141,24 +197,14 @@ impl<'a> Model for Cases<'a> {
 }
 
 impl<'a> Cases<'a> {
-    fn fork(&self) -> Cases<'a>
-        ensures { result ≡ self.now }
-    {
-        Cases {
-            place: self.place,
-            left: self.left,
-            cursor: self.cursor.fork(),
-        }
-    }
-
-    /// How many are left.
+    /// Returns the number of cases that are left.
     pub fn len(&self) -> u16
         ensures { result ≡ length self.now.left }
     {
         self.left
     }
 
-    /// The bytes of those that are left, as the part of the code that they are.
+    /// Returns the bytes of the cases that are left, as a slice of the code.
     pub fn bytes(&self) -> &'a [u8]
         ensures { result.now ≡ flat_map (case_bytes self.now.place) self.now.left }
     {
@@ -183,6 +229,7 @@ impl<'a> Iterator for Cases<'a> {
     }
 }
 
+/// Reads a case of a `lookupswitch` at an offset.
 fn read_case(place: u32, cursor: &mut Cursor) -> Option<Case>
     ensures { Lends same (after 8) (case_value place) cursor.old result cursor.new }
 {

@@ -1,4 +1,4 @@
-//! The sizes that texts of a class give: the dimensions of arrays, and the slots of parameters.
+//! The sizes that the texts of a class describe: the dimensions of arrays, and the slots of parameters.
 
 ghost use Rattle.std.specs.Prelude.{◌≡◌, ◌+◌, None, [], slice_index_or, IfOk, OnOk};
 ghost use Rattle.std.specs.Option.{option_map};
@@ -13,24 +13,24 @@ use jc_view::{ClassView, Constant, ConstantIndex, ConstantKind};
 use std::alloc::Global;
 use std::marker::Model;
 
-/// How many dimensions the arrays have that a class names, and how many slots the parameters take of the
-/// methods of interfaces. Any number of constants and instructions may name the same long text, so each
-/// is read here, at most once as an array and once as a descriptor of a method, and no more when a size
-/// is asked for.
+/// The dimensions of the arrays that a class names, and the slots of the interface methods that it names.
 ///
-/// Seen as the class file.
+/// Any number of constants and instructions may name the same long text. So each text is parsed here
+/// once as an array and once as the descriptor of a method, and not again for a look-up.
+///
+/// The view is the class file.
 #[derive(Drop)]
 pub struct TextSizes<'c, 'a> {
     class: &'c ClassView<'a>,
     sizes: Sizes,
 }
 
-/// Sizes by the indexes of constants. Behind the end of a list there are none.
+/// Sizes by the indexes of constants. Indexes after the end of a list have none.
 #[derive(Drop)]
 struct Sizes {
-    /// At a text, the dimensions of the array whose descriptor it is, or 0.
+    /// At the index of a text, the dimensions of the array that it describes, or 0.
     dims: Vec<u8>,
-    /// At an `InterfaceMethodref`, the slots by its method's descriptor.
+    /// At the index of an `InterfaceMethodref`, the slots of its method's parameters.
     slots: Vec<Option<u8>>,
 }
 
@@ -47,10 +47,10 @@ impl<'c, 'a> Model for TextSizes<'c, 'a> {
 }
 
 impl<'c, 'a> TextSizes<'c, 'a> {
-    /// The sizes of all texts of a class. This takes no memory where no text begins with `[` and no
-    /// method of an interface is named.
+    /// Returns the sizes of all texts of a class.
     ///
-    /// Answers `NoMemory` only where memory was refused.
+    /// Does not allocate if no text begins with `[` and no interface method is named. Returns `NoMemory`
+    /// only when an allocation fails.
     pub fn of(alloc: Global, class: &'c ClassView<'a>) -> Result<TextSizes<'c, 'a>, NoMemory>
         ensures { IfOk result (λ sizes. sizes ≡ class.now) }
     {
@@ -62,14 +62,14 @@ impl<'c, 'a> TextSizes<'c, 'a> {
         Ok(TextSizes { class, sizes })
     }
 
-    /// The class whose texts they are of.
+    /// Returns the class that has the texts.
     pub fn class(&self) -> &'c ClassView<'a>
         ensures { result.now ≡ self.now }
     {
         self.class
     }
 
-    /// How many dimensions the class of an index has, if it is there.
+    /// Returns the dimensions of the class of an index, if there is one.
     pub(crate) fn dimensions(&self, index: ConstantIndex) -> Option<u8>
         ensures { result ≡ option_map dimensions_of (class_text_at self.now index) }
     {
@@ -78,7 +78,7 @@ impl<'c, 'a> TextSizes<'c, 'a> {
         Some(dims_at(&self.sizes.dims, text))
     }
 
-    /// How many slots the parameters of the method take that the `InterfaceMethodref` of an index names.
+    /// Returns the number of slots of the parameters of the method that an `InterfaceMethodref` names.
     pub(crate) fn slots(&self, index: ConstantIndex) -> Option<u8>
         ensures { result ≡ interface_slots self.now index.0 }
     {
@@ -99,8 +99,9 @@ fn read_all(alloc: Global, class: &ClassView, sizes: &mut Sizes) -> Result<(), N
     Ok(())
 }
 
-/// Reads the size that the constant of an index gives, behind those of all before it. Of a text the first byte is
-/// looked at, and of most other constants the kind alone.
+/// Reads the sizes of the constant of an index, after those of all lower indexes.
+///
+/// Reads only the first byte of most texts, and only the kind of most other constants.
 fn read_at(known: &mut KnownSlots, index: u16, sizes: &mut Sizes) -> Result<(), NoMemory>
     requires { AreSizesBefore known.old index sizes.old }
     ensures class { known.new ≡ known.old }
@@ -117,8 +118,7 @@ fn read_at(known: &mut KnownSlots, index: u16, sizes: &mut Sizes) -> Result<(), 
     }
 }
 
-/// Reads the slots that the constant of an index gives, where it is an `InterfaceMethodref`, behind those of all
-/// before it.
+/// Reads the slots of the constant of an index, if it is an `InterfaceMethodref`, after those of all lower indexes.
 fn read_slots(
     known: &mut KnownSlots,
     index: u16,
@@ -140,7 +140,7 @@ fn read_slots(
     }
 }
 
-/// Adds the dimensions of a text at its index, where it can be the descriptor of an array.
+/// Adds the dimensions of a text at its index, if it can be the descriptor of an array.
 fn add_dimensions(dims: &mut Vec<u8>, index: u16, text: &[u8]) -> Result<(), NoMemory>
     ensures { FillsNext 0 index (dimensions_of text.now) result dims.old.items dims.new.items }
 {
@@ -151,7 +151,7 @@ fn add_dimensions(dims: &mut Vec<u8>, index: u16, text: &[u8]) -> Result<(), NoM
     Ok(())
 }
 
-/// Whether a text is no descriptor unless it is an array's.
+/// Returns whether a text can be a descriptor only of an array.
 fn is_array(text: &[u8]) -> bool
     ensures { result ≡ begins_with 91 text.now }
 {
@@ -161,7 +161,7 @@ fn is_array(text: &[u8]) -> bool
     }
 }
 
-/// Adds slots at an index, where there are some.
+/// Adds a number of slots at an index, if there is one.
 fn add_slots(slots: &mut Vec<Option<u8>>, index: u16, more: Option<u8>) -> Result<(), NoMemory>
     ensures { FillsNext None index more result slots.old.items slots.new.items }
 {
@@ -172,7 +172,7 @@ fn add_slots(slots: &mut Vec<Option<u8>>, index: u16, more: Option<u8>) -> Resul
     Ok(())
 }
 
-/// How many dimensions the class of a text has: none, unless the text is the descriptor of an array.
+/// Returns the dimensions of the class of a text: 0, unless the text is the descriptor of an array.
 fn dimensions_of(text: &[u8]) -> u8
     ensures { result ≡ dimensions_of text.now }
 {
@@ -182,7 +182,7 @@ fn dimensions_of(text: &[u8]) -> u8
     }
 }
 
-/// The dimensions at an index.
+/// Returns the dimensions at an index.
 fn dims_at(dims: &[u8], index: ConstantIndex) -> u8
     ensures { result ≡ slice_index_or dims.now index.0 0 }
 {

@@ -1,4 +1,4 @@
--- A line for each attribute; for a method's well-formed Code, its instructions, its handlers and its own attributes.
+-- A line for each attribute. A method's well-formed Code has its instructions, handlers and attributes instead.
 use Rattle.std.specs.Prelude.{ℕ, Bool, List, [], ◌++◌, length, codes, decimal, ◌==◌, if◌then◌else◌}
 use Rattle.std.specs.List.{flat_map}
 use Rattle.std.specs.Option.{option_map_or}
@@ -20,23 +20,23 @@ use Rattle.jc_code.specs.InsnReading.{insns_of, end_of}
 use Rattle.jc_list.specs.Texts.{shown_text, index_text, index_with_reference}
 use Rattle.jc_list.specs.InsnLines.{insn_lines}
 
--- ---- attributes that tell one entry
+-- ---- attributes of one entry
 
--- the signatures of what has the attribute
+-- the kind of signature of the holder of the attribute
 abbrev pub signatures_of : Holder → SigKind
 signatures_of holders.Class = signatures.Class
 signatures_of holders.Field = signatures.Field
 signatures_of holders.Method = signatures.Method
 signatures_of holders.Code = signatures.Method
 
--- a signature, behind a word where it is none
+-- a signature, or `malformed` and the text
 abbrev pub signature_text : SigKind → List ℕ → List ℕ
 signature_text kind text = if is_signature kind text then shown text else codes "malformed " ++ shown text
 
 abbrev pub is : ClassFile → AttributeKind → PlacedAttribute → Bool
 is c kind a = is_recognised c kind a.holder a.attribute
 
--- the entry that a SourceFile, a Signature or a ConstantValue tells
+-- the entry of a SourceFile, a Signature or a ConstantValue
 abbrev pub entry_text : ClassFile → PlacedAttribute → List ℕ
 entry_text c a =
     if is c kinds.SourceFile a then codes " " ++ shown_text (utf8_at c (first_index a))
@@ -57,7 +57,7 @@ code_line k =
     codes "  code stack " ++ decimal k.max_stack ++ codes " locals " ++ decimal k.max_locals
     ++ codes " length " ++ decimal (length k.code) ++ codes "\n"
 
--- where the instructions end before the code does
+-- a line if the instructions end before the code does
 abbrev pub cut_line : Code → List ℕ
 cut_line k = if end_of k.code == length k.code then [] else codes "    cut " ++ decimal (end_of k.code) ++ codes "\n"
 

@@ -1,4 +1,4 @@
--- The first lines of a listing, which tell of the class itself.
+-- The first lines of a listing, which show the class itself.
 use Rattle.std.specs.Prelude.{ℕ, List, ◌++◌, codes, decimal, ◌==◌, if◌then◌else◌}
 use Rattle.std.specs.List.{flat_map}
 use Rattle.jc_view.specs.declared.constant_pool.ConstantIndex.{ConstantIndex}
@@ -24,7 +24,7 @@ super_line c = codes "super " ++ super_text c ++ codes "\n"
 abbrev pub interface_line : ClassFile → ConstantIndex → List ℕ
 interface_line c index = codes "interface " ++ shown_text (class_text_at c index) ++ codes "\n"
 
--- how many indexes the constants take
+-- the number of indexes of the constants
 abbrev pub count_line : ClassFile → List ℕ
 count_line c = codes "constants " ++ decimal (all_slots c.constants) ++ codes "\n"
 

@@ -15,7 +15,7 @@ use Rattle.jc_list.specs.Texts.{index_text}
 abbrev pub pair_text : ConstantIndex → ConstantIndex → List ℕ
 pair_text first second = index_text first ++ codes " " ++ index_text second
 
--- what a constant holds: whole numbers in decimal digits, the bits of floating point numbers in hexadecimal ones
+-- the value of a constant: integers in decimal, and the bits of floating point numbers in hexadecimal
 abbrev pub constant_text : Constant → List ℕ
 constant_text (Utf8 text) = shown text
 constant_text (Integer bits) = signed_decimal (cast_signed w32 bits)
@@ -37,7 +37,7 @@ constant_line index constant =
     codes "  #" ++ decimal index ++ codes " " ++ kind_name (kind_of constant)
     ++ codes " " ++ constant_text constant ++ codes "\n"
 
--- nothing for an index that is not usable
+-- the line of an index; an index that is not usable has none
 abbrev pub line_at : ClassFile → ℕ → List ℕ
 line_at c index = option_map_or (constant_line index) (constant_at c (record { 0 = index })) []
 

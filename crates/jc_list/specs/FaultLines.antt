@@ -11,11 +11,11 @@ use Rattle.jc_code.specs.MethodFaults.{code_faults}
 abbrev pub format_line : Fault → List ℕ
 format_line fault = codes "format F" ++ decimal (format.rule_number fault.rule) ++ codes " " ++ decimal fault.place ++ codes "\n"
 
--- a fault of the code of the method of a number
+-- the line of a code fault, by the number of the method
 abbrev pub code_fault_line : ℕ × CodeFault → List ℕ
 code_fault_line (number, fault) =
     codes "code S" ++ decimal (code.rule_number fault.rule) ++ codes " " ++ decimal number ++ codes " " ++ decimal fault.place ++ codes "\n"
 
--- whether there is one of either
+-- whether a class has a fault of the format or a code fault
 abbrev pub is_faulty : ClassFile → Bool
 is_faulty c = not (length (faults c) == 0) || not (length (code_faults c) == 0)

@@ -1,4 +1,4 @@
--- A line for each instruction, and behind that of a switch one for each target.
+-- A line for each instruction, and after that of a switch a line for each target.
 use Rattle.std.specs.Prelude.{ℕ, ℤ, pos, ◌+ℤ◌, true, List, [], ◌∷◌, ◌++◌, length, codes, decimal, unwrap_or}
 use Rattle.std.specs.Fmt.{signed_decimal}
 use Rattle.std.specs.List.{flat_map}
@@ -6,30 +6,29 @@ use Rattle.jc_view.specs.ClassFile.{ClassFile}
 use Rattle.jc_code.specs.declared.insn.Insn.{Insn}
 use Rattle.jc_code.specs.declared.insn.Insn.TheVariants as insns
 use Rattle.jc_code.specs.declared.switch.Case.{Case}
-use Rattle.jc_code.specs.declared.switch.LookupSwitch.{LookupSwitch}
-use Rattle.jc_code.specs.declared.switch.TableSwitch.{TableSwitch}
+use Rattle.jc_code.specs.Switches.{TableSwitch, LookupSwitch}
 use Rattle.jc_code.specs.Opcodes.{mnemonic_of}
 use Rattle.jc_code.specs.Insns.{opcode_of}
 use Rattle.jc_list.specs.Texts.{index_text, index_with_reference, reference_text}
 
--- a number behind a blank
+-- a space and a number
 abbrev pub blank_decimal : ℕ → List ℕ
 blank_decimal n = codes " " ++ decimal n
 
 abbrev pub blank_signed : ℤ → List ℕ
 blank_signed z = codes " " ++ signed_decimal z
 
--- the lowest and the highest value, and the target for all others
+-- the lowest and the highest value, and the target for all other values
 abbrev pub table_switch_text : TableSwitch → List ℕ
 table_switch_text switch =
     blank_signed switch.low ++ blank_signed switch.high ++ codes " default" ++ blank_signed switch.default
 
--- how many values have a target, and the target for all others
+-- the number of cases, and the target for all other values
 abbrev pub lookup_switch_text : LookupSwitch → List ℕ
 lookup_switch_text switch =
     blank_decimal (length switch.cases.left) ++ codes " default" ++ blank_signed switch.default
 
--- the operands, each behind a blank: targets as offsets from the front of the code, and what is referred to last
+-- the operands, each after a space: targets are offsets from the start of the code, and references are last
 abbrev pub operands_text : ClassFile → Insn → List ℕ
 operands_text c (insns.Plain opcode) = []
 operands_text c (insns.Push opcode value) = blank_signed value
@@ -47,7 +46,7 @@ operands_text c (insns.Type opcode index) = codes " " ++ index_with_reference c 
 operands_text c (insns.NewArray element) = blank_decimal element
 operands_text c (insns.MultiNewArray index dimensions) = codes " " ++ index_text index ++ blank_decimal dimensions ++ reference_text c index
 
--- in front of the mnemonic
+-- the text before the mnemonic
 abbrev pub wide_text : Insn → List ℕ
 wide_text (insns.Local opcode index true) = codes "wide "
 wide_text (insns.Increment index amount true) = codes "wide "
@@ -61,7 +60,7 @@ switch_line value target = codes "      " ++ signed_decimal value ++ codes ": " 
 abbrev pub case_line : Case → List ℕ
 case_line case = switch_line case.value case.target
 
--- the values rise by one
+-- each value is one more than the value before it
 abbrev pub target_lines : ℤ → List ℤ → List ℕ
 target_lines value [] = []
 target_lines value (target ∷ targets) = switch_line value target ++ target_lines (value +ℤ pos 1) targets

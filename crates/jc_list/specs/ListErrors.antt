@@ -11,13 +11,13 @@ abbrev pub list_code : ListError → ℕ
 list_code errors.Write = 1
 list_code errors.NoMemory = 2
 
--- a failed write alone raises the output's count of failures
+-- only a failed write increases the output's count of failures
 abbrev pub CountsWrites : {T : Type 0} → Result T ListError → ℕ → ℕ → Type 0
 CountsWrites (Ok x) old new = new ≡ old
 CountsWrites (Err errors.Write) old new = MoreFaults old new × (old ≤ new)
 CountsWrites (Err errors.NoMemory) old new = new ≡ old
 
--- the text was written, and at an error a beginning of it: where the output failed, a proper one
+-- the text was written, or at an error a prefix of it, which is a proper prefix if the output failed
 abbrev pub WritesListing : {T : Type 0} → Result T ListError → Option (List ℕ) → Option (List ℕ) → List ℕ → Type 0
 WritesListing (Ok x) old new text = Appends old new text
 WritesListing (Err errors.Write) old new text = WritesFront old new text

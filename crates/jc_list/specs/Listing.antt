@@ -17,6 +17,6 @@ listing c =
     class_lines c ++ constant_lines c ++ field_lines c ++ method_lines c ++ flat_map (attribute_lines c (codes "")) (attributes_in c)
     ++ flat_map format_line (faults c) ++ flat_map code_fault_line (code_faults c)
 
--- a beginning of the text, or all of it, was appended to what is known to be written
+-- a prefix of the text, or all of it, was appended to what is known to be written
 abbrev pub WritesBeginning : Option (List ℕ) → Option (List ℕ) → List ℕ → Type 0
 WritesBeginning old new text = (n : ℕ) × (n ≤ length text) × Appends old new (take n text)

@@ -1,4 +1,4 @@
--- A line for each field and each method, and its attributes behind it.
+-- A line for each field and each method, and after it its attributes.
 use Rattle.std.specs.Prelude.{ℕ, List, ◌++◌, codes}
 use Rattle.std.specs.List.{flat_map}
 use Rattle.jc_view.specs.ClassFile.{ClassFile, Member}

@@ -1,4 +1,4 @@
--- What several lines of a listing show.
+-- Texts that several lines of a listing show.
 use Rattle.std.specs.Prelude.{ℕ, List, [], ◌++◌, Option, codes, decimal, if◌then◌else◌}
 use Rattle.std.specs.Int.{to_be_bytes, w16}
 use Rattle.std.specs.List.{flat_map}
@@ -12,7 +12,7 @@ use Rattle.jc_view.specs.Lookups.{utf8_at, member_name_at, member_descriptor_at}
 use Rattle.jc_file.specs.declared.access_flag.AccessFlag.{AccessFlag}
 use Rattle.jc_file.specs.AccessFlags.{flag_name, has, mask_of}
 
--- a text, or `?` where it is missing
+-- a text, or `?` if it is missing
 abbrev pub shown_text : Option (List ℕ) → List ℕ
 shown_text text = option_map_or shown text (codes "?")
 
@@ -25,7 +25,7 @@ index_text index = codes "#" ++ decimal index.0
 abbrev pub flag_text : ℕ → AccessFlag → List ℕ
 flag_text bits flag = if has bits (mask_of flag) then codes " " ++ flag_name flag else []
 
--- all bits, and the names of those that are set and mean something
+-- all bits, and the names of the flags that are set and have a meaning
 abbrev pub flags_text : List AccessFlag → ℕ → List ℕ
 flags_text flags bits = codes "0x" ++ hexadecimal (to_be_bytes w16 bits) ++ flat_map (flag_text bits) flags
 
@@ -37,7 +37,7 @@ member_reference c class entry =
     shown_text (class_text_at c class) ++ codes "." ++ shown_text (member_name_at c entry)
     ++ codes ":" ++ shown_text (member_descriptor_at c entry)
 
--- behind a blank, what a constant refers to, where it is a class, a field or a method
+-- a space and what a constant refers to, if it refers to a class, a field or a method
 abbrev pub reference_of : ClassFile → Constant → List ℕ
 reference_of c (Class name) = codes " class " ++ shown_text (utf8_at c name)
 reference_of c (Fieldref class entry) = codes " field " ++ member_reference c class entry
@@ -48,6 +48,6 @@ reference_of c constant = []
 abbrev pub reference_text : ClassFile → ConstantIndex → List ℕ
 reference_text c index = option_map_or (reference_of c) (constant_at c index) []
 
--- an index, and what stands there
+-- an index, and what its constant refers to
 abbrev pub index_with_reference : ClassFile → ConstantIndex → List ℕ
 index_with_reference c index = index_text index ++ reference_text c index

@@ -14,7 +14,7 @@ use jc_text::TextWriter;
 use jc_view::{Attribute, AttributeKind, Attributes, Code, ConstantIndex, Holder, index_at};
 use std::alloc::Global;
 
-/// The attributes of a class, a field or a method.
+/// Writes the attributes of a class, a field or a method.
 pub(crate) fn write_attributes<W: Output>(
     alloc: Global,
     out: &mut TextWriter<'_, W>,
@@ -57,7 +57,7 @@ fn write_code_lines<W: Output>(
     write_inner_attributes(alloc, out, code.attributes())
 }
 
-/// The attributes inside a method's code.
+/// Writes the attributes of a method's code.
 fn write_inner_attributes<W: Output>(
     alloc: Global,
     out: &mut TextWriter<'_, W>,
@@ -91,7 +91,7 @@ fn write_attribute_line<W: Output>(
     Ok(())
 }
 
-/// The entry that a `SourceFile`, a `Signature` or a `ConstantValue` tells.
+/// Writes the entry of a `SourceFile`, a `Signature` or a `ConstantValue`.
 fn write_entry<W: Output>(
     alloc: Global,
     out: &mut TextWriter<'_, W>,
@@ -115,7 +115,7 @@ fn write_entry<W: Output>(
     Ok(())
 }
 
-/// The signatures of what has an attribute.
+/// Returns the kind of signature of the holder of an attribute.
 fn signatures_of(holder: Holder) -> SigKind
     ensures { result ≡ signatures_of holder }
 {
@@ -126,7 +126,7 @@ fn signatures_of(holder: Holder) -> SigKind
     }
 }
 
-/// A signature, behind a word where it is none (JVMS 4.7.9.1); `?` where the text is missing.
+/// Writes a signature, or `malformed` and the text (JVMS 4.7.9.1). A missing text is `?`.
 fn write_signature<W: Output>(
     alloc: Global,
     out: &mut TextWriter<'_, W>,

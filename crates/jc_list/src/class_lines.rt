@@ -1,4 +1,4 @@
-//! The first lines of a listing, which tell of the class itself.
+//! The first lines of a listing, which show the class itself.
 
 ghost use Rattle.std.specs.Prelude.{◌++◌, codes};
 ghost use Rattle.std.specs.List.{flat_map};
@@ -14,8 +14,8 @@ use jc_file::AccessFlag;
 use jc_text::TextWriter;
 use jc_view::ClassView;
 
-/// The class's name, flags, version, superclass and interfaces, and how many indexes its constants
-/// take.
+/// Writes the class's name, flags, version, superclass and interfaces, and the number of indexes of its
+/// constants.
 pub(crate) fn write_class_lines<W: Output>(out: &mut TextWriter<'_, W>, class: &ClassView)
     ensures { Sends W.written W.failures out.old out.new (class_lines class.now) }
 {

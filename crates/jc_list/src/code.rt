@@ -15,7 +15,7 @@ use jc_code::Insns;
 use jc_text::TextWriter;
 use jc_view::{ClassView, Code, ConstantIndex, ExceptionHandler};
 
-/// How much room the code takes.
+/// Writes the sizes of the code.
 pub(crate) fn write_code_line<W: Output>(out: &mut TextWriter<'_, W>, code: &Code)
     ensures { Sends W.written W.failures out.old out.new (code_line code.now.code) }
 {
@@ -25,7 +25,7 @@ pub(crate) fn write_code_line<W: Output>(out: &mut TextWriter<'_, W>, code: &Cod
     out.text(b"\n");
 }
 
-/// The instructions, and where they end if that is before the end of the code.
+/// Writes the instructions, and where they end if that is before the end of the code.
 pub(crate) fn write_all_insn_lines<W: Output>(out: &mut TextWriter<'_, W>, code: &Code)
     ensures { Sends W.written W.failures out.old out.new
         (flat_map (insn_lines code.now.class) (insns_of code.now.code.code) ++ cut_line code.now.code) }
@@ -48,7 +48,7 @@ fn write_cut_line<W: Output>(out: &mut TextWriter<'_, W>, end: usize)
     out.text(b"\n");
 }
 
-/// The exception handlers, in the order of their table.
+/// Writes the exception handlers, in the order of their table.
 pub(crate) fn write_handler_lines<W: Output>(out: &mut TextWriter<'_, W>, code: &Code)
     ensures { Sends W.written W.failures out.old out.new (flat_map (handler_line code.now.class) code.now.code.handlers) }
 {
@@ -72,7 +72,7 @@ fn write_handler_line<W: Output>(
     out.text(b"\n");
 }
 
-/// What a handler catches.
+/// Writes what a handler catches.
 fn write_catch<W: Output>(out: &mut TextWriter<'_, W>, class: &ClassView, index: ConstantIndex)
     ensures { Sends W.written W.failures out.old out.new (catch_text class.now index) }
 {

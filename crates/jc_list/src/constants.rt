@@ -12,7 +12,7 @@ use jc_base::Output;
 use jc_text::TextWriter;
 use jc_view::{ClassView, Constant, ConstantIndex};
 
-/// The constants, in the order of their indexes.
+/// Writes the constants, in the order of their indexes.
 pub(crate) fn write_constant_lines<W: Output>(out: &mut TextWriter<'_, W>, class: &ClassView)
     ensures { Sends W.written W.failures out.old out.new (constant_lines class.now) }
 {
@@ -21,7 +21,7 @@ pub(crate) fn write_constant_lines<W: Output>(out: &mut TextWriter<'_, W>, class
     }
 }
 
-/// Nothing for an index that is not usable.
+/// Writes the line of an index. An index that is not usable has none.
 fn write_line_at<W: Output>(out: &mut TextWriter<'_, W>, class: &ClassView, index: u16)
     ensures { Sends W.written W.failures out.old out.new (line_at class.now index) }
 {
@@ -41,7 +41,7 @@ fn write_constant_line<W: Output>(out: &mut TextWriter<'_, W>, index: u16, const
     out.text(b"\n");
 }
 
-/// What a constant holds.
+/// Writes the value of a constant.
 fn write_constant<W: Output>(out: &mut TextWriter<'_, W>, constant: Constant)
     ensures { Sends W.written W.failures out.old out.new (constant_text (constant_of constant.entry)) }
 {
@@ -63,7 +63,7 @@ fn write_constant<W: Output>(out: &mut TextWriter<'_, W>, constant: Constant)
     }
 }
 
-/// The bits of a floating point number.
+/// Writes the bits of a floating point number.
 fn write_bits<W: Output>(out: &mut TextWriter<'_, W>, bytes: &[u8])
     ensures { Sends W.written W.failures out.old out.new (codes "0x" ++ hexadecimal bytes.now) }
 {

@@ -17,7 +17,7 @@ use jc_text::TextWriter;
 use jc_view::{ClassView, Member};
 use std::alloc::Global;
 
-/// The faults of the format, and whether there is one.
+/// Writes the faults of the format. Returns whether there is one.
 pub(crate) fn write_format_faults<W: Output>(
     alloc: Global,
     out: &mut TextWriter<'_, W>,
@@ -33,7 +33,7 @@ pub(crate) fn write_format_faults<W: Output>(
     Ok(!faults.is_empty())
 }
 
-/// The line of a fault of the format.
+/// Writes the line of a fault of the format.
 pub fn write_format_line<W: Output>(out: &mut TextWriter<'_, W>, fault: Fault)
     ensures { Sends W.written W.failures out.old out.new (format_line fault) }
 {
@@ -42,7 +42,7 @@ pub fn write_format_line<W: Output>(out: &mut TextWriter<'_, W>, fault: Fault)
     out.text(b"\n");
 }
 
-/// The faults of the methods' codes, by method, and whether there is one.
+/// Writes the code faults of all methods, by method. Returns whether there is one.
 pub(crate) fn write_code_faults<W: Output>(
     alloc: Global,
     out: &mut TextWriter<'_, W>,
@@ -55,7 +55,7 @@ pub(crate) fn write_code_faults<W: Output>(
     write_faults_by_method(alloc, out, &sizes)
 }
 
-/// The faults of each method's code, and whether there is one.
+/// Writes the faults of each method's code. Returns whether there is one.
 fn write_faults_by_method<W: Output>(
     alloc: Global,
     out: &mut TextWriter<'_, W>,
@@ -71,7 +71,7 @@ fn write_faults_by_method<W: Output>(
     Ok(some)
 }
 
-/// The faults of a method's code, and whether there is one.
+/// Writes the faults of a method's code. Returns whether there is one.
 fn write_method_faults<W: Output>(
     alloc: Global,
     out: &mut TextWriter<'_, W>,
@@ -95,7 +95,7 @@ fn write_method_faults<W: Output>(
     Ok(!faults.is_empty())
 }
 
-/// The line of a fault of the code of the method of a number.
+/// Writes the line of a code fault, by the number of the method.
 pub fn write_code_fault_line<W: Output>(
     out: &mut TextWriter<'_, W>,
     number: usize,

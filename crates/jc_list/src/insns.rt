@@ -16,7 +16,7 @@ use jc_code::Insn;
 use jc_text::TextWriter;
 use jc_view::{ClassView, ConstantIndex};
 
-/// An instruction that stands at a place, and the targets of a switch.
+/// Writes the instruction at a place, and the targets of a switch.
 pub(crate) fn write_insn_lines<W: Output>(
     out: &mut TextWriter<'_, W>,
     class: &ClassView,
@@ -45,7 +45,7 @@ fn write_insn_line<W: Output>(
     out.text(b"\n");
 }
 
-/// What stands in front of the mnemonic.
+/// Returns the text before the mnemonic.
 fn wide(insn: &Insn) -> &'static [u8]
     ensures { result.now ≡ wide_text insn.now }
 {
@@ -55,7 +55,7 @@ fn wide(insn: &Insn) -> &'static [u8]
     }
 }
 
-/// The operands, each behind a blank.
+/// Writes the operands, each after a space.
 fn write_operands<W: Output>(out: &mut TextWriter<'_, W>, class: &ClassView, insn: &Insn)
     ensures { Sends W.written W.failures out.old out.new (operands_text class.now insn.now) }
 {
@@ -88,7 +88,7 @@ fn write_increment<W: Output>(out: &mut TextWriter<'_, W>, index: u16, amount: i
     write_number(out, amount);
 }
 
-/// An index, and what is referred to.
+/// Writes an index, and what its constant refers to.
 fn write_entry<W: Output>(out: &mut TextWriter<'_, W>, class: &ClassView, index: ConstantIndex)
     ensures { Sends W.written W.failures out.old out.new (codes " " ++ index_with_reference class.now index) }
 {
@@ -96,7 +96,7 @@ fn write_entry<W: Output>(out: &mut TextWriter<'_, W>, class: &ClassView, index:
     write_index_with_reference(out, class, index);
 }
 
-/// An index, a number, and what is referred to.
+/// Writes an index, a number, and what the constant of the index refers to.
 fn write_counted_entry<W: Output>(
     out: &mut TextWriter<'_, W>,
     class: &ClassView,
@@ -112,7 +112,7 @@ fn write_counted_entry<W: Output>(
     write_reference(out, class, index);
 }
 
-/// The targets of a switch, a line each.
+/// Writes the targets of a switch, a line for each.
 fn write_switch_lines<W: Output>(out: &mut TextWriter<'_, W>, insn: &Insn)
     ensures { Sends W.written W.failures out.old out.new (switch_lines insn.now) }
 {

@@ -1,4 +1,4 @@
-//! Why a listing was not written to its end.
+//! The errors of a listing.
 
 ghost use Rattle.std.specs.Prelude.{◌≡◌};
 ghost use Rattle.jc_list.specs.declared.list_error.ListError.TheVariants.{NoMemory as NoMemoryLeft};
@@ -6,17 +6,17 @@ ghost use Rattle.jc_list.specs.ListErrors.{list_code};
 
 use jc_base::NoMemory;
 
-/// Why a listing was not written to its end. What was written is a beginning of it.
+/// The reason why a listing is incomplete. A prefix of it was written.
 #[derive(Clone, Copy, Debug, PartialEq, Eq)]
 pub enum ListError {
     /// The output failed.
     Write,
-    /// Memory was refused.
+    /// An allocation failed.
     NoMemory,
 }
 
 impl ListError {
-    /// The number of the error: 1 or 2.
+    /// Returns the number of the error: 1 or 2.
     pub fn code(self) -> u8
         ensures { result ≡ list_code self }
     {

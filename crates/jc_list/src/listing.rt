@@ -21,8 +21,8 @@ use std::alloc::Global;
 /// Writes the listing of a class file: its name, flags, version, supertypes and constants, its
 /// members and attributes, the instructions of its methods, and last its faults.
 ///
-/// Answers `Write` only where the output failed, and `NoMemory` only where memory was refused. The
-/// output then has a beginning of the listing.
+/// Returns `Write` only if the output failed, and `NoMemory` only when an allocation fails. The output
+/// then has a prefix of the listing.
 pub fn write_listing<W: Output>(
     alloc: Global,
     class: &ClassView,
@@ -35,7 +35,9 @@ pub fn write_listing<W: Output>(
     Ok(())
 }
 
-/// The same, and says whether a fault is listed: one of the format, or of a method's code.
+/// Writes the listing of a class file, as [`write_listing`] does.
+///
+/// Returns whether it lists a fault of the format or of a method's code.
 pub fn list_class<W: Output>(
     alloc: Global,
     class: &ClassView,
@@ -53,7 +55,7 @@ pub fn list_class<W: Output>(
     Ok(listed?)
 }
 
-/// All lines, and whether a fault is among them.
+/// Writes all lines. Returns whether a fault is among them.
 fn write_lines<W: Output>(
     alloc: Global,
     out: &mut TextWriter<'_, W>,

@@ -13,7 +13,9 @@ use jc_text::TextWriter;
 use jc_view::{Member, Members};
 use std::alloc::Global;
 
-/// Fields or methods, in the order of the file: a word that says which, and the flags that mean something.
+/// Writes the fields or the methods, in the order of the file.
+///
+/// `word` says which of both they are, and `flags` are the flags that have a meaning.
 pub(crate) fn write_members<W: Output>(
     alloc: Global,
     out: &mut TextWriter<'_, W>,

@@ -9,30 +9,30 @@ use jc_base::Output;
 use jc_code::{LookupSwitch, TableSwitch};
 use jc_text::TextWriter;
 
-/// The lowest and the highest value, and the target for all others.
+/// Writes the lowest and the highest value, and the target for all other values.
 pub(crate) fn write_table_switch<W: Output>(out: &mut TextWriter<'_, W>, switch: &TableSwitch)
     ensures { Sends W.written W.failures out.old out.new (table_switch_text switch.now) }
 {
-    write_number(out, switch.low);
-    write_number(out, switch.high);
+    write_number(out, switch.low());
+    write_number(out, switch.high());
     out.text(b" default");
-    write_number(out, switch.default);
+    write_number(out, switch.default());
 }
 
-/// How many values have a target, and the target for all others.
+/// Writes the number of cases, and the target for all other values.
 pub(crate) fn write_lookup_switch<W: Output>(out: &mut TextWriter<'_, W>, switch: &LookupSwitch)
     ensures { Sends W.written W.failures out.old out.new (lookup_switch_text switch.now) }
 {
     write_number(out, switch.cases().len());
     out.text(b" default");
-    write_number(out, switch.default);
+    write_number(out, switch.default());
 }
 
-/// The targets of the values from the lowest on.
+/// Writes the targets of the values, from the lowest on.
 pub(crate) fn write_target_lines<W: Output>(out: &mut TextWriter<'_, W>, switch: &TableSwitch)
     ensures { Sends W.written W.failures out.old out.new (target_lines switch.now.low switch.now.targets.left) }
 {
-    let low = i64::from(switch.low);
+    let low = i64::from(switch.low());
     let mut targets = switch.targets();
     for index in 0..targets.len() {
         let Some(target) = targets.next() else {
@@ -42,7 +42,7 @@ pub(crate) fn write_target_lines<W: Output>(out: &mut TextWriter<'_, W>, switch:
     }
 }
 
-/// The values and their targets.
+/// Writes the cases: values and their targets.
 pub(crate) fn write_case_lines<W: Output>(out: &mut TextWriter<'_, W>, switch: &LookupSwitch)
     ensures { Sends W.written W.failures out.old out.new (flat_map case_line switch.now.cases.left) }
 {

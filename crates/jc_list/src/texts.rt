@@ -1,4 +1,4 @@
-//! What several lines show.
+//! Texts that several lines show.
 
 ghost use Rattle.std.specs.Prelude.{◌≡◌, ◌++◌, [], codes, decimal};
 ghost use Rattle.std.specs.Option.{option_copied};
@@ -14,7 +14,7 @@ use jc_file::AccessFlag;
 use jc_text::TextWriter;
 use jc_view::{ClassView, Constant, ConstantIndex};
 
-/// A text, or `?` where it is missing.
+/// Writes a text, or `?` if it is missing.
 pub(crate) fn write_text<W: Output>(out: &mut TextWriter<'_, W>, text: Option<&[u8]>)
     ensures { Sends W.written W.failures out.old out.new (shown_text (option_copied text.entry)) }
 {
@@ -24,7 +24,7 @@ pub(crate) fn write_text<W: Output>(out: &mut TextWriter<'_, W>, text: Option<&[
     }
 }
 
-/// The same behind a word.
+/// Writes a word and a text, or `?` if the text is missing.
 pub(crate) fn write_text_behind<W: Output>(
     out: &mut TextWriter<'_, W>,
     word: &[u8],
@@ -36,7 +36,7 @@ pub(crate) fn write_text_behind<W: Output>(
     write_text(out, text);
 }
 
-/// An index into the constants.
+/// Writes the index of a constant.
 pub(crate) fn write_index<W: Output>(out: &mut TextWriter<'_, W>, index: ConstantIndex)
     ensures { Sends W.written W.failures out.old out.new (index_text index) }
 {
@@ -44,14 +44,14 @@ pub(crate) fn write_index<W: Output>(out: &mut TextWriter<'_, W>, index: Constan
     out.decimal(index.0);
 }
 
-/// A number behind a blank.
+/// Writes a space and a number.
 pub(crate) fn write_number<W: Output, I: Integer>(out: &mut TextWriter<'_, W>, number: I)
     ensures { Sends W.written W.failures out.old out.new (codes " " ++ I.text number) }
 {
     write_number_behind(out, b" ", number);
 }
 
-/// A number behind a word.
+/// Writes a word and a number.
 pub(crate) fn write_number_behind<W: Output, I: Integer>(
     out: &mut TextWriter<'_, W>,
     word: &[u8],
@@ -63,7 +63,7 @@ pub(crate) fn write_number_behind<W: Output, I: Integer>(
     out.decimal(number);
 }
 
-/// All bits of the access flags, and the names of those that are set and mean something.
+/// Writes all bits of the access flags, and the names of the flags that are set and have a meaning.
 pub(crate) fn write_flags<W: Output>(out: &mut TextWriter<'_, W>, flags: &[AccessFlag], bits: u16)
     ensures { Sends W.written W.failures out.old out.new (flags_text flags.now bits) }
 {
@@ -83,7 +83,7 @@ fn write_flag<W: Output>(out: &mut TextWriter<'_, W>, flag: AccessFlag, bits: u1
     }
 }
 
-/// An index, and behind it what the class, the field or the method is that stands there.
+/// Writes an index, and the class, the field or the method that its constant refers to.
 pub(crate) fn write_index_with_reference<W: Output>(
     out: &mut TextWriter<'_, W>,
     class: &ClassView,
@@ -95,7 +95,7 @@ pub(crate) fn write_index_with_reference<W: Output>(
     write_reference(out, class, index);
 }
 
-/// Behind a blank, what the class, the field or the method is that stands at an index.
+/// Writes a space and the class, the field or the method that the constant of an index refers to.
 pub(crate) fn write_reference<W: Output>(
     out: &mut TextWriter<'_, W>,
     class: &ClassView,
@@ -128,7 +128,7 @@ fn write_reference_of<W: Output>(out: &mut TextWriter<'_, W>, class: &ClassView,
     }
 }
 
-/// A member behind a word: its class, its name and its descriptor.
+/// Writes a word and a member: its class, its name and its descriptor.
 fn write_member_reference<W: Output>(
     out: &mut TextWriter<'_, W>,
     class: &ClassView,

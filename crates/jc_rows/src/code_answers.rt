@@ -83,9 +83,9 @@ fn write_default<W: Output>(out: &mut TextWriter<'_, W>, target: i64) {
 }
 
 fn write_table<W: Output>(out: &mut TextWriter<'_, W>, switch: &TableSwitch) {
-    write_number(out, i64::from(switch.low));
-    write_number(out, i64::from(switch.high));
-    write_default(out, switch.default);
+    write_number(out, i64::from(switch.low()));
+    write_number(out, i64::from(switch.high()));
+    write_default(out, switch.default());
     for target in switch.targets() {
         write_number(out, target);
     }
@@ -93,7 +93,7 @@ fn write_table<W: Output>(out: &mut TextWriter<'_, W>, switch: &TableSwitch) {
 
 fn write_cases<W: Output>(out: &mut TextWriter<'_, W>, switch: &LookupSwitch) {
     write_number(out, i64::from(switch.cases().len()));
-    write_default(out, switch.default);
+    write_default(out, switch.default());
     for case in switch.cases() {
         write_number(out, i64::from(case.value));
         write_number(out, case.target);

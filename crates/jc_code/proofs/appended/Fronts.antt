@@ -1,5 +1,5 @@
 -- A list that is appended to begins with what it was.
-use Rattle.std.proofs.Common.{◌≡◌, ◌++◌, Bool, true, false, cond, List, [], ◌∷◌, ◌∙◌, ap, sym, append-nil, append_assoc}
+use Rattle.std.proofs.Common.{◌≡◌, ◌++◌, List, [], ◌∷◌, ◌∙◌, ap, sym, append-nil, append_assoc}
 use Rattle.jc_code.specs.inside.Fronts.{BeginsWith}
 
 pub begins_whole : {A : Type 0} (list : List A) → BeginsWith list list
@@ -15,7 +15,12 @@ begins_same front list same begins is = (begins.0, is ∙ begins.1)
 pub begins_through : {A : Type 0} (front middle list : List A) → BeginsWith middle front → BeginsWith list middle → BeginsWith list front
 begins_through front middle list begins more = begins_longer front middle list more.0 begins more.1
 
--- one item more, if it is kept
-pub one_kept : {A : Type 0} (kept rest : List A) (x : A) (b : Bool) → (kept ++ cond b (x ∷ []) []) ++ rest ≡ kept ++ cond b (x ∷ rest) rest
-one_kept kept rest x true = append_assoc kept (x ∷ []) rest
-one_kept kept rest x false = append_assoc kept [] rest
+-- one step of a loop: what is appended is what the first item that is left has
+pub added : {A B : Type 0} (of : List A → List B) (old new here whole : List B) (item : A) (left items : List A) → items ≡ item ∷ left
+    → of (item ∷ left) ≡ here ++ of left → new ≡ old ++ here → old ++ of items ≡ whole → new ++ of left ≡ whole
+added of old new here whole item left items first one more before =
+    ap (λ l. l ++ of left) more
+    ∙ append_assoc old here (of left)
+    ∙ ap (λ l. old ++ l) (sym one)
+    ∙ ap (λ l. old ++ of l) (sym first)
+    ∙ before

@@ -1,4 +1,4 @@
--- A switch is what stands before its table, and the table behind that.
+-- A switch is the numbers before its table, and the table.
 use Rattle.std.specs.Prelude.{ℤ, pos, ◌+ℤ◌, ◌-ℤ◌, int_le, nat_abs}
 use Rattle.std.specs.Int.{cast_signed, w32}
 use Rattle.std.proofs.Common.{◌≡◌, ℕ, ◌+◌, ◌-◌, ◌*◌, ◌^◌, ◌<◌, cond, ltb, List, take, drop, Some, None, option_and_then, refl, sym, ap, ◌∙◌, arith}
@@ -11,11 +11,25 @@ use Rattle.jc_view.specs.Reading.{after, each_value}
 use Rattle.jc_view.proofs.reading.BigEndian.{after_some}
 use Rattle.jc_code.specs.declared.insn.Insn.TheVariants as insns
 use Rattle.jc_code.specs.declared.switch.Case.{Case}
-use Rattle.jc_code.specs.declared.decoder.TableHead.{TableHead}
-use Rattle.jc_code.specs.declared.decoder.LookupHead.{LookupHead}
-use Rattle.jc_code.specs.InsnReading.{pad, target_value, case_value, target_count, after_table_switch, table_switch_value, after_lookup_switch, lookup_switch_value}
-use Rattle.jc_code.specs.inside.Decoding.{table_head_value, lookup_head_value}
+use Rattle.jc_code.specs.InsnReading.{pad, target_value, case_value, low_value, high_value, case_count, target_count, after_table_switch, table_switch_value, after_lookup_switch, lookup_switch_value}
 use Rattle.jc_code.proofs.decoding.Tables.{IsInFront}
+
+-- the numbers before the table of a tableswitch
+pub record TableHead : Type 0 where
+  pub default : ℤ
+  pub low : ℤ
+  pub high : ℤ
+
+abbrev pub table_head_value : ℕ → List ℕ → TableHead
+table_head_value at xs = record { default = target_value at (drop (pad at) xs); low = low_value at xs; high = high_value at xs }
+
+-- the numbers before the table of a lookupswitch
+pub record LookupHead : Type 0 where
+  pub default : ℤ
+  pub count : ℕ
+
+abbrev pub lookup_head_value : ℕ → List ℕ → LookupHead
+lookup_head_value at xs = record { default = target_value at (drop (pad at) xs); count = case_count at xs }
 
 pub target_in_front : (at : ℕ) → IsInFront 4 (target_value at)
 target_in_front at m xs le = ap (λ (n : ℕ). pos at +ℤ cast_signed w32 n) (big_from-take 0 4 m xs le)
@@ -32,7 +46,7 @@ case_in_front at m xs le =
 
 -- ---- a tableswitch
 
-count_is : (n : ℕ) (low high : ℤ) → Some n ≡ target_count low high → n ≡ nat_abs (high -ℤ low) + 1
+pub count_is : (n : ℕ) (low high : ℤ) → Some n ≡ target_count low high → n ≡ nat_abs (high -ℤ low) + 1
 count_is n low high e = sym (cond_some (int_le low high) (nat_abs (high -ℤ low) + 1) n (sym e)).1
 
 module _ (at : ℕ) (xs ys : List ℕ) (head : TableHead) (count : ℕ) (front : after (pad at + 12) xs ≡ Some ys) (is_head : head ≡ table_head_value at xs) (is_count : Some count ≡ target_count head.low head.high) where

@@ -7,8 +7,7 @@ use Rattle.std.proofs.lemmas.List.{drop_at, take_at}
 use Rattle.jc_base.specs.Endian.{big_bytes}
 use Rattle.jc_view.proofs.reading.BigEndian.{length-big_bytes}
 use Rattle.jc_code.specs.declared.insn.Insn.TheVariants as insns
-use Rattle.jc_code.specs.declared.switch.TableSwitch.{TableSwitch}
-use Rattle.jc_code.specs.declared.switch.LookupSwitch.{LookupSwitch}
+use Rattle.jc_code.specs.Switches.{TableSwitch, LookupSwitch}
 use Rattle.jc_code.specs.Insns.{Stands, IsPad, IsPartAt, aligned, targets_place, cases_place, int_bytes, target_bytes, case_bytes, offset_to, tableswitch, lookupswitch}
 
 pad_ends : (at : ℕ) (pad : List ℕ) → IsPad at pad → at + 1 + length pad ≡ aligned at

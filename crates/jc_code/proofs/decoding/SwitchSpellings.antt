@@ -10,18 +10,14 @@ use Rattle.jc_view.proofs.reading.BigEndian.{IsBytes, width4, Takes, Takes-then,
 use Rattle.jc_view.proofs.reading.Tables.{each_takes, each_again, each_size}
 use Rattle.jc_view.proofs.reading.Codes.{test_is}
 use Rattle.jc_code.specs.declared.insn.Insn.TheVariants as insns
-use Rattle.jc_code.specs.declared.switch.TableSwitch.{TableSwitch}
-use Rattle.jc_code.specs.declared.switch.LookupSwitch.{LookupSwitch}
-use Rattle.jc_code.specs.declared.decoder.TableHead.{TableHead}
-use Rattle.jc_code.specs.declared.decoder.LookupHead.{LookupHead}
+use Rattle.jc_code.specs.Switches.{TableSwitch, LookupSwitch}
 use Rattle.jc_code.specs.Insns.{int_bytes, target_bytes, case_bytes, IsPad, IsIntTarget, IsTableSwitch, IsLookupSwitch, tableswitch, lookupswitch}
 use Rattle.jc_code.specs.InsnReading.{pad, int_value, target_value, case_value, low_value, high_value, target_count, case_count, after_table_switch, table_switch_value, after_lookup_switch, lookup_switch_value}
-use Rattle.jc_code.specs.inside.Decoding.{table_head_value, lookup_head_value}
 use Rattle.jc_code.proofs.decoding.Behind.{both_behind, split_behind}
 use Rattle.jc_code.proofs.decoding.Signed.{takes_signed, again_signed, takes_target, again_target}
 use Rattle.jc_code.proofs.decoding.Spellings.{IsReadAgain}
 use Rattle.jc_code.proofs.decoding.SwitchTables.{reads_target, reads_case, count_takes, count_again}
-use Rattle.jc_code.proofs.decoding.SwitchParts.{behind_table_switch, table_switch_is, behind_lookup_switch, lookup_switch_is}
+use Rattle.jc_code.proofs.decoding.SwitchParts.{TableHead, LookupHead, table_head_value, lookup_head_value, behind_table_switch, table_switch_is, behind_lookup_switch, lookup_switch_is}
 
 is_pad : (at : ℕ) (bytes : List ℕ) → length bytes ≡ pad at → IsPad at bytes
 is_pad at bytes e = (omega arith, omega arith)

@@ -1,4 +1,4 @@
--- What one look at the instructions of a code finds.
+-- What one pass over the instructions of a code finds.
 use Rattle.std.specs.Prelude.{◌≡◌, ℕ, List, map}
 use Rattle.jc_code.specs.declared.first_pass.FirstPass.{FirstPass}
 use Rattle.jc_code.specs.declared.insn.Insn.{Insn}
@@ -6,7 +6,7 @@ use Rattle.jc_code.specs.CodeRules.{Scope}
 use Rattle.jc_code.specs.Insns.{IsCode}
 use Rattle.jc_code.specs.inside.Found.{faults_of_others, jumps_of}
 
--- of the instructions of a code
+-- the pass has the starts, the jumps and the other faults of the code's instructions
 pub record IsFirstPass (s : Scope) (code : List ℕ) (pass : FirstPass) : Type 0 where
   pub items : List (ℕ × Insn)
   pub is_code : IsCode code items pass.end

@@ -15,33 +15,33 @@ use Rattle.jc_code.specs.CodeRules.{Scope}
 abbrev pub faults_at : (CodeRule → Bool) → ℕ → List CodeFault
 faults_at breaks place = flat_map (λ rule. cond (breaks rule) (fault_at rule place ∷ []) []) ALL
 
--- those of an instruction
+-- the faults of an instruction
 abbrev pub insn_faults : Scope → ℕ × Insn → List CodeFault
 insn_faults s item = faults_at (λ rule. insn_breaks rule s item.1) item.0
 
--- those of the handlers, the first of which has the number n
+-- the faults of handlers, the first of which has the number n
 abbrev pub handler_faults : Scope → ℕ → List Handler → List CodeFault
 handler_faults s n [] = []
 handler_faults s n (h ∷ handlers) = faults_at (λ rule. handler_breaks rule s h) n ++ handler_faults s (n + 1) handlers
 
 -- ---- in one pass, while starts are still being found
 
--- an instruction whose rules ask where instructions start
+-- an instruction whose rules need the starts of instructions
 abbrev pub has_targets : Insn → Bool
 has_targets (insns.Branch opcode target) = true
 has_targets (insns.TableSwitch switch) = true
 has_targets (insns.LookupSwitch switch) = true
 has_targets insn = false
 
--- the instructions that wait until all starts are known
+-- the instructions that are checked when all starts are known
 abbrev pub jumps_of : List (ℕ × Insn) → List (ℕ × Insn)
 jumps_of items = filter (λ item. has_targets item.1) items
 
--- the faults of the others
+-- the faults of all other instructions
 abbrev pub faults_of_others : Scope → List (ℕ × Insn) → List CodeFault
 faults_of_others s items = flat_map (λ item. cond (has_targets item.1) [] (insn_faults s item)) items
 
--- what is looked at before a start is known
+-- the scope before a start is known
 abbrev pub without_starts : Scope → Scope
 without_starts s = record { class = s.class; max_locals = s.max_locals; size = s.size; starts = [] }
 

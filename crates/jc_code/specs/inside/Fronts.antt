@@ -1,6 +1,6 @@
 -- Lists that are appended to.
 use Rattle.std.specs.Prelude.{◌≡◌, ◌++◌, List}
 
--- the list is this front with more after it
+-- the list begins with this front
 abbrev pub BeginsWith : {A : Type 0} → (list front : List A) → Type 0
 BeginsWith {A} list front = (more : List A) × (list ≡ front ++ more)

@@ -1,4 +1,4 @@
--- Starts of instructions as marks by offset.
+-- Starts of instructions, as a mark for each offset.
 use Rattle.std.specs.Prelude.{ℕ, Bool, List}
 use Rattle.jc_code.specs.CodeFaults.{numbers_of}
 

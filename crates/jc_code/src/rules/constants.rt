@@ -14,7 +14,7 @@ use crate::rules::lookups::{
 use crate::scope::Scope;
 use jc_view::{ConstantIndex, ConstantKind};
 
-/// Returns whether `ldc` or `ldc_w` loads what does not take one slot.
+/// Returns whether `ldc` or `ldc_w` loads a constant that does not take one slot.
 pub(crate) fn breaks_s6(scope: &Scope, opcode: Opcode, index: ConstantIndex) -> bool
     ensures { result ≡ breaks_s6 scope.now (insns.Load opcode index) }
 {
@@ -42,7 +42,7 @@ pub(crate) fn is_interface_method(scope: &Scope, index: ConstantIndex) -> bool
         .is_entry(ConstantKind::InterfaceMethodref, index)
 }
 
-/// Whether the method of an interface takes another number of slots, with the receiver.
+/// Returns whether a count differs from the slots of an interface method's parameters and the receiver.
 pub(crate) fn is_other_count(scope: &Scope, index: ConstantIndex, count: u8) -> bool
     ensures { result ≡ is_other_count scope.now.class index count }
 {
@@ -58,7 +58,7 @@ pub(crate) fn breaks_s14(scope: &Scope, index: ConstantIndex) -> bool
     !scope.class().is_entry(ConstantKind::InvokeDynamic, index)
 }
 
-/// Whether an invocation names an entry that it may name.
+/// Returns whether an invocation names an entry of a kind that it may name.
 pub(crate) fn is_right_entry(scope: &Scope, opcode: Opcode, index: ConstantIndex) -> bool
     ensures { result ≡ is_right_entry scope.now opcode index }
 {
@@ -69,7 +69,7 @@ pub(crate) fn is_right_entry(scope: &Scope, opcode: Opcode, index: ConstantIndex
     }
 }
 
-/// Whether it names a special method that it may not invoke.
+/// Returns whether an invocation names a special method that it may not invoke.
 pub(crate) fn is_bad_special(scope: &Scope, opcode: Opcode, index: ConstantIndex) -> bool
     ensures { result ≡ is_bad_special scope.now.class opcode index }
 {
@@ -79,7 +79,7 @@ pub(crate) fn is_bad_special(scope: &Scope, opcode: Opcode, index: ConstantIndex
     }
 }
 
-/// Returns whether `invokeinterface` names an entry that it may name, and that is a special method.
+/// Returns whether `invokeinterface` names a special method by an entry of the right kind.
 pub(crate) fn is_right_special(scope: &Scope, is_right: bool, index: ConstantIndex) -> bool
     ensures { result ≡ (is_right && passes is_special (referred_name scope.now.class index)) }
 {
@@ -117,7 +117,7 @@ pub(crate) fn breaks_s19(scope: &Scope, opcode: Opcode, index: ConstantIndex) ->
             .is_some_and(|count| count == 255)
 }
 
-/// Returns whether `multianewarray` makes no dimension, or more than the class has.
+/// Returns whether `multianewarray` creates no dimension, or more dimensions than the class has.
 pub(crate) fn breaks_s20(scope: &Scope, index: ConstantIndex, made: u8) -> bool
     ensures { result ≡ breaks_s20 scope.now (insns.MultiNewArray index made) }
 {

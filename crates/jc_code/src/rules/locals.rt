@@ -18,7 +18,7 @@ pub(crate) fn breaks_s22(scope: &Scope, insn: &Insn) -> bool
     }
 }
 
-/// The local variable that an instruction uses, and how many slots it takes.
+/// Returns the local variable that an instruction uses, and its number of slots.
 fn local_of(insn: &Insn) -> Option<(u16, u16)>
     ensures { result ≡ local_of insn.now }
 {

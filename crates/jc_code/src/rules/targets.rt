@@ -22,21 +22,21 @@ pub(crate) fn breaks_s3(scope: &Scope, target: i64) -> bool
     !scope.is_target(target)
 }
 
-/// Returns whether a target of a `tableswitch` is no instruction.
+/// Returns whether a target of a `tableswitch` is not the start of an instruction.
 pub(crate) fn table_breaks_s4(scope: &Scope, switch: &TableSwitch) -> bool
     ensures { result ≡ breaks_s4 scope.now (insns.TableSwitch switch.now) }
 {
-    !(scope.is_target(switch.default) && all_hit(scope, switch.targets()))
+    !(scope.is_target(switch.default()) && all_hit(scope, switch.targets()))
 }
 
-/// Returns whether a target of a `lookupswitch` is no instruction.
+/// Returns whether a target of a `lookupswitch` is not the start of an instruction.
 pub(crate) fn lookup_breaks_s4(scope: &Scope, switch: &LookupSwitch) -> bool
     ensures { result ≡ breaks_s4 scope.now (insns.LookupSwitch switch.now) }
 {
-    !(scope.is_target(switch.default) && all_cases_hit(scope, switch.cases()))
+    !(scope.is_target(switch.default()) && all_cases_hit(scope, switch.cases()))
 }
 
-/// Whether each target is the start of an instruction.
+/// Returns whether each target is the start of an instruction.
 fn all_hit(scope: &Scope, targets: Targets) -> bool
     ensures { result ≡ list_all (is_target scope.now) targets.entry.left }
 {
@@ -65,7 +65,7 @@ pub(crate) fn breaks_s5(switch: &LookupSwitch) -> bool
     !values_rise(switch.cases())
 }
 
-/// Whether each value is above the one before it.
+/// Returns whether the values are in strictly ascending order.
 fn values_rise(mut cases: Cases) -> bool
     ensures { result ≡ do_rise (map (λ case. case.value) cases.entry.left) }
 {

@@ -2,8 +2,7 @@
 use Rattle.std.proofs.Common.{◌≡◌, [], refl}
 use Rattle.jc_code.specs.declared.insn.Insn.{Insn}
 use Rattle.jc_code.specs.declared.insn.Insn.TheVariants as insns
-use Rattle.jc_code.specs.declared.switch.TableSwitch.{TableSwitch}
-use Rattle.jc_code.specs.declared.switch.LookupSwitch.{LookupSwitch}
+use Rattle.jc_code.specs.Switches.{TableSwitch, LookupSwitch}
 use Rattle.jc_list.specs.InsnLines.{switch_lines}
 
 pub no_switch : (insn : Insn) → ((x : TableSwitch) → insn ≡ insns.TableSwitch x → ⊥) → ((x : LookupSwitch) → insn ≡ insns.LookupSwitch x → ⊥) → switch_lines insn ≡ []

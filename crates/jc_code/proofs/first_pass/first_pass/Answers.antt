@@ -1,10 +1,11 @@
-use Rattle.std.proofs.Common.{◌≡◌, ◌++◌, ◌∷◌, [], ◌∙◌, ap, cond, sym, subst, refl, false, length, map, append-nil, append_assoc, replicate, arith}
+use Rattle.std.proofs.Common.{◌≡◌, ℕ, ◌++◌, ◌∷◌, [], ◌∙◌, ap, cond, sym, subst, refl, true, false, length, map, append-nil, replicate, arith}
 use Rattle.std.specs.Option.{option_to_list}
+use Rattle.jc_code.specs.declared.insn.Insn.{Insn}
 use Rattle.jc_code.specs.Insns.{IsCode}
 use Rattle.jc_code.specs.inside.Found.{faults_of_others, has_targets, insn_faults, jumps_of}
 use Rattle.jc_code.specs.inside.Fronts.{BeginsWith}
 use Rattle.jc_code.specs.inside.Marks.{marked}
-use Rattle.jc_code.proofs.appended.Fronts.{begins_longer, begins_whole, one_kept}
+use Rattle.jc_code.proofs.appended.Fronts.{added, begins_longer, begins_whole}
 use Rattle.jc_code.proofs.marks.Marked.{has_marked, marked_none, marks_long, none_marked, place_within}
 use Rattle.jc_code.specs.InsnsLeft.{InsnsLeft}
 use Rattle.jc_code.specs.MethodUses.{use_at, uses_among}
@@ -41,42 +42,50 @@ index_mut-requires c =
     let long = marks_long c.loop-place.invariant.marks in
     omega (arith, l, long)
 
+-- an instruction with targets
+pub loop-place-preserved-in-Continue-branch-4 : goal.loop-place-preserved-in-Continue-branch-4
+loop-place-preserved-in-Continue-branch-4 c =
+    let scope = c.args.scope.now in
+    let method = c.args.method in
+    let item : ℕ × Insn = (c.in-Some.place, c.in-Some.insn) in
+    let left = c.next.new.self.left in
+    let first = c.in-Some.ensures.steps.1.0 in
+    let held = c.loop-place.invariant in
+    let more = has_marked c.args.code.now c.new-insns.result.left _ c.in-Some.place c.in-Some.insn left c.new-insns.ensures.code first held.marks refl in
+    let is_jump : has_targets c.in-Some.insn ≡ true = sym c.has_targets.ensures ∙ c.if-has_targets.true in
+    record {
+      end = c.in-Some.ensures.steps.0 ∙ held.end;
+      all = added (map (λ item. item.0)) _ _ (c.in-Some.place ∷ []) _ item left _ first refl more.marked_more held.all;
+      marks = more.marks;
+      jumps = added jumps_of _ _ (item ∷ []) _ item left _ first (ap (λ b. cond b (item ∷ jumps_of left) (jumps_of left)) is_jump) c.in_ok-push.ensures.items held.jumps;
+      found = added (faults_of_others scope) _ _ [] _ item left _ first (ap (λ b. cond b [] (insn_faults scope item) ++ faults_of_others scope left) is_jump) (sym (append-nil c.loop-place.found.items)) held.found;
+      uses = added (uses_among method) _ _ (option_to_list (use_at method item)) _ item left _ first refl c.in_ok-push_use.ensures.ok held.uses;
+      names = added named_by_insns _ _ (option_to_list (named_by_insn item.1)) _ item left _ first refl c.in_ok-push_named.ensures.ok held.names;
+      uses_kept = begins_longer c.args.uses.now.items c.loop-place.uses.items _ _ held.uses_kept c.in_ok-push_use.ensures.ok;
+      names_kept = begins_longer c.args.names.now.items c.loop-place.names.items _ _ held.names_kept c.in_ok-push_named.ensures.ok;
+    }
+
+-- an instruction without targets
 pub loop-place-preserved : goal.loop-place-preserved
 loop-place-preserved c =
-    let place = c.in-Some.place in
-    let more = has_marked c.args.code.now c.new-insns.result.left _ place c.in-Some.insn c.next.new.self.left c.new-insns.ensures.code c.in-Some.ensures.steps.1.0 c.loop-place.invariant.marks refl in
+    let scope = c.args.scope.now in
+    let method = c.args.method in
+    let item : ℕ × Insn = (c.in-Some.place, c.in-Some.insn) in
     let left = c.next.new.self.left in
-    let insn = c.in-Some.insn in
+    let first = c.in-Some.ensures.steps.1.0 in
+    let held = c.loop-place.invariant in
+    let more = has_marked c.args.code.now c.new-insns.result.left _ c.in-Some.place c.in-Some.insn left c.new-insns.ensures.code first held.marks refl in
+    let is_other : has_targets c.in-Some.insn ≡ false = sym c.has_targets.ensures ∙ c.if-has_targets.false in
     record {
-      end = c.in-Some.ensures.steps.0 ∙ c.loop-place.invariant.end;
-      all =
-          ap (λ starts. starts ++ map (λ item. item.0) left) more.marked_more
-          ∙ append_assoc (marked c.loop-place.marks.items) (c.in-Some.place ∷ []) (map (λ item. item.0) left)
-          ∙ ap (λ items. marked c.loop-place.marks.items ++ map (λ item. item.0) items) (sym c.in-Some.ensures.steps.1.0)
-          ∙ c.loop-place.invariant.all;
+      end = c.in-Some.ensures.steps.0 ∙ held.end;
+      all = added (map (λ item. item.0)) _ _ (c.in-Some.place ∷ []) _ item left _ first refl more.marked_more held.all;
       marks = more.marks;
-      jumps =
-          ap (λ jumps. jumps ++ jumps_of left) c.in_ok-look.ensures.jumps
-          ∙ one_kept c.loop-place.jumps.items (jumps_of left) (place, insn) (has_targets insn)
-          ∙ ap (λ items. c.loop-place.jumps.items ++ jumps_of items) (sym c.in-Some.ensures.steps.1.0)
-          ∙ c.loop-place.invariant.jumps;
-      found =
-          ap (λ found. found ++ faults_of_others c.args.scope.now left) c.in_ok-look.ensures.found
-          ∙ append_assoc c.loop-place.found.items (cond (has_targets insn) [] (insn_faults c.args.scope.now (place, insn))) (faults_of_others c.args.scope.now left)
-          ∙ ap (λ items. c.loop-place.found.items ++ faults_of_others c.args.scope.now items) (sym c.in-Some.ensures.steps.1.0)
-          ∙ c.loop-place.invariant.found;
-      uses =
-          ap (λ uses. uses ++ uses_among c.args.method left) c.in_ok-push_use.ensures.ok
-          ∙ append_assoc c.loop-place.uses.items (option_to_list (use_at c.args.method (place, insn))) (uses_among c.args.method left)
-          ∙ ap (λ items. c.loop-place.uses.items ++ uses_among c.args.method items) (sym c.in-Some.ensures.steps.1.0)
-          ∙ c.loop-place.invariant.uses;
-      names =
-          ap (λ names. names ++ named_by_insns left) c.in_ok-push_named.ensures.ok
-          ∙ append_assoc c.loop-place.names.items (option_to_list (named_by_insn insn)) (named_by_insns left)
-          ∙ ap (λ items. c.loop-place.names.items ++ named_by_insns items) (sym c.in-Some.ensures.steps.1.0)
-          ∙ c.loop-place.invariant.names;
-      uses_kept = begins_longer c.args.uses.now.items c.loop-place.uses.items _ _ c.loop-place.invariant.uses_kept c.in_ok-push_use.ensures.ok;
-      names_kept = begins_longer c.args.names.now.items c.loop-place.names.items _ _ c.loop-place.invariant.names_kept c.in_ok-push_named.ensures.ok;
+      jumps = added jumps_of _ _ [] _ item left _ first (ap (λ b. cond b (item ∷ jumps_of left) (jumps_of left)) is_other) (sym (append-nil c.loop-place.jumps.items)) held.jumps;
+      found = added (faults_of_others scope) _ _ (insn_faults scope item) _ item left _ first (ap (λ b. cond b [] (insn_faults scope item) ++ faults_of_others scope left) is_other) c.in_ok-add_insn_faults.ensures held.found;
+      uses = added (uses_among method) _ _ (option_to_list (use_at method item)) _ item left _ first refl c.in_ok-push_use.ensures.ok held.uses;
+      names = added named_by_insns _ _ (option_to_list (named_by_insn item.1)) _ item left _ first refl c.in_ok-push_named.ensures.ok held.names;
+      uses_kept = begins_longer c.args.uses.now.items c.loop-place.uses.items _ _ held.uses_kept c.in_ok-push_use.ensures.ok;
+      names_kept = begins_longer c.args.names.now.items c.loop-place.names.items _ _ held.names_kept c.in_ok-push_named.ensures.ok;
     }
 
 pub returns-clause-found : goal.returns-clause-found
@@ -140,8 +149,14 @@ returns-in_err-push_named-clause-uses_kept c = begins_longer c.args.uses.now.ite
 pub returns-in_err-push_named-clause-names_kept : goal.returns-in_err-push_named-clause-names_kept
 returns-in_err-push_named-clause-names_kept c = subst (λ names. BeginsWith names c.args.names.now.items) (sym c.in_err-push_named.ensures.err) c.loop-place.invariant.names_kept
 
-pub returns-in_err-look-clause-uses_kept : goal.returns-in_err-look-clause-uses_kept
-returns-in_err-look-clause-uses_kept c = begins_longer c.args.uses.now.items c.loop-place.uses.items _ _ c.loop-place.invariant.uses_kept c.in_ok-push_use.ensures.ok
+pub returns-in_err-push-clause-uses_kept : goal.returns-in_err-push-clause-uses_kept
+returns-in_err-push-clause-uses_kept c = begins_longer c.args.uses.now.items c.loop-place.uses.items _ _ c.loop-place.invariant.uses_kept c.in_ok-push_use.ensures.ok
 
-pub returns-in_err-look-clause-names_kept : goal.returns-in_err-look-clause-names_kept
-returns-in_err-look-clause-names_kept c = begins_longer c.args.names.now.items c.loop-place.names.items _ _ c.loop-place.invariant.names_kept c.in_ok-push_named.ensures.ok
+pub returns-in_err-push-clause-names_kept : goal.returns-in_err-push-clause-names_kept
+returns-in_err-push-clause-names_kept c = begins_longer c.args.names.now.items c.loop-place.names.items _ _ c.loop-place.invariant.names_kept c.in_ok-push_named.ensures.ok
+
+pub returns-in_err-add_insn_faults-clause-uses_kept : goal.returns-in_err-add_insn_faults-clause-uses_kept
+returns-in_err-add_insn_faults-clause-uses_kept c = begins_longer c.args.uses.now.items c.loop-place.uses.items _ _ c.loop-place.invariant.uses_kept c.in_ok-push_use.ensures.ok
+
+pub returns-in_err-add_insn_faults-clause-names_kept : goal.returns-in_err-add_insn_faults-clause-names_kept
+returns-in_err-add_insn_faults-clause-names_kept c = begins_longer c.args.names.now.items c.loop-place.names.items _ _ c.loop-place.invariant.names_kept c.in_ok-push_named.ensures.ok

@@ -17,7 +17,7 @@ loop-index-init g c =
 pub loop-index-preserved : goal.loop-index-preserved
 loop-index-preserved g c =
     let low = c.args.switch.now.low in
-    let from = to_z-of_z w64 c.from-low.result (search rules) ∙ c.from-low.ensures ∙ to_z-of_z w32 low (search rules) in
+    let from = to_z-of_z w64 c.from-low.result (search rules) ∙ c.from-low.ensures ∙ to_z-of_z w32 c.low.result (search rules) ∙ c.low.ensures in
     let number = to_z-of_z w64 c.from.result (search rules) ∙ c.from.ensures in
     let sum : to_z w64 (of_z w64 c.from-low.result) +ℤ to_z w64 (of_z w64 c.from.result) ≡ low +ℤ pos c.loop-index.index =
     ap (λ v. v +ℤ to_z w64 (of_z w64 c.from.result)) from ∙ ap (λ v. low +ℤ v) number in
