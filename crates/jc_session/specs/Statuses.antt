@@ -123,7 +123,7 @@ abbrev pub NamesCommand : (command : Word) → (words : List Word) → Type 0
 NamesCommand command words = (behind : List Word) × (words ≡ command ∷ behind)
 
 -- the command that the first argument names was performed: a run, a listing of a file, or a check of a tree. Only a run
--- reads the input, whose bytes to come a function returns
+-- reads the input. The function `remaining` returns the input's bytes to come
 abbrev pub PerformsCommand : {R : Type 0} → (remaining : R → Option (List ℕ)) → (words : List Word) → Outcome
     → (input coming : R) → (before now : Option (List ℕ)) → Type 0
 PerformsCommand remaining words outcome input coming before now =

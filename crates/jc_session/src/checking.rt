@@ -27,7 +27,7 @@ use thiserror::Error;
 pub enum CheckForm {
     /// The report of all files.
     Report,
-    /// A line for each error.
+    /// A line for each error that the fields select.
     Errors {
         /// The prefixes of the paths and class names whose errors are written, or `None` for all errors.
         only: Option<Outside>,
