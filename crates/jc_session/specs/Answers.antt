@@ -1,4 +1,4 @@
--- What a list of lines owes.
+-- The replies to the lines of a session, and the runs over lists of lines.
 use Rattle.std.specs.Prelude.{◌≡◌, ℕ, List, [], ◌∷◌, ◌++◌, drop, Option, Some, None, Result, Ok, Err, codes}
 use Rattle.jc_input.specs.declared.edit.EditError.{EditError}
 use Rattle.jc_input.specs.declared.source.SourceError.{SourceError}
@@ -16,40 +16,41 @@ use Rattle.jc_session.specs.SaidDependants.{SaysDependants}
 use Rattle.jc_input.specs.Lines.{Command, Add, Replace, Remove, AddPrefix, DropPrefix, Report, Part, Listing, Dependants, End, Bad, command_of}
 use Rattle.jc_input.specs.Sources.{SourceAnswers, next_answer}
 
--- what one line is answered, and what is then
+-- the reply to one line: the text of its answer, and the state after it
 pub data Reply : Type 0 where
-  -- this text, with these files and prefixes, and these answers of the source to come
+  -- this text; after it the session has these files and prefixes, and the source has these answers to come
   Says : (text : List ℕ) (held : Contents) (source : SourceAnswers) → Reply
-  -- this text, which may want memory, with nothing changed
+  -- this text of a listing; nothing changes. Memory may run out after a beginning of it was written
   Lists : (text : List ℕ) → Reply
-  -- nothing, and no line after it is read
+  -- no text, and no further line is answered
   Ends : Reply
-  -- the source had no memory, with these answers to come
+  -- no text, since the source is out of memory; after it the source has these answers to come
   Lacks : (source : SourceAnswers) → Reply
 
+-- the reply to an edit that is refused for this reason, or made at `None`
 abbrev pub judged_reply : Contents → SourceAnswers → EditChange → Option EditError → Reply
 judged_reply h s change None = Says (codes "ok\n") (after_edit h change) s
 judged_reply h s change (Some e) = Says (refused_text e) h s
 
--- an edit that judge lets pass happens
+-- the reply to an edit: it is made unless `judge_edit` refuses it
 abbrev pub edit_reply : Contents → SourceAnswers → EditChange → Reply
 edit_reply h s change = judged_reply h s change (judge_edit h change)
 
--- by what the source said
+-- the reply to a line that edits a file with bytes of the source, by the answer of the source
 abbrev pub told_reply : Contents → SourceAnswers → List ℕ → (List ℕ → Change) → Result (List ℕ) SourceError → Reply
 told_reply h s path change (Ok bytes) = edit_reply h s (OfFiles (change bytes))
 told_reply h s path change (Err sources.Unread) = Says (unread_text path) h s
 told_reply h s path change (Err sources.NoMemory) = Lacks s
 
--- the source is asked for the bytes first
+-- the reply to a line that edits a file with bytes of the source: the source is first asked for the bytes at the path
 abbrev pub sourced_reply : Contents → SourceAnswers → List ℕ → (List ℕ → Change) → Reply
 sourced_reply h s path change = told_reply h (drop 1 s) path change (next_answer s path)
 
--- the report of the files by the prefixes
+-- the text is that of the report of these files and prefixes
 abbrev pub SaysReport : Contents → List ℕ → Type 0
 SaysReport h text = (r : reports.Report) × IsReport h.files h.prefixes r × (text ≡ report_text r)
 
--- a reply that a line is owed
+-- r is the reply to a command, for a session with the files and prefixes h and a source with the answers s to come
 abbrev pub Replies : Contents → SourceAnswers → Command → Reply → Type 0
 Replies h s (Add path) r = r ≡ sourced_reply h s path (Adds path)
 Replies h s (Replace path) r = r ≡ sourced_reply h s path (Replaces path)
@@ -63,22 +64,27 @@ Replies h s (Dependants name) r = (text : List ℕ) × SaysDependants h name tex
 Replies h s End r = r ≡ Ends
 Replies h s Bad r = r ≡ Says (codes "bad line\n") h s
 
+-- how a run over lines ends
 pub data Ending : Type 0 where
+  -- at the line `end`
   AtEnd : Ending
+  -- after the last line
   AtEof : Ending
+  -- at a line for which the source is out of memory
   WithoutMemory : Ending
 
--- a run over lines: all that it says, the files and prefixes, and the source's answers that are left, and how it ends
+-- a run over lines: the text of all answers, the files, prefixes and answers of the source after them, and how it ends
 pub record Run : Type 0 where
   pub text : List ℕ
   pub held : Contents
   pub source : SourceAnswers
   pub ending : Ending
 
+-- the run with this text before its own
 abbrev pub after_text : List ℕ → Run → Run
 after_text text run = record { text = text ++ run.text; held = run.held; source = run.source; ending = run.ending }
 
--- what comes of a list of lines
+-- from these files, prefixes and answers of the source, a list of lines has this run
 pub data RunsTo : Contents → SourceAnswers → List (List ℕ) → Run → Type 0 where
   at_eof : (h : Contents) (s : SourceAnswers) → RunsTo h s [] (record { text = []; held = h; source = s; ending = AtEof })
   says : (h g : Contents) (s t : SourceAnswers) (line : List ℕ) (lines : List (List ℕ)) (text : List ℕ) (run : Run)
@@ -91,6 +97,6 @@ pub data RunsTo : Contents → SourceAnswers → List (List ℕ) → Run → Typ
       → Replies h s (command_of line) (Lacks t)
       → RunsTo h s (line ∷ lines) (record { text = []; held = h; source = t; ending = WithoutMemory })
 
--- lines come to one thing
+-- a list of lines has at most one run
 abbrev pub OneRun : Type 0
 OneRun = (h : Contents) (s : SourceAnswers) (lines : List (List ℕ)) (q r : Run) → RunsTo h s lines q → RunsTo h s lines r → q ≡ r

@@ -1,4 +1,4 @@
--- How the program ends, and what it tells on standard error.
+-- How the program ends, and what it writes to standard error.
 use Rattle.std.specs.Prelude.{◌≡◌, ℕ, ◌≤◌, ◌⊎◌, Bool, true, false, List, [], ◌∷◌, ◌++◌, codes, decimal}
 use Rattle.std.specs.Prelude.{Option, Some, Result, Ok, Err, MatchOption}
 use Rattle.std.specs.FinMap as map
@@ -28,49 +28,56 @@ use Rattle.jc_session.specs.Words.{AsksCheck, AsksListing, AsksRun, IsUsageError
 
 -- why the program ends with a line on standard error
 pub data Fault : Type 0 where
+  -- the arguments are a usage error
   Usage : Fault
+  -- the input of a session failed
   Input : Fault
+  -- the output failed
   Output : Fault
+  -- out of memory
   NoMemory : Fault
   -- the file or the folder at a path can't be read
   Unread : (path : List ℕ) → Fault
   -- the file at a path is refused
   Refused : EditError → (path : List ℕ) → Fault
 
--- whether what was told is wrong, or why nothing was
+-- how the program ends: whether something is wrong, or by which fault
 abbrev pub Outcome : Type 0
 Outcome = Result Bool Fault
 
+-- the fault for an error of a run
 abbrev pub fault_of : RunError → Fault
 fault_of run_errors.Read = Input
 fault_of run_errors.Write = Output
 fault_of run_errors.NoMemory = NoMemory
 
--- of a run, by the report held at its end
+-- the outcome of a run: whether the report at its end is wrong, or the fault for its error
 abbrev pub IsOutcome : Result Ended RunError → Contents → Outcome → Type 0
 IsOutcome (Ok how) h outcome = (r : Report) × IsReport h.files h.prefixes r × (outcome ≡ Ok (is_wrong r))
 IsOutcome (Err e) h outcome = outcome ≡ Err (fault_of e)
 
--- at first there are no files
+-- the files and prefixes before the first line: no files, and these prefixes
 abbrev pub begun : List (List ℕ) → Contents
 begun prefixes = record { files = map.empty; prefixes = prefixes }
 
--- a run over the input, with no files at first, by the prefixes that the words ask for and the answers that its source gave, had
--- this outcome
+-- a run over the input has this outcome, for some answers of its source. It begins without files, and with the prefixes
+-- that the arguments ask for
 abbrev pub RunsSession : (words : List Word) → Outcome → (input coming before now : Option (List ℕ)) → Type 0
 RunsSession words outcome input coming before now =
     (prefixes : List (List ℕ)) × AsksRun words prefixes
     × (ending : Result Ended RunError) × (held : Contents) × IsOutcome ending held outcome
     × RunsByAnswers (begun prefixes) input ending (left_by held (Some []) coming before now)
 
--- the listing of a file was written, or why the bytes are none, or not all of it
+-- the text of a file was written: its listing, or why its bytes are not a readable class file. If the output failed, a
+-- proper beginning of it was written. If memory ran out, a beginning or all of it was written
 abbrev pub ListsFile : List ℕ → Outcome → (before now : Option (List ℕ)) → Type 0
 ListsFile bytes outcome before now =
     ((outcome ≡ Ok (is_faulty_file bytes)) × Appends before now (file_text bytes))
     ⊎ ((outcome ≡ Err Output) × WritesFront before now (file_text bytes))
     ⊎ ((outcome ≡ Err NoMemory) × WritesBeginning before now (file_text bytes))
 
--- the file at a path was listed, by what the source answered
+-- the file at a path was listed by the answer of the source. If the file is unread or too large, or the source is out
+-- of memory, nothing was written
 abbrev pub ListsAs : (path : List ℕ) → Result (List ℕ) SourceError → Outcome → (before now : Option (List ℕ)) → Type 0
 ListsAs path (Ok bytes) outcome before now =
     MatchOption (size_fault bytes) (ListsFile bytes outcome before now)
@@ -78,22 +85,25 @@ ListsAs path (Ok bytes) outcome before now =
 ListsAs path (Err sources.Unread) outcome before now = (outcome ≡ Err (Unread path)) × Keeps before now
 ListsAs path (Err sources.NoMemory) outcome before now = (outcome ≡ Err NoMemory) × Keeps before now
 
+-- the fault for an error of a check
 abbrev pub fault_of_check : CheckFault → Fault
 fault_of_check (FileUnread path) = Unread path
 fault_of_check (FileRefused e path) = Refused e path
 fault_of_check WriteFailed = Output
 fault_of_check checks.NoMemory = NoMemory
 
+-- the outcome for the result of a check
 abbrev pub outcome_of_check : Result Bool CheckFault → Outcome
 outcome_of_check (Ok wrong) = Ok wrong
 outcome_of_check (Err fault) = Err (fault_of_check fault)
 
--- the file that the words ask for was listed
+-- the file that the arguments ask for was listed, by some answer of the source
 abbrev pub Lists : (words : List Word) → Outcome → (before now : Option (List ℕ)) → Type 0
 Lists words outcome before now =
     (path : List ℕ) × AsksListing words path × (answer : Result (List ℕ) SourceError) × ListsAs path answer outcome before now
 
--- the files at some paths, in ascending order and each once, were checked, as the words ask for it, by what was read at each
+-- the files at some paths, in strictly ascending order, were checked by some answers of the source. The prefixes and
+-- the form are those that the arguments ask for
 abbrev pub ChecksFiles : (words : List Word) → Outcome → (before now : Option (List ℕ)) → Type 0
 ChecksFiles words outcome before now =
     (prefixes : List (List ℕ)) × (form : CheckForm) × (folder : List ℕ) × AsksCheck words prefixes form folder
@@ -101,19 +111,19 @@ ChecksFiles words outcome before now =
     × (outcome ≡ outcome_of_check checked)
     × ChecksAs prefixes form (added map.empty paths answers) checked before now
 
--- a folder could not be walked, or the files at the paths that the walk gave were checked
+-- the walk of a folder failed and nothing was written, or the files at some paths were checked
 abbrev pub Checks : (words : List Word) → Outcome → (before now : Option (List ℕ)) → Type 0
 Checks words outcome before now =
     ((outcome ≡ Err NoMemory) × Keeps before now)
     ⊎ ((folder : List ℕ) × (outcome ≡ Err (Unread folder)) × Keeps before now)
     ⊎ ChecksFiles words outcome before now
 
--- the first word
+-- the first argument is this command
 abbrev pub NamesCommand : (command : Word) → (words : List Word) → Type 0
 NamesCommand command words = (behind : List Word) × (words ≡ command ∷ behind)
 
--- the command that the first argument names was performed: a run, a listing of a file, or a check of a tree. Only a run reads
--- the input, whose bytes to come a function returns
+-- the command that the first argument names was performed: a run, a listing of a file, or a check of a tree. Only a run
+-- reads the input. The function `remaining` returns the input's bytes to come
 abbrev pub PerformsCommand : {R : Type 0} → (remaining : R → Option (List ℕ)) → (words : List Word) → Outcome
     → (input coming : R) → (before now : Option (List ℕ)) → Type 0
 PerformsCommand remaining words outcome input coming before now =
@@ -121,8 +131,8 @@ PerformsCommand remaining words outcome input coming before now =
     ⊎ (NamesCommand (codes "list") words × (coming ≡ input) × Lists words outcome before now)
     ⊎ (NamesCommand (codes "check") words × (coming ≡ input) × Checks words outcome before now)
 
--- the arguments are a usage error, or no memory was left for them, and nothing was performed; or they are none, and their command
--- was performed
+-- the arguments are a usage error, or memory ran out while they were parsed, and nothing was performed. Or they are no
+-- usage error, and their command was performed
 abbrev pub Performs : {R : Type 0} → (remaining : R → Option (List ℕ)) → (words : List Word) → Outcome
     → (input coming : R) → (before now : Option (List ℕ)) → Type 0
 Performs remaining words outcome input coming before now =
@@ -130,6 +140,7 @@ Performs remaining words outcome input coming before now =
     ⊎ ((outcome ≡ Err NoMemory) × (coming ≡ input) × Keeps before now)
     ⊎ (¬ (IsUsageError words) × PerformsCommand remaining words outcome input coming before now)
 
+-- the exit status for a fault
 abbrev pub fault_status : Fault → ℕ
 fault_status Usage = 2
 fault_status Input = 3
@@ -138,12 +149,13 @@ fault_status NoMemory = 4
 fault_status (Unread path) = 3
 fault_status (Refused e path) = 3
 
+-- the exit status for an outcome
 abbrev pub status_of : Outcome → ℕ
 status_of (Ok false) = 0
 status_of (Ok true) = 1
 status_of (Err fault) = fault_status fault
 
--- the line on standard error
+-- the line on standard error for a fault
 abbrev pub fault_text : Fault → List ℕ
 fault_text Usage = codes "jclink: usage\n"
 fault_text Input = codes "jclink: cannot read input\n"
@@ -153,22 +165,23 @@ fault_text (Unread path) = codes "jclink: cannot read " ++ path_text path ++ cod
 fault_text (Refused e path) =
     codes "jclink: refused " ++ decimal (edit_code e) ++ codes " " ++ edit_error_name e ++ codes " " ++ path_text path ++ codes "\n"
 
--- the text was written, or a proper beginning of it and then the device failed
+-- the text was written, or a proper beginning of it was written and the device failed
 abbrev pub WritesUnlessFailed : List ℕ → (before after : Option (List ℕ)) (old new : ℕ) → Type 0
 WritesUnlessFailed text before after old new =
     (Appends before after text × (new ≡ old)) ⊎ (WritesFront before after text × MoreFaults old new × (old ≤ new))
 
--- a fault is told in its line; else nothing is told
+-- the line of a fault was written, unless the device failed; without a fault nothing was written
 abbrev pub Tells : Outcome → (before after : Option (List ℕ)) (old new : ℕ) → Type 0
 Tells (Ok wrong) before after old new = Keeps before after × (new ≡ old)
 Tells (Err fault) before after old new = WritesUnlessFailed (fault_text fault) before after old new
 
--- the status is the outcome's, and a fault is told on an output whose bytes and whose failures functions tell
+-- the status is that of the outcome, and the line of a fault was written to `err` as above. Functions return the bytes
+-- written to `err` and its count of failures
 abbrev pub Concludes : {E : Type 0} → (E → Option (List ℕ)) → (E → ℕ) → Outcome → (status : ℕ) → (err err_now : E) → Type 0
 Concludes written failures outcome status err err_now =
     (status ≡ status_of outcome) × Tells outcome (written err) (written err_now) (failures err) (failures err_now)
 
--- the input's count of failures rises with this fault alone
+-- the input's count of failures grows by one at the fault `Input`, and otherwise stays
 abbrev pub CountsInput : Outcome → ℕ → ℕ → Type 0
 CountsInput (Ok x) old new = new ≡ old
 CountsInput (Err Usage) old new = new ≡ old
@@ -178,7 +191,7 @@ CountsInput (Err NoMemory) old new = new ≡ old
 CountsInput (Err (Unread path)) old new = new ≡ old
 CountsInput (Err (Refused e path)) old new = new ≡ old
 
--- and the output's with this one
+-- the output's count of failures grows by one at the fault `Output`, and otherwise stays
 abbrev pub CountsOutput : Outcome → ℕ → ℕ → Type 0
 CountsOutput (Ok x) old new = new ≡ old
 CountsOutput (Err Usage) old new = new ≡ old

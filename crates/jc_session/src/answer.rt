@@ -1,4 +1,4 @@
-//! The answer to one line.
+//! The execution of one line of a session, and its answer.
 ghost use Rattle.std.specs.Prelude.{◌≡◌, ◌≤◌, ◌≢◌, IfErr, IsSome, None};
 ghost use Rattle.jc_input.specs.declared.run_error.RunError.TheVariants.{NoMemory, Read};
 ghost use Rattle.jc_input.specs.Changes.{EditChange, change_lent};
@@ -19,21 +19,26 @@ use jc_input::{Command, RunError, Source, SourceError};
 use jc_list::ListError;
 use std::alloc::Global;
 
-/// What comes after an answer.
+/// What follows an answer.
 #[derive(Clone, Copy)]
 pub(crate) enum Next {
+    /// The next line is read.
     Line,
+    /// No further line is read.
     Nothing,
 }
 
-/// Where the bytes of the source go: into a new file, or in the place of a file's bytes.
+/// Whether the bytes of the source become a new file or replace those of a file.
 #[derive(Clone, Copy)]
 pub(crate) enum Placing {
+    /// The bytes become a new file.
     New,
+    /// The bytes replace those of a file.
     Other,
 }
 
 impl Placing {
+    /// Returns the edit that adds or replaces the file at a path.
     fn edit(self, path: &[u8], bytes: Vec<u8>) -> LentEdit<'_>
         ensures { change_lent result ≡ placed self path.now bytes.items }
     {
@@ -44,7 +49,10 @@ impl Placing {
     }
 }
 
-/// Does what a line asks for, and writes its answer once that is done.
+/// Executes the command of a line, then writes the answer.
+///
+/// Never returns `Read`. `Write`: the output failed. `NoMemory`: an allocation failed, or the source returned
+/// `NoMemory`; neither files nor prefixes have changed.
 pub(crate) fn answer<S: Source, W: Output>(
     alloc: Global,
     session: &mut Session,
@@ -82,7 +90,7 @@ pub(crate) fn answer<S: Source, W: Output>(
     }
 }
 
-/// Asks the source for the bytes at a path, and makes the edit with them.
+/// Reads the bytes at a path from the source, and makes the edit that adds or replaces the file.
 fn answer_sourced<S: Source, W: Output>(
     session: &mut Session,
     source: &mut S,
@@ -106,7 +114,7 @@ fn answer_sourced<S: Source, W: Output>(
     }
 }
 
-/// Says that an edit was made, or why it is refused.
+/// Writes `ok` for an edit that was made, or why it was refused.
 fn answer_edit<W: Output>(edited: Result<Done, EditError>, out: &mut W) -> Result<Next, RunError>
     ensures gives { SaysEdit edited result (W.written out.old) (W.written out.new) }
     ensures lacks { (h g : Contents) (change : EditChange) → IsEdited h g change edited
@@ -120,7 +128,7 @@ fn answer_edit<W: Output>(edited: Result<Done, EditError>, out: &mut W) -> Resul
     }
 }
 
-/// Lists the file that a class is taken from.
+/// Writes the listing of the winner of a class.
 fn answer_listing<W: Output>(
     alloc: Global,
     session: &Session,
@@ -139,7 +147,7 @@ fn answer_listing<W: Output>(
     }
 }
 
-/// What comes after a text that was written, or was not.
+/// Returns the outcome of a line by whether its answer was written: every failure is `Write`.
 fn said<E: Drop>(written: Result<(), E>) -> Result<Next, RunError>
     ensures { result ≡ said_by written }
 {

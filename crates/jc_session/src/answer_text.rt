@@ -1,4 +1,4 @@
-//! The texts that answer lines.
+//! The texts of answers, except reports and listings.
 
 ghost use Rattle.std.specs.Prelude.{codes, OnOk, OnErr};
 ghost use Rattle.std.specs.Io.KnownBytes.{Appends};
@@ -13,7 +13,7 @@ use jc_edits::{Done, EditError};
 use jc_report::write_name;
 use jc_text::TextWriter;
 
-/// Writes what an edit is answered: `ok`, or why it is refused.
+/// Writes the answer to an edit: `ok`, or why it was refused.
 pub(crate) fn write_edit_answer<W: Output>(
     out: &mut W,
     answer: Result<Done, EditError>,
@@ -46,7 +46,7 @@ fn write_edit_error<W: Output>(text: &mut TextWriter<'_, W>, error: EditError)
     text.text(b"\n");
 }
 
-/// Writes that the source hands over no bytes for a path.
+/// Writes `unread` and a path: the source returned no bytes for it.
 pub(crate) fn write_unread<W: Output>(out: &mut W, path: &[u8]) -> Result<(), DeviceFault>
     ensures ok { OnOk result (Appends (W.written out.old) (W.written out.new) (unread_text path.now)) }
     ensures front { OnErr result (WritesFront (W.written out.old) (W.written out.new) (unread_text path.now)) }
@@ -59,7 +59,7 @@ pub(crate) fn write_unread<W: Output>(out: &mut W, path: &[u8]) -> Result<(), De
     text.finish()
 }
 
-/// Writes that a line asks for nothing that there is.
+/// Writes the answer to a line that is no command.
 pub(crate) fn write_bad_line<W: Output>(out: &mut W) -> Result<(), DeviceFault>
     ensures ok { OnOk result (Appends (W.written out.old) (W.written out.new) (codes "bad line\n")) }
     ensures front { OnErr result (WritesFront (W.written out.old) (W.written out.new) (codes "bad line\n")) }
@@ -70,7 +70,7 @@ pub(crate) fn write_bad_line<W: Output>(out: &mut W) -> Result<(), DeviceFault>
     text.finish()
 }
 
-/// Writes each name on its line, or `none` if there is none.
+/// Writes each name on a line of its own, or `none` if there is no name.
 pub(crate) fn write_names<W: Output>(out: &mut W, names: &[Vec<u8>]) -> Result<(), DeviceFault>
     ensures ok { OnOk result (Appends (W.written out.old) (W.written out.new) (names_text (names_of names.now))) }
     ensures front { OnErr result (WritesFront (W.written out.old) (W.written out.new) (names_text (names_of names.now))) }

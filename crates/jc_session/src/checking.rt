@@ -1,4 +1,4 @@
-//! A tree of files is checked: each is read once, and the report of all is written, or what makes it wrong.
+//! The check of a tree of files: each file is read once, and the report or its errors are written.
 
 ghost use Rattle.std.specs.Prelude.{◌≡◌, Ok};
 ghost use Rattle.jc_classes.specs.Names.{names_of};
@@ -22,40 +22,47 @@ use jc_report::{AddError, Asked, Tree, TreeErrors, TreeReport, write_errors, wri
 use std::alloc::Global;
 use thiserror::Error;
 
-/// What a check writes.
+/// What a check writes: the report or its errors.
 #[derive(Drop)]
 pub enum CheckForm {
-    /// The report.
+    /// The report of all files.
     Report,
-    /// A line for each error.
+    /// A line for each error that the fields select.
     Errors {
-        /// The prefixes of paths of files and of names of classes whose errors are written, or `None` for all.
+        /// The prefixes of the paths and class names whose errors are written, or `None` for all errors.
         only: Option<Outside>,
-        /// Whether the errors of references that nothing uses are left out.
+        /// Whether the errors of unused references are left out.
         used_only: bool,
     },
 }
 
-/// Why a tree of files has no report, or why not all of it is written.
+/// Why a check fails. At `Write` a proper beginning of the text was written, otherwise nothing.
 #[derive(Clone, Copy, Debug, Error)]
 pub enum CheckError<'p> {
-    /// The source hands over no bytes for this path.
+    /// The source returned no bytes for the file at this path.
     #[error("a file can't be read")]
     Unread(&'p [u8]),
-    /// The file at this path can't be added.
+    /// The file at this path was refused, for this reason.
     #[error("a file can't be added: {0}")]
     Refused(EditError, &'p [u8]),
     /// The output failed.
     #[error("the output failed")]
     Write,
-    /// Memory was refused.
+    /// An allocation failed, or the source returned `NoMemory`.
     #[error("memory was refused")]
     NoMemory,
 }
 
-/// Reads the files at the paths, in their order, each as an edit adds it, writes the report of all or what
-/// makes it wrong, and says whether it is wrong, or what is asked of it. Nothing is written before all parts
-/// are made. Of a file only that is kept which linking asks.
+/// Reads the files at the paths and writes the report of all, or its errors.
+///
+/// Reads the files in the order of `paths`, and refuses a file if an edit that adds it is refused. Returns whether the
+/// report is wrong. For errors, returns whether there is an error that `form` asks for. Writes nothing before all parts
+/// are computed. Keeps only the data of a file that linking uses.
+///
+/// # Errors
+///
+/// `Unread`, `Refused`: the first file that is not added; no path after it is read. `Write`: the output failed.
+/// `NoMemory`: an allocation failed, or the source returned `NoMemory`.
 pub fn check<'p, S: Source, W: Output>(
     alloc: Global,
     outside: &Outside,
@@ -71,7 +78,7 @@ pub fn check<'p, S: Source, W: Output>(
     check_tree(alloc, outside, form, &tree, &mut meter, out)
 }
 
-/// Writes what is asked for of the files of a tree, and returns whether something is wrong.
+/// Writes the report of a tree or its errors, and returns whether the report is wrong or such an error exists.
 fn check_tree<'p, W: Output>(
     alloc: Global,
     outside: &Outside,
@@ -113,7 +120,7 @@ fn check_report<'p, W: Output>(
     }
 }
 
-/// Writes the errors of a tree that are asked for, and returns whether there are any.
+/// Writes the errors of a tree that `asked` selects, and returns whether there are any.
 fn check_errors<'p, W: Output>(
     alloc: Global,
     outside: &Outside,
@@ -133,7 +140,7 @@ fn check_errors<'p, W: Output>(
     }
 }
 
-/// The tree of the files at the paths, added in their order, and the meter of its classes.
+/// Returns the tree of the files at the paths, and its meter. Reads and adds the files in the order of the paths.
 fn read_tree<'p, S: Source>(
     alloc: Global,
     paths: &'p [Vec<u8>],
@@ -148,7 +155,7 @@ fn read_tree<'p, S: Source>(
     Ok((tree, meter))
 }
 
-/// Adds the file at a path, by what the source answers.
+/// Adds the file at a path, by the answer of the source.
 fn add<'p>(
     tree: Tree,
     path: &'p [u8],
@@ -176,7 +183,7 @@ fn add_bytes<'p>(tree: Tree, path: &'p [u8], bytes: &[u8]) -> Result<Tree, Check
     }
 }
 
-/// The refusal of an add to the files of a tree, but for memory.
+/// Returns why an edit that adds these bytes at a path is refused, or `None`. Leaves out `NoMemory`.
 fn add_fault(tree: &Tree, path: &[u8], bytes: &[u8]) -> Option<EditError>
     ensures { (f : Files) → IsTree f tree.now → result ≡ judge f (Adds path.now bytes.now) }
 {

@@ -1,4 +1,4 @@
-//! The program, apart from the standard streams: words and devices in, a status out.
+//! The program over any streams: from its arguments and devices to its exit status.
 
 ghost use Rattle.std.specs.Prelude.{Bool, List, Result, map as map_each, ℕ};
 ghost use Rattle.std.specs.FinMap as map;
@@ -27,13 +27,19 @@ use jc_link::Outside;
 use std::alloc::Global;
 use std::rt::Files;
 
-/// Runs jclink and returns the exit status. `words` are the arguments after the program's name. Files are read
-/// from `rt`'s working folder.
+/// Runs jclink and returns the exit status.
 ///
-/// 0: nothing is wrong. 1: the report, or the one held at the end, is wrong, or the listed file is unreadable
-/// or has a fault. 2: a usage error: `clap` finds a fault among the arguments, a call for help among them, or
-/// the command refuses the values of its options. 3: reading or writing failed, or a file to list or to check
-/// is refused. 4: out of memory. At 2, 3 and 4 one line goes to `err`. Write errors of `err` are ignored.
+/// `words` are the arguments after the program's name. Relative paths begin at the working folder of `rt`.
+///
+/// - 0: nothing is wrong.
+/// - 1: the report of a check, or at the end of a session, is wrong. With `--errors`: an error is printed. For `list`:
+///   the file is unreadable or has a fault.
+/// - 2: a usage error. `clap` finds an error among the arguments, or the command refuses its options or their values.
+///   A request for help is an error too.
+/// - 3: reading or writing failed, or a file to list or to check is refused.
+/// - 4: out of memory.
+///
+/// At 2, 3 and 4 one line is written to `err`. Write errors of `err` are ignored.
 pub fn program<F: Files + AllocGlobal, R: Input, W: Output, E: Output>(
     rt: &F,
     words: &[&str],
@@ -60,7 +66,7 @@ pub fn program<F: Files + AllocGlobal, R: Input, W: Output, E: Output>(
     }
 }
 
-/// Checks the class files below a folder, tells on `err` why there is no report, and gives the status.
+/// Checks the class files below a folder and returns the status. If the check fails, writes to `err` why.
 fn check_folder<'a, F: Files + AllocGlobal, W: Output, E: Output>(
     rt: &'a F,
     outside: &Outside,
@@ -85,7 +91,7 @@ fn check_folder<'a, F: Files + AllocGlobal, W: Output, E: Output>(
     }
 }
 
-/// Checks the files at the paths, tells on `err` why there is no report, and gives the status.
+/// Checks the files at the paths and returns the status. If the check fails, writes to `err` why.
 fn check_files<S: Source, W: Output, E: Output>(
     alloc: Global,
     outside: &Outside,
@@ -107,7 +113,7 @@ fn check_files<S: Source, W: Output, E: Output>(
     }
 }
 
-/// Lists the file at a path, tells on `err` why it can't be listed, and gives the status.
+/// Lists the file at a path and returns the status. If the listing fails, writes to `err` why.
 fn list<S: Source, W: Output, E: Output>(
     alloc: Global,
     source: &mut S,
@@ -125,8 +131,9 @@ fn list<S: Source, W: Output, E: Output>(
     conclude(err, outcome)
 }
 
-/// Lists the bytes that a source hands over for a path, and says whether they are no class file or have
-/// a fault.
+/// Lists the bytes that a source returned for a path, and refuses more than `LARGEST_FILE` bytes.
+///
+/// Returns whether the bytes are not a readable class file or have a fault.
 fn list_answer<'w, W: Output>(
     alloc: Global,
     path: &'w [u8],
@@ -144,7 +151,7 @@ fn list_answer<'w, W: Output>(
     }
 }
 
-/// Runs a session without files to its end, and says whether the report held then is wrong.
+/// Runs a new session without files to its end, and returns whether the report at its end is wrong.
 fn serve<S: Source, R: Input, W: Output>(
     alloc: Global,
     outside: Outside,
@@ -161,7 +168,7 @@ fn serve<S: Source, R: Input, W: Output>(
     run_through(alloc, &mut session, source, input, out)
 }
 
-/// Runs a session to its end, and says whether the report held then is wrong.
+/// Runs a session to its end, and returns whether the report at its end is wrong.
 fn run_through<S: Source, R: Input, W: Output>(
     alloc: Global,
     session: &mut Session,
@@ -180,7 +187,7 @@ fn run_through<S: Source, R: Input, W: Output>(
     }
 }
 
-/// Tells a fault, and gives the status.
+/// Writes the line of a fault to `err`, and returns the status of the outcome.
 fn conclude<E: Output>(err: &mut E, outcome: Result<bool, Fault<'_>>) -> u8
     ensures { Concludes E.written E.failures (outcome_lent outcome.entry) result err.old err.new }
 {

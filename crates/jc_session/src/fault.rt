@@ -1,4 +1,4 @@
-//! Why the program ends with a line on standard error.
+//! The faults that end the program with a line on standard error: their texts and statuses.
 
 ghost use Rattle.std.specs.Prelude.{◌≡◌, ◌++◌, codes};
 ghost use Rattle.jc_text.specs.Escapes.{path_text};
@@ -18,18 +18,22 @@ use std::alloc::AllocError;
 /// Why the program ends with a line on standard error.
 #[derive(Clone, Copy)]
 pub(crate) enum Fault<'w> {
+    /// The arguments are a usage error.
     Usage,
+    /// The input of a session failed.
     Input,
+    /// The output failed.
     Output,
+    /// Out of memory.
     NoMemory,
-    /// The file at the path can't be read.
+    /// The file or folder at the path can't be read.
     Unread(&'w [u8]),
     /// The file at the path is refused.
     Refused(EditError, &'w [u8]),
 }
 
 impl Fault<'_> {
-    /// The exit status.
+    /// Returns the exit status: 2, 3 or 4.
     pub(crate) fn status(self) -> u8
         ensures { result ≡ fault_status (fault_lent self.entry) }
     {
@@ -41,7 +45,7 @@ impl Fault<'_> {
     }
 }
 
-/// Writes the line that tells a fault. That it can't be told changes nothing.
+/// Writes the line of a fault. Write errors are ignored.
 pub(crate) fn tell<E: Output>(err: &mut E, fault: Fault<'_>)
     ensures { WritesUnlessFailed (fault_text (fault_lent fault.entry))
         (E.written err.old) (E.written err.new) (E.failures err.old) (E.failures err.new) }

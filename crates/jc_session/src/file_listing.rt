@@ -1,4 +1,4 @@
-//! The listing of a file, and of a class.
+//! The listing of a file, and of the file that gives a class.
 
 ghost use Rattle.std.specs.Prelude.{◌≡◌, Err, IfErr, IfOk, IsSome, MatchResult, Ok, codes};
 ghost use Rattle.jc_list.specs.declared.list_error.ListError.TheVariants.{NoMemory, Write};
@@ -14,8 +14,10 @@ use jc_text::TextWriter;
 use jc_view::{ParseError, outcomes_are_exact, parse};
 use std::alloc::Global;
 
-/// Writes the listing of the class file that bytes are, or why they are none, and says whether they
-/// are none or a fault is listed.
+/// Writes the listing of a class file, or why the bytes are not a readable class file.
+///
+/// Returns whether the bytes are not a readable class file, or a fault is listed. `Write`: the output failed.
+/// `NoMemory`: an allocation failed.
 pub fn list_file<W: Output>(alloc: Global, bytes: &[u8], out: &mut W) -> Result<bool, ListError>
     ensures faulty { IfOk result (λ faulty. faulty ≡ is_faulty_file bytes.now) }
     ensures listing { WritesListing result (W.written out.old) (W.written out.new) (file_text bytes.now) }
@@ -43,7 +45,7 @@ fn write_unreadable_line<W: Output>(out: &mut W, refusal: ParseError) -> Result<
     finished(text.finish())
 }
 
-/// Writes the listing of the file that a class is taken from, or `none` where no file names it.
+/// Writes the listing of the winner of a class, or `none` if no file names the class.
 pub(crate) fn list_winner<W: Output>(
     alloc: Global,
     session: &Session,
@@ -63,7 +65,7 @@ pub(crate) fn list_winner<W: Output>(
     }
 }
 
-/// Writes that no file names a class.
+/// Writes `none`: no file names the class.
 fn write_none<W: Output>(out: &mut W) -> Result<(), ListError>
     ensures listing { WritesListing result (W.written out.old) (W.written out.new) (codes "none\n") }
     ensures failures { CountsWrites result (W.failures out.old) (W.failures out.new) }

@@ -1,4 +1,4 @@
-//! The files below a folder, by their paths there.
+//! A source of the files below a folder, by their paths relative to it.
 
 ghost use Rattle.std.specs.Prelude.{◌≡◌, IfOk};
 ghost use Rattle.std.specs.String.{string_bytes};
@@ -9,7 +9,7 @@ use jc_input::{FileSource, Source, SourceError};
 use std::alloc::{AllocError, Global};
 use std::rt::Files;
 
-/// A source that reads the files below a folder. Nothing is known of what it answers.
+/// A source that reads the files below a folder. Its contract says nothing of the bytes that it returns.
 #[derive(Drop)]
 pub(crate) struct FolderSource<'a, R> {
     rt: &'a R,
@@ -18,7 +18,7 @@ pub(crate) struct FolderSource<'a, R> {
 }
 
 impl<'a, R: Files + AllocGlobal> FolderSource<'a, R> {
-    /// A source over the files of a runtime, by their paths below a folder.
+    /// Returns a source of the files of a runtime, by their paths relative to a folder.
     pub(crate) fn new(rt: &'a R, folder: &'a str) -> FolderSource<'a, R> {
         FolderSource {
             rt,
@@ -31,7 +31,7 @@ impl<'a, R: Files + AllocGlobal> FolderSource<'a, R> {
 impl<R: Files + AllocGlobal> Source for FolderSource<'_, R> {
     ghost answers = { λ _. None };
 
-    /// The bytes of the file, or the first 16,777,217 of them. A path that is not UTF-8 is `Unread`.
+    /// Returns the bytes of the file, or its first 16,777,217 bytes. A path that is not UTF-8 is `Unread`.
     fn read(&mut self, path: &[u8]) -> Result<Vec<u8>, SourceError> {
         let Ok(path) = str::from_utf8(path) else {
             return Err(SourceError::Unread);
@@ -43,7 +43,7 @@ impl<R: Files + AllocGlobal> Source for FolderSource<'_, R> {
     }
 }
 
-/// The path of what stands at a path below a folder: at the empty one the folder itself.
+/// Joins a folder and a path relative to it. The empty path is the folder itself.
 pub(crate) fn path_below(alloc: Global, folder: &str, path: &str) -> Result<String, AllocError>
     ensures { IfOk result (λ whole. string_bytes whole ≡ below folder.now path.now) }
 {

@@ -1,5 +1,12 @@
-//! The program, apart from its streams: its arguments, the walk of a folder, the check of a tree of files, a session by
-//! lines, and its statuses.
+//! The program `jclink`, except its standard streams.
+//!
+//! `program` parses the arguments with `clap`, performs the command `session`, `list` or `check`, and returns the exit
+//! status. `check` reads the files of a tree from a `Source`. It writes their report or their errors, by a `CheckForm`.
+//! For each line of an input, `run` writes an answer. Files and their report are kept in a `Session`.
+//!
+//! The contracts say which text is written, also at an error. For a session they do so if the bytes of its input are
+//! known. They say which status is returned, and when a failure of a device is counted. They do not say that the walk
+//! of a folder finds its class files, or that a source returns what a file contains.
 #![tactic(auto)]
 
 mod answer;

@@ -1,4 +1,4 @@
-//! A run over lines.
+//! A run: the lines of an input are answered one by one.
 ghost use Rattle.std.specs.Prelude.{◌≡◌, ◌≤◌, ◌≢◌, true, IfErr};
 ghost use Rattle.jc_input.specs.declared.run_error.RunError.TheVariants.{Read};
 ghost use Rattle.jc_input.specs.Lines.{command_of};
@@ -13,10 +13,18 @@ use jc_edits::Session;
 use jc_input::{Ahead, Ended, Line, RunError, Source, parse_line, read_line};
 use std::alloc::Global;
 
-/// Answers the lines of an input one by one: `add PATH`, `replace PATH`, `remove PATH`,
-/// `outside add PREFIX`, `outside drop PREFIX`, `report`, `part NAME`, `list NAME`,
-/// `dependants NAME` and `end`. A line's answer is written before more of the input is read, and
-/// nothing is read after the end of the input. An edit is made before it is answered.
+/// Answers the lines of an input one by one, up to the line `end` or the end of the input.
+///
+/// The other commands are `add PATH`, `replace PATH`, `remove PATH`, `outside add PREFIX`, `outside drop PREFIX`,
+/// `report`, `part NAME`, `list NAME` and `dependants NAME`. The answer to any other line is `bad line`.
+///
+/// A line's answer is written before more of the input is read, and nothing is read after the end of the input. An edit
+/// is made before its answer is written.
+///
+/// # Errors
+///
+/// `Read`: the input failed. `Write`: the output failed; the line was executed. `NoMemory`: an allocation failed, or
+/// the source returned `NoMemory`. A line that runs out of memory changes neither files nor prefixes.
 pub fn run<S: Source, R: Input, W: Output>(
     alloc: Global,
     session: &mut Session,
@@ -26,7 +34,7 @@ pub fn run<S: Source, R: Input, W: Output>(
 ) -> Result<Ended, RunError>
     ensures runs { RunsOver S.answers R.remaining W.written result
         session.old session.new source.old source.new input.old input.new out.old out.new }
-    // Of any source: by the answers that it gave.
+    // For any source: by the answers that it returned.
     ensures by_answers { RunsOverByAnswers R.remaining W.written result session.old session.new input.old input.new out.old out.new }
 
     // An input that has ended is not read.
@@ -47,7 +55,7 @@ pub fn run<S: Source, R: Input, W: Output>(
     answer_last(alloc, session, source, line.bytes(), out)
 }
 
-/// Answers what stands behind the last LF, which is a line if it has a byte.
+/// Answers the bytes after the last LF, which are a line if there are any.
 fn answer_last<S: Source, W: Output>(
     alloc: Global,
     session: &mut Session,

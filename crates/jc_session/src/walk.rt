@@ -1,4 +1,4 @@
-//! The class files below a folder.
+//! The walk of a folder: the paths of the class files below it.
 
 ghost use Rattle.std.specs.Prelude.{◌≡◌, ◌||◌, IfOk, OnOk, true};
 ghost use Rattle.std.specs.FinMap as map;
@@ -15,20 +15,24 @@ use std::fs;
 use std::io::{self, ErrorKind, Read};
 use std::rt::Files;
 
-/// So many bytes of names are read at once.
+/// The number of bytes of names that one read may return.
 const ROOM: usize = 8192;
 
-/// Why the class files below a folder are not told.
+/// Why the walk of a folder fails.
 #[derive(Drop)]
 pub(crate) enum WalkFault {
-    /// What stands at this path below the folder can't be read; the folder itself by the path as given.
+    /// The file or folder at this path can't be read. The path is relative to the folder of the walk, or is the path of
+    /// that folder itself.
     Unread(Vec<u8>),
+    /// An allocation failed, or the system is out of memory.
     NoMemory,
 }
 
-/// The paths of the regular files below a folder whose names end in `.class`, relative to it and in the
-/// order of their bytes. The walk goes depth first, a folder's entries by name, follows no link, and ends
-/// at its first fault. A name that is not UTF-8 is a fault of the folder that holds it.
+/// Returns the paths of the regular files below a folder whose names end in `.class`.
+///
+/// The paths are relative to the folder and sorted by their bytes. The walk is depth first, takes the entries of each
+/// folder in the order of their names, and follows no link below `folder`. It ends at the first fault. A name that is
+/// not UTF-8 is a fault at the folder that contains it.
 pub(crate) fn class_files<'a, F: Files + AllocGlobal>(
     rt: &'a F,
     folder: &'a str,
@@ -45,27 +49,28 @@ pub(crate) fn class_files<'a, F: Files + AllocGlobal>(
     Ok(walk.files.into_keys(rt.alloc())?)
 }
 
-/// What stands in a folder.
+/// An entry of a folder.
 #[derive(Drop)]
 enum Entry {
-    /// What stands at this path below the folder of the walk.
+    /// The entry at this path, relative to the folder of the walk.
     At(String),
-    /// What has a name that is not UTF-8, in the folder at this path.
+    /// An entry whose name is not UTF-8, in the folder at this path.
     Unnamed(String),
 }
 
-/// A walk through what stands below a folder.
+/// A walk through all entries below a folder.
 #[derive(Drop)]
 struct Walk<'a, F> {
     rt: &'a F,
     folder: &'a str,
-    /// What is still to be visited, the next one last.
+    /// The entries that are still to be visited, the next one last.
     pending: Vec<Entry>,
+    /// The paths of the class files that were found.
     files: ByteMap<()>,
 }
 
 impl<F: Files + AllocGlobal> Walk<'_, F> {
-    /// Visits what stands below the folder, one thing after another. The empty path is no folder.
+    /// Visits all entries below the folder. A folder with an empty path can't be read.
     fn go_through(&mut self) -> Result<(), WalkFault> {
         if self.folder.is_empty() {
             return Err(self.unread_at(""));
@@ -80,7 +85,7 @@ impl<F: Files + AllocGlobal> Walk<'_, F> {
         Ok(())
     }
 
-    /// Visits what stands at a path, or tells the folder that holds what has no path.
+    /// Visits an entry, or returns the fault of the folder of an entry whose name is not UTF-8.
     fn take(&mut self, entry: Entry) -> Result<(), WalkFault> {
         match entry {
             Entry::At(path) => self.visit(path),
@@ -88,7 +93,7 @@ impl<F: Files + AllocGlobal> Walk<'_, F> {
         }
     }
 
-    /// Takes what stands at a path: the entries of a folder, or a class file itself.
+    /// Adds the entries of the folder at a path to those to be visited, or the class file at it to the files found.
     fn visit(&mut self, path: String) -> Result<(), WalkFault> {
         let kind = match self.kind(path.as_str()) {
             Ok(kind) => kind,
@@ -104,13 +109,13 @@ impl<F: Files + AllocGlobal> Walk<'_, F> {
         }
     }
 
-    /// What stands at a path. A link is not followed.
+    /// Returns the type of the file at a path. A link is not followed.
     fn kind(&self, path: &str) -> io::Result<fs::FileType> {
         let path = path_below(self.rt.alloc(), self.folder, path)?;
         Ok(fs::symlink_metadata(self.rt, path.as_str())?.file_type())
     }
 
-    /// Puts the entries of a folder before what is still to be visited.
+    /// Puts the entries of the folder at a path before the entries that are still to be visited.
     fn enter(&mut self, path: &str) -> Result<(), WalkFault> {
         match self.names(path) {
             Ok(names) => Ok(self.put_before(path, &sorted(self.rt.alloc(), &names)?)?),
@@ -118,7 +123,7 @@ impl<F: Files + AllocGlobal> Walk<'_, F> {
         }
     }
 
-    /// Puts what has these names in a folder before what is still to be visited.
+    /// Puts the entries of these names in a folder before the entries that are still to be visited.
     fn put_before(&mut self, folder: &str, names: &[Vec<u8>]) -> Result<(), NoMemory> {
         for name in names.iter().rev() {
             let entry = entry_of(self.rt.alloc(), folder, name)?;
@@ -127,7 +132,7 @@ impl<F: Files + AllocGlobal> Walk<'_, F> {
         Ok(())
     }
 
-    /// The names in a folder, each ended by a NUL.
+    /// Returns the names in a folder, each ended by a NUL.
     fn names(&self, path: &str) -> io::Result<Vec<u8>> {
         let mut path = path_below(self.rt.alloc(), self.folder, path)?;
         path.push('/')?;
@@ -144,7 +149,7 @@ impl<F: Files + AllocGlobal> Walk<'_, F> {
         }
     }
 
-    /// The fault at a path below the folder, or of the folder itself.
+    /// Returns the fault at a path relative to the folder of the walk. The empty path is that folder itself.
     fn unread_at(&self, path: &str) -> WalkFault {
         let path = if path.is_empty() { self.folder } else { path };
         match Vec::from_slice(self.rt.alloc(), path.as_bytes()) {
@@ -154,7 +159,7 @@ impl<F: Files + AllocGlobal> Walk<'_, F> {
     }
 }
 
-/// Reads the names in a folder. No read ends inside a name, so there is room for the longest.
+/// Appends the names in a folder, each ended by a NUL. A read returns whole names only, so the longest must fit `room`.
 fn read_names<R: Read>(folder: &mut R, names: &mut Vec<u8>) -> io::Result<()> {
     let mut room = [0u8; ROOM];
     for _ in 0..u64::MAX {
@@ -167,7 +172,7 @@ fn read_names<R: Read>(folder: &mut R, names: &mut Vec<u8>) -> io::Result<()> {
     Ok(())
 }
 
-/// The names of a folder's entries, in the order of their bytes, of the names in it, each ended by a NUL.
+/// Returns the names of a folder's entries, sorted by their bytes. In `names` each name is ended by a NUL.
 fn sorted(alloc: Global, names: &[u8]) -> Result<Vec<Vec<u8>>, NoMemory>
     ensures { IfOk result (λ each. Lists (names_of each.items) (λ n. is_name_in names.now n ≡ true)) }
 {
@@ -187,14 +192,14 @@ fn sort_into(alloc: Global, each: &mut ByteMap<()>, names: &[u8]) -> Result<(), 
     Ok(())
 }
 
-/// Whether a name in a folder is neither empty nor that of the folder itself or of the one above it.
+/// Returns whether a name in a folder is neither empty nor `.` nor `..`.
 fn is_entry_name(name: &[u8]) -> bool
     ensures { result ≡ is_entry_name name.now }
 {
     !name.is_empty() && name != b".".as_slice() && name != b"..".as_slice()
 }
 
-/// The entry of a name in a folder.
+/// Returns the entry of a name in a folder.
 fn entry_of(alloc: Global, folder: &str, name: &[u8]) -> Result<Entry, AllocError>
     ensures { IfOk result (IsEntry folder.now name.now) }
 {

@@ -1,4 +1,4 @@
-//! What the words after the program's name ask for.
+//! The command line: what the arguments after the program's name ask for.
 
 ghost use Rattle.std.specs.Prelude.{◌≡◌, ◌⊎◌, ◌↔◌, IfErr, IfOk, Some, codes, false, map};
 ghost use Rattle.clap.specs.Matches.{found_of};
@@ -19,13 +19,14 @@ use clap::{Arg, ArgAction, ArgMatches, Command};
 use jc_link::{Outside, OutsideError};
 use std::alloc::{AllocError, Global};
 
-/// What the words ask for.
+/// What the arguments ask for.
 #[derive(Drop)]
 pub(crate) enum Request<'w> {
+    /// A session with these outside prefixes.
     Session(Outside),
     /// The listing of the file at a path.
     List(&'w str),
-    /// The report of the files below a folder, or what makes it wrong.
+    /// A check of the files below a folder, with these outside prefixes and in this form.
     Check(Outside, CheckForm, &'w str),
 }
 
@@ -33,8 +34,8 @@ pub(crate) enum Request<'w> {
 ///
 /// # Errors
 ///
-/// `Usage`: `clap` finds a fault among the arguments, or the command refuses what its options were given. `NoMemory`: an
-/// allocation failed.
+/// `Usage`: `clap` finds an error among the arguments, or the command refuses its options or their values. `NoMemory`:
+/// an allocation failed.
 pub(crate) fn asked<'w>(alloc: Global, words: &'w [&'w str]) -> Result<Request<'w>, Fault<'w>>
     ensures command { IfOk result (λ request. NamesCommand (command_of request) (map (λ word. word.now) words.now)) }
     ensures asks { IfOk result (AsksFor (map (λ word. word.now) words.now)) }
@@ -48,7 +49,7 @@ pub(crate) fn asked<'w>(alloc: Global, words: &'w [&'w str]) -> Result<Request<'
     request_of(alloc, &matches)
 }
 
-/// Returns what the arguments ask for, from what `clap` found among them.
+/// Returns what the arguments ask for, from the matches that `clap` found among them.
 fn request_of<'w>(alloc: Global, matches: &ArgMatches<'w>) -> Result<Request<'w>, Fault<'w>>
     requires complete { IsComplete (subcommand_rows_of matches.now) }
     ensures asks { IfOk result (AsksBy (subcommand_rows_of matches.now)) }
@@ -63,7 +64,7 @@ fn request_of<'w>(alloc: Global, matches: &ArgMatches<'w>) -> Result<Request<'w>
     }
 }
 
-/// Returns the file to list.
+/// Returns the request to list a file.
 fn list_request<'w>(matches: &ArgMatches<'w>) -> Request<'w>
     requires path { HasPath (codes "FILE") (rows_of (found_of matches.now)) }
     ensures command { command_of result ≡ codes "list" }
@@ -75,7 +76,7 @@ fn list_request<'w>(matches: &ArgMatches<'w>) -> Request<'w>
     }
 }
 
-/// Returns the folder to check, the outside prefixes, and what is written of the report.
+/// Returns the request to check a folder, with the outside prefixes and the form.
 fn check_request<'w>(alloc: Global, matches: &ArgMatches<'w>) -> Result<Request<'w>, Fault<'w>>
     requires path { HasPath (codes "DIR") (rows_of (found_of matches.now)) }
     requires errors { HasFlag (codes "errors") (rows_of (found_of matches.now)) }
@@ -94,8 +95,8 @@ fn check_request<'w>(alloc: Global, matches: &ArgMatches<'w>) -> Result<Request<
     }
 }
 
-/// Returns what is written of the report: with `--errors` what makes it wrong, for each prefix of `--only`, and with
-/// `--used` without unused references. `--only` or `--used` without `--errors` is a usage error.
+/// Returns the form of a check: the report, or with `--errors` its errors. `--only` selects errors by prefixes, and
+/// `--used` leaves out those of unused references. `--only` or `--used` without `--errors` is a usage error.
 fn form<'w>(alloc: Global, matches: &ArgMatches<'w>) -> Result<CheckForm, Fault<'w>>
     requires errors { HasFlag (codes "errors") (rows_of (found_of matches.now)) }
     requires used { HasFlag (codes "used") (rows_of (found_of matches.now)) }
@@ -127,7 +128,7 @@ fn form<'w>(alloc: Global, matches: &ArgMatches<'w>) -> Result<CheckForm, Fault<
     }
 }
 
-/// Returns the outside prefixes: those that are given, else the standard ones.
+/// Returns the outside prefixes: the given ones, or the standard ones if none are given.
 fn outside<'w>(alloc: Global, matches: &ArgMatches<'w>) -> Result<Outside, Fault<'w>>
     ensures held { IfOk result (HoldsGiven (given (codes "outside") (rows_of (found_of matches.now)))) }
     ensures proper { IfOk result (λ _. ¬ (AreRefused (given (codes "outside") (rows_of (found_of matches.now))))) }
@@ -158,7 +159,7 @@ fn given_prefixes<'w>(alloc: Global, prefixes: &[&'w str]) -> Result<Outside, Fa
     }
 }
 
-/// Why words are refused.
+/// Returns the fault for an error of `clap`: out of memory, or a usage error.
 fn words_fault(error: &clap::Error) -> Fault<'static>
     ensures memory { (fault_lent result ≡ NoMemory) ↔ (kind_of error.now ≡ ErrorKind.OutOfMemory) }
     ensures usage { (fault_lent result ≡ Usage) ⊎ (fault_lent result ≡ NoMemory) }
@@ -169,7 +170,7 @@ fn words_fault(error: &clap::Error) -> Fault<'static>
     }
 }
 
-/// The command line, one command with three.
+/// Returns the command `jclink` with its three subcommands.
 fn jclink_command<'a>(alloc: Global) -> Result<Command<'a>, AllocError>
     ensures { IfOk result (λ command. app_of command ≡ line.jclink_command) }
 {
@@ -181,7 +182,7 @@ fn jclink_command<'a>(alloc: Global) -> Result<Command<'a>, AllocError>
     with_subcommand(command, check_command(alloc))
 }
 
-/// The command with a subcommand more, where there is memory for both.
+/// Returns the command with one more subcommand. Returns an error only if an allocation failed, also for `subcommand`.
 fn with_subcommand<'a>(
     command: Command<'a>,
     subcommand: Result<Command<'a>, AllocError>,
@@ -224,7 +225,7 @@ fn flag<'a>(alloc: Global, name: &'a str) -> Arg<'a>
     Arg::new(alloc, name).long(name).action(ArgAction::SetTrue)
 }
 
-/// An option that may be given several times.
+/// Returns an option that may be given several times, each time with a value.
 fn prefix_option<'a>(alloc: Global, name: &'a str) -> Arg<'a>
     ensures rule { rule_of result ≡ line.prefix_option name.entry.now }
     ensures own { result.global ≡ false }

@@ -1,4 +1,4 @@
--- How the program ends, from what the code holds.
+-- The faults and outcomes of the program as plain data.
 use Rattle.std.specs.Prelude.{Bool, Result, Ok, Err}
 use Rattle.jc_session.specs.declared.fault.Fault.{Fault as LentFault}
 use Rattle.jc_session.specs.declared.fault.Fault.TheVariants as lent
@@ -6,6 +6,7 @@ use Rattle.jc_list.specs.declared.list_error.ListError.{ListError}
 use Rattle.jc_list.specs.declared.list_error.ListError.TheVariants as lists
 use Rattle.jc_session.specs.Statuses.{Fault, Usage, Input, Output, NoMemory, Unread, Refused, Outcome}
 
+-- the fault, with the bytes of a borrowed path
 abbrev pub fault_lent : LentFault → Fault
 fault_lent lent.Usage = Usage
 fault_lent lent.Input = Input
@@ -14,10 +15,12 @@ fault_lent lent.NoMemory = NoMemory
 fault_lent (lent.Unread path) = Unread path.now
 fault_lent (lent.Refused error path) = Refused error path.now
 
+-- the outcome, with the bytes of a borrowed path
 abbrev pub outcome_lent : Result Bool LentFault → Outcome
 outcome_lent (Ok wrong) = Ok wrong
 outcome_lent (Err fault) = Err (fault_lent fault)
 
+-- the fault for an error of a listing
 abbrev pub fault_of_listing : ListError → Fault
 fault_of_listing lists.Write = Output
 fault_of_listing lists.NoMemory = NoMemory

@@ -1,4 +1,4 @@
--- What is done for one line.
+-- What the private functions do for one line of a session.
 use Rattle.std.specs.Prelude.{◌≡◌, ℕ, List, [], ◌∷◌, ◌++◌, Option, None, Some, Result, Ok, Err}
 use Rattle.std.specs.Io.KnownBytes.{Appends, Keeps}
 use Rattle.jc_base.specs.Device.{WritesFront}
@@ -23,23 +23,24 @@ use Rattle.jc_session.specs.Runs.{LineMayLack, MayLack}
 use Rattle.jc_session.specs.Answers.{Reply, Says, Lists, Ends, Lacks, Replies, edit_reply, sourced_reply}
 use Rattle.jc_session.specs.ListedText.{listed_text}
 
--- the change that places bytes at a path
+-- the change that adds a file with these bytes at a path, or replaces the bytes of that file
 abbrev pub placed : Placing → List ℕ → List ℕ → Change
 placed placings.New path bytes = Adds path bytes
 placed placings.Other path bytes = Replaces path bytes
 
--- the edit was made, from files and prefixes to others, or refused
+-- the edit was made and changed the files and prefixes h to g, or it was refused and h and g are equal
 abbrev pub IsEdited : Contents → Contents → EditChange → Result Done EditError → Type 0
 IsEdited h g change (Ok done) = (judge_edit h change ≡ None) × (g ≡ after_edit h change)
 IsEdited h g change (Err e) = IsJudged e (judge_edit h change) × (g ≡ h)
 
--- the outcome of a line whose answer is one text
+-- the outcome of a line by the result of writing its answer
 abbrev pub said_by : {E : Type 0} → Result (Unit {0}) E → Result Next RunError
 said_by (Ok done) = Ok next.Line
 said_by (Err fault) = Err run_errors.Write
 
--- the reply was given to files and prefixes h and answers to come s: they are new now, the source's answers to come are
--- source, and what was written grew from before to after
+-- a line was executed with this reply and this outcome. Before it the session has the files and prefixes h, and the
+-- source has the answers s to come. After it they are `new` and `source`. The bytes of the output were `before`, and
+-- they are `after`
 abbrev pub Gives : Contents → SourceAnswers → Reply → Result Next RunError
     → (new : Contents) (source : Option SourceAnswers) (before after : Option (List ℕ)) → Type 0
 Gives h s (Says text held t) (Ok next.Line) new source before after = (new ≡ held) × (source ≡ Some t) × Appends before after text
@@ -62,37 +63,40 @@ Gives h s (Lacks t) (Err run_errors.Read) new source before after = ⊥
 Gives h s (Lacks t) (Err run_errors.Write) new source before after = ⊥
 Gives h s (Lacks t) (Err run_errors.NoMemory) new source before after = (new ≡ h) × (source ≡ Some t) × Keeps before after
 
--- how a last line ends a run, as what comes after it
+-- the outcome of the last line, by how it ends a run
 abbrev pub next_of : Result Ended RunError → Result Next RunError
 next_of (Ok ended.Eof) = Ok next.Line
 next_of (Ok ended.End) = Ok next.Nothing
 next_of (Err e) = Err e
 
--- a reply that is owed was given
+-- a line was executed with a reply to its command
 abbrev pub GivesOwed : Contents → SourceAnswers → Command → Result Next RunError
     → (new : Contents) (source : Option SourceAnswers) (before after : Option (List ℕ)) → Type 0
 GivesOwed h s command result new source before after = (r : Reply) × Replies h s command r × Gives h s r result new source before after
 
--- the same for what stands behind the last LF
+-- the bytes after the last LF were executed as a line, if there are any
 abbrev pub GivesLast : Contents → SourceAnswers → List ℕ → Result Ended RunError
     → (new : Contents) (source : Option SourceAnswers) (before after : Option (List ℕ)) → Type 0
 GivesLast h s [] result new source before after = (result ≡ Ok ended.Eof) × (new ≡ h) × (source ≡ Some s) × Keeps before after
 GivesLast h s (x ∷ line) result new source before after = GivesOwed h s (command_of (x ∷ line)) (next_of result) new source before after
 
--- memory is wanted only where it may be by the answers to come
+-- memory ran out only if it may run out with the source's answers to come
 abbrev pub LacksOnlyIf : {T : Type 0} → Option SourceAnswers → (SourceAnswers → Type 0) → Result T RunError → Type 0
 LacksOnlyIf source may_lack_by result = (s : SourceAnswers) → source ≡ Some s → result ≡ Err run_errors.NoMemory → may_lack_by s
 
--- ---- of a line that places bytes of the source
+-- ---- lines that add or replace a file with bytes of the source
 
+-- the reply to such a line
 abbrev pub placing_reply : Contents → Placing → (path : List ℕ) → SourceAnswers → Reply
 placing_reply h placing path s = sourced_reply h s path (placed placing path)
 
+-- memory may run out at such a line
 abbrev pub PlacingMayLack : Contents → Placing → (path : List ℕ) → SourceAnswers → Type 0
 PlacingMayLack h placing path s = MayLack h (placed placing path) (next_answer s path)
 
--- ---- whatever the source is: by the answers that it gave, and with any later ones
+-- ---- lines with any source: it returned some answers, and any later answers may follow
 
+-- a line was executed with a reply to its command, and memory ran out only if it may
 abbrev pub GivesByAnswers : Contents → Command → Result Next RunError
     → (new : Contents) (before after : Option (List ℕ)) → Type 0
 GivesByAnswers h command result new before after =
@@ -100,6 +104,7 @@ GivesByAnswers h command result new before after =
     GivesOwed h (given ++ later) command result new (Some later) before after
     × (result ≡ Err run_errors.NoMemory → LineMayLack h (given ++ later) command))
 
+-- the bytes after the last LF were executed as a line, if there are any, and memory ran out only if it may
 abbrev pub GivesLastByAnswers : Contents → List ℕ → Result Ended RunError
     → (new : Contents) (before after : Option (List ℕ)) → Type 0
 GivesLastByAnswers h line result new before after =
@@ -107,7 +112,7 @@ GivesLastByAnswers h line result new before after =
     GivesLast h (given ++ later) line result new (Some later) before after
     × (result ≡ Err run_errors.NoMemory → LineMayLack h (given ++ later) (command_of line)))
 
--- the same of a line that is owed one reply
+-- a line was executed with the reply that `reply_by` returns for the source's answers. Memory ran out only if it may
 abbrev pub GivesByReply : Contents → (SourceAnswers → Reply) → (SourceAnswers → Type 0) → Result Next RunError
     → (new : Contents) (before after : Option (List ℕ)) → Type 0
 GivesByReply h reply_by may_lack_by result new before after =
@@ -115,23 +120,23 @@ GivesByReply h reply_by may_lack_by result new before after =
     Gives h (given ++ later) (reply_by (given ++ later)) result new (Some later) before after
     × (result ≡ Err run_errors.NoMemory → may_lack_by (given ++ later)))
 
--- ---- what calls do to a session, to a source whose answers to come a function tells, and to an output whose bytes one tells
+-- ---- calls over a session and devices: functions return a source's answers to come and an output's bytes
 
--- what a line is owed was given
+-- a line was executed with a reply to its command, if the source's answers to come are known
 abbrev pub AnswersLine : {S W : Type 0} → (S → Option SourceAnswers) → (W → Option (List ℕ)) → Command → Result Next RunError
     → (old new : SessionState) (source source_now : S) (out out_now : W) → Type 0
 AnswersLine answers written command result old new source source_now out out_now =
     (s : SourceAnswers) → answers source ≡ Some s
     → GivesOwed (contents_of old) s command result (contents_of new) (answers source_now) (written out) (written out_now)
 
--- and for what stands behind the last LF
+-- the bytes after the last LF were executed as a line, if there are any and the source's answers to come are known
 abbrev pub AnswersLast : {S W : Type 0} → (S → Option SourceAnswers) → (W → Option (List ℕ)) → List ℕ → Result Ended RunError
     → (old new : SessionState) (source source_now : S) (out out_now : W) → Type 0
 AnswersLast answers written line result old new source source_now out out_now =
     (s : SourceAnswers) → answers source ≡ Some s
     → GivesLast (contents_of old) s line result (contents_of new) (answers source_now) (written out) (written out_now)
 
--- and for a line that places bytes of the source
+-- a line added or replaced a file with bytes of the source, if the source's answers to come are known
 abbrev pub AnswersPlacing : {S W : Type 0} → (S → Option SourceAnswers) → (W → Option (List ℕ)) → Placing → List ℕ → Result Next RunError
     → (old new : SessionState) (source source_now : S) (out out_now : W) → Type 0
 AnswersPlacing answers written placing path result old new source source_now out out_now =
@@ -139,31 +144,34 @@ AnswersPlacing answers written placing path result old new source source_now out
     → Gives (contents_of old) s (placing_reply (contents_of old) placing path s) result (contents_of new) (answers source_now)
     (written out) (written out_now)
 
--- the same whatever the source is
+-- ---- calls over a session and devices, with any source
 
+-- a line was executed with a reply to its command
 abbrev pub AnswersLineByAnswers : {W : Type 0} → (W → Option (List ℕ)) → Command → Result Next RunError
     → (old new : SessionState) (out out_now : W) → Type 0
 AnswersLineByAnswers written command result old new out out_now =
     GivesByAnswers (contents_of old) command result (contents_of new) (written out) (written out_now)
 
+-- the bytes after the last LF were executed as a line, if there are any
 abbrev pub AnswersLastByAnswers : {W : Type 0} → (W → Option (List ℕ)) → List ℕ → Result Ended RunError
     → (old new : SessionState) (out out_now : W) → Type 0
 AnswersLastByAnswers written line result old new out out_now =
     GivesLastByAnswers (contents_of old) line result (contents_of new) (written out) (written out_now)
 
+-- a line that adds or replaces a file with bytes of the source was executed
 abbrev pub AnswersPlacingByAnswers : {W : Type 0} → (W → Option (List ℕ)) → Placing → List ℕ → Result Next RunError
     → (old new : SessionState) (out out_now : W) → Type 0
 AnswersPlacingByAnswers written placing path result old new out out_now =
     GivesByReply (contents_of old) (placing_reply (contents_of old) placing path) (PlacingMayLack (contents_of old) placing path)
     result (contents_of new) (written out) (written out_now)
 
--- it was said that an edit was made, whatever the files and prefixes were before and behind it, or why it is refused
+-- a line was executed with the reply to an edit that has this result, whatever the files and prefixes are before it
 abbrev pub SaysEdit : Result Done EditError → Result Next RunError → (before after : Option (List ℕ)) → Type 0
 SaysEdit edited result before after =
     (h g : Contents) (change : EditChange) → IsEdited h g change edited → (s t : SourceAnswers)
     → Gives h s (edit_reply h t change) result g (Some t) before after
 
--- the file that a class is taken from was listed
+-- a line was executed with the listing of the winner of a class as its reply
 abbrev pub SaysListing : SessionState → List ℕ → Result Next RunError → (before after : Option (List ℕ)) → Type 0
 SaysListing session name result before after =
     (s : SourceAnswers) → Gives (contents_of session) s (Lists (listed_text session.files name)) result (contents_of session) (Some s) before after

@@ -1,4 +1,4 @@
--- What becomes of a run's devices.
+-- What a run does to its devices.
 use Rattle.std.specs.Prelude.{ℕ, List, [], Option, Some, Result}
 use Rattle.jc_input.specs.declared.run_error.Ended.{Ended}
 use Rattle.jc_input.specs.declared.run_error.RunError.{RunError}
@@ -7,8 +7,9 @@ use Rattle.jc_edits.specs.SessionState.{Contents}
 use Rattle.jc_session.specs.Runs.{RunsByAnswers, RunsFrom, left_by}
 use Rattle.jc_session.specs.Statuses.{IsOutcome, Outcome}
 
--- a run from these files and prefixes had this outcome, by the answers that its source has to come, and by those that it gave.
--- Functions tell the source's answers to come, the input's bytes to come, and what is written to the output
+-- a run from these files and prefixes had this outcome for some answers of its source. If the source's answers to come
+-- are known, it had this outcome for them. Functions return the source's answers to come, the input's bytes to come,
+-- and the output's bytes
 abbrev pub Serves : {S R W : Type 0} → (S → Option SourceAnswers) → (R → Option (List ℕ)) → (W → Option (List ℕ)) → Contents → Outcome
     → (source source_now : S) (input input_now : R) (out out_now : W) → Type 0
 Serves answers remaining written h outcome source source_now input input_now out out_now =
