@@ -1,8 +1,11 @@
 #!/usr/bin/env python3
 """Finds prose that is hard to read: phrases of this project's own, long sentences and long paragraphs.
 
-Usage: run.py [FILE..]. Without a FILE it reads the documents, the comments of the sources and of their definitions, the
-comments and help texts of the scripts, the comments and doc strings of the trials, and the output of `jclink --help`.
+Usage: run.py [FILE..]. Without a FILE it reads:
+
+- the documents, and the output of `jclink --help`;
+- the comments of the sources and of their definitions;
+- the comments and help texts of the scripts, and the comments and doc strings of the trials.
 
 It prints a line for each finding, then totals. The status is 1 if there is a finding or if an entry of ALLOWED matches
 nothing. A code span counts as one word, and code blocks are skipped. A table cell and a list item are paragraphs.
