@@ -35,10 +35,10 @@ entries_after head entry count xs = option_and_then (λ rest. option_and_then (�
 abbrev pub after_size : Option ℕ → List ℕ → Option (List ℕ)
 after_size size xs = option_and_then (λ n. after n xs) size
 
-pub no_head : (head entry : ℕ) (count : Option ℕ) (xs : List ℕ) → length xs < head → size_with head entry count xs ≡ None
+no_head : (head entry : ℕ) (count : Option ℕ) (xs : List ℕ) → length xs < head → size_with head entry count xs ≡ None
 no_head head entry count xs lt = rw (lt-ltb _ _ lt) refl
 
-pub whole_head : (head entry : ℕ) (count : Option ℕ) (xs : List ℕ) → head ≤ length xs → size_with head entry count xs ≡ option_map (λ n. head + entry * n) count
+whole_head : (head entry : ℕ) (count : Option ℕ) (xs : List ℕ) → head ≤ length xs → size_with head entry count xs ≡ option_map (λ n. head + entry * n) count
 whole_head head entry count xs le = rw (le-ltb _ _ le) refl
 
 counted : (head entry : ℕ) (count : Option ℕ) (xs : List ℕ) → head ≤ length xs
@@ -55,13 +55,13 @@ sized head entry count xs =
     ]
 
 -- what a size says
-pub record IsSized (head entry : ℕ) (count : Option ℕ) (xs : List ℕ) (size : ℕ) : Type 0 where
+record IsSized (head entry : ℕ) (count : Option ℕ) (xs : List ℕ) (size : ℕ) : Type 0 where
   pub entries : ℕ
   pub told : count ≡ Some entries
   pub long : head ≤ length xs
   pub sum : head + entry * entries ≡ size
 
-pub size_told : (head entry : ℕ) (count : Option ℕ) (xs : List ℕ) (size : ℕ) → size_with head entry count xs ≡ Some size → IsSized head entry count xs size
+size_told : (head entry : ℕ) (count : Option ℕ) (xs : List ℕ) (size : ℕ) → size_with head entry count xs ≡ Some size → IsSized head entry count xs size
 size_told head entry None xs size e =
     elim (cases_lt (length xs) head) [
       | inl lt ↦ absurd (none-some size (sym (no_head head entry None xs lt) ∙ e))
@@ -74,7 +74,7 @@ size_told head entry (Some n) xs size e =
     ]
 
 -- after the pad
-pub behind_pad : (p k : ℕ) (xs ys : List ℕ) → after p xs ≡ Some ys → drop (p + k) xs ≡ drop k ys
+behind_pad : (p k : ℕ) (xs ys : List ℕ) → after p xs ≡ Some ys → drop (p + k) xs ≡ drop k ys
 behind_pad p k xs ys e = sym (drop-drop k p xs) ∙ ap (drop k) (after_some p xs ys e).left
 
 head_behind : (p head : ℕ) (xs ys : List ℕ) → after p xs ≡ Some ys → after (p + head) xs ≡ after head ys
@@ -142,7 +142,7 @@ table_count_in_front m xs le =
     ∙ ap (λ (n : ℕ). target_count (int_value (drop 4 xs)) (cast_signed w32 n)) (int_in_front 8 m xs (omega arith))
 
 -- the targets that a size has room for
-pub table_entries : (xs : List ℕ) (size : ℕ) → (told : IsSized 12 4 (table_count xs) xs size) → told.entries ≡ nat_abs (int_value (drop 8 xs) -ℤ int_value (drop 4 xs)) + 1
+table_entries : (xs : List ℕ) (size : ℕ) → (told : IsSized 12 4 (table_count xs) xs size) → told.entries ≡ nat_abs (int_value (drop 8 xs) -ℤ int_value (drop 4 xs)) + 1
 table_entries xs size told = count_is told.entries (int_value (drop 4 xs)) (int_value (drop 8 xs)) (sym told.told)
 
 pub table_part : (at size : ℕ) (xs : List ℕ) → table_size xs ≡ Some size → size ≤ length xs → table_at at (take size xs) ≡ table_at at xs
@@ -204,7 +204,7 @@ lookup_value_behind at xs ys e =
 lookup_count_in_front : (m : ℕ) (xs : List ℕ) → 8 ≤ m → lookup_count (take m xs) ≡ lookup_count xs
 lookup_count_in_front m xs le = ap few (int_in_front 4 m xs (omega arith))
 
-pub lookup_entries : (xs : List ℕ) (size : ℕ) → (told : IsSized 8 8 (lookup_count xs) xs size) → told.entries ≡ big_number 4 (drop 4 xs)
+lookup_entries : (xs : List ℕ) (size : ℕ) → (told : IsSized 8 8 (lookup_count xs) xs size) → told.entries ≡ big_number 4 (drop 4 xs)
 lookup_entries xs size told = sym (cond_some (ltb (big_number 4 (drop 4 xs)) (2 ^ 31)) (big_number 4 (drop 4 xs)) told.entries told.told).1
 
 pub lookup_part : (at size : ℕ) (xs : List ℕ) → lookup_size xs ≡ Some size → size ≤ length xs → lookup_at at (take size xs) ≡ lookup_at at xs
@@ -228,20 +228,13 @@ lookup_whole size xs e le = part_size 8 8 lookup_count lookup_count_in_front siz
 
 -- ---- the table of a switch whose bytes are whole
 
-pub record HasTable (head entry : ℕ) (count : Option ℕ) (xs : List ℕ) (left : ℕ) : Type 0 where
-  pub told : count ≡ Some left
-  pub whole : after_each (after entry) left (drop head xs) ≡ Some []
-
-pub has_table : (head entry : ℕ) (count : Option ℕ) (xs : List ℕ) (left : ℕ) → size_with head entry count xs ≡ Some (length xs)
-    → ((n : ℕ) → head + entry * n ≡ length xs → n ≡ left) → HasTable head entry count xs left
-has_table head entry count xs left e divides =
+-- `left` entries are all bytes after the head
+pub table_is_whole : (head entry : ℕ) (count : Option ℕ) (xs : List ℕ) (left : ℕ) → size_with head entry count xs ≡ Some (length xs)
+    → ((n : ℕ) → head + entry * n ≡ length xs → n ≡ left) → after_each (after entry) left (drop head xs) ≡ Some []
+table_is_whole head entry count xs left e divides =
     let told = size_told head entry count xs (length xs) e in
-    let n = told.entries in
     let sum = told.sum in
-    let same = divides n sum in
+    let same = divides told.entries sum in
     let size : length (drop head xs) ≡ entry * left = omega (arith, length-drop head xs, ap (λ (k : ℕ). entry * k) same) in
     let all : take (entry * left) (drop head xs) ≡ drop head xs = take_all (entry * left) (drop head xs) (omega arith) in
-    record {
-      told = told.told ∙ ap (λ (k : ℕ). Some k) same;
-      whole = ap (after_each (after entry) left) (sym all) ∙ part_is_whole entry left (drop head xs) (omega arith);
-    }
+    ap (after_each (after entry) left) (sym all) ∙ part_is_whole entry left (drop head xs) (omega arith)
