@@ -10,13 +10,13 @@ use Rattle.jc_view.specs.Lookups.{member_descriptor_at, member_name_at, utf8_at}
 use Rattle.jc_file.specs.Faults.{faults}
 use Rattle.jc_code.specs.MethodFaults.{code_faults}
 use Rattle.jc_code.specs.MethodUses.{uses}
-use Rattle.jc_classes.specs.declared.reference_kind.ReferenceKind.{ReferenceKind}
-use Rattle.jc_classes.specs.declared.reference_kind.ReferenceKind.TheVariants as kinds
+use Rattle.jc_classes.specs.declared.reference.ReferenceKind.{ReferenceKind}
+use Rattle.jc_classes.specs.declared.reference.ReferenceKind.TheVariants as kinds
 use Rattle.jc_classes.specs.Facts.{Facts, Member, Reference}
 use Rattle.jc_classes.specs.NamedTexts.{named_by}
 use Rattle.jc_classes.specs.Names.{Name, same_name}
 use Rattle.jc_classes.specs.Users.{user_of}
-use Rattle.jc_classes.specs.declared.user.User.{User}
+use Rattle.jc_classes.specs.declared.used.User.{User}
 
 infixl 10 ◌>>=◌
 abbrev ◌>>=◌ : {A B : Type 0} → Option A → (A → Option B) → Option B

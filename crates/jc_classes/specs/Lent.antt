@@ -21,4 +21,4 @@ reference_lent r = record { index = r.index; kind = r.kind; named = named_by r.c
 abbrev pub stands_of : Standing → Stands
 stands_of (standing.Class facts) = stands.Class facts.now
 stands_of standing.Outside = stands.Outside
-stands_of standing.Nothing = stands.Nothing
+stands_of standing.Absent = stands.Absent

@@ -24,56 +24,56 @@ pub record Site : Type 0 where
   pub named : Named
 
 -- an error, and the class at fault
-abbrev pub Fault : Type 0
-Fault = LinkageError × Name
+abbrev pub ErrorAt : Type 0
+ErrorAt = LinkageError × Name
 
 -- an error if its condition applies, and else the result of the conditions after it
-abbrev pub line : Bool → LinkageError → Name → Option Fault → Option Fault
+abbrev pub line : Bool → LinkageError → Name → Option ErrorAt → Option ErrorAt
 line applies error class behind = if applies then Some (error, class) else behind
 
 -- the member is STATIC where an instance member is required, or the reverse
-abbrev pub static_fault : Bool → Name → Option Fault → Option Fault
-static_fault applies home behind = line applies errors.Incompatible home behind
+abbrev pub static_error : Bool → Name → Option ErrorAt → Option ErrorAt
+static_error applies home behind = line applies errors.Incompatible home behind
 
 -- a store into a FINAL field, outside the method that may initialize the field
-abbrev pub final_fault : Site → List ℕ → Name → Member → Option Fault
-final_fault s initializer home x =
+abbrev pub final_error : Site → List ℕ → Name → Member → Option ErrorAt
+final_error s initializer home x =
     line (has x.flags final && not (same_name home s.class && same_name s.method initializer)) errors.IllegalAccess home None
 
 abbrev pub is_init : Member → Bool
 is_init x = same_name x.name (codes "<init>")
 
 -- the error of an instruction, by its kind, at a member that the class `home` declares (JVMS 6.5)
-abbrev pub member_fault : Site → LinkKind → Name → Member → Option Fault
-member_fault s kinds.GetStatic home x = static_fault (not (has x.flags static)) home None
-member_fault s kinds.PutStatic home x = static_fault (not (has x.flags static)) home (final_fault s (codes "<clinit>") home x)
-member_fault s kinds.GetField home x = static_fault (has x.flags static) home None
-member_fault s kinds.PutField home x = static_fault (has x.flags static) home (final_fault s (codes "<init>") home x)
-member_fault s kinds.InvokeSpecial home x =
+abbrev pub member_error : Site → LinkKind → Name → Member → Option ErrorAt
+member_error s kinds.GetStatic home x = static_error (not (has x.flags static)) home None
+member_error s kinds.PutStatic home x = static_error (not (has x.flags static)) home (final_error s (codes "<clinit>") home x)
+member_error s kinds.GetField home x = static_error (has x.flags static) home None
+member_error s kinds.PutField home x = static_error (has x.flags static) home (final_error s (codes "<init>") home x)
+member_error s kinds.InvokeSpecial home x =
     line (is_init x && not (same_name home (text_of s.named))) errors.NoMethod (text_of s.named)
-    (static_fault (has x.flags static) home None)
-member_fault s kinds.InvokeVirtual home x = static_fault (has x.flags static) home None
-member_fault s kinds.InvokeStatic home x = static_fault (not (has x.flags static)) home None
-member_fault s kinds.InvokeInterface home x = static_fault (has x.flags static || has x.flags private) home None
-member_fault s kinds.New home x = None
+    (static_error (has x.flags static) home None)
+member_error s kinds.InvokeVirtual home x = static_error (has x.flags static) home None
+member_error s kinds.InvokeStatic home x = static_error (not (has x.flags static)) home None
+member_error s kinds.InvokeInterface home x = static_error (has x.flags static || has x.flags private) home None
+member_error s kinds.New home x = None
 
 -- the error of an instruction at a class with these access flags
-abbrev pub class_fault : LinkKind → Name → ℕ → Option Fault
-class_fault kinds.New class flags = line (has flags interface || has flags abstract) errors.Instantiation class None
-class_fault kind class flags = None
+abbrev pub class_error : LinkKind → Name → ℕ → Option ErrorAt
+class_error kinds.New class flags = line (has flags interface || has flags abstract) errors.Instantiation class None
+class_error kind class flags = None
 
 -- the error of an instruction, by the answer to its reference. There is an error only if the reference resolves
-abbrev pub link_fault : Site → LinkKind → Answer → Option Fault
-link_fault s kind (answer.ToClass class flags) = class_fault kind class flags
-link_fault s kind (answer.ToMember home x) = member_fault s kind home x
-link_fault s kind (answer.Outside n) = None
-link_fault s kind answer.NotLoaded = None
-link_fault s kind (answer.Error e n) = None
+abbrev pub link_error : Site → LinkKind → Answer → Option ErrorAt
+link_error s kind (answer.ToClass class flags) = class_error kind class flags
+link_error s kind (answer.ToMember home x) = member_error s kind home x
+link_error s kind (answer.Outside n) = None
+link_error s kind answer.NotLoaded = None
+link_error s kind (answer.Error e n) = None
 
 -- ---- the errors of all instructions of a class
 
 -- an error at an instruction
-pub record LinkFault : Type 0 where
+pub record LinkError : Type 0 where
   -- the number of its method, and its offset from the start of the code
   pub method : ℕ
   pub place : ℕ
@@ -93,23 +93,23 @@ method_name f number = option_map_or (λ x. x.name) (slice_get f.methods number)
 abbrev pub site_of : Name → Facts → MethodUse → Reference → Site
 site_of d f u r = record { class = d; method = method_name f u.method; named = r.named }
 
-abbrev pub link_at : MethodUse → Fault → LinkFault
+abbrev pub link_at : MethodUse → ErrorAt → LinkError
 link_at u fault = record { method = u.method; place = u.place; error = fault.0; class = fault.1 }
 
 -- the error of an instruction, by its reference and the answer to the reference
-abbrev pub link_by : Name → Facts → MethodUse → Reference × Answer → Option LinkFault
-link_by d f u r = option_and_then (λ fault. Some (link_at u fault)) (link_fault (site_of d f u r.0) u.kind r.1)
+abbrev pub link_by : Name → Facts → MethodUse → Reference × Answer → Option LinkError
+link_by d f u r = option_and_then (λ fault. Some (link_at u fault)) (link_error (site_of d f u r.0) u.kind r.1)
 
 -- the error of an instruction
-abbrev pub link_of : Name → Facts → List Answer → MethodUse → Option LinkFault
+abbrev pub link_of : Name → Facts → List Answer → MethodUse → Option LinkError
 link_of d f answers u = option_and_then (link_by d f u) (answered u.index f.references answers)
 
 -- the errors of the instructions, by method, then by offset
-abbrev pub links_in : Name → Facts → List Answer → List LinkFault
+abbrev pub links_in : Name → Facts → List Answer → List LinkError
 links_in d f answers = flat_map (λ u. option_to_list (link_of d f answers u)) f.uses
 
 -- a class that does not load has none, because all its answers are NotLoaded
-abbrev pub links_of : Name → Stands → List Answer → List LinkFault
+abbrev pub links_of : Name → Stands → List Answer → List LinkError
 links_of d (stands.Class f) answers = links_in d f answers
 links_of d stands.Outside answers = []
-links_of d stands.Nothing answers = []
+links_of d stands.Absent answers = []

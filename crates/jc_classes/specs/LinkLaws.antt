@@ -14,7 +14,7 @@ use Rattle.jc_code.specs.InsnReading.{insns_of}
 use Rattle.jc_code.specs.Insns.{link_use}
 use Rattle.jc_classes.specs.Facts.{Reference}
 use Rattle.jc_classes.specs.FactsOf.{facts_of, references_in}
-use Rattle.jc_classes.specs.LinkErrors.{LinkFault, link_fault, links_of}
+use Rattle.jc_classes.specs.LinkErrors.{LinkError, link_error, links_of}
 use Rattle.jc_classes.specs.Loading.{Loading as loading}
 use Rattle.jc_classes.specs.Names.{Name}
 use Rattle.jc_classes.specs.Parts.{Part, IsPart}
@@ -27,7 +27,7 @@ abbrev pub HasAnswer : List Reference → List Answer → Reference → Answer �
 HasAnswer references answers r a = (n : ℕ) × (slice_get references n ≡ Some r) × (slice_get answers n ≡ Some a)
 
 -- an instruction of the class file does not link, though its reference resolves (JVMS 6.5)
-pub record DoesNotLink (d : Name) (c : ClassFile) (answers : List Answer) (l : LinkFault) : Type 0 where
+pub record DoesNotLink (d : Name) (c : ClassFile) (answers : List Answer) (l : LinkError) : Type 0 where
   -- the file has no format fault
   pub no_format_fault : faults c ≡ []
   -- the method of that number, and its name
@@ -51,15 +51,15 @@ pub record DoesNotLink (d : Name) (c : ClassFile) (answers : List Answer) (l : L
   pub has_answer : HasAnswer (references_in c) answers reference answer
   -- the error of the instruction for this answer, and the class at fault
   pub has_fault :
-      link_fault (record { class = d; method = name; named = reference.named }) kind answer ≡ Some (l.error, l.class)
+      link_error (record { class = d; method = name; named = reference.named }) kind answer ≡ Some (l.error, l.class)
 
 -- the errors of a class's instructions are those of the instructions that do not link
 abbrev pub LinksAreExact : Type 0
-LinksAreExact = (path : List ℕ) (c : ClassFile) (d : Name) (answers : List Answer) (l : LinkFault)
+LinksAreExact = (path : List ℕ) (c : ClassFile) (d : Name) (answers : List Answer) (l : LinkError)
     → Contains (links_of d (stands.Class (facts_of path c)) answers) l ↔ DoesNotLink d c answers l
 
 -- by method, then by offset
-abbrev pub link_cmp : LinkFault → LinkFault → Ordering
+abbrev pub link_cmp : LinkError → LinkError → Ordering
 link_cmp a b = ordering_then (nat_cmp a.method b.method) (nat_cmp a.place b.place)
 
 -- the errors are sorted, and each instruction has at most one

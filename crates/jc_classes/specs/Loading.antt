@@ -44,7 +44,7 @@ judged_supertype m n p a = judged a (can_see n p.name (m p.name)) (same_bool (is
 
 mutual
   pub data Load (m : World) : Name → Loading → Type 0 where
-    missing : {n : Name} → m n ≡ stands.Nothing → Load m n (Fails errors.NoClass n)
+    missing : {n : Name} → m n ≡ stands.Absent → Load m n (Fails errors.NoClass n)
     outside : {n : Name} → m n ≡ stands.Outside → Load m n Outside
     faulty : {n : Name} {r : Facts} → m n ≡ stands.Class r → is_faulty r ≡ true → Load m n (Fails errors.Format n)
     round : {n : Name} {r : Facts} → m n ≡ stands.Class r → is_faulty r ≡ false → Above m n n

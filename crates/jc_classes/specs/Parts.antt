@@ -5,10 +5,10 @@ use Rattle.std.specs.Option.{option_to_list}
 use Rattle.jc_file.specs.declared.fault.Fault.{Fault}
 use Rattle.jc_code.specs.declared.code_fault.CodeFault.{CodeFault}
 use Rattle.jc_classes.specs.Facts.{Named, Reference}
-use Rattle.jc_classes.specs.LinkErrors.{LinkFault, links_of}
+use Rattle.jc_classes.specs.LinkErrors.{LinkError, links_of}
 use Rattle.jc_classes.specs.Names.{Name, object}
-use Rattle.jc_classes.specs.declared.reference_kind.ReferenceKind.{ReferenceKind}
-use Rattle.jc_classes.specs.declared.reference_kind.ReferenceKind.TheVariants as kind
+use Rattle.jc_classes.specs.declared.reference.ReferenceKind.{ReferenceKind}
+use Rattle.jc_classes.specs.declared.reference.ReferenceKind.TheVariants as kind
 use Rattle.jc_classes.specs.Worlds.{World, supertypes_of, references_of, format_faults_of, code_faults_of, Above}
 use Rattle.jc_classes.specs.Facts.Named.{Class, Array}
 use Rattle.jc_classes.specs.Loading.{Load, Loading}
@@ -65,7 +65,7 @@ pub record Part : Type 0 where
   -- one answer for each reference, in the order of the references
   pub answers : List Answer
   -- the instructions that do not link, although their references resolve
-  pub links : List LinkFault
+  pub links : List LinkError
 
 -- the part of a name in a world
 pub record IsPart (m : World) (d : Name) (p : Part) : Type 0 where

@@ -6,7 +6,7 @@ use Rattle.jc_base.specs.DescriptorTests.{method_type_of}
 use Rattle.jc_view.specs.declared.constant_pool.ConstantIndex.{ConstantIndex}
 use Rattle.jc_view.specs.ConstantPool as pool
 use Rattle.jc_view.specs.ClassFile.{ClassFile, class_text_at, constant_at}
-use Rattle.jc_view.specs.Lookups.{name_and_type_at, signature_entry, utf8_at}
+use Rattle.jc_view.specs.Lookups.{name_and_type_at, name_and_type_index, utf8_at}
 use Rattle.jc_classes.specs.Names.{Name, method_handle, same_name}
 use Rattle.jc_classes.specs.NamedTexts.{class_in_descriptor, without_dimensions}
 
@@ -30,7 +30,7 @@ own_descriptor c constant = None
 -- the descriptor of the member that a method handle refers to
 abbrev pub handle_descriptor : ClassFile → pool.Constant → Option ConstantIndex
 handle_descriptor c (pool.MethodHandle kind reference) =
-    option_and_then (descriptor_in c) (option_and_then signature_entry (constant_at c reference))
+    option_and_then (descriptor_in c) (option_and_then name_and_type_index (constant_at c reference))
 handle_descriptor c constant = None
 
 -- ---- the classes in a descriptor

@@ -9,7 +9,7 @@ use Rattle.jc_view.specs.ConstantPool as pool
 use Rattle.jc_view.specs.AttributeReading.{bootstraps_in}
 use Rattle.jc_view.specs.Attributes.{bootstrap_attributes}
 use Rattle.jc_view.specs.ClassFile.{ClassFile, all_slots, class_text_at, constant_at}
-use Rattle.jc_view.specs.Lookups.{owner}
+use Rattle.jc_view.specs.Lookups.{class_index}
 use Rattle.jc_code.specs.NamedConstants.{named_by_method}
 use Rattle.jc_classes.specs.NameLists.{has}
 use Rattle.jc_classes.specs.NamedTexts.{named_by}
@@ -71,4 +71,4 @@ classes_that test c = flat_map (λ index. option_to_list (class_that test c inde
 
 -- the constants that are named, the classes of the named references to members, and the classes in resolved descriptors
 unfoldable pub used_constants : ClassFile → List ConstantIndex
-used_constants c = named c ++ by_named owner c ++ classes_that (is_resolved c) c
+used_constants c = named c ++ by_named class_index c ++ classes_that (is_resolved c) c

@@ -5,14 +5,14 @@ use Rattle.std.specs.Option.{option_map_or}
 use Rattle.jc_view.specs.declared.constant_pool.ConstantIndex.{ConstantIndex}
 use Rattle.jc_view.specs.ClassFile.{ClassFile, Member, constant_at}
 use Rattle.jc_code.specs.NamedConstants.{named_by_method}
-use Rattle.jc_classes.specs.declared.user.User.{User}
-use Rattle.jc_classes.specs.declared.user.User.TheVariants as user
-use Rattle.jc_view.specs.Lookups.{owner}
+use Rattle.jc_classes.specs.declared.used.User.{User}
+use Rattle.jc_classes.specs.declared.used.User.TheVariants as user
+use Rattle.jc_view.specs.Lookups.{class_index}
 use Rattle.jc_classes.specs.UsedConstants.{is_among, used_constants}
 
 -- whether the constant is a reference to a member whose class is the constant at i
 abbrev pub is_owner : ClassFile → ℕ → ConstantIndex → Bool
-is_owner c i member = option_map_or (λ class. class.0 == i) (option_and_then owner (constant_at c member)) false
+is_owner c i member = option_map_or (λ class. class.0 == i) (option_and_then class_index (constant_at c member)) false
 
 -- whether code that names a constant uses the constant at i: it is the same constant, or the class of the member
 abbrev pub names_constant : ClassFile → ℕ → ConstantIndex → Bool

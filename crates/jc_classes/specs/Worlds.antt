@@ -13,7 +13,7 @@ use Rattle.jc_classes.specs.Facts.{Named as named}
 pub data Stands : Type 0 where
   Class : Facts → Stands
   Outside : Stands
-  Nothing : Stands
+  Absent : Stands
 
 -- what each name is
 abbrev pub World : Type 0
@@ -22,12 +22,12 @@ World = Name → Stands
 abbrev pub superclass_of : Stands → Option Name
 superclass_of (Class r) = r.superclass
 superclass_of Outside = None
-superclass_of Nothing = None
+superclass_of Absent = None
 
 abbrev pub interfaces_of : Stands → List Name
 interfaces_of (Class r) = r.interfaces
 interfaces_of Outside = []
-interfaces_of Nothing = []
+interfaces_of Absent = []
 
 -- the superclass and the direct superinterfaces, in the order of loading (JVMS 5.3.5)
 abbrev pub supertypes_of : Stands → List Name
@@ -36,32 +36,32 @@ supertypes_of r = option_to_list (superclass_of r) ++ interfaces_of r
 abbrev pub fields_of : Stands → List Member
 fields_of (Class r) = r.fields
 fields_of Outside = []
-fields_of Nothing = []
+fields_of Absent = []
 
 abbrev pub methods_of : Stands → List Member
 methods_of (Class r) = r.methods
 methods_of Outside = []
-methods_of Nothing = []
+methods_of Absent = []
 
 abbrev pub references_of : Stands → List Reference
 references_of (Class r) = r.references
 references_of Outside = []
-references_of Nothing = []
+references_of Absent = []
 
 abbrev pub format_faults_of : Stands → List Fault
 format_faults_of (Class r) = r.format_faults
 format_faults_of Outside = []
-format_faults_of Nothing = []
+format_faults_of Absent = []
 
 abbrev pub code_faults_of : Stands → List (ℕ × CodeFault)
 code_faults_of (Class r) = r.code_faults
 code_faults_of Outside = []
-code_faults_of Nothing = []
+code_faults_of Absent = []
 
 abbrev pub flags_of : Stands → ℕ
 flags_of (Class r) = r.flags
 flags_of Outside = 0
-flags_of Nothing = 0
+flags_of Absent = 0
 
 abbrev pub is_interface : Stands → Bool
 is_interface r = has (flags_of r) interface

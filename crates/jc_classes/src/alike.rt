@@ -6,7 +6,7 @@ ghost use Rattle.jc_classes.specs.declared.alike.Asked.{Asked as AskedValue};
 ghost use Rattle.jc_classes.specs.inside.Alike.{AskAlike};
 
 use crate::facts::{Facts, ReferenceEntry};
-use crate::reference_kind::ReferenceKind;
+use crate::reference::ReferenceKind;
 use jc_base::NoMemory;
 use std::alloc::Global;
 

@@ -155,7 +155,7 @@ fn class_if_found(
     ensures known { AreKnown (map.contains_key found.now) class.now known.new.items }
     ensures class { result ≡ class_that (map.contains_key found.now) class.now index }
 {
-    let text = class.class_entry(ConstantIndex(index))?;
+    let text = class.class_name_index(ConstantIndex(index))?;
     if names_once(class, found, known, text) {
         Some(ConstantIndex(index))
     } else {

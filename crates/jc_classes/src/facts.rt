@@ -9,11 +9,10 @@ ghost use Rattle.jc_classes.specs.MemberOrder.{IsOrder};
 ghost use Rattle.jc_classes.specs.inside.FactsShown.{reference_shown};
 
 use crate::member::{Key, Member};
-use crate::reference::Reference;
-use crate::reference_kind::ReferenceKind;
+use crate::reference::{Reference, ReferenceKind};
 use crate::references::References;
 use crate::text_list::TextList;
-use crate::user::User;
+use crate::used::User;
 use jc_base::NoMemory;
 use jc_code::{CodeFault, MethodUse};
 use jc_file::Fault;

@@ -56,8 +56,8 @@ impl FirstUsers {
         }
         mark(&mut self.seen, index);
         set_first(&mut self.numbers, index, method);
-        if let Some(owner) = class.owner(index) {
-            set_first(&mut self.numbers, owner, method);
+        if let Some(class_index) = class.class_index(index) {
+            set_first(&mut self.numbers, class_index, method);
         }
     }
 }

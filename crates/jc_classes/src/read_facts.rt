@@ -24,9 +24,9 @@ ghost use Rattle.jc_classes.specs.inside.ConstantTexts.{is_reference, key_at, ke
 use crate::class_texts::ClassTexts;
 use crate::facts::{Facts, Faults, MemberEntry, ReferenceEntry, no_references};
 use crate::first_users::FirstUsers;
-use crate::reference_kind::ReferenceKind;
+use crate::reference::ReferenceKind;
 use crate::text_list::TextList;
-use crate::user::User;
+use crate::used::User;
 use crate::users::users;
 use jc_base::NoMemory;
 use jc_code::{CodeFault, MethodUse, TextSizes, faults_and_uses, method_code};
@@ -195,7 +195,7 @@ fn own_name_index(class: &ClassView) -> u16
 pub(crate) fn name_index(class: &ClassView, index: ConstantIndex) -> Option<u16>
     ensures { option_map (text_at (texts_of class.now)) result ≡ class_text_at class.now index }
 {
-    text_index(class, class.class_entry(index)?)
+    text_index(class, class.class_name_index(index)?)
 }
 
 /// Returns the index, if a Utf8 constant has it.
@@ -240,15 +240,21 @@ pub(crate) fn reference_entry(class: &ClassView, index: u16) -> Option<Reference
         return None;
     }
     match class.constant(index)? {
-        Constant::Class(name) => class_entry(class, index, name),
-        Constant::Fieldref(owner, entry) => {
-            member_reference(class, index, ReferenceKind::Field, owner, entry)
+        Constant::Class(name) => class_reference(class, index, name),
+        Constant::Fieldref(class_index, entry) => {
+            member_reference(class, index, ReferenceKind::Field, class_index, entry)
         }
-        Constant::Methodref(owner, entry) => {
-            member_reference(class, index, ReferenceKind::Method, owner, entry)
+        Constant::Methodref(class_index, entry) => {
+            member_reference(class, index, ReferenceKind::Method, class_index, entry)
         }
-        Constant::InterfaceMethodref(owner, entry) => {
-            member_reference(class, index, ReferenceKind::InterfaceMethod, owner, entry)
+        Constant::InterfaceMethodref(class_index, entry) => {
+            member_reference(
+                class,
+                index,
+                ReferenceKind::InterfaceMethod,
+                class_index,
+                entry,
+            )
         }
         _ => None,
     }
@@ -268,7 +274,7 @@ fn is_reference(kind: ConstantKind) -> bool
 }
 
 /// Returns a reference to a class.
-fn class_entry(class: &ClassView, index: u16, name: ConstantIndex) -> Option<ReferenceEntry>
+fn class_reference(class: &ClassView, index: u16, name: ConstantIndex) -> Option<ReferenceEntry>
     ensures { option_map (reference_shown (texts_of class.now)) result ≡ class_reference class.now index name }
 {
     let text = text_index(class, name)?;
@@ -286,12 +292,12 @@ fn member_reference(
     class: &ClassView,
     index: u16,
     kind: ReferenceKind,
-    owner: ConstantIndex,
+    class_index: ConstantIndex,
     entry: ConstantIndex,
 ) -> Option<ReferenceEntry>
-    ensures { option_map (reference_shown (texts_of class.now)) result ≡ member_reference class.now index kind owner entry }
+    ensures { option_map (reference_shown (texts_of class.now)) result ≡ member_reference class.now index kind class_index entry }
 {
-    let text = name_index(class, owner)?;
+    let text = name_index(class, class_index)?;
     let (name, descriptor) = name_and_type(class, entry)?;
     Some(ReferenceEntry {
         index,

@@ -7,7 +7,15 @@ ghost use Rattle.jc_classes.specs.Worlds.{is_array};
 ghost use Rattle.jc_classes.specs.NamedTexts.{class_in_descriptor, named_by, without_dimensions};
 
 use crate::member::Key;
-use crate::reference_kind::ReferenceKind;
+
+/// The kind of a symbolic reference.
+#[derive(Clone, Copy, PartialEq, Eq, PartialOrd, Ord)]
+pub enum ReferenceKind {
+    Class,
+    Field,
+    Method,
+    InterfaceMethod,
+}
 
 /// A symbolic reference of a class file.
 #[derive(Clone, Copy)]

@@ -69,7 +69,11 @@ fn own_descriptor(class: &ClassView, index: u16) -> Option<ConstantIndex>
     match class.constant(index)? {
         Constant::MethodType(descriptor) => Some(descriptor),
         Constant::InvokeDynamic(_, entry) => descriptor_in(class, entry),
-        Constant::Methodref(owner, entry) => polymorphic_descriptor(class, owner, entry),
+        Constant::Methodref(class_index, entry) => polymorphic_descriptor(
+            class,
+            class_index,
+            entry,
+        ),
         _ => None,
     }
 }
@@ -78,12 +82,12 @@ fn own_descriptor(class: &ClassView, index: u16) -> Option<ConstantIndex>
 /// 2.9).
 fn polymorphic_descriptor(
     class: &ClassView,
-    owner: ConstantIndex,
+    class_index: ConstantIndex,
     entry: ConstantIndex,
 ) -> Option<ConstantIndex>
-    ensures { result ≡ (if is_method_handle class.now owner then descriptor_in class.now entry else None) }
+    ensures { result ≡ (if is_method_handle class.now class_index then descriptor_in class.now entry else None) }
 {
-    if is_method_handle(class, owner) {
+    if is_method_handle(class, class_index) {
         descriptor_in(class, entry)
     } else {
         None
@@ -91,10 +95,10 @@ fn polymorphic_descriptor(
 }
 
 /// Returns whether a Class constant names `java/lang/invoke/MethodHandle`.
-fn is_method_handle(class: &ClassView, owner: ConstantIndex) -> bool
-    ensures { result ≡ is_method_handle class.now owner }
+fn is_method_handle(class: &ClassView, class_index: ConstantIndex) -> bool
+    ensures { result ≡ is_method_handle class.now class_index }
 {
-    match class.class_text(owner) {
+    match class.class_text(class_index) {
         Some(name) => same(b"java/lang/invoke/MethodHandle", name),
         None => false,
     }
@@ -126,5 +130,5 @@ fn add_of_members(
 fn member_descriptor(class: &ClassView, index: ConstantIndex) -> Option<ConstantIndex>
     ensures { result ≡ member_descriptor class.now index }
 {
-    descriptor_in(class, class.signature_entry(index)?)
+    descriptor_in(class, class.name_and_type_index(index)?)
 }

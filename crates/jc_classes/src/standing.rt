@@ -10,5 +10,5 @@ pub enum Standing<'a> {
     /// An outside name, of which nothing else is known.
     Outside,
     /// Neither a class nor outside.
-    Nothing,
+    Absent,
 }

@@ -7,7 +7,7 @@ ghost use Rattle.jc_view.specs.Attributes.{bootstrap_attributes};
 ghost use Rattle.jc_view.specs.ClassFile.{constant_at};
 ghost use Rattle.jc_view.specs.Moves.{Lends};
 ghost use Rattle.jc_view.specs.Reading.{after_table};
-ghost use Rattle.jc_view.specs.Lookups.{owner};
+ghost use Rattle.jc_view.specs.Lookups.{class_index};
 ghost use Rattle.jc_classes.specs.UsedConstants.{by_constants, is_among, named, named_by_handle, named_by_methods, named_by_table, used_constants};
 ghost use Rattle.jc_classes.specs.inside.Using.{Marks, are_marks, arguments_at, mark_at, named_by_attribute, owners};
 
@@ -19,6 +19,18 @@ use jc_view::{
     read_index, read_indexes,
 };
 use std::alloc::Global;
+
+/// What uses a reference of a class file, so that a virtual machine may resolve it (JVMS 5.4.3).
+#[derive(Clone, Copy, Debug, PartialEq, Eq)]
+pub enum User {
+    /// The code of a method that names the reference or, if it is to a class, a reference to a member of this class.
+    /// The number is that of the first such method in file order.
+    Method(u16),
+    /// A method handle, an argument of a bootstrap method, or a descriptor that code resolves, but no code of a method.
+    Other,
+    /// Nothing. No code resolves the reference.
+    Nothing,
+}
 
 /// Returns a mark for each constant of a class file by its index, set if the constant is used.
 ///
@@ -183,10 +195,10 @@ fn add_owners(
 
 /// Returns the class of a reference to a member, if the reference is marked.
 fn owner_if_marked(class: &ClassView, marks: &[bool], index: u16) -> Option<ConstantIndex>
-    ensures { result ≡ (if mark_at marks.now index then option_and_then owner (constant_at class.now (record { 0 = index })) else None) }
+    ensures { result ≡ (if mark_at marks.now index then option_and_then class_index (constant_at class.now (record { 0 = index })) else None) }
 {
     if *marks.get(index as usize)? {
-        class.owner(ConstantIndex(index))
+        class.class_index(ConstantIndex(index))
     } else {
         None
     }

@@ -10,8 +10,7 @@ ghost use Rattle.jc_classes.specs.inside.Using.{are_marks, mark_at};
 
 use crate::facts::ReferenceEntry;
 use crate::first_users::{FirstUsers, first_at};
-use crate::used::{is_marked, used};
-use crate::user::User;
+use crate::used::{User, is_marked, used};
 use jc_base::NoMemory;
 use jc_view::ClassView;
 use std::alloc::Global;

@@ -12,7 +12,7 @@ use Rattle.jc_view.specs.declared.constant_pool.ConstantIndex.{ConstantIndex}
 use Rattle.jc_view.specs.declared.constant_pool.ConstantKind.{ConstantKind}
 use Rattle.jc_view.specs.declared.constant_pool.ConstantKind.TheVariants as kinds
 use Rattle.jc_view.specs.ClassFile.{ClassFile, class_text_at, constant_at}
-use Rattle.jc_view.specs.Lookups.{member_descriptor_at, fails, is_entry, member_name_at, passes, signature_entry}
+use Rattle.jc_view.specs.Lookups.{member_descriptor_at, fails, is_entry, member_name_at, passes, name_and_type_index}
 use Rattle.jc_view.specs.Attributes.{Handler}
 use Rattle.jc_code.specs.declared.insn.Insn.{Insn}
 use Rattle.jc_code.specs.declared.insn.Insn.TheVariants as insns
@@ -81,12 +81,12 @@ double_kinds = kinds.Long ∷ kinds.Double ∷ []
 
 -- ldc or ldc_w loads a constant that does not take one slot
 abbrev pub breaks_s6 : Scope → Insn → Bool
-breaks_s6 s (insns.Load opcode index) = not (opcode == ldc2_w) && not (is_one_of s.class single_kinds index)
+breaks_s6 s (insns.Ldc opcode index) = not (opcode == ldc2_w) && not (is_one_of s.class single_kinds index)
 breaks_s6 s insn = false
 
 -- ldc2_w loads neither a Long nor a Double
 abbrev pub breaks_s7 : Scope → Insn → Bool
-breaks_s7 s (insns.Load opcode index) = opcode == ldc2_w && not (is_one_of s.class double_kinds index)
+breaks_s7 s (insns.Ldc opcode index) = opcode == ldc2_w && not (is_one_of s.class double_kinds index)
 breaks_s7 s insn = false
 
 -- a field instruction does not name a Fieldref
@@ -116,12 +116,12 @@ breaks_s11 s insn = false
 -- the descriptor of the method that an entry refers to
 abbrev pub referred_descriptor : ClassFile → ConstantIndex → Option (List ℕ)
 referred_descriptor c index =
-    option_and_then (λ entry. option_and_then (member_descriptor_at c) (signature_entry entry)) (constant_at c index)
+    option_and_then (λ entry. option_and_then (member_descriptor_at c) (name_and_type_index entry)) (constant_at c index)
 
 -- the name of that method
 abbrev pub referred_name : ClassFile → ConstantIndex → Option (List ℕ)
 referred_name c index =
-    option_and_then (λ entry. option_and_then (member_name_at c) (signature_entry entry)) (constant_at c index)
+    option_and_then (λ entry. option_and_then (member_name_at c) (name_and_type_index entry)) (constant_at c index)
 
 -- the number of slots of a method's parameters
 abbrev pub slots_at : ClassFile → ConstantIndex → Option ℕ

@@ -120,8 +120,8 @@ operands_value at opcode (operands.ImplicitLocal index slots) xs = insns.Plain o
 operands_value at opcode (operands.Local slots) xs = insns.Local opcode (big_number 1 xs) false
 operands_value at opcode operands.Byte xs = insns.Push opcode (byte_value xs)
 operands_value at opcode operands.Short xs = insns.Push opcode (short_value xs)
-operands_value at opcode operands.ShortLoad xs = insns.Load opcode (record { 0 = big_number 1 xs })
-operands_value at opcode operands.Load xs = insns.Load opcode (index_value xs)
+operands_value at opcode operands.ShortLoad xs = insns.Ldc opcode (record { 0 = big_number 1 xs })
+operands_value at opcode operands.Load xs = insns.Ldc opcode (index_value xs)
 operands_value at opcode operands.Increment xs = insns.Increment (big_number 1 xs) (byte_value (drop 1 xs)) false
 operands_value at opcode operands.Branch xs = insns.Branch opcode (pos at +ℤ short_value xs)
 operands_value at opcode operands.WideBranch xs = insns.Branch opcode (target_value at xs)

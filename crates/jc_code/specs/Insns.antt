@@ -81,7 +81,7 @@ ldc2_w = 20
 abbrev pub opcode_of : Insn → ℕ
 opcode_of (insns.Plain opcode) = opcode
 opcode_of (insns.Push opcode value) = opcode
-opcode_of (insns.Load opcode index) = opcode
+opcode_of (insns.Ldc opcode index) = opcode
 opcode_of (insns.Local opcode index is_wide) = opcode
 opcode_of (insns.Increment index amount is_wide) = iinc
 opcode_of (insns.Branch opcode target) = opcode
@@ -189,7 +189,7 @@ IsSpelling at (insns.Plain opcode) s =
 IsSpelling at (insns.Push opcode value) s =
     Has opcode operands.Byte × FitsSigned w8 value × (s ≡ opcode ∷ byte_bytes value)
     ⊎ Has opcode operands.Short × FitsSigned w16 value × (s ≡ opcode ∷ short_bytes value)
-IsSpelling at (insns.Load opcode index) s =
+IsSpelling at (insns.Ldc opcode index) s =
     Has opcode operands.ShortLoad × (index.0 < 2 ^ 8) × (s ≡ opcode ∷ big_bytes 1 index.0)
     ⊎ Has opcode operands.Load × IsIndex index × (s ≡ opcode ∷ index_bytes index)
 IsSpelling at (insns.Local opcode index false) s =

@@ -11,7 +11,7 @@ use Rattle.jc_code.specs.CodeFaults.{code_of_member}
 use Rattle.jc_code.specs.InsnReading.{insns_of}
 
 abbrev pub named_by_insn : Insn → Option ConstantIndex
-named_by_insn (insns.Load opcode index) = Some index
+named_by_insn (insns.Ldc opcode index) = Some index
 named_by_insn (insns.Field opcode index) = Some index
 named_by_insn (insns.Invoke opcode index) = Some index
 named_by_insn (insns.InvokeInterface index count last) = Some index

@@ -52,9 +52,9 @@ fn read_operands<'a>(place: u32, opcode: Opcode, cursor: &mut Cursor<'a>) -> Opt
         }
         Operands::ShortLoad => {
             let index = ConstantIndex(u16::from(cursor.u1()?));
-            Some(Insn::Load { opcode, index })
+            Some(Insn::Ldc { opcode, index })
         }
-        Operands::Load => Some(Insn::Load {
+        Operands::Load => Some(Insn::Ldc {
             opcode,
             index: read_index(cursor)?,
         }),

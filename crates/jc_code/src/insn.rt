@@ -23,7 +23,7 @@ pub enum Insn<'a> {
         value: i16,
     },
     /// `ldc`, `ldc_w` and `ldc2_w`.
-    Load {
+    Ldc {
         opcode: Opcode,
         index: ConstantIndex,
     },
@@ -105,7 +105,7 @@ impl<'a> Insn<'a> {
         match self {
             Insn::Plain { opcode }
             | Insn::Push { opcode, .. }
-            | Insn::Load { opcode, .. }
+            | Insn::Ldc { opcode, .. }
             | Insn::Local { opcode, .. }
             | Insn::Branch { opcode, .. }
             | Insn::Field { opcode, .. }

@@ -40,7 +40,7 @@ pub(crate) fn add_insn_faults(
             add_if(found, table_breaks_s4(scope, switch), CodeRule::S4, place)
         }
         Insn::LookupSwitch(switch) => add_lookup_switch(found, scope, place, switch),
-        Insn::Load { opcode, index } => add_load(found, scope, place, *opcode, *index),
+        Insn::Ldc { opcode, index } => add_ldc(found, scope, place, *opcode, *index),
         Insn::Field { index, .. } => {
             add_if(found, breaks_s8(scope, *index), CodeRule::S8, place)
         }
@@ -84,14 +84,14 @@ fn add_lookup_switch(
     add_if(found, breaks_s5(switch), CodeRule::S5, place)
 }
 
-fn add_load(
+fn add_ldc(
     found: &mut Vec<CodeFault>,
     scope: &Scope,
     place: u32,
     opcode: Opcode,
     index: ConstantIndex,
 ) -> Result<(), NoMemory>
-    ensures { OnOk result (found.new.items ≡ found.old.items ++ insn_faults scope.now (place, insns.Load opcode index)) }
+    ensures { OnOk result (found.new.items ≡ found.old.items ++ insn_faults scope.now (place, insns.Ldc opcode index)) }
 {
     add_if(found, breaks_s6(scope, opcode, index), CodeRule::S6, place)?;
     add_if(found, breaks_s7(scope, opcode, index), CodeRule::S7, place)

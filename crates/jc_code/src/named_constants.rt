@@ -25,7 +25,7 @@ fn named_by_insn(insn: &Insn) -> Option<ConstantIndex>
     ensures { result ≡ named_by_insn insn.now }
 {
     match insn {
-        Insn::Load { index, .. }
+        Insn::Ldc { index, .. }
         | Insn::Field { index, .. }
         | Insn::Invoke { index, .. }
         | Insn::InvokeInterface { index, .. }

@@ -73,7 +73,7 @@ impl<'c, 'a> TextSizes<'c, 'a> {
     pub(crate) fn dimensions(&self, index: ConstantIndex) -> Option<u8>
         ensures { result ≡ option_map dimensions_of (class_text_at self.now index) }
     {
-        let text = self.class.class_entry(index)?;
+        let text = self.class.class_name_index(index)?;
         self.class.utf8(text)?;
         Some(dims_at(&self.sizes.dims, text))
     }

@@ -7,7 +7,7 @@ ghost use Rattle.jc_input.specs.Changes.{Adds, Replaces, change_lent, prefix_cha
 
 use crate::file::File;
 use jc_base::ByteMap;
-use jc_input::{EditError, LentEdit, PrefixEdit, path_fault, room_fault, size_fault};
+use jc_input::{EditError, LentEdit, PrefixEdit, path_refusal, room_refusal, size_refusal};
 use jc_link::{MOST_PREFIXES, Outside, is_bad_prefix};
 
 /// Returns the first refusal of an edit of files that applies, apart from `NoMemory`.
@@ -17,29 +17,29 @@ pub(crate) fn judge(files: &ByteMap<File>, edit: &LentEdit<'_>) -> Option<EditEr
     match edit {
         LentEdit::Add(path, bytes) => judge_add(files, path, bytes),
         LentEdit::Replace(path, bytes) => judge_replace(files, path, bytes),
-        LentEdit::Remove(path) => path_fault(path).or(missing_fault(files, path)),
+        LentEdit::Remove(path) => path_refusal(path).or(missing_fault(files, path)),
     }
 }
 
 fn judge_add(files: &ByteMap<File>, path: &[u8], bytes: &[u8]) -> Option<EditError>
     ensures { result ≡ files_of.judge files.now (Adds path.now bytes.now) }
 {
-    path_fault(path)
-        .or(there_fault(files, path))
-        .or(size_fault(bytes))
-        .or(room_fault(files.len()))
+    path_refusal(path)
+        .or(there_refusal(files, path))
+        .or(size_refusal(bytes))
+        .or(room_refusal(files.len()))
 }
 
 fn judge_replace(files: &ByteMap<File>, path: &[u8], bytes: &[u8]) -> Option<EditError>
     ensures { result ≡ files_of.judge files.now (Replaces path.now bytes.now) }
 {
-    path_fault(path)
+    path_refusal(path)
         .or(missing_fault(files, path))
-        .or(size_fault(bytes))
+        .or(size_refusal(bytes))
 }
 
-fn there_fault(files: &ByteMap<File>, path: &[u8]) -> Option<EditError>
-    ensures { result ≡ files_of.there_fault files.now path.now }
+fn there_refusal(files: &ByteMap<File>, path: &[u8]) -> Option<EditError>
+    ensures { result ≡ files_of.there_refusal files.now path.now }
 {
     if files.contains_key(path) {
         Some(EditError::AlreadyThere)

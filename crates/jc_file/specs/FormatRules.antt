@@ -122,16 +122,16 @@ breaks_f10 c (MethodType descriptor) = fails is_method_text (utf8_at c descripto
 breaks_f10 c constant = false
 
 -- the number of bootstrap methods, from the first two bytes of the attribute
-abbrev pub told_count : Attribute → ℕ
-told_count a = if nat_lt (length a.bytes) 2 then 0 else big_number 2 a.bytes
+abbrev pub declared_count : Attribute → ℕ
+declared_count a = if nat_lt (length a.bytes) 2 then 0 else big_number 2 a.bytes
 
 -- the list is a single attribute, and the number is below its count
-abbrev pub is_told : List Attribute → ℕ → Bool
-is_told (a ∷ []) number = nat_lt number (told_count a)
-is_told others number = false
+abbrev pub is_declared : List Attribute → ℕ → Bool
+is_declared (a ∷ []) number = nat_lt number (declared_count a)
+is_declared others number = false
 
 abbrev pub breaks_f11 : ClassFile → Constant → Bool
-breaks_f11 c (InvokeDynamic bootstrap entry) = not (is_told (bootstrap_attributes c) bootstrap)
+breaks_f11 c (InvokeDynamic bootstrap entry) = not (is_declared (bootstrap_attributes c) bootstrap)
 breaks_f11 c constant = false
 
 -- ---- the class (JVMS 4.1)

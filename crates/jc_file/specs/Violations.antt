@@ -21,7 +21,7 @@ use Rattle.jc_view.specs.ConstantPool.{MethodHandle, MethodType as MethodTypeEnt
 use Rattle.jc_view.specs.ClassFile.{Attribute, Member, ClassFile, constant_at}
 use Rattle.jc_file.specs.AccessFlags.{public, private, protected, static, final, super, synchronized, volatile}
 use Rattle.jc_file.specs.AccessFlags.{bridge, transient, native, interface, abstract, strict, enum, annotation, has}
-use Rattle.jc_view.specs.Lookups.{signature_entry}
+use Rattle.jc_view.specs.Lookups.{name_and_type_index}
 use Rattle.jc_view.specs.Places.{PlacedAttribute, fields_in, methods_in, attributes_in, member_attributes}
 use Rattle.jc_view.specs.Attributes.{of_kind, code_attributes, attribute_name, belongs_to, Code, IsCodeOf}
 use Rattle.jc_view.specs.Attributes.{AreExceptionsOf, Bootstrap, AreBootstrapsOf, bootstrap_attributes}
@@ -59,7 +59,7 @@ GivesDescriptor c Is entry =
 
 -- the name of the field or method that a reference names has this property
 abbrev pub RefersTo : ClassFile → (List ℕ → Type 0) → Constant → Type 0
-RefersTo c Is reference = (entry : ConstantIndex) × (signature_entry reference ≡ Some entry) × GivesName c Is entry
+RefersTo c Is reference = (entry : ConstantIndex) × (name_and_type_index reference ≡ Some entry) × GivesName c Is entry
 
 -- ---- texts
 

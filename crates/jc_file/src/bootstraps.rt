@@ -10,7 +10,7 @@ ghost use Rattle.jc_view.specs.Moves.{Lends};
 ghost use Rattle.jc_view.specs.Lookups.{passes};
 ghost use Rattle.jc_view.specs.AttributeReading.{after_bootstrap, bootstraps_in};
 ghost use Rattle.jc_file.specs.FormatRules.{breaks_f27, is_argument, is_bootstrap};
-ghost use Rattle.jc_file.specs.inside.BootstrapsRead.{are_bootstraps_at, is_bootstrap_at, told_by};
+ghost use Rattle.jc_file.specs.inside.BootstrapsRead.{are_bootstraps_at, is_bootstrap_at, declared_by};
 ghost use Rattle.jc_view.specs.Attributes.{bootstrap_attributes};
 
 use crate::recognised::next_of_kind;
@@ -22,8 +22,8 @@ use jc_view::{
 
 /// Returns the number of bootstrap methods of the class, or 0 if it does not have exactly one `BootstrapMethods`
 /// attribute.
-pub(crate) fn told_methods(class: &ClassView) -> u16
-    ensures { result ≡ told_by (bootstrap_attributes class.now) }
+pub(crate) fn declared_methods(class: &ClassView) -> u16
+    ensures { result ≡ declared_by (bootstrap_attributes class.now) }
 {
     let mut attributes = class.attributes();
     let Some(only) = next_of_kind(&mut attributes, AttributeKind::BootstrapMethods) else {
@@ -31,12 +31,12 @@ pub(crate) fn told_methods(class: &ClassView) -> u16
     };
     match next_of_kind(&mut attributes, AttributeKind::BootstrapMethods) {
         Some(_) => 0,
-        None => told_count(only.bytes()),
+        None => declared_count(only.bytes()),
     }
 }
 
 /// Returns the count at the front of a table of methods, or 0 if the table is shorter than that.
-fn told_count(table: &[u8]) -> u16
+fn declared_count(table: &[u8]) -> u16
     ensures { result ≡ (if nat_lt (length table.now) 2 then 0 else big_number 2 table.now) }
 {
     Cursor::new(table).u2().unwrap_or(0)

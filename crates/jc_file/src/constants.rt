@@ -12,7 +12,7 @@ ghost use Rattle.jc_view.specs.Lookups.{fails, is_entry, is_kind, member_descrip
 ghost use Rattle.jc_base.specs.DescriptorTests.{is_field_text, is_method_text};
 ghost use Rattle.jc_file.specs.FormatRules.{breaks_f3, breaks_f5, breaks_f8, breaks_f9, fits_handle, is_bad_special, is_wrong_name};
 ghost use Rattle.jc_file.specs.FormatRules.{is_array_text, lacks_member_entries, returns_value};
-ghost use Rattle.jc_file.specs.inside.BootstrapsRead.{told_by};
+ghost use Rattle.jc_file.specs.inside.BootstrapsRead.{declared_by};
 ghost use Rattle.jc_file.specs.inside.RuleTables.{AreBroken, constant_tests};
 ghost use Rattle.jc_file.specs.inside.Texts.{fails_with};
 
@@ -24,7 +24,7 @@ use jc_view::{ClassView, Constant, ConstantIndex, ConstantKind};
 
 /// Returns the rules that a constant breaks. `bootstraps` is the number of bootstrap methods of the class.
 pub(crate) fn constant_rules(texts: &mut Texts, bootstraps: u16, constant: Constant) -> RuleSet
-    requires { bootstraps ≡ told_by (bootstrap_attributes texts.old) }
+    requires { bootstraps ≡ declared_by (bootstrap_attributes texts.old) }
     ensures same { texts.new ≡ texts.old }
     ensures rules { AreBroken (constant_tests texts.old (constant_of constant.entry)) result }
 {
@@ -149,7 +149,7 @@ fn invoke_dynamic_rules(
     method: u16,
     entry: ConstantIndex,
 ) -> RuleSet
-    requires { bootstraps ≡ told_by (bootstrap_attributes texts.old) }
+    requires { bootstraps ≡ declared_by (bootstrap_attributes texts.old) }
     ensures same { texts.new ≡ texts.old }
     ensures rules { AreBroken (constant_tests texts.old (InvokeDynamic method entry)) result }
 {
@@ -168,10 +168,11 @@ fn is_utf8(class: &ClassView, index: ConstantIndex) -> bool
     class.is_entry(ConstantKind::Utf8, index)
 }
 
-fn lacks_member_entries(class: &ClassView, owner: ConstantIndex, entry: ConstantIndex) -> bool
-    ensures { result ≡ lacks_member_entries class.now owner entry }
+fn lacks_member_entries(class: &ClassView, class_index: ConstantIndex, entry: ConstantIndex) -> bool
+    ensures { result ≡ lacks_member_entries class.now class_index entry }
 {
-    !class.is_entry(ConstantKind::Class, owner) || !class.is_entry(ConstantKind::NameAndType, entry)
+    !class.is_entry(ConstantKind::Class, class_index)
+        || !class.is_entry(ConstantKind::NameAndType, entry)
 }
 
 /// Returns whether the text of a `Class` is neither a class name nor an array descriptor.

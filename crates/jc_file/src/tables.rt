@@ -5,7 +5,7 @@ ghost use Rattle.std.specs.Option.{option_map_or};
 ghost use Rattle.jc_view.specs.Attributes.{bootstrap_attributes};
 ghost use Rattle.jc_view.specs.ClassFile.{constant_at};
 ghost use Rattle.jc_file.specs.declared.fault.FormatRule.{FormatRule};
-ghost use Rattle.jc_file.specs.inside.BootstrapsRead.{told_by};
+ghost use Rattle.jc_file.specs.inside.BootstrapsRead.{declared_by};
 ghost use Rattle.jc_view.specs.Places.{fields_in, methods_in};
 ghost use Rattle.jc_file.specs.inside.AttributePlaces.{places_of_members};
 ghost use Rattle.jc_file.specs.inside.Broken.{AddsPlaces};
@@ -13,7 +13,7 @@ ghost use Rattle.jc_file.specs.inside.RuleSets.{has};
 ghost use Rattle.jc_file.specs.inside.RuleTables.{breaks_in, constant_places, constant_tests, field_places, interface_places, method_places};
 
 use crate::attributes::add_with_inner;
-use crate::bootstraps::told_methods;
+use crate::bootstraps::declared_methods;
 use crate::broken::{Broken, add_broken};
 use crate::classes::interface_rules;
 use crate::constants::constant_rules;
@@ -30,7 +30,7 @@ pub(crate) fn add_constants(broken: &mut Vec<Broken>, texts: &mut Texts) -> Resu
     ensures same { texts.new ≡ texts.old }
     ensures added { OnOk result (AddsPlaces (constant_places texts.old) broken.old.items broken.new.items) }
 {
-    let bootstraps = told_methods(texts.class());
+    let bootstraps = declared_methods(texts.class());
     for index in 1..texts.class().constant_count() {
         let rules = rules_at(texts, bootstraps, index);
         add_broken(broken, index as usize, rules)?;
@@ -41,7 +41,7 @@ pub(crate) fn add_constants(broken: &mut Vec<Broken>, texts: &mut Texts) -> Resu
 /// Returns the rules that the constant at an index breaks, if there is one. A text that is known to be a name or a
 /// descriptor breaks none.
 fn rules_at(texts: &mut Texts, bootstraps: u16, index: u16) -> RuleSet
-    requires { bootstraps ≡ told_by (bootstrap_attributes texts.old) }
+    requires { bootstraps ≡ declared_by (bootstrap_attributes texts.old) }
     ensures same { texts.new ≡ texts.old }
     ensures rules { (rule : FormatRule) → has result rule
         ≡ option_map_or (λ constant. breaks_in (constant_tests texts.old constant) rule) (constant_at texts.old (record { 0 = index })) false }

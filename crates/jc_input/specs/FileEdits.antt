@@ -6,14 +6,14 @@ use Rattle.jc_input.specs.Changes.{Change, Adds, Replaces, Removes}
 use Rattle.jc_input.specs.declared.edit.EditError.{EditError}
 use Rattle.jc_input.specs.declared.edit.EditError.TheVariants as errors
 
-abbrev pub path_fault : List ℕ → Option EditError
-path_fault path = if length path == 0 || nat_lt 4096 (length path) then Some errors.BadPath else None
+abbrev pub path_refusal : List ℕ → Option EditError
+path_refusal path = if length path == 0 || nat_lt 4096 (length path) then Some errors.BadPath else None
 
-abbrev pub size_fault : List ℕ → Option EditError
-size_fault bytes = if nat_lt 16777216 (length bytes) then Some errors.TooLarge else None
+abbrev pub size_refusal : List ℕ → Option EditError
+size_refusal bytes = if nat_lt 16777216 (length bytes) then Some errors.TooLarge else None
 
-abbrev pub there_fault : Files → List ℕ → Option EditError
-there_fault f path = if map.contains_key f path then Some errors.AlreadyThere else None
+abbrev pub there_refusal : Files → List ℕ → Option EditError
+there_refusal f path = if map.contains_key f path then Some errors.AlreadyThere else None
 
 abbrev pub missing_fault : Files → List ℕ → Option EditError
 missing_fault f path = if map.contains_key f path then None else Some errors.NoSuchFile
@@ -21,8 +21,8 @@ missing_fault f path = if map.contains_key f path then None else Some errors.NoS
 abbrev pub room_beside : ℕ → Option EditError
 room_beside count = if nat_lt count 65535 then None else Some errors.TooMany
 
-abbrev pub room_fault : Files → Option EditError
-room_fault f = room_beside (map.len f)
+abbrev pub room_refusal : Files → Option EditError
+room_refusal f = room_beside (map.len f)
 
 -- the first of two refusals that applies
 infixr 10 ◌or_else◌
@@ -32,9 +32,9 @@ None or_else second = second
 
 -- the first refusal that applies
 abbrev pub judge : Files → Change → Option EditError
-judge f (Adds path bytes) = path_fault path or_else (there_fault f path or_else (size_fault bytes or_else room_fault f))
-judge f (Replaces path bytes) = path_fault path or_else (missing_fault f path or_else size_fault bytes)
-judge f (Removes path) = path_fault path or_else missing_fault f path
+judge f (Adds path bytes) = path_refusal path or_else (there_refusal f path or_else (size_refusal bytes or_else room_refusal f))
+judge f (Replaces path bytes) = path_refusal path or_else (missing_fault f path or_else size_refusal bytes)
+judge f (Removes path) = path_refusal path or_else missing_fault f path
 
 -- the files after an edit that was not refused
 abbrev pub after : Files → Change → Files

@@ -17,7 +17,7 @@ mod source;
 
 pub use command::{Command, parse_line};
 pub use edit::{Done, Edit, EditError, LentEdit, PrefixEdit};
-pub use limits::{LARGEST_FILE, path_fault, room_fault, size_fault};
+pub use limits::{LARGEST_FILE, path_refusal, room_refusal, size_refusal};
 pub use lines::{Ahead, Line, read_line};
 pub use run_error::{Ended, RunError};
 pub use source::{FileSource, MemSource, Source, SourceError};

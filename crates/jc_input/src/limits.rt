@@ -13,8 +13,8 @@ pub const LARGEST_FILE: usize = 16_777_216;
 const MOST_FILES: usize = 65_535;
 
 /// Returns the refusal of a path that is empty or too long.
-pub fn path_fault(path: &[u8]) -> Option<EditError>
-    ensures { result ≡ files_of.path_fault path.now }
+pub fn path_refusal(path: &[u8]) -> Option<EditError>
+    ensures { result ≡ files_of.path_refusal path.now }
 {
     if path.is_empty() || path.len() > LONGEST_PATH {
         Some(EditError::BadPath)
@@ -24,8 +24,8 @@ pub fn path_fault(path: &[u8]) -> Option<EditError>
 }
 
 /// Returns the refusal of a file that is too large.
-pub fn size_fault(bytes: &[u8]) -> Option<EditError>
-    ensures { result ≡ files_of.size_fault bytes.now }
+pub fn size_refusal(bytes: &[u8]) -> Option<EditError>
+    ensures { result ≡ files_of.size_refusal bytes.now }
 {
     if bytes.len() > LARGEST_FILE {
         Some(EditError::TooLarge)
@@ -35,7 +35,7 @@ pub fn size_fault(bytes: &[u8]) -> Option<EditError>
 }
 
 /// Returns the refusal of one more file if there are as many as allowed.
-pub fn room_fault(count: usize) -> Option<EditError>
+pub fn room_refusal(count: usize) -> Option<EditError>
     ensures { result ≡ files_of.room_beside count }
 {
     if count < MOST_FILES {

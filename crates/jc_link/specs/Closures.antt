@@ -23,4 +23,4 @@ pub record IsClosure (m : World) (d : Name) (c : Closure) : Type 0 where
 abbrev pub facts_standing : Stands → Option Facts
 facts_standing (stands.Class r) = Some r
 facts_standing stands.Outside = None
-facts_standing stands.Nothing = None
+facts_standing stands.Absent = None

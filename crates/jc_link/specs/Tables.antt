@@ -43,7 +43,7 @@ class_found places name = or_built_in (class_at places name) name
 
 abbrev pub stands_by : Option Facts → Bool → Stands
 stands_by (Some facts) outside = stands.Class facts
-stands_by None outside = cond outside stands.Outside stands.Nothing
+stands_by None outside = cond outside stands.Outside stands.Absent
 
 -- what each name is: a class if it has facts, or else outside if it begins with a prefix
 abbrev pub world : Places → List Name → World

@@ -26,7 +26,7 @@ pub use jc_classes::{
     Facts, Key, LinkageError, Member, Reference, ReferenceKind, affected_by_either,
     links_are_exact, locality, part_is_one,
 };
-pub use jc_resolve::{Answer, AnswerKind, Answers, Link, Links, Loading};
+pub use jc_resolve::{Answer, AnswerKind, Answers, LinkError, LinkErrors, Loading};
 pub use laws::{places_change, prefixes_differ, reach_stays, worlds_differ};
 pub use meter::Meter;
 pub use outside::{MOST_PREFIXES, Outside, OutsideError, is_bad_prefix};

@@ -24,7 +24,7 @@ use jc_base::NoMemory;
 use jc_classes::{Faults, Standing};
 use jc_code::CodeFault;
 use jc_file::Fault;
-use jc_resolve::{Answers, Hierarchy, Linked, Links, Loading};
+use jc_resolve::{Answers, Hierarchy, LinkErrors, Linked, Loading};
 use std::alloc::Global;
 use std::marker::Model;
 use std::rc::Rc;
@@ -94,7 +94,7 @@ impl Part {
 
     /// Returns the instructions that do not link although their references resolve, by method and then by offset (JVMS
     /// 6.5). Does not allocate.
-    pub fn links(&self) -> Links<'_>
+    pub fn links(&self) -> LinkErrors<'_>
         ensures { result ≡ self.now.links }
     {
         self.linked.links()

@@ -93,7 +93,7 @@ fn stand_at<'t>(table: &'t Table, outside: &Outside, name: &[u8], meter: &mut Me
             if outside.covers(name) {
                 Standing::Outside
             } else {
-                Standing::Nothing
+                Standing::Absent
             }
         }
     }

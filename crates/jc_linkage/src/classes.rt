@@ -3,7 +3,7 @@
 ghost use Rattle.std.specs.Iterator.{YieldsFirstBy, item_count};
 ghost use Rattle.jc_report.specs.ClassLent.{class_lent};
 
-use crate::kept::Kept;
+use crate::class_entry::ClassEntry;
 use jc_base::byte_map;
 use jc_link::TableClasses;
 use jc_report::LentClass;
@@ -14,7 +14,7 @@ use std::marker::Model;
 #[derive(Drop)]
 pub struct HeldClasses<'a> {
     pub(crate) classes: TableClasses<'a>,
-    pub(crate) kept: byte_map::Iter<'a, Kept>,
+    pub(crate) kept: byte_map::Iter<'a, ClassEntry>,
 }
 
 impl<'a> Model for HeldClasses<'a> {

@@ -9,16 +9,16 @@
 #![tactic(auto)]
 
 mod affected;
-mod changing;
 mod circular;
+mod class_entry;
 mod classes;
-mod kept;
+mod edit;
 mod laws;
 mod linkage;
-mod linking;
 mod links;
+mod new_parts;
 mod prefixes;
-mod preparing;
+mod replacement;
 mod row_index;
 mod row_list;
 mod row_map;

@@ -12,10 +12,10 @@ ghost use Rattle.jc_report.specs.ClassRows.{provided_rows, required_rows};
 ghost use Rattle.jc_report.specs.Reports.{Class, circular_names};
 ghost use Rattle.jc_linkage.specs.Steps.{changed};
 
-use crate::changing::{change_classes, counting, putting};
 use crate::circular::Circular;
+use crate::class_entry::ClassEntry;
 use crate::classes::HeldClasses;
-use crate::kept::Kept;
+use crate::edit::{change_classes, counting, putting};
 use crate::links::Links;
 use crate::prefixes::remake_switched;
 use crate::row_index::Required;
@@ -35,7 +35,7 @@ pub struct Linkage {
     alloc: Global,
     outside: Outside,
     table: Table,
-    kept: ByteMap<Kept>,
+    kept: ByteMap<ClassEntry>,
     links: Links,
 }
 

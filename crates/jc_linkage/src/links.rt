@@ -5,7 +5,7 @@ ghost use Rattle.jc_classes.specs.Names.{Name};
 ghost use Rattle.jc_linkage.specs.inside.Kept.{Relation, linked};
 ghost use Rattle.jc_linkage.specs.inside.LinkSets.{Adds, AddsSome, TakesOut, links_but, links_of};
 
-use crate::kept::Kept;
+use crate::class_entry::ClassEntry;
 use crate::row_index::RowIndex;
 use jc_base::NoMemory;
 use jc_index::Index;
@@ -30,7 +30,7 @@ impl Links {
     }
 
     /// Links a class to each name of its entry. If an allocation fails, some of these links may have been added.
-    pub(crate) fn link(&mut self, class: &[u8], kept: &Kept) -> Result<(), NoMemory>
+    pub(crate) fn link(&mut self, class: &[u8], kept: &ClassEntry) -> Result<(), NoMemory>
         ensures ok { OnOk result (Adds (links_of class.now kept.now) self.old self.new) }
         ensures err { OnErr result (AddsSome (links_of class.now kept.now) self.old self.new) }
     {
@@ -43,8 +43,8 @@ impl Links {
     pub(crate) fn link_but(
         &mut self,
         class: &[u8],
-        kept: &Kept,
-        other: &Kept,
+        kept: &ClassEntry,
+        other: &ClassEntry,
     ) -> Result<(), NoMemory>
         ensures ok { OnOk result (Adds (links_but class.now kept.now other.now) self.old self.new) }
         ensures err { OnErr result (AddsSome (links_but class.now kept.now other.now) self.old self.new) }
@@ -55,7 +55,7 @@ impl Links {
     }
 
     /// Removes the links of a class to each name of an entry. Does not allocate.
-    pub(crate) fn unlink(&mut self, class: &[u8], kept: &Kept)
+    pub(crate) fn unlink(&mut self, class: &[u8], kept: &ClassEntry)
         ensures { TakesOut (links_of class.now kept.now) self.old self.new }
     {
         self.reach.unlink_all(&kept.reach, class);
@@ -63,7 +63,7 @@ impl Links {
     }
 
     /// Removes the links of a class to each name of an entry that another entry lacks. Does not allocate.
-    pub(crate) fn unlink_but(&mut self, class: &[u8], kept: &Kept, other: &Kept)
+    pub(crate) fn unlink_but(&mut self, class: &[u8], kept: &ClassEntry, other: &ClassEntry)
         ensures { TakesOut (links_but class.now kept.now other.now) self.old self.new }
     {
         self.reach.unlink_all_but(&kept.reach, &other.reach, class);

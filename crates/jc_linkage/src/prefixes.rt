@@ -9,10 +9,10 @@ ghost use Rattle.jc_linkage.specs.Switches.{switches};
 ghost use Rattle.jc_linkage.specs.inside.Holding.{IsCountedOver, IsHeld};
 ghost use Rattle.jc_linkage.specs.inside.SwitchedNames.{HasEachUser, HasOnlyUsers, switches_by};
 
-use crate::kept::Kept;
-use crate::linking::commit;
+use crate::class_entry::ClassEntry;
 use crate::links::Links;
-use crate::preparing::prepare;
+use crate::new_parts::prepare;
+use crate::replacement::commit;
 use jc_base::{ByteMap, NoMemory};
 use jc_classes::same;
 use jc_link::{Meter, Outside, Table};
@@ -25,7 +25,7 @@ pub(crate) fn remake_switched(
     table: &Table,
     old: &Outside,
     new: &Outside,
-    kept: &mut ByteMap<Kept>,
+    kept: &mut ByteMap<ClassEntry>,
     links: &mut Links,
     meter: &mut Meter,
 ) -> Result<(), NoMemory>
@@ -45,7 +45,7 @@ pub(crate) fn remake_switched(
 /// Returns the classes whose reach has a name that becomes outside or inside, each once.
 fn users_of_switched(
     alloc: Global,
-    kept: &ByteMap<Kept>,
+    kept: &ByteMap<ClassEntry>,
     links: &Links,
     old: &Outside,
     new: &Outside,
@@ -64,7 +64,7 @@ fn users_of_switched(
 }
 
 /// Returns whether a name becomes outside or inside when the prefixes change.
-fn switches(kept: &ByteMap<Kept>, old: &Outside, new: &Outside, name: &[u8]) -> bool
+fn switches(kept: &ByteMap<ClassEntry>, old: &Outside, new: &Outside, name: &[u8]) -> bool
     ensures { result ≡ switches_by kept.now old.now new.now name.now }
 {
     old.covers(name) != new.covers(name)

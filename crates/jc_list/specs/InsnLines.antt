@@ -32,7 +32,7 @@ lookup_switch_text switch =
 abbrev pub operands_text : ClassFile → Insn → List ℕ
 operands_text c (insns.Plain opcode) = []
 operands_text c (insns.Push opcode value) = blank_signed value
-operands_text c (insns.Load opcode index) = codes " " ++ index_with_reference c index
+operands_text c (insns.Ldc opcode index) = codes " " ++ index_with_reference c index
 operands_text c (insns.Local opcode index is_wide) = blank_decimal index
 operands_text c (insns.Increment index amount is_wide) = blank_decimal index ++ blank_signed amount
 operands_text c (insns.Branch opcode target) = blank_signed target

@@ -67,7 +67,7 @@ fn write_operands<W: Output>(out: &mut TextWriter<'_, W>, class: &ClassView, ins
         Insn::Branch { target, .. } => write_number(out, *target),
         Insn::TableSwitch(switch) => write_table_switch(out, switch),
         Insn::LookupSwitch(switch) => write_lookup_switch(out, switch),
-        Insn::Load { index, .. }
+        Insn::Ldc { index, .. }
         | Insn::Field { index, .. }
         | Insn::Invoke { index, .. }
         | Insn::InvokeDynamic { index, .. }

@@ -8,13 +8,13 @@ ghost use Rattle.jc_numbered.specs.inside.Access.{IsTarget, IsInPackage};
 ghost use Rattle.jc_numbered.specs.inside.Access.{TellsWithin, TellsRelated, TellsOpen, TellsInherited, TellsOwn, TellsCanUse};
 
 use crate::chain::extends;
-use crate::classes::{Classes, Hit};
+use crate::classes::{Classes, FoundMember};
 use jc_classes::same;
 use jc_file::AccessFlag;
 
 /// What a reference names: a class, or an array.
 #[derive(Clone, Copy)]
-pub enum Target {
+pub enum AccessTarget {
     /// The class of this node.
     Class(usize),
     /// An array of any type.
@@ -36,26 +36,26 @@ fn is_within(classes: &Classes, node: usize, other: usize) -> bool
 }
 
 /// Returns whether the reference names the class, a subclass of it or a superclass of it.
-fn is_related(classes: &Classes, target: Target, class: usize) -> bool
+fn is_related(classes: &Classes, target: AccessTarget, class: usize) -> bool
     requires target { IsTarget (length classes.now.standing.now) (indexed_of classes.now) target }
     requires class { class < length classes.now.standing.now }
     requires good { good_at (indexed_of classes.now) class ≡ true }
     ensures { TellsRelated (indexed_of classes.now) target class result }
 {
     match target {
-        Target::Class(node) => {
+        AccessTarget::Class(node) => {
             if is_within(classes, node, class) {
                 true
             } else {
                 is_within(classes, class, node)
             }
         }
-        Target::Array => class == classes.object,
+        AccessTarget::Array => class == classes.object,
     }
 }
 
 /// Returns whether a member is PROTECTED and the class that uses it inherits it.
-fn is_inherited(classes: &Classes, target: Target, class: usize, hit: Hit) -> bool
+fn is_inherited(classes: &Classes, target: AccessTarget, class: usize, hit: FoundMember) -> bool
     requires target { IsTarget (length classes.now.standing.now) (indexed_of classes.now) target }
     requires class { class < length classes.now.standing.now }
     requires home { hit.node < length classes.now.standing.now }
@@ -75,7 +75,7 @@ fn is_inherited(classes: &Classes, target: Target, class: usize, hit: Hit) -> bo
 }
 
 /// Returns whether a member is PROTECTED or package-private, and the class is in the package of the member's class.
-fn is_in_package(classes: &Classes, class: usize, hit: Hit) -> bool
+fn is_in_package(classes: &Classes, class: usize, hit: FoundMember) -> bool
     requires class { class < length classes.now.standing.now }
     requires home { hit.node < length classes.now.standing.now }
     ensures { Decides result (IsInPackage (indexed_name (indexed_of classes.now) class) (found_at (indexed_of classes.now) hit.entry)) }
@@ -87,7 +87,7 @@ fn is_in_package(classes: &Classes, class: usize, hit: Hit) -> bool
 }
 
 /// Returns whether a member is PRIVATE, and the class declares it.
-fn is_own(classes: &Classes, class: usize, hit: Hit) -> bool
+fn is_own(classes: &Classes, class: usize, hit: FoundMember) -> bool
     requires class { class < length classes.now.standing.now }
     requires home { hit.node < length classes.now.standing.now }
     ensures { TellsOwn (indexed_of classes.now) class hit.entry result }
@@ -99,7 +99,7 @@ fn is_own(classes: &Classes, class: usize, hit: Hit) -> bool
 }
 
 /// Returns whether a member is PUBLIC, or is `clone` of `java/lang/Object` and the reference names an array.
-fn is_open(classes: &Classes, target: Target, hit: Hit) -> bool
+fn is_open(classes: &Classes, target: AccessTarget, hit: FoundMember) -> bool
     requires { hit.node < length classes.now.standing.now }
     ensures { TellsOpen (indexed_of classes.now) target hit.entry result }
 {
@@ -107,15 +107,15 @@ fn is_open(classes: &Classes, target: Target, hit: Hit) -> bool
         return true;
     }
     match target {
-        Target::Class(_) => false,
-        Target::Array => {
+        AccessTarget::Class(_) => false,
+        AccessTarget::Array => {
             same(classes.names[hit.node].as_slice(), b"java/lang/Object") && hit.member.is_clone()
         }
     }
 }
 
 /// Returns whether a class may use a member that it found through this target (JVMS 5.4.4).
-pub fn can_use(classes: &Classes, target: Target, class: usize, hit: Hit) -> bool
+pub fn can_use(classes: &Classes, target: AccessTarget, class: usize, hit: FoundMember) -> bool
     requires target { IsTarget (length classes.now.standing.now) (indexed_of classes.now) target }
     requires class { class < length classes.now.standing.now }
     requires home { hit.node < length classes.now.standing.now }

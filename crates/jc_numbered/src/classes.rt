@@ -50,7 +50,7 @@ pub struct Classes<'c, 't> {
 
 /// A member that look-up found, and the class that declares it.
 #[derive(Clone, Copy)]
-pub struct Hit<'a> {
+pub struct FoundMember<'a> {
     /// The node of the class.
     pub node: usize,
     /// The member.

@@ -19,8 +19,8 @@ mod picks;
 mod polymorphic;
 
 pub use above::Above;
-pub use access::{Target, can_use};
-pub use classes::{Classes, Hit};
+pub use access::{AccessTarget, can_use};
+pub use classes::{Classes, FoundMember};
 pub use loads::{Load, can_see, judge_each};
 pub use overriding::find_final;
 pub use packages::package_ends;

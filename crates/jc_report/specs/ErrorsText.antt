@@ -10,11 +10,11 @@ use Rattle.jc_code.specs.declared.insn.LinkKind.TheVariants as kinds
 use Rattle.jc_code.specs.declared.method_use.MethodUse.{MethodUse}
 use Rattle.jc_code.specs.CodeFaultOrder.{rule_number}
 use Rattle.jc_list.specs.FaultLines.{format_line}
-use Rattle.jc_classes.specs.declared.user.User.{User}
-use Rattle.jc_classes.specs.declared.user.User.TheVariants as user
+use Rattle.jc_classes.specs.declared.used.User.{User}
+use Rattle.jc_classes.specs.declared.used.User.TheVariants as user
 use Rattle.jc_classes.specs.Facts.{Facts, Reference}
 use Rattle.jc_classes.specs.Inheritance.{Inherited, InheritanceErrors}
-use Rattle.jc_classes.specs.LinkErrors.{LinkFault}
+use Rattle.jc_classes.specs.LinkErrors.{LinkError}
 use Rattle.jc_classes.specs.Loading.{Loading}
 use Rattle.jc_classes.specs.Loading.{Loading as loading}
 use Rattle.jc_classes.specs.Names.{Name}
@@ -107,10 +107,10 @@ reference_at references index = find (λ r. r.index == index) references
 abbrev pub use_text : Facts → MethodUse → List ℕ
 use_text f u = mnemonic u.kind ++ codes " " ++ option_map_or reference_text (reference_at f.references u.index) []
 
-abbrev pub instruction_text : Facts → LinkFault → List ℕ
+abbrev pub instruction_text : Facts → LinkError → List ℕ
 instruction_text f link = option_map_or (use_text f) (use_at f.uses link.method link.place) []
 
-abbrev pub link_error : Facts → LinkFault → List ℕ
+abbrev pub link_error : Facts → LinkError → List ℕ
 link_error f link =
     of_method f link.method
     (decimal link.place ++ codes ": " ++ instruction_text f link ++ codes " -> " ++ error_text link.error link.class ++ codes "\n")

@@ -6,10 +6,10 @@ use Rattle.jc_file.specs.declared.fault.Fault.{Fault}
 use Rattle.jc_code.specs.declared.code_fault.CodeFault.{CodeFault}
 use Rattle.jc_list.specs.FaultLines.{code_fault_line, format_line}
 use Rattle.jc_classes.specs.declared.linkage_error.LinkageError.{LinkageError}
-use Rattle.jc_classes.specs.declared.reference_kind.ReferenceKind.{ReferenceKind}
-use Rattle.jc_classes.specs.declared.reference_kind.ReferenceKind.TheVariants as kinds
+use Rattle.jc_classes.specs.declared.reference.ReferenceKind.{ReferenceKind}
+use Rattle.jc_classes.specs.declared.reference.ReferenceKind.TheVariants as kinds
 use Rattle.jc_classes.specs.LinkageErrors.{error_code, error_name}
-use Rattle.jc_classes.specs.LinkErrors.{LinkFault}
+use Rattle.jc_classes.specs.LinkErrors.{LinkError}
 use Rattle.jc_classes.specs.Names.{Name}
 use Rattle.jc_classes.specs.Facts.{Facts, Key, Reference}
 use Rattle.jc_classes.specs.Worlds.{key_of, text_of}
@@ -70,11 +70,11 @@ abbrev pub method_fault_line : ℕ × CodeFault → List ℕ
 method_fault_line fault = codes "  " ++ code_fault_line fault
 
 -- an instruction that does not link
-abbrev pub link_text : LinkFault → List ℕ
+abbrev pub link_text : LinkError → List ℕ
 link_text link =
     codes "link " ++ decimal link.method ++ codes " " ++ decimal link.place ++ codes " " ++ error_text link.error link.class ++ codes "\n"
 
-abbrev pub link_line : LinkFault → List ℕ
+abbrev pub link_line : LinkError → List ℕ
 link_line link = codes "  " ++ link_text link
 
 -- a reference and the answer to it

@@ -10,7 +10,7 @@ use Rattle.jc_report.specs.Reports.{Report, circular_names}
 use Rattle.jc_report.specs.RowView.{row_lent}
 use Rattle.jc_report.specs.declared.file_row.FileRow.{FileRow}
 use Rattle.jc_report.specs.declared.lent_class.LentClass.{LentClass}
-use Rattle.jc_report.specs.declared.report_lists.ReportLists.{ReportLists}
+use Rattle.jc_report.specs.declared.report_text.ReportLists.{ReportLists}
 use Rattle.jc_report.specs.declared.row.Row.{Row}
 
 -- The iterators return the lists of the report. The relations say what each iterator returns next.

@@ -13,8 +13,7 @@ ghost use Rattle.jc_report.specs.FileRows.{is_unreadable};
 ghost use Rattle.jc_report.specs.FileRowView as lent;
 
 use crate::asked::{Asked, is_asked};
-use crate::file_row::{FileRow, FileState};
-use crate::file_row_text::write_file_row;
+use crate::file_row::{FileRow, FileState, write_file_row};
 use crate::inheritance_errors::write_inheritance_errors;
 use crate::method_errors::{write_code_errors, write_link_errors};
 use crate::part_text::write_error;

@@ -13,7 +13,6 @@ mod asked;
 mod class_rows;
 mod errors_text;
 mod file_row;
-mod file_row_text;
 mod inheritance_errors;
 mod laws;
 mod lent_class;
@@ -25,7 +24,6 @@ mod provided_rows;
 mod reference_errors;
 mod reference_place;
 mod report;
-mod report_lists;
 mod report_text;
 mod required_references;
 mod required_row;
@@ -40,8 +38,7 @@ mod use_place;
 
 pub use asked::Asked;
 pub use errors_text::write_errors;
-pub use file_row::{FileRow, FileState};
-pub use file_row_text::write_refusal;
+pub use file_row::{FileRow, FileState, write_refusal};
 pub use laws::{
     errors_are_told, keys_keep_order, references_are_by_index, report_is_one, winners_are_least,
 };
@@ -49,8 +46,7 @@ pub use lent_class::{LentClass, LentClasses};
 pub use part_text::write_part;
 pub use provided_rows::{ProvidedRows, provided_in_order};
 pub use report::{TreeReport, is_any_wrong};
-pub use report_lists::ReportLists;
-pub use report_text::{write_lists, write_name, write_report};
+pub use report_text::{ReportLists, write_lists, write_name, write_report};
 pub use required_references::{required_numbers, rows_of};
 pub use required_row::RequiredRow;
 pub use required_rows::RequiredRows;

@@ -14,7 +14,7 @@ use crate::use_place::use_at;
 use jc_base::Output;
 use jc_classes::Facts;
 use jc_code::{CodeFault, LinkKind, MethodUse};
-use jc_resolve::{Link, Links};
+use jc_resolve::{LinkError, LinkErrors};
 use jc_text::TextWriter;
 
 /// Writes the name of the class, and the name and descriptor of its method of this number.
@@ -61,7 +61,7 @@ fn write_code_error<W: Output>(
 pub(crate) fn write_link_errors<W: Output>(
     text: &mut TextWriter<'_, W>,
     facts: &Facts,
-    links: Links<'_>,
+    links: LinkErrors<'_>,
 )
     ensures { Sends W.written W.failures text.old text.new (flat_map (link_error facts.now) links.entry) }
 {
@@ -70,7 +70,7 @@ pub(crate) fn write_link_errors<W: Output>(
     }
 }
 
-fn write_link_error<W: Output>(text: &mut TextWriter<'_, W>, facts: &Facts, link: Link<'_>)
+fn write_link_error<W: Output>(text: &mut TextWriter<'_, W>, facts: &Facts, link: LinkError<'_>)
     ensures { Sends W.written W.failures text.old text.new (link_error facts.now (link_lent link.entry)) }
 {
     write_method(text, facts, link.method as usize);

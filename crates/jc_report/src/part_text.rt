@@ -18,7 +18,7 @@ use jc_code::CodeFault;
 use jc_file::Fault;
 use jc_link::Part;
 use jc_list::{write_code_fault_line, write_format_line};
-use jc_resolve::{Answer, Answers, Link, Links, Loading};
+use jc_resolve::{Answer, Answers, LinkError, LinkErrors, Loading};
 use jc_text::TextWriter;
 
 /// Writes the part of the class with these facts: how it loads, its faults, its instructions that do not link, and the
@@ -101,7 +101,7 @@ fn write_method_fault<W: Output>(out: &mut TextWriter<'_, W>, method: usize, fau
     write_code_fault_line(out, method, fault);
 }
 
-fn write_links<W: Output>(out: &mut TextWriter<'_, W>, links: Links<'_>)
+fn write_links<W: Output>(out: &mut TextWriter<'_, W>, links: LinkErrors<'_>)
     ensures { Sends W.written W.failures out.old out.new (flat_map link_line links.entry) }
 {
     for link in links {
@@ -109,7 +109,7 @@ fn write_links<W: Output>(out: &mut TextWriter<'_, W>, links: Links<'_>)
     }
 }
 
-fn write_link<W: Output>(out: &mut TextWriter<'_, W>, link: Link<'_>)
+fn write_link<W: Output>(out: &mut TextWriter<'_, W>, link: LinkError<'_>)
     ensures { Sends W.written W.failures out.old out.new (link_line (link_lent link.entry)) }
 {
     out.text(b"  ");
@@ -117,7 +117,7 @@ fn write_link<W: Output>(out: &mut TextWriter<'_, W>, link: Link<'_>)
 }
 
 /// Writes an instruction that does not link, and LF.
-fn write_link_text<W: Output>(out: &mut TextWriter<'_, W>, link: Link<'_>)
+fn write_link_text<W: Output>(out: &mut TextWriter<'_, W>, link: LinkError<'_>)
     ensures { Sends W.written W.failures out.old out.new (link_text (link_lent link.entry)) }
 {
     out.text(b"link ");

@@ -38,7 +38,7 @@ use crate::tree_provided::TreeProvided;
 use jc_base::NoMemory;
 use jc_classes::Facts;
 use jc_link::{ClassGraph, Meter, Outside, Part, PartMaker, Table};
-use jc_resolve::{Answers, Links, Loading};
+use jc_resolve::{Answers, LinkErrors, Loading};
 use std::alloc::Global;
 use std::marker::Model;
 
@@ -415,7 +415,7 @@ fn is_load_error(load: &Loading) -> bool
     }
 }
 
-fn has_link(mut links: Links<'_>) -> bool
+fn has_link(mut links: LinkErrors<'_>) -> bool
     ensures { result ≡ not (length links.entry == 0) }
 {
     links.next().is_some()

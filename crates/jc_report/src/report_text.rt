@@ -14,16 +14,27 @@ ghost use Rattle.jc_report.specs.ReportText.{class_text, name_line, report_text,
 ghost use Rattle.jc_report.specs.RowView.{row_lent};
 ghost use Rattle.jc_report.specs.inside.Given.{ForGiven, circular_lines};
 
-use crate::file_row::FileRow;
-use crate::file_row_text::write_file_row;
+use crate::file_row::{FileRow, write_file_row};
 use crate::lent_class::LentClass;
 use crate::part_text::{kind_word, write_named, write_part};
 use crate::report::TreeReport;
-use crate::report_lists::ReportLists;
 use crate::row::Row;
 use jc_base::{DeviceFault, Output};
 use jc_classes::Key;
 use jc_text::TextWriter;
+
+/// The lists of a report, as iterators. Each is passed over once.
+#[derive(Drop)]
+pub struct ReportLists<F, C, P, Q> {
+    /// The state of each file, in the order of the paths.
+    pub files: F,
+    /// The classes, in the order of their names.
+    pub classes: C,
+    /// The same classes once more, for the circular ones among them.
+    pub again: C,
+    pub provided: P,
+    pub required: Q,
+}
 
 /// Writes a report: `[files]` and the files by path, `[parts]` and the classes by name, `[circular]`,
 /// `[provided]` and `[required]`. If the output fails, it has a beginning of this text.

@@ -4,14 +4,14 @@ use Rattle.std.specs.List.{Contains}
 use Rattle.std.specs.declared.vec.Vec.{Vec}
 use Rattle.std.specs.declared.alloc.Global.{Global}
 use Rattle.jc_classes.specs.Facts.{Reference}
-use Rattle.jc_classes.specs.LinkErrors.{LinkFault, links_of}
+use Rattle.jc_classes.specs.LinkErrors.{LinkError, links_of}
 use Rattle.jc_classes.specs.Loading.{Load, Loading}
 use Rattle.jc_classes.specs.Names.{Name, names_of}
 use Rattle.jc_classes.specs.Numbers.{name_at, IsOnce}
 use Rattle.jc_classes.specs.Parts.{AreAnswers, class_of}
 use Rattle.jc_classes.specs.Resolution.{Answer}
 use Rattle.jc_classes.specs.Worlds.{World, Stands, references_of, supertypes_of}
-use Rattle.jc_classes.specs.Worlds.Stands.{Nothing}
+use Rattle.jc_classes.specs.Worlds.Stands.{Absent}
 use Rattle.jc_classes.specs.Lent.{stands_of}
 use Rattle.jc_classes.specs.declared.standing.Standing.{Standing}
 
@@ -25,7 +25,7 @@ abbrev pub node_name : Numbered → ℕ → Name
 node_name h i = name_at h.names i
 
 abbrev pub standing_at : Numbered → ℕ → Stands
-standing_at h i = slice_index_or h.standing i Nothing
+standing_at h i = slice_index_or h.standing i Absent
 
 abbrev pub supertypes_at : Numbered → ℕ → List ℕ
 supertypes_at h i = slice_index_or h.supertypes i []
@@ -60,7 +60,7 @@ abbrev pub NumberReferences : List Name → List (Option ℕ) → List Reference
 NumberReferences names nodes references = map (option_map (name_at names)) nodes ≡ map (λ (r : Reference). class_of r.named) references
 
 -- the errors of the class's instructions, if its references have these answers
-abbrev pub links_at : Numbered → ℕ → List Answer → List LinkFault
+abbrev pub links_at : Numbered → ℕ → List Answer → List LinkError
 links_at h i answers = links_of (node_name h i) (standing_at h i) answers
 
 -- the answers to the references of the class, in every world that agrees with h

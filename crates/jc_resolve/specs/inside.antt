@@ -4,7 +4,7 @@ pub mod Entries
 pub mod Found
 pub mod Gathered
 pub mod Inheritance
-pub mod Links
+pub mod LinkErrors
 pub mod Loaded
 pub mod Loading
 pub mod Looking

@@ -13,7 +13,7 @@ use crate::answer_list::Answers;
 use crate::entry::Entry;
 use crate::linked::Linked;
 use crate::look::Look;
-use crate::room::Room;
+use crate::workspace::Workspace;
 use jc_base::NoMemory;
 use jc_classes::{Facts, Standing};
 use jc_numbered::{Classes, Load};
@@ -65,7 +65,7 @@ fn wide(node: Option<u32>) -> Option<usize>
 fn answer_one(
     alloc: Global,
     look: &Look,
-    room: &mut Room,
+    room: &mut Workspace,
     facts: &Facts,
     nodes: &[Option<u32>],
     entries: &mut Vec<Entry<usize>>,
@@ -92,7 +92,7 @@ fn answer_one(
 fn answer_next(
     alloc: Global,
     look: &Look,
-    room: &mut Room,
+    room: &mut Workspace,
     facts: &Facts,
     nodes: &[Option<u32>],
     entries: &mut Vec<Entry<usize>>,
@@ -122,7 +122,7 @@ fn answer_next(
 fn answer_each(
     alloc: Global,
     look: &Look,
-    room: &mut Room,
+    room: &mut Workspace,
     facts: &Facts,
     nodes: &[Option<u32>],
     entries: &mut Vec<Entry<usize>>,
@@ -147,7 +147,7 @@ fn answer_each(
 fn answer_all(
     alloc: Global,
     look: &Look,
-    room: &mut Room,
+    room: &mut Workspace,
     facts: &Facts,
     nodes: &[Option<u32>],
 ) -> Result<Vec<Entry<usize>>, NoMemory>
@@ -166,7 +166,7 @@ fn answer_all(
 fn answer_kept(
     alloc: Global,
     look: &Look,
-    kept: &mut Option<Room>,
+    kept: &mut Option<Workspace>,
     facts: &Facts,
     nodes: &[Option<u32>],
 ) -> Result<Vec<Entry<usize>>, NoMemory>
@@ -175,7 +175,7 @@ fn answer_kept(
     ensures kept { IfSome kept.new (IsRoom look.now.classes.now) }
     ensures answered { IfOk result (λ es. AreAnswered (reach_of look.now) look.now.loads.now look.now.class facts.now.references es.items) }
 {
-    let mut room = Room::of(alloc, kept.take(), look.classes)?;
+    let mut room = Workspace::of(alloc, kept.take(), look.classes)?;
     let entries = answer_all(alloc, look, &mut room, facts, nodes)?;
     *kept = Some(room);
     Ok(entries)
@@ -194,7 +194,7 @@ fn entries_of(
     alloc: Global,
     classes: &Classes,
     loads: &[Load],
-    kept: &mut Option<Room>,
+    kept: &mut Option<Workspace>,
     class: usize,
     facts: &Facts,
     nodes: &[Option<u32>],
@@ -225,7 +225,7 @@ pub(crate) fn linked(
     alloc: Global,
     classes: &Classes,
     loads: &[Load],
-    kept: &mut Option<Room>,
+    kept: &mut Option<Workspace>,
     places: &mut [usize],
     class: usize,
     nodes: &[Option<u32>],

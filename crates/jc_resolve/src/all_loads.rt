@@ -22,7 +22,7 @@ fn load_one(classes: &Classes, circular: &[bool], loads: &[Load], node: usize) -
     ensures { result ≡ load_of (indexed_of classes.now) circular.now loads.now node }
 {
     match classes.at(node) {
-        Standing::Nothing => Load::Fails(LinkageError::NoClass, node),
+        Standing::Absent => Load::Fails(LinkageError::NoClass, node),
         Standing::Outside => Load::Outside,
         Standing::Class(facts) => {
             if facts.is_faulty() {

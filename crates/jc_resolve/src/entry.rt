@@ -5,7 +5,7 @@ ghost use Rattle.jc_classes.specs.Lent.{key_lent};
 ghost use Rattle.jc_resolve.specs.inside.Shows.{ShowsHit};
 
 use jc_classes::{Key, LinkageError, same};
-use jc_numbered::Hit;
+use jc_numbered::FoundMember;
 use std::alloc::AllocError;
 
 /// The answer to a reference. Its texts are those of the reference, or the name of a class by its number. The number is
@@ -38,7 +38,7 @@ impl<N: Copy> Clone for Entry<N> {
 }
 
 /// Returns the answer to a reference whose look-up finds this member.
-pub(crate) fn hit_entry(hit: Hit<'_>, key: Key<'_>) -> Entry<usize>
+pub(crate) fn hit_entry(hit: FoundMember<'_>, key: Key<'_>) -> Entry<usize>
     ensures { ShowsHit (key_lent key.entry) hit.entry result }
 {
     if same(hit.member.descriptor, key.descriptor) {

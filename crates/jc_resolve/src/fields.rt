@@ -11,7 +11,7 @@ ghost use Rattle.jc_resolve.specs.inside.Found.{TellsField};
 use jc_base::NoMemory;
 use jc_classes::Key;
 use jc_graph::Seen;
-use jc_numbered::{Classes, Hit};
+use jc_numbered::{Classes, FoundMember};
 
 /// Finds the field that a class declares or inherits (JVMS 5.4.3.2). `stack` is working memory.
 pub(crate) fn find_field<'a>(
@@ -20,7 +20,7 @@ pub(crate) fn find_field<'a>(
     stack: &mut Vec<usize>,
     start: usize,
     key: Key,
-) -> Result<Option<Hit<'a>>, NoMemory>
+) -> Result<Option<FoundMember<'a>>, NoMemory>
     requires start { start < length classes.now.standing.now }
     requires good { good_at (indexed_of classes.now) start ≡ true }
     requires seen { length seen.old.flags ≡ length classes.now.standing.now }
@@ -35,7 +35,7 @@ pub(crate) fn find_field<'a>(
     while let Some(node) = stack.pop() {
         if !seen.has(node) {
             if let Some(member) = classes.field(node, key) {
-                return Ok(Some(Hit { node, member }));
+                return Ok(Some(FoundMember { node, member }));
             }
             seen.add(node)?;
             classes.push_onward(node, stack)?;

@@ -19,7 +19,7 @@ use crate::all_answers::linked;
 use crate::inheritance::InheritanceErrors;
 use crate::linked::Linked;
 use crate::loaded::load_classes;
-use crate::room::Room;
+use crate::workspace::Workspace;
 use jc_base::NoMemory;
 use jc_classes::{LinkageError, Standing};
 use jc_numbered::{Classes, Load};
@@ -44,7 +44,7 @@ pub struct Hierarchy<'c, 't> {
     loads: Vec<Load>,
     circular: Vec<bool>,
     /// Working memory for look-up, if a class needed it before.
-    room: Option<Room>,
+    room: Option<Workspace>,
     /// The place of the name of each class among the listed names. Values that earlier answers left are ignored.
     places: Vec<usize>,
 }

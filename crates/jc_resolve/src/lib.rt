@@ -22,12 +22,12 @@ mod methods;
 mod numbers_by_index;
 mod references;
 mod resolve;
-mod room;
 mod site;
 mod superinterfaces;
+mod workspace;
 
 pub use answer_list::Answers;
 pub use answers::{Answer, AnswerKind};
 pub use hierarchy::{Hierarchy, Loading};
 pub use inheritance::{InheritanceErrors, Inherited};
-pub use linked::{Link, Linked, Links};
+pub use linked::{LinkError, LinkErrors, Linked};

@@ -7,7 +7,7 @@ ghost use Rattle.jc_classes.specs.LinkErrors.{link_of, links_in};
 ghost use Rattle.jc_classes.specs.Resolution.{Answer as Told};
 ghost use Rattle.jc_classes.specs.Worlds.{text_of};
 ghost use Rattle.jc_resolve.specs.Linked.{link_lent};
-ghost use Rattle.jc_resolve.specs.inside.Links.{link_shown, links_shown};
+ghost use Rattle.jc_resolve.specs.inside.LinkErrors.{link_shown, links_shown};
 ghost use Rattle.jc_resolve.specs.inside.Naming.{references_in};
 ghost use Rattle.jc_resolve.specs.inside.Numbers.{AreNumbersBy};
 
@@ -27,12 +27,12 @@ pub struct Linked {
     answers: Answers,
     /// The references of the class, if one of its instructions does not link.
     references: Option<References>,
-    links: Vec<LinkEntry>,
+    links: Vec<ErrorEntry>,
 }
 
 /// An instruction that does not link, by the number of its reference.
 #[derive(Clone, Copy)]
-struct LinkEntry {
+struct ErrorEntry {
     method: u16,
     place: u16,
     reference: usize,
@@ -41,7 +41,7 @@ struct LinkEntry {
 
 /// An instruction that does not link, although its reference resolves (JVMS 6.5).
 #[derive(Clone, Copy)]
-pub struct Link<'a> {
+pub struct LinkError<'a> {
     /// The number of its method.
     pub method: u16,
     /// Its offset from the start of the code, in bytes.
@@ -53,7 +53,7 @@ pub struct Link<'a> {
 
 impl Model for Linked {
     ghost use Rattle.jc_resolve.specs.Linked as specs;
-    ghost use Rattle.jc_resolve.specs.inside.Links.{linked_shown};
+    ghost use Rattle.jc_resolve.specs.inside.LinkErrors.{linked_shown};
 
     ghost Value = { specs.Linked };
 
@@ -99,10 +99,10 @@ impl Linked {
     }
 
     /// Returns the instructions that do not link, by method and then by offset. Does not allocate.
-    pub fn links(&self) -> Links<'_>
+    pub fn links(&self) -> LinkErrors<'_>
         ensures { result ≡ self.now.links }
     {
-        Links {
+        LinkErrors {
             answers: &self.answers,
             references: &self.references,
             entries: self.links.iter(),
@@ -112,46 +112,50 @@ impl Linked {
 
 /// An iterator over the instructions of a class that do not link. The model is the list of those that are left.
 #[derive(Drop)]
-pub struct Links<'a> {
+pub struct LinkErrors<'a> {
     answers: &'a Answers,
     references: &'a Option<References>,
-    entries: slice::Iter<'a, LinkEntry>,
+    entries: slice::Iter<'a, ErrorEntry>,
 }
 
-impl<'a> Model for Links<'a> {
+impl<'a> Model for LinkErrors<'a> {
     ghost use Rattle.std.specs.Prelude.{List, map};
     ghost use Rattle.std.specs.Slice.Iter.{iter_rest};
-    ghost use Rattle.jc_classes.specs.LinkErrors.{LinkFault};
-    ghost use Rattle.jc_resolve.specs.inside.Links.{link_shown};
+    ghost use Rattle.jc_classes.specs.LinkErrors.{LinkError};
+    ghost use Rattle.jc_resolve.specs.inside.LinkErrors.{link_shown};
     ghost use Rattle.jc_resolve.specs.inside.Naming.{references_in};
 
-    ghost Value = { List LinkFault };
+    ghost Value = { List LinkError };
 
     ghost view = { λ a. map (link_shown (references_in a.references.now) a.answers.now) (iter_rest a.entries) };
 }
 
-impl<'a> Iterator for Links<'a> {
-    type Item = Link<'a>;
+impl<'a> Iterator for LinkErrors<'a> {
+    type Item = LinkError<'a>;
 
     ghost next_gives = { YieldsFirstBy link_lent (λ left. left) };
 
     ghost remaining = { item_count (λ left. left) };
 
-    fn next(&mut self) -> Option<Link<'a>> {
+    fn next(&mut self) -> Option<LinkError<'a>> {
         let entry = self.entries.next()?;
         Some(lend(self.references, self.answers, *entry))
     }
 }
 
 /// Returns an instruction that does not link, with the name of the class at fault.
-fn lend<'a>(references: &'a Option<References>, answers: &'a Answers, entry: LinkEntry) -> Link<'a>
+fn lend<'a>(
+    references: &'a Option<References>,
+    answers: &'a Answers,
+    entry: ErrorEntry,
+) -> LinkError<'a>
     ensures { link_lent result ≡ link_shown (references_in references.now) answers.now entry }
 {
     let class = match entry.error {
         LinkageError::NoMethod => class_named(references, entry.reference),
         _ => class_told(answers, entry.reference),
     };
-    Link {
+    LinkError {
         method: entry.method,
         place: entry.place,
         error: entry.error,
@@ -173,7 +177,7 @@ fn class_named(references: &Option<References>, reference: usize) -> &[u8]
 }
 
 /// Returns the references of a class if one of its instructions does not link.
-fn kept_references(facts: &Facts, links: &[LinkEntry]) -> Result<Option<References>, NoMemory>
+fn kept_references(facts: &Facts, links: &[ErrorEntry]) -> Result<Option<References>, NoMemory>
     ensures { (answers : List Told) → IfOk result (λ kept. links_shown (references_in kept) answers links.now ≡ links_shown facts.now.references answers links.now) }
 {
     if links.is_empty() {
@@ -189,7 +193,7 @@ fn links_of(
     own: &[u8],
     facts: &Facts,
     answers: &Answers,
-) -> Result<Vec<LinkEntry>, NoMemory>
+) -> Result<Vec<ErrorEntry>, NoMemory>
     requires { length answers.now ≡ length facts.now.references }
     ensures { IfOk result (λ links. links_shown facts.now.references answers.now links.items ≡ links_in own.now facts.now answers.now) }
 {
@@ -209,7 +213,7 @@ fn entry_of(
     answers: &Answers,
     numbers: &[Option<usize>],
     one: MethodUse,
-) -> Option<LinkEntry>
+) -> Option<ErrorEntry>
     requires size { length answers.now ≡ length facts.now.references }
     requires numbers { AreNumbersBy facts.now.references 0 numbers.now }
     ensures { option_map (link_shown facts.now.references answers.now) result ≡ link_of own.now facts.now answers.now one }
@@ -223,7 +227,7 @@ fn entry_of(
         reference,
     };
     let error = site.judge()?;
-    Some(LinkEntry {
+    Some(ErrorEntry {
         method: one.method,
         place: one.place,
         reference,
@@ -232,7 +236,7 @@ fn entry_of(
 }
 
 /// Appends an entry, if there is one.
-fn push_some(links: &mut Vec<LinkEntry>, entry: Option<LinkEntry>) -> Result<(), NoMemory>
+fn push_some(links: &mut Vec<ErrorEntry>, entry: Option<ErrorEntry>) -> Result<(), NoMemory>
     ensures { OnOk result (links.new.items ≡ links.old.items ++ option_to_list entry) }
 {
     if let Some(entry) = entry {

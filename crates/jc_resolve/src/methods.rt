@@ -9,15 +9,19 @@ ghost use Rattle.jc_resolve.specs.inside.Entries.{IsKeyed};
 ghost use Rattle.jc_resolve.specs.inside.Found.{TellsInClasses, TellsInterfaceMethod, TellsMethod};
 ghost use Rattle.jc_resolve.specs.inside.Rooms.{IsRoom};
 
-use crate::room::Room;
 use crate::superinterfaces::find_above;
+use crate::workspace::Workspace;
 use jc_base::NoMemory;
 use jc_classes::Key;
-use jc_numbered::{Classes, Hit};
+use jc_numbered::{Classes, FoundMember};
 use std::alloc::Global;
 
 /// Finds the method that a class or one of its superclasses declares (JVMS 5.4.3.3).
-pub(crate) fn find_in_classes<'a>(classes: &'a Classes, start: usize, key: Key) -> Option<Hit<'a>>
+pub(crate) fn find_in_classes<'a>(
+    classes: &'a Classes,
+    start: usize,
+    key: Key,
+) -> Option<FoundMember<'a>>
     requires start { start < length classes.now.standing.now }
     requires good { good_at (indexed_of classes.now) start ≡ true }
     ensures keyed { IfSome result (λ h. IsKeyed (key_lent key.entry) (member_lent h.member)) }
@@ -27,7 +31,7 @@ pub(crate) fn find_in_classes<'a>(classes: &'a Classes, start: usize, key: Key) 
     let mut node = start;
     loop {
         if let Some(member) = classes.declared(node, key) {
-            return Some(Hit { node, member });
+            return Some(FoundMember { node, member });
         }
         match classes.superclass(node) {
             Some(above) => node = above,
@@ -40,10 +44,10 @@ pub(crate) fn find_in_classes<'a>(classes: &'a Classes, start: usize, key: Key) 
 pub(crate) fn find_method<'a>(
     alloc: Global,
     classes: &'a Classes,
-    room: &mut Room,
+    room: &mut Workspace,
     start: usize,
     key: Key,
-) -> Result<Option<Hit<'a>>, NoMemory>
+) -> Result<Option<FoundMember<'a>>, NoMemory>
     requires start { start < length classes.now.standing.now }
     requires good { good_at (indexed_of classes.now) start ≡ true }
     requires room { IsRoom classes.now room.old }
@@ -62,10 +66,10 @@ pub(crate) fn find_method<'a>(
 pub(crate) fn find_interface_method<'a>(
     alloc: Global,
     classes: &'a Classes,
-    room: &mut Room,
+    room: &mut Workspace,
     start: usize,
     key: Key,
-) -> Result<Option<Hit<'a>>, NoMemory>
+) -> Result<Option<FoundMember<'a>>, NoMemory>
     requires start { start < length classes.now.standing.now }
     requires room { IsRoom classes.now room.old }
     ensures room { OnOk result (IsRoom classes.now room.new) }
@@ -74,13 +78,13 @@ pub(crate) fn find_interface_method<'a>(
     ensures found { IfOk result (TellsInterfaceMethod (indexed_of classes.now) (key_lent key.entry) start) }
 {
     if let Some(member) = classes.method(start, key) {
-        return Ok(Some(Hit {
+        return Ok(Some(FoundMember {
             node: start,
             member,
         }));
     }
     if let Some(member) = classes.open_method(classes.object, key) {
-        return Ok(Some(Hit {
+        return Ok(Some(FoundMember {
             node: classes.object,
             member,
         }));

@@ -10,7 +10,7 @@ ghost use Rattle.jc_resolve.specs.inside.Rooms.{IsRoom};
 use crate::entry::Entry;
 use crate::look::Look;
 use crate::resolve::NamedNode;
-use crate::room::Room;
+use crate::workspace::Workspace;
 use jc_base::NoMemory;
 use jc_classes::{Reference, ReferenceKind};
 use std::alloc::Global;
@@ -34,7 +34,7 @@ impl<'l, 'c, 't> Look<'l, 'c, 't> {
     pub(crate) fn resolve(
         &self,
         alloc: Global,
-        room: &mut Room,
+        room: &mut Workspace,
         reference: Reference<'_>,
         node: Option<usize>,
     ) -> Result<Entry<usize>, NoMemory>

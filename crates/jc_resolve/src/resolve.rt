@@ -17,11 +17,11 @@ use crate::entry::{Entry, hit_entry};
 use crate::fields::find_field;
 use crate::look::Look;
 use crate::methods::{find_interface_method, find_method};
-use crate::room::Room;
+use crate::workspace::Workspace;
 use jc_base::NoMemory;
 use jc_classes::{Key, LinkageError};
 use jc_file::AccessFlag;
-use jc_numbered::{Hit, Load, Target, can_see, can_use};
+use jc_numbered::{AccessTarget, FoundMember, Load, can_see, can_use};
 use std::alloc::Global;
 
 /// What a Class constant names: a class, or an array with its innermost class.
@@ -88,13 +88,13 @@ fn start_in_array(
 }
 
 /// Returns what a reference names, without the class of an array.
-pub(crate) fn target_of(reference: NamedNode) -> Target
+pub(crate) fn target_of(reference: NamedNode) -> AccessTarget
     ensures named { (x : Indexed) (text : Name) → named_at x result text (element_of x reference) ≡ named_of x reference text }
     ensures target { result ≡ target_at reference }
 {
     match reference {
-        NamedNode::Class(node) => Target::Class(node),
-        NamedNode::Array(_) => Target::Array,
+        NamedNode::Class(node) => AccessTarget::Class(node),
+        NamedNode::Array(_) => AccessTarget::Array,
     }
 }
 
@@ -128,10 +128,10 @@ impl<'l, 'c, 't> Look<'l, 'c, 't> {
     fn settle(
         &self,
         alloc: Global,
-        room: &mut Room,
+        room: &mut Workspace,
         named: NamedNode,
         start: usize,
-        found: Option<Hit<'l>>,
+        found: Option<FoundMember<'l>>,
         missing: LinkageError,
         key: Key,
     ) -> Result<Entry<usize>, NoMemory>
@@ -166,7 +166,7 @@ impl<'l, 'c, 't> Look<'l, 'c, 't> {
     pub(crate) fn field(
         &self,
         alloc: Global,
-        room: &mut Room,
+        room: &mut Workspace,
         named: NamedNode,
         key: Key,
     ) -> Result<Entry<usize>, NoMemory>
@@ -189,7 +189,7 @@ impl<'l, 'c, 't> Look<'l, 'c, 't> {
     pub(crate) fn method(
         &self,
         alloc: Global,
-        room: &mut Room,
+        room: &mut Workspace,
         named: NamedNode,
         key: Key,
     ) -> Result<Entry<usize>, NoMemory>
@@ -223,7 +223,7 @@ impl<'l, 'c, 't> Look<'l, 'c, 't> {
     pub(crate) fn interface_method(
         &self,
         alloc: Global,
-        room: &mut Room,
+        room: &mut Workspace,
         named: NamedNode,
         key: Key,
     ) -> Result<Entry<usize>, NoMemory>

@@ -2,7 +2,7 @@
 
 ghost use Rattle.std.specs.Prelude.{◌≡◌, ◌&&◌, false, [], slice_get};
 ghost use Rattle.std.specs.Option.{option_map_or};
-ghost use Rattle.jc_classes.specs.LinkErrors.{class_fault, line, method_name, static_fault};
+ghost use Rattle.jc_classes.specs.LinkErrors.{class_error, line, method_name, static_error};
 ghost use Rattle.jc_classes.specs.Names.{same_name, Name};
 ghost use Rattle.jc_classes.specs.Worlds.{text_of};
 ghost use Rattle.jc_resolve.specs.inside.Sites.{class_told, error_of, is_other_init};
@@ -122,7 +122,7 @@ impl<'a> Site<'a> {
 /// Returns the error of an instruction that names a class with these access flags. Only `new` requires a class that has
 /// instances.
 fn judge_class(kind: LinkKind, flags: u16) -> Option<LinkageError>
-    ensures { (class : Name) → result ≡ error_of (class_fault kind class flags) }
+    ensures { (class : Name) → result ≡ error_of (class_error kind class flags) }
 {
     match kind {
         LinkKind::New => line(
@@ -148,7 +148,7 @@ pub(crate) fn class_told(answers: &Answers, reference: usize) -> &[u8]
 
 /// Returns an error if the member is STATIC where an instance member is required, or the reverse.
 fn incompatible(applies: bool) -> Option<LinkageError>
-    ensures { (class : Name) → result ≡ error_of (static_fault applies class None) }
+    ensures { (class : Name) → result ≡ error_of (static_error applies class None) }
 {
     line(applies, LinkageError::Incompatible)
 }

@@ -12,11 +12,11 @@ ghost use Rattle.jc_resolve.specs.inside.Found.{TellsChosen, TellsInInterfaces};
 ghost use Rattle.jc_resolve.specs.inside.Picks.{NoOther, TellsFirst, TellsSole, TellsPick};
 ghost use Rattle.jc_resolve.specs.inside.Rooms.{IsRoom};
 
-use crate::room::Room;
+use crate::workspace::Workspace;
 use jc_base::NoMemory;
 use jc_classes::Key;
 use jc_graph::Seen;
-use jc_numbered::{Classes, Hit, candidates, is_pick, lowest};
+use jc_numbered::{Classes, FoundMember, candidates, is_pick, lowest};
 use std::alloc::Global;
 
 /// Returns the first node that is a pick: its method is maximally-specific and not ABSTRACT.
@@ -83,7 +83,7 @@ fn choose<'a>(
     covered: &mut Seen,
     nodes: &[usize],
     key: Key,
-) -> Result<Option<Hit<'a>>, NoMemory>
+) -> Result<Option<FoundMember<'a>>, NoMemory>
     requires nodes { All (λ v. v < length classes.now.standing.now) nodes.now }
     requires covered { length covered.old.flags ≡ length classes.now.standing.now }
     ensures covered { OnOk result (length covered.new.flags ≡ length classes.now.standing.now) }
@@ -94,7 +94,7 @@ fn choose<'a>(
     classes.see_above(covered, nodes)?;
     match pick(classes, covered, nodes, key) {
         Some(node) => match classes.given(node, key) {
-            Some(member) => Ok(Some(Hit { node, member })),
+            Some(member) => Ok(Some(FoundMember { node, member })),
             None => Ok(None),
         },
         None => Ok(None),
@@ -107,10 +107,10 @@ fn choose<'a>(
 pub(crate) fn find_above<'a>(
     alloc: Global,
     classes: &'a Classes,
-    room: &mut Room,
+    room: &mut Workspace,
     start: usize,
     key: Key,
-) -> Result<Option<Hit<'a>>, NoMemory>
+) -> Result<Option<FoundMember<'a>>, NoMemory>
     requires start { start < length classes.now.standing.now }
     requires room { IsRoom classes.now room.old }
     ensures room { OnOk result (IsRoom classes.now room.new) }

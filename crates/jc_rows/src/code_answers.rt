@@ -44,7 +44,7 @@ fn write_operands<W: Output>(out: &mut TextWriter<'_, W>, insn: &Insn) {
         Insn::Branch { target, .. } => write_number(out, *target),
         Insn::TableSwitch(switch) => write_table(out, switch),
         Insn::LookupSwitch(switch) => write_cases(out, switch),
-        Insn::Load { index, .. }
+        Insn::Ldc { index, .. }
         | Insn::Field { index, .. }
         | Insn::Invoke { index, .. }
         | Insn::Type { index, .. } => write_number(out, i64::from(index.0)),

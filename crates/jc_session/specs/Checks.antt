@@ -13,8 +13,8 @@ use Rattle.jc_input.specs.declared.source.SourceError.TheVariants as sources
 use Rattle.jc_input.specs.Changes.{Adds}
 use Rattle.jc_input.specs.FileEdits.{after, judge}
 use Rattle.jc_input.specs.Sources.{SourceAnswers, TakesAnswer}
-use Rattle.jc_session.specs.declared.checking.CheckForm.{CheckForm}
-use Rattle.jc_session.specs.declared.checking.CheckForm.TheVariants as forms
+use Rattle.jc_session.specs.declared.tree_check.CheckForm.{CheckForm}
+use Rattle.jc_session.specs.declared.tree_check.CheckForm.TheVariants as forms
 
 -- ---- the answers of the source
 

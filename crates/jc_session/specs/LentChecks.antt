@@ -5,9 +5,9 @@ use Rattle.std.specs.declared.vec.Vec.{Vec}
 use Rattle.std.specs.Global.{Global}
 use Rattle.jc_classes.specs.Names.{Name, names_of}
 use Rattle.jc_input.specs.Sources.{SourceAnswers}
-use Rattle.jc_session.specs.declared.checking.CheckError.{CheckError}
-use Rattle.jc_session.specs.declared.checking.CheckError.TheVariants as lent
-use Rattle.jc_session.specs.declared.checking.CheckForm.{CheckForm}
+use Rattle.jc_session.specs.declared.tree_check.CheckError.{CheckError}
+use Rattle.jc_session.specs.declared.tree_check.CheckError.TheVariants as lent
+use Rattle.jc_session.specs.declared.tree_check.CheckForm.{CheckForm}
 use Rattle.jc_session.specs.Checks.{Answer, CheckFault, ChecksAs, FileRefused, FileUnread, GivesAnswers, NoMemory, WriteFailed, added}
 
 -- the error of a check, with the bytes of the borrowed path

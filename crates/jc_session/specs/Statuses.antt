@@ -16,37 +16,37 @@ use Rattle.jc_text.specs.Escapes.{path_text}
 use Rattle.jc_input.specs.EditErrors.{edit_code, edit_error_name}
 use Rattle.jc_session.specs.Checks.{Answer, CheckFault, ChecksAs, FileRefused, FileUnread, WriteFailed, added}
 use Rattle.jc_session.specs.Checks as checks
-use Rattle.jc_session.specs.declared.checking.CheckForm.{CheckForm}
+use Rattle.jc_session.specs.declared.tree_check.CheckForm.{CheckForm}
 use Rattle.jc_classes.specs.Names.{name_cmp}
 use Rattle.jc_list.specs.Listing.{WritesBeginning}
 use Rattle.jc_session.specs.ListedText.{file_text, is_faulty_file}
-use Rattle.jc_input.specs.FileEdits.{size_fault}
+use Rattle.jc_input.specs.FileEdits.{size_refusal}
 use Rattle.jc_edits.specs.SessionState.{Contents}
 use Rattle.jc_session.specs.Runs.{RunsByAnswers, left_by}
 use Rattle.jc_report.specs.Reports.{IsReport, Report, is_wrong}
 use Rattle.jc_session.specs.Words.{AsksCheck, AsksListing, AsksRun, IsUsageError, Word}
 
 -- why the program ends with a line on standard error
-pub data Fault : Type 0 where
+pub data ProgramError : Type 0 where
   -- the arguments are a usage error
-  Usage : Fault
+  Usage : ProgramError
   -- the input of a session failed
-  Input : Fault
+  Input : ProgramError
   -- the output failed
-  Output : Fault
+  Output : ProgramError
   -- out of memory
-  NoMemory : Fault
+  NoMemory : ProgramError
   -- the file or the folder at a path can't be read
-  Unread : (path : List ℕ) → Fault
+  Unread : (path : List ℕ) → ProgramError
   -- the file at a path is refused
-  Refused : EditError → (path : List ℕ) → Fault
+  Refused : EditError → (path : List ℕ) → ProgramError
 
 -- how the program ends: whether something is wrong, or by which fault
 abbrev pub Outcome : Type 0
-Outcome = Result Bool Fault
+Outcome = Result Bool ProgramError
 
 -- the fault for an error of a run
-abbrev pub fault_of : RunError → Fault
+abbrev pub fault_of : RunError → ProgramError
 fault_of run_errors.Read = Input
 fault_of run_errors.Write = Output
 fault_of run_errors.NoMemory = NoMemory
@@ -80,13 +80,13 @@ ListsFile bytes outcome before now =
 -- of memory, nothing was written
 abbrev pub ListsAs : (path : List ℕ) → Result (List ℕ) SourceError → Outcome → (before now : Option (List ℕ)) → Type 0
 ListsAs path (Ok bytes) outcome before now =
-    MatchOption (size_fault bytes) (ListsFile bytes outcome before now)
+    MatchOption (size_refusal bytes) (ListsFile bytes outcome before now)
     (λ _. (outcome ≡ Err (Refused errors.TooLarge path)) × Keeps before now)
 ListsAs path (Err sources.Unread) outcome before now = (outcome ≡ Err (Unread path)) × Keeps before now
 ListsAs path (Err sources.NoMemory) outcome before now = (outcome ≡ Err NoMemory) × Keeps before now
 
 -- the fault for an error of a check
-abbrev pub fault_of_check : CheckFault → Fault
+abbrev pub fault_of_check : CheckFault → ProgramError
 fault_of_check (FileUnread path) = Unread path
 fault_of_check (FileRefused e path) = Refused e path
 fault_of_check WriteFailed = Output
@@ -141,7 +141,7 @@ Performs remaining words outcome input coming before now =
     ⊎ (¬ (IsUsageError words) × PerformsCommand remaining words outcome input coming before now)
 
 -- the exit status for a fault
-abbrev pub fault_status : Fault → ℕ
+abbrev pub fault_status : ProgramError → ℕ
 fault_status Usage = 2
 fault_status Input = 3
 fault_status Output = 3
@@ -156,7 +156,7 @@ status_of (Ok true) = 1
 status_of (Err fault) = fault_status fault
 
 -- the line on standard error for a fault
-abbrev pub fault_text : Fault → List ℕ
+abbrev pub fault_text : ProgramError → List ℕ
 fault_text Usage = codes "jclink: usage\n"
 fault_text Input = codes "jclink: cannot read input\n"
 fault_text Output = codes "jclink: cannot write\n"

@@ -32,9 +32,9 @@ pub(crate) enum Next {
 #[derive(Clone, Copy)]
 pub(crate) enum Placing {
     /// The bytes become a new file.
-    New,
+    Add,
     /// The bytes replace those of a file.
-    Other,
+    Replace,
 }
 
 impl Placing {
@@ -43,8 +43,8 @@ impl Placing {
         ensures { change_lent result ≡ placed self path.now bytes.items }
     {
         match self {
-            Placing::New => LentEdit::Add(path, bytes),
-            Placing::Other => LentEdit::Replace(path, bytes),
+            Placing::Add => LentEdit::Add(path, bytes),
+            Placing::Replace => LentEdit::Replace(path, bytes),
         }
     }
 }
@@ -70,8 +70,8 @@ pub(crate) fn answer<S: Source, W: Output>(
     ensures made_rise { session.old.made ≤ session.new.made }
 {
     match command {
-        Command::Add(path) => answer_sourced(session, source, path, Placing::New, out),
-        Command::Replace(path) => answer_sourced(session, source, path, Placing::Other, out),
+        Command::Add(path) => answer_sourced(session, source, path, Placing::Add, out),
+        Command::Replace(path) => answer_sourced(session, source, path, Placing::Replace, out),
         Command::Remove(path) => answer_edit(session.make(LentEdit::Remove(path)), out),
         Command::AddPrefix(prefix) => answer_edit(
             session.make_prefix(PrefixEdit::Add(prefix)),

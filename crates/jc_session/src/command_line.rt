@@ -13,12 +13,12 @@ ghost use Rattle.jc_session.specs.Words.{AsksCheck, Word};
 ghost use Rattle.jc_session.specs.inside.LentFaults.{outcome_lent};
 ghost use Rattle.jc_session.specs.inside.Serving.{Serves};
 
-use crate::checking::{CheckForm, check};
-use crate::fault::{Fault, tell};
 use crate::file_listing::list_file;
 use crate::folder::FolderSource;
-use crate::running::run;
-use crate::walk::{WalkFault, class_files};
+use crate::line_session::run;
+use crate::program_error::{ProgramError, tell};
+use crate::tree_check::{CheckForm, check};
+use crate::walk::{WalkError, class_files};
 use crate::words::{Request, asked};
 use jc_base::{Input, Output};
 use jc_edits::{EditError, Session};
@@ -86,8 +86,8 @@ fn check_folder<'a, F: Files + AllocGlobal, W: Output, E: Output>(
             let mut source = FolderSource::new(rt, folder);
             check_files(rt.alloc(), outside, form, &paths, &mut source, out, err)
         }
-        Err(WalkFault::Unread(path)) => conclude(err, Err(Fault::Unread(&path))),
-        Err(WalkFault::NoMemory) => conclude(err, Err(Fault::NoMemory)),
+        Err(WalkError::Unread(path)) => conclude(err, Err(ProgramError::Unread(&path))),
+        Err(WalkError::NoMemory) => conclude(err, Err(ProgramError::NoMemory)),
     }
 }
 
@@ -109,7 +109,7 @@ fn check_files<S: Source, W: Output, E: Output>(
 {
     match check(alloc, outside, form, paths, source, out) {
         Ok(wrong) => conclude(err, Ok(wrong)),
-        Err(error) => conclude(err, Err(Fault::from(error))),
+        Err(error) => conclude(err, Err(ProgramError::from(error))),
     }
 }
 
@@ -139,15 +139,18 @@ fn list_answer<'w, W: Output>(
     path: &'w [u8],
     answer: Result<Vec<u8>, SourceError>,
     out: &mut W,
-) -> Result<bool, Fault<'w>>
+) -> Result<bool, ProgramError<'w>>
     ensures lists { ListsAs path.now (answer_of answer) (outcome_lent result) (W.written out.old) (W.written out.new) }
     ensures failures { CountsOutput (outcome_lent result) (W.failures out.old) (W.failures out.new) }
 {
     match answer {
-        Ok(bytes) if bytes.len() > LARGEST_FILE => Err(Fault::Refused(EditError::TooLarge, path)),
+        Ok(bytes) if bytes.len() > LARGEST_FILE => Err(ProgramError::Refused(
+            EditError::TooLarge,
+            path,
+        )),
         Ok(bytes) => Ok(list_file(alloc, &bytes, out)?),
-        Err(SourceError::Unread) => Err(Fault::Unread(path)),
-        Err(SourceError::NoMemory) => Err(Fault::NoMemory),
+        Err(SourceError::Unread) => Err(ProgramError::Unread(path)),
+        Err(SourceError::NoMemory) => Err(ProgramError::NoMemory),
     }
 }
 
@@ -158,7 +161,7 @@ fn serve<S: Source, R: Input, W: Output>(
     source: &mut S,
     input: &mut R,
     out: &mut W,
-) -> Result<bool, Fault<'static>>
+) -> Result<bool, ProgramError<'static>>
     ensures runs { Serves S.answers R.remaining W.written (begun outside) (outcome_lent result)
         source.old source.new input.old input.new out.old out.new }
     ensures reads { CountsInput (outcome_lent result) (R.failures input.old) (R.failures input.new) }
@@ -175,7 +178,7 @@ fn run_through<S: Source, R: Input, W: Output>(
     source: &mut S,
     input: &mut R,
     out: &mut W,
-) -> Result<bool, Fault<'static>>
+) -> Result<bool, ProgramError<'static>>
     ensures runs { Serves S.answers R.remaining W.written (contents_of session.old) (outcome_lent result)
         source.old source.new input.old input.new out.old out.new }
     ensures reads { CountsInput (outcome_lent result) (R.failures input.old) (R.failures input.new) }
@@ -183,12 +186,12 @@ fn run_through<S: Source, R: Input, W: Output>(
 {
     match run(alloc, session, source, input, out) {
         Ok(_) => Ok(session.report().wrong()),
-        Err(error) => Err(Fault::from(error)),
+        Err(error) => Err(ProgramError::from(error)),
     }
 }
 
 /// Writes the line of a fault to `err`, and returns the status of the outcome.
-fn conclude<E: Output>(err: &mut E, outcome: Result<bool, Fault<'_>>) -> u8
+fn conclude<E: Output>(err: &mut E, outcome: Result<bool, ProgramError<'_>>) -> u8
     ensures { Concludes E.written E.failures (outcome_lent outcome.entry) result err.old err.new }
 {
     match outcome {

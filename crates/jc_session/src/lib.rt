@@ -11,17 +11,16 @@
 
 mod answer;
 mod answer_text;
-mod checking;
 mod command_line;
-mod fault;
 mod file_listing;
 mod folder;
 mod laws;
-mod running;
+mod line_session;
+mod program_error;
+mod tree_check;
 mod walk;
 mod words;
 
-pub use checking::{CheckError, CheckForm, check};
 pub use command_line::program;
 pub use jc_edits::{
     Done, Edit, EditError, FileRow, FileState, Report, Rows, Session, WriteError,
@@ -29,4 +28,5 @@ pub use jc_edits::{
 };
 pub use jc_input::{Ended, FileSource, MemSource, RunError, Source, SourceError};
 pub use laws::one_run;
-pub use running::run;
+pub use line_session::run;
+pub use tree_check::{CheckError, CheckForm, check};

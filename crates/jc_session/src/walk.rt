@@ -20,7 +20,7 @@ const ROOM: usize = 8192;
 
 /// Why the walk of a folder fails.
 #[derive(Drop)]
-pub(crate) enum WalkFault {
+pub(crate) enum WalkError {
     /// The file or folder at this path can't be read. The path is relative to the folder of the walk, or is the path of
     /// that folder itself.
     Unread(Vec<u8>),
@@ -36,10 +36,10 @@ pub(crate) enum WalkFault {
 pub(crate) fn class_files<'a, F: Files + AllocGlobal>(
     rt: &'a F,
     folder: &'a str,
-) -> Result<Vec<Vec<u8>>, WalkFault>
+) -> Result<Vec<Vec<u8>>, WalkError>
     ensures { IfOk result (λ paths. IsStrictlySortedBy name_cmp (names_of paths.items)) }
 {
-    let mut walk = Walk {
+    let mut walk = FolderWalk {
         rt,
         folder,
         pending: Vec::new(rt.alloc()),
@@ -60,7 +60,7 @@ enum Entry {
 
 /// A walk through all entries below a folder.
 #[derive(Drop)]
-struct Walk<'a, F> {
+struct FolderWalk<'a, F> {
     rt: &'a F,
     folder: &'a str,
     /// The entries that are still to be visited, the next one last.
@@ -69,9 +69,9 @@ struct Walk<'a, F> {
     files: ByteMap<()>,
 }
 
-impl<F: Files + AllocGlobal> Walk<'_, F> {
+impl<F: Files + AllocGlobal> FolderWalk<'_, F> {
     /// Visits all entries below the folder. A folder with an empty path can't be read.
-    fn go_through(&mut self) -> Result<(), WalkFault> {
+    fn go_through(&mut self) -> Result<(), WalkError> {
         if self.folder.is_empty() {
             return Err(self.unread_at(""));
         }
@@ -86,7 +86,7 @@ impl<F: Files + AllocGlobal> Walk<'_, F> {
     }
 
     /// Visits an entry, or returns the fault of the folder of an entry whose name is not UTF-8.
-    fn take(&mut self, entry: Entry) -> Result<(), WalkFault> {
+    fn take(&mut self, entry: Entry) -> Result<(), WalkError> {
         match entry {
             Entry::At(path) => self.visit(path),
             Entry::Unnamed(folder) => Err(self.unread_at(folder.as_str())),
@@ -94,7 +94,7 @@ impl<F: Files + AllocGlobal> Walk<'_, F> {
     }
 
     /// Adds the entries of the folder at a path to those to be visited, or the class file at it to the files found.
-    fn visit(&mut self, path: String) -> Result<(), WalkFault> {
+    fn visit(&mut self, path: String) -> Result<(), WalkError> {
         let kind = match self.kind(path.as_str()) {
             Ok(kind) => kind,
             Err(error) => return Err(self.unread(&error, path.as_str())),
@@ -116,7 +116,7 @@ impl<F: Files + AllocGlobal> Walk<'_, F> {
     }
 
     /// Puts the entries of the folder at a path before the entries that are still to be visited.
-    fn enter(&mut self, path: &str) -> Result<(), WalkFault> {
+    fn enter(&mut self, path: &str) -> Result<(), WalkError> {
         match self.names(path) {
             Ok(names) => Ok(self.put_before(path, &sorted(self.rt.alloc(), &names)?)?),
             Err(error) => Err(self.unread(&error, path)),
@@ -142,19 +142,19 @@ impl<F: Files + AllocGlobal> Walk<'_, F> {
         Ok(names)
     }
 
-    fn unread(&self, error: &io::Error, path: &str) -> WalkFault {
+    fn unread(&self, error: &io::Error, path: &str) -> WalkError {
         match error.kind() {
-            ErrorKind::OutOfMemory => WalkFault::NoMemory,
+            ErrorKind::OutOfMemory => WalkError::NoMemory,
             _ => self.unread_at(path),
         }
     }
 
     /// Returns the fault at a path relative to the folder of the walk. The empty path is that folder itself.
-    fn unread_at(&self, path: &str) -> WalkFault {
+    fn unread_at(&self, path: &str) -> WalkError {
         let path = if path.is_empty() { self.folder } else { path };
         match Vec::from_slice(self.rt.alloc(), path.as_bytes()) {
-            Ok(path) => WalkFault::Unread(path),
-            Err(_) => WalkFault::NoMemory,
+            Ok(path) => WalkError::Unread(path),
+            Err(_) => WalkError::NoMemory,
         }
     }
 }
@@ -210,20 +210,20 @@ fn entry_of(alloc: Global, folder: &str, name: &[u8]) -> Result<Entry, AllocErro
     }
 }
 
-impl From<NoMemory> for WalkFault {
-    fn from(_: NoMemory) -> WalkFault {
-        WalkFault::NoMemory
+impl From<NoMemory> for WalkError {
+    fn from(_: NoMemory) -> WalkError {
+        WalkError::NoMemory
     }
 }
 
-impl From<AllocError> for WalkFault {
-    fn from(_: AllocError) -> WalkFault {
-        WalkFault::NoMemory
+impl From<AllocError> for WalkError {
+    fn from(_: AllocError) -> WalkError {
+        WalkError::NoMemory
     }
 }
 
-impl<T: Drop> From<AllocFailed<T>> for WalkFault {
-    fn from(_: AllocFailed<T>) -> WalkFault {
-        WalkFault::NoMemory
+impl<T: Drop> From<AllocFailed<T>> for WalkError {
+    fn from(_: AllocFailed<T>) -> WalkError {
+        WalkError::NoMemory
     }
 }

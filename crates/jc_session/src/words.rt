@@ -4,7 +4,7 @@ ghost use Rattle.std.specs.Prelude.{◌≡◌, ◌⊎◌, ◌↔◌, IfErr, IfOk
 ghost use Rattle.clap.specs.Matches.{found_of};
 ghost use Rattle.clap.specs.Simple.{app_of, subcommand_rows_of};
 ghost use Rattle.clap.specs.Values.{kind_of};
-ghost use Rattle.clap.specs.Walk.{rows_of, rule_of};
+ghost use Rattle.clap.specs.FolderWalk.{rows_of, rule_of};
 ghost use Rattle.jc_session.specs.Statuses.{NamesCommand, NoMemory, Usage};
 ghost use Rattle.jc_session.specs.Words as line;
 ghost use Rattle.jc_session.specs.Words.{AreRefused, AsksForm, HoldsGiven, IsBadCheck, IsBadForm, IsUsageError, given};
@@ -12,8 +12,8 @@ ghost use Rattle.jc_session.specs.inside.LentFaults.{fault_lent};
 ghost use Rattle.jc_session.specs.inside.Requests.{AsksAmong, AsksBy, AsksFor, FailsFor, HasFlag, HasLeaf, HasPath, IsComplete, IsLeaf};
 ghost use Rattle.jc_session.specs.inside.Requests.{IsRefusedBy, command_of};
 
-use crate::checking::CheckForm;
-use crate::fault::Fault;
+use crate::program_error::ProgramError;
+use crate::tree_check::CheckForm;
 use clap::error::ErrorKind;
 use clap::{Arg, ArgAction, ArgMatches, Command};
 use jc_link::{Outside, OutsideError};
@@ -36,7 +36,10 @@ pub(crate) enum Request<'w> {
 ///
 /// `Usage`: `clap` finds an error among the arguments, or the command refuses its options or their values. `NoMemory`:
 /// an allocation failed.
-pub(crate) fn asked<'w>(alloc: Global, words: &'w [&'w str]) -> Result<Request<'w>, Fault<'w>>
+pub(crate) fn asked<'w>(
+    alloc: Global,
+    words: &'w [&'w str],
+) -> Result<Request<'w>, ProgramError<'w>>
     ensures command { IfOk result (λ request. NamesCommand (command_of request) (map (λ word. word.now) words.now)) }
     ensures asks { IfOk result (AsksFor (map (λ word. word.now) words.now)) }
     ensures proper { IfOk result (λ _. ¬ (IsUsageError (map (λ word. word.now) words.now))) }
@@ -50,7 +53,7 @@ pub(crate) fn asked<'w>(alloc: Global, words: &'w [&'w str]) -> Result<Request<'
 }
 
 /// Returns what the arguments ask for, from the matches that `clap` found among them.
-fn request_of<'w>(alloc: Global, matches: &ArgMatches<'w>) -> Result<Request<'w>, Fault<'w>>
+fn request_of<'w>(alloc: Global, matches: &ArgMatches<'w>) -> Result<Request<'w>, ProgramError<'w>>
     requires complete { IsComplete (subcommand_rows_of matches.now) }
     ensures asks { IfOk result (AsksBy (subcommand_rows_of matches.now)) }
     ensures proper { IfOk result (λ _. ¬ (IsRefusedBy (subcommand_rows_of matches.now))) }
@@ -77,7 +80,10 @@ fn list_request<'w>(matches: &ArgMatches<'w>) -> Request<'w>
 }
 
 /// Returns the request to check a folder, with the outside prefixes and the form.
-fn check_request<'w>(alloc: Global, matches: &ArgMatches<'w>) -> Result<Request<'w>, Fault<'w>>
+fn check_request<'w>(
+    alloc: Global,
+    matches: &ArgMatches<'w>,
+) -> Result<Request<'w>, ProgramError<'w>>
     requires path { HasPath (codes "DIR") (rows_of (found_of matches.now)) }
     requires errors { HasFlag (codes "errors") (rows_of (found_of matches.now)) }
     requires used { HasFlag (codes "used") (rows_of (found_of matches.now)) }
@@ -97,7 +103,7 @@ fn check_request<'w>(alloc: Global, matches: &ArgMatches<'w>) -> Result<Request<
 
 /// Returns the form of a check: the report, or with `--errors` its errors. `--only` selects errors by prefixes, and
 /// `--used` leaves out those of unused references. `--only` or `--used` without `--errors` is a usage error.
-fn form<'w>(alloc: Global, matches: &ArgMatches<'w>) -> Result<CheckForm, Fault<'w>>
+fn form<'w>(alloc: Global, matches: &ArgMatches<'w>) -> Result<CheckForm, ProgramError<'w>>
     requires errors { HasFlag (codes "errors") (rows_of (found_of matches.now)) }
     requires used { HasFlag (codes "used") (rows_of (found_of matches.now)) }
     ensures asks { IfOk result (AsksForm (rows_of (found_of matches.now))) }
@@ -108,12 +114,12 @@ fn form<'w>(alloc: Global, matches: &ArgMatches<'w>) -> Result<CheckForm, Fault<
     match (matches.get_flag("errors"), matches.get_strs("only")) {
         (false, None) => {
             if used_only {
-                Err(Fault::Usage)
+                Err(ProgramError::Usage)
             } else {
                 Ok(CheckForm::Report)
             }
         }
-        (false, Some(_)) => Err(Fault::Usage),
+        (false, Some(_)) => Err(ProgramError::Usage),
         (true, None) => Ok(CheckForm::Errors {
             only: None,
             used_only,
@@ -129,7 +135,7 @@ fn form<'w>(alloc: Global, matches: &ArgMatches<'w>) -> Result<CheckForm, Fault<
 }
 
 /// Returns the outside prefixes: the given ones, or the standard ones if none are given.
-fn outside<'w>(alloc: Global, matches: &ArgMatches<'w>) -> Result<Outside, Fault<'w>>
+fn outside<'w>(alloc: Global, matches: &ArgMatches<'w>) -> Result<Outside, ProgramError<'w>>
     ensures held { IfOk result (HoldsGiven (given (codes "outside") (rows_of (found_of matches.now)))) }
     ensures proper { IfOk result (λ _. ¬ (AreRefused (given (codes "outside") (rows_of (found_of matches.now))))) }
     ensures fault { IfErr result (FailsFor (AreRefused (given (codes "outside") (rows_of (found_of matches.now))))) }
@@ -141,7 +147,7 @@ fn outside<'w>(alloc: Global, matches: &ArgMatches<'w>) -> Result<Outside, Fault
 }
 
 /// Returns the given prefixes. A list that `Outside::new` refuses is a usage error.
-fn given_prefixes<'w>(alloc: Global, prefixes: &[&'w str]) -> Result<Outside, Fault<'w>>
+fn given_prefixes<'w>(alloc: Global, prefixes: &[&'w str]) -> Result<Outside, ProgramError<'w>>
     ensures held { IfOk result (HoldsGiven (Some (map (λ prefix. prefix.now) prefixes.now))) }
     ensures proper { IfOk result (λ _. ¬ (AreRefused (Some (map (λ prefix. prefix.now) prefixes.now)))) }
     ensures fault { IfErr result (FailsFor (AreRefused (Some (map (λ prefix. prefix.now) prefixes.now)))) }
@@ -149,24 +155,24 @@ fn given_prefixes<'w>(alloc: Global, prefixes: &[&'w str]) -> Result<Outside, Fa
     let mut texts = Vec::new(alloc);
     for prefix in prefixes {
         if texts.push(prefix.as_bytes()).is_err() {
-            return Err(Fault::NoMemory);
+            return Err(ProgramError::NoMemory);
         }
     }
     match Outside::new(alloc, texts.as_slice()) {
         Ok(outside) => Ok(outside),
-        Err(OutsideError::NoMemory) => Err(Fault::NoMemory),
-        Err(OutsideError::BadPrefix | OutsideError::TooManyPrefixes) => Err(Fault::Usage),
+        Err(OutsideError::NoMemory) => Err(ProgramError::NoMemory),
+        Err(OutsideError::BadPrefix | OutsideError::TooManyPrefixes) => Err(ProgramError::Usage),
     }
 }
 
 /// Returns the fault for an error of `clap`: out of memory, or a usage error.
-fn words_fault(error: &clap::Error) -> Fault<'static>
+fn words_fault(error: &clap::Error) -> ProgramError<'static>
     ensures memory { (fault_lent result ≡ NoMemory) ↔ (kind_of error.now ≡ ErrorKind.OutOfMemory) }
     ensures usage { (fault_lent result ≡ Usage) ⊎ (fault_lent result ≡ NoMemory) }
 {
     match error.kind() {
-        ErrorKind::OutOfMemory => Fault::NoMemory,
-        _ => Fault::Usage,
+        ErrorKind::OutOfMemory => ProgramError::NoMemory,
+        _ => ProgramError::Usage,
     }
 }
 

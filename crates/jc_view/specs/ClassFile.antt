@@ -5,7 +5,7 @@ use Rattle.std.specs.List.{flat_map, AllByRecursion}
 use Rattle.jc_base.specs.Endian.{big_bytes}
 use Rattle.jc_view.specs.declared.constant_pool.ConstantIndex.{ConstantIndex}
 use Rattle.jc_view.specs.ConstantPool.{Constant, constant_bytes, FitsConstant, kind_of}
-use Rattle.jc_view.specs.ConstantPool.{is_wide, index_bytes, IsIndex, class_entry, utf8_text}
+use Rattle.jc_view.specs.ConstantPool.{is_wide, index_bytes, IsIndex, class_name_index, utf8_text}
 
 pub record Attribute : Type 0 where
   pub name : ConstantIndex
@@ -126,6 +126,6 @@ o >>= f = option_and_then f o
 abbrev pub class_text_at : ClassFile → ConstantIndex → Option (List ℕ)
 class_text_at c index = do
   class ← constant_at c index
-  entry ← class_entry class
+  entry ← class_name_index class
   text ← constant_at c entry
   utf8_text text

@@ -141,9 +141,9 @@ FitsConstant (MethodType descriptor) = IsIndex descriptor
 FitsConstant (InvokeDynamic bootstrap name_and_type) = (bootstrap < 2 ^ 16) × IsIndex name_and_type
 
 -- the name_index of a Class constant
-abbrev pub class_entry : Constant → Option ConstantIndex
-class_entry (Class name) = Some name
-class_entry constant = None
+abbrev pub class_name_index : Constant → Option ConstantIndex
+class_name_index (Class name) = Some name
+class_name_index constant = None
 
 -- the text of a Utf8 constant
 abbrev pub utf8_text : Constant → Option (List ℕ)

@@ -24,19 +24,19 @@ name_and_type (NameAndType name descriptor) = Some (name, descriptor)
 name_and_type constant = None
 
 -- the class_index of a reference to a field or method
-abbrev pub owner : Constant → Option ConstantIndex
-owner (Fieldref class entry) = Some class
-owner (Methodref class entry) = Some class
-owner (InterfaceMethodref class entry) = Some class
-owner constant = None
+abbrev pub class_index : Constant → Option ConstantIndex
+class_index (Fieldref class entry) = Some class
+class_index (Methodref class entry) = Some class
+class_index (InterfaceMethodref class entry) = Some class
+class_index constant = None
 
 -- the name_and_type_index of a reference to a field or method, or of an InvokeDynamic
-abbrev pub signature_entry : Constant → Option ConstantIndex
-signature_entry (Fieldref class entry) = Some entry
-signature_entry (Methodref class entry) = Some entry
-signature_entry (InterfaceMethodref class entry) = Some entry
-signature_entry (InvokeDynamic bootstrap entry) = Some entry
-signature_entry constant = None
+abbrev pub name_and_type_index : Constant → Option ConstantIndex
+name_and_type_index (Fieldref class entry) = Some entry
+name_and_type_index (Methodref class entry) = Some entry
+name_and_type_index (InterfaceMethodref class entry) = Some entry
+name_and_type_index (InvokeDynamic bootstrap entry) = Some entry
+name_and_type_index constant = None
 
 abbrev pub name_and_type_at : ClassFile → ConstantIndex → Option (ConstantIndex × ConstantIndex)
 name_and_type_at c index = option_and_then name_and_type (constant_at c index)
@@ -51,7 +51,7 @@ member_descriptor_at c entry = option_and_then (λ pair. utf8_at c pair.1) (name
 
 -- the name of the field or method that a reference names
 abbrev pub name_of : ClassFile → Constant → Option (List ℕ)
-name_of c reference = option_and_then (member_name_at c) (signature_entry reference)
+name_of c reference = option_and_then (member_name_at c) (name_and_type_index reference)
 
 -- ---- tests of an element that may be missing
 

@@ -14,7 +14,7 @@ use crate::attribute_kind::{AttributeKind, Holder, kind_named};
 use crate::code::{Code, read_code};
 use crate::constant_pool::ConstantIndex;
 use crate::constant_reader::read_index;
-use crate::table::Table;
+use crate::entries::Entries;
 use crate::view::ClassView;
 use jc_base::Cursor;
 use std::marker::Model;
@@ -25,7 +25,7 @@ use std::marker::Model;
 pub struct Attributes<'v, 'a> {
     pub(crate) class: &'v ClassView<'a>,
     pub(crate) holder: Holder,
-    pub(crate) table: Table<'a>,
+    pub(crate) table: Entries<'a>,
 }
 
 impl<'v, 'a> Model for Attributes<'v, 'a> {

@@ -15,8 +15,8 @@ use crate::attribute_kind::Holder;
 use crate::attributes::{AttributeEntry, Attributes};
 use crate::constant_pool::ConstantIndex;
 use crate::constant_reader::read_index;
+use crate::entries::Entries;
 use crate::layout_reader::skip_attributes;
-use crate::table::Table;
 use crate::view::ClassView;
 use jc_base::Cursor;
 use std::marker::Model;
@@ -34,8 +34,8 @@ pub struct Code<'v, 'a> {
 #[derive(Drop)]
 pub(crate) struct CodeBody<'a> {
     instructions: Instructions<'a>,
-    handlers: Table<'a>,
-    attributes: Table<'a>,
+    handlers: Entries<'a>,
+    attributes: Entries<'a>,
 }
 
 /// The instructions, with the depths that they need.
@@ -125,7 +125,7 @@ pub struct ExceptionHandler {
 /// An iterator over exception handlers, in the order of their table. Its model is the list of those that are left.
 #[derive(Drop)]
 pub struct Handlers<'a> {
-    table: Table<'a>,
+    table: Entries<'a>,
 }
 
 impl<'a> Model for Handlers<'a> {
@@ -222,13 +222,13 @@ fn read_instructions<'a>(cursor: &mut Cursor<'a>) -> Option<Instructions<'a>>
     })
 }
 
-fn skip_handlers<'a>(cursor: &mut Cursor<'a>) -> Option<Table<'a>>
+fn skip_handlers<'a>(cursor: &mut Cursor<'a>) -> Option<Entries<'a>>
     ensures { LendsTable after_handlers cursor.old result cursor.new }
 {
     let count = cursor.u2()?;
     let first = cursor.fork();
     cursor.take(8 * count as usize)?;
-    Some(Table {
+    Some(Entries {
         left: count,
         cursor: first,
     })

@@ -4,12 +4,12 @@ ghost use Rattle.std.specs.Prelude.{◌≡◌, ◌+◌, ◌≤◌, drop, length,
 ghost use Rattle.std.specs.Option.{option_copied, option_map};
 ghost use Rattle.jc_view.specs.Reading.{after, after_body, after_sized, body_value, sized_value};
 ghost use Rattle.jc_view.specs.inside.ConstantRead.{constant_read, kind_read};
-ghost use Rattle.jc_view.specs.ConstantPool.{class_entry, index_value, kind_of, utf8_text};
+ghost use Rattle.jc_view.specs.ConstantPool.{class_name_index, index_value, kind_of, utf8_text};
 ghost use Rattle.jc_base.specs.Endian.{big_number};
 ghost use Rattle.jc_view.specs.Moves.{Lends};
 ghost use Rattle.jc_view.specs.declared.constant_pool.ConstantKind.TheVariants as kinds;
 ghost use Rattle.jc_view.specs.ClassFile.{ClassFile, constant_at};
-ghost use Rattle.jc_view.specs.Lookups.{name_and_type, name_and_type_at, owner, signature_entry, utf8_at};
+ghost use Rattle.jc_view.specs.Lookups.{name_and_type, name_and_type_at, class_index, name_and_type_index, utf8_at};
 ghost use Rattle.jc_view.specs.inside.ConstantPlaces.{Holds};
 ghost use Rattle.jc_view.specs.Places.{place_at};
 ghost use Rattle.jc_view.specs.Lent.{constant_of};
@@ -79,12 +79,12 @@ fn text_at(bytes: &[u8], place: usize) -> Option<&[u8]>
 }
 
 /// Returns the `name_index` of the `Class` constant at an index. A constant of another kind is not read.
-pub(crate) fn class_entry(
+pub(crate) fn class_name_index(
     bytes: &[u8],
     offsets: &[Option<usize>],
     index: ConstantIndex,
 ) -> Option<ConstantIndex>
-    ensures { (c : ClassFile) → Holds bytes.now offsets.now c → result ≡ option_and_then class_entry (constant_at c index) }
+    ensures { (c : ClassFile) → Holds bytes.now offsets.now c → result ≡ option_and_then class_name_index (constant_at c index) }
 {
     class_at(bytes, place_at(offsets, index)?)
 }
@@ -92,7 +92,7 @@ pub(crate) fn class_entry(
 /// Returns the `name_index` of the `Class` constant that begins at a place (JVMS 4.4.1).
 #[tactic(auto, unfolding(crate::specs::inside::ConstantRead::constant_read))]
 fn class_at(bytes: &[u8], place: usize) -> Option<ConstantIndex>
-    ensures { result ≡ option_and_then class_entry (constant_read place bytes.now) }
+    ensures { result ≡ option_and_then class_name_index (constant_read place bytes.now) }
 {
     let mut cursor = Cursor::new(bytes);
     cursor.take(place)?;
@@ -132,7 +132,7 @@ pub(crate) fn owner_entry(
     offsets: &[Option<usize>],
     index: ConstantIndex,
 ) -> Option<ConstantIndex>
-    ensures { (c : ClassFile) → Holds bytes.now offsets.now c → result ≡ option_and_then owner (constant_at c index) }
+    ensures { (c : ClassFile) → Holds bytes.now offsets.now c → result ≡ option_and_then class_index (constant_at c index) }
 {
     owner_at(bytes, place_at(offsets, index)?)
 }
@@ -140,7 +140,7 @@ pub(crate) fn owner_entry(
 /// Returns the `class_index` of the reference to a field or method that begins at a place (JVMS 4.4.2).
 #[tactic(auto, unfolding(crate::specs::inside::ConstantRead::constant_read))]
 fn owner_at(bytes: &[u8], place: usize) -> Option<ConstantIndex>
-    ensures { result ≡ option_and_then owner (constant_read place bytes.now) }
+    ensures { result ≡ option_and_then class_index (constant_read place bytes.now) }
 {
     let mut cursor = Cursor::new(bytes);
     cursor.take(place)?;
@@ -154,12 +154,12 @@ fn owner_at(bytes: &[u8], place: usize) -> Option<ConstantIndex>
 
 /// Returns the `name_and_type_index` of the reference to a field or method, or of the `InvokeDynamic`, at an index. A
 /// constant of another kind is not read.
-pub(crate) fn signature_entry(
+pub(crate) fn name_and_type_index(
     bytes: &[u8],
     offsets: &[Option<usize>],
     index: ConstantIndex,
 ) -> Option<ConstantIndex>
-    ensures { (c : ClassFile) → Holds bytes.now offsets.now c → result ≡ option_and_then signature_entry (constant_at c index) }
+    ensures { (c : ClassFile) → Holds bytes.now offsets.now c → result ≡ option_and_then name_and_type_index (constant_at c index) }
 {
     signature_at(bytes, place_at(offsets, index)?)
 }
@@ -168,7 +168,7 @@ pub(crate) fn signature_entry(
 /// place (JVMS 4.4.2, 4.4.10).
 #[tactic(auto, unfolding(crate::specs::inside::ConstantRead::constant_read))]
 fn signature_at(bytes: &[u8], place: usize) -> Option<ConstantIndex>
-    ensures { result ≡ option_and_then signature_entry (constant_read place bytes.now) }
+    ensures { result ≡ option_and_then name_and_type_index (constant_read place bytes.now) }
 {
     let mut cursor = Cursor::new(bytes);
     cursor.take(place)?;

@@ -6,15 +6,15 @@ ghost use Rattle.jc_view.specs.Moves.{Lends};
 
 use crate::constant_pool::ConstantIndex;
 use crate::constant_reader::read_index;
+use crate::entries::Entries;
 use crate::layout_reader::skip_indexes;
-use crate::table::Table;
 use jc_base::Cursor;
 use std::marker::Model;
 
 /// An iterator over a table of indexes, in its order. Its model is the list of those that are left.
 #[derive(Drop)]
 pub struct Indexes<'a> {
-    pub(crate) table: Table<'a>,
+    pub(crate) table: Entries<'a>,
 }
 
 impl<'a> Model for Indexes<'a> {

@@ -1,7 +1,7 @@
 //! The names of the direct superinterfaces of a class (JVMS 4.1).
 
 use crate::constant_reader::read_index;
-use crate::table::Table;
+use crate::entries::Entries;
 use crate::view::ClassView;
 use std::marker::Model;
 
@@ -10,7 +10,7 @@ use std::marker::Model;
 #[derive(Drop)]
 pub struct Interfaces<'v, 'a> {
     pub(crate) class: &'v ClassView<'a>,
-    pub(crate) table: Table<'a>,
+    pub(crate) table: Entries<'a>,
 }
 
 impl<'v, 'a> Model for Interfaces<'v, 'a> {

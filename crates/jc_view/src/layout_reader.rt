@@ -12,9 +12,9 @@ ghost use Rattle.jc_view.specs.inside.Tables.{LendsTable, HasVersion, HasTables,
 
 use crate::constant_pool::{ConstantIndex, ConstantKind};
 use crate::constant_reader::read_pair;
+use crate::entries::Entries;
 use crate::parse_error::ParseError;
-use crate::table::Table;
-use crate::version::Version;
+use crate::view::Version;
 use jc_base::Cursor;
 use std::alloc::Global;
 
@@ -42,10 +42,10 @@ pub(crate) struct ClassNumbers {
 /// The tables after those numbers.
 #[derive(Drop)]
 pub(crate) struct ClassTables<'a> {
-    pub(crate) interfaces: Table<'a>,
-    pub(crate) fields: Table<'a>,
-    pub(crate) methods: Table<'a>,
-    pub(crate) attributes: Table<'a>,
+    pub(crate) interfaces: Entries<'a>,
+    pub(crate) fields: Entries<'a>,
+    pub(crate) methods: Entries<'a>,
+    pub(crate) attributes: Entries<'a>,
 }
 
 /// Reads a whole class file.
@@ -154,19 +154,19 @@ fn read_numbers(cursor: &mut Cursor) -> Option<ClassNumbers>
     })
 }
 
-pub(crate) fn skip_indexes<'a>(cursor: &mut Cursor<'a>) -> Option<Table<'a>>
+pub(crate) fn skip_indexes<'a>(cursor: &mut Cursor<'a>) -> Option<Entries<'a>>
     ensures { LendsTable after_indexes cursor.old result cursor.new }
 {
     let count = cursor.u2()?;
     let first = cursor.fork();
     cursor.take(2 * count as usize)?;
-    Some(Table {
+    Some(Entries {
         left: count,
         cursor: first,
     })
 }
 
-fn skip_members<'a>(cursor: &mut Cursor<'a>) -> Option<Table<'a>>
+fn skip_members<'a>(cursor: &mut Cursor<'a>) -> Option<Entries<'a>>
     ensures { LendsTable (after_table after_member) cursor.old result cursor.new }
 {
     let count = cursor.u2()?;
@@ -174,7 +174,7 @@ fn skip_members<'a>(cursor: &mut Cursor<'a>) -> Option<Table<'a>>
     for _ in 0..count {
         skip_member(cursor)?;
     }
-    Some(Table {
+    Some(Entries {
         left: count,
         cursor: first,
     })
@@ -190,7 +190,7 @@ fn skip_member(cursor: &mut Cursor) -> Option<()>
 }
 
 /// Skips a table of attributes.
-pub(crate) fn skip_attributes<'a>(cursor: &mut Cursor<'a>) -> Option<Table<'a>>
+pub(crate) fn skip_attributes<'a>(cursor: &mut Cursor<'a>) -> Option<Entries<'a>>
     ensures { LendsTable (after_table after_attribute) cursor.old result cursor.new }
 {
     let count = cursor.u2()?;
@@ -198,7 +198,7 @@ pub(crate) fn skip_attributes<'a>(cursor: &mut Cursor<'a>) -> Option<Table<'a>>
     for _ in 0..count {
         skip_attribute(cursor)?;
     }
-    Some(Table {
+    Some(Entries {
         left: count,
         cursor: first,
     })

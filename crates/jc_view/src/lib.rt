@@ -14,14 +14,13 @@ mod attributes;
 mod code;
 mod constant_pool;
 mod constant_reader;
+mod entries;
 mod indexes;
 mod interfaces;
 mod laws;
 mod layout_reader;
 mod members;
 mod parse_error;
-mod table;
-mod version;
 mod view;
 
 pub use attribute_kind::{AttributeKind, Holder};
@@ -37,5 +36,4 @@ pub use laws::{
 };
 pub use members::{Member, Members};
 pub use parse_error::ParseError;
-pub use version::Version;
-pub use view::{ClassView, parse};
+pub use view::{ClassView, Version, parse};

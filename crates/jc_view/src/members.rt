@@ -10,8 +10,8 @@ use crate::attribute_kind::Holder;
 use crate::attributes::Attributes;
 use crate::constant_pool::ConstantIndex;
 use crate::constant_reader::read_pair;
+use crate::entries::Entries;
 use crate::layout_reader::skip_attributes;
-use crate::table::Table;
 use crate::view::ClassView;
 use jc_base::Cursor;
 use std::marker::Model;
@@ -22,7 +22,7 @@ use std::marker::Model;
 pub struct Members<'v, 'a> {
     pub(crate) class: &'v ClassView<'a>,
     pub(crate) holder: Holder,
-    pub(crate) table: Table<'a>,
+    pub(crate) table: Entries<'a>,
 }
 
 impl<'v, 'a> Model for Members<'v, 'a> {
@@ -84,7 +84,7 @@ pub(crate) struct MemberEntry<'a> {
     pub(crate) flags: u16,
     pub(crate) name: ConstantIndex,
     pub(crate) descriptor: ConstantIndex,
-    pub(crate) attributes: Table<'a>,
+    pub(crate) attributes: Entries<'a>,
 }
 
 impl<'v, 'a> Model for Member<'v, 'a> {

@@ -4,8 +4,8 @@ ghost use Rattle.std.specs.Prelude.{◌≡◌, ◌⊎◌, ◌+◌, ◌<◌, ◌^
 ghost use Rattle.jc_view.specs.declared.parse_error.ParseError.TheVariants.{NoMemory};
 ghost use Rattle.std.specs.Option.{option_copied, option_map};
 ghost use Rattle.jc_view.specs.ClassFile.{ClassFile, all_slots, class_text_at, constant_at};
-ghost use Rattle.jc_view.specs.ConstantPool.{class_entry, kind_of};
-ghost use Rattle.jc_view.specs.Lookups.{is_entry, member_descriptor_at, member_name_at, name_and_type_at, owner, signature_entry, utf8_at};
+ghost use Rattle.jc_view.specs.ConstantPool.{class_name_index, kind_of};
+ghost use Rattle.jc_view.specs.Lookups.{is_entry, member_descriptor_at, member_name_at, name_and_type_at, class_index, name_and_type_index, utf8_at};
 ghost use Rattle.jc_view.specs.Places.{fields_in, methods_in, attributes_in, IsLent};
 ghost use Rattle.jc_view.specs.Lent.{constant_of};
 ghost use Rattle.jc_view.specs.inside.ConstantPlaces.{Holds, IsNamedAt};
@@ -16,17 +16,24 @@ use crate::attribute_kind::Holder;
 use crate::attributes::Attributes;
 use crate::constant_pool::{Constant, ConstantIndex, ConstantKind};
 use crate::constant_reader::{
-    class_entry, entry, kind_entry, name_and_type_entry, owner_entry, signature_entry, text_entry,
+    class_name_index, entry, kind_entry, name_and_type_entry, name_and_type_index, owner_entry,
+    text_entry,
 };
 use crate::indexes::Indexes;
 use crate::interfaces::Interfaces;
 use crate::layout_reader::{ClassNumbers, ClassTables, skip_class};
 use crate::members::Members;
 use crate::parse_error::ParseError;
-use crate::version::Version;
 use jc_base::{Cursor, is_class_name};
 use std::alloc::Global;
 use std::marker::Model;
+
+/// The version of the format of a class file (JVMS 4.1, table 4.1-A).
+#[derive(Clone, Copy)]
+pub struct Version {
+    pub major: u16,
+    pub minor: u16,
+}
 
 /// A readable class file. The texts that it returns are slices of the file.
 #[derive(Drop)]
@@ -191,10 +198,10 @@ impl<'a> ClassView<'a> {
     }
 
     /// Returns the `name_index` of the `Class` constant at an index.
-    pub fn class_entry(&self, index: ConstantIndex) -> Option<ConstantIndex>
-        ensures { result ≡ option_and_then class_entry (constant_at self.now index) }
+    pub fn class_name_index(&self, index: ConstantIndex) -> Option<ConstantIndex>
+        ensures { result ≡ option_and_then class_name_index (constant_at self.now index) }
     {
-        class_entry(self.bytes, &self.offsets, index)
+        class_name_index(self.bytes, &self.offsets, index)
     }
 
     /// Returns the indexes of the name and of the descriptor in the `NameAndType` at an index.
@@ -205,17 +212,17 @@ impl<'a> ClassView<'a> {
     }
 
     /// Returns the `class_index` of the reference to a field or method at an index.
-    pub fn owner(&self, index: ConstantIndex) -> Option<ConstantIndex>
-        ensures { result ≡ option_and_then owner (constant_at self.now index) }
+    pub fn class_index(&self, index: ConstantIndex) -> Option<ConstantIndex>
+        ensures { result ≡ option_and_then class_index (constant_at self.now index) }
     {
         owner_entry(self.bytes, &self.offsets, index)
     }
 
     /// Returns the `name_and_type_index` of the reference to a field or method, or of the `InvokeDynamic`, at an index.
-    pub fn signature_entry(&self, index: ConstantIndex) -> Option<ConstantIndex>
-        ensures { result ≡ option_and_then signature_entry (constant_at self.now index) }
+    pub fn name_and_type_index(&self, index: ConstantIndex) -> Option<ConstantIndex>
+        ensures { result ≡ option_and_then name_and_type_index (constant_at self.now index) }
     {
-        signature_entry(self.bytes, &self.offsets, index)
+        name_and_type_index(self.bytes, &self.offsets, index)
     }
 
     /// Returns the name in the `NameAndType` at an index. Returns `None` if there is no such `NameAndType` or if it
@@ -296,7 +303,7 @@ fn class_text<'a>(
 ) -> Option<&'a [u8]>
     ensures { (c : ClassFile) → Holds bytes.now offsets.now c → option_copied result ≡ class_text_at c index }
 {
-    text_entry(bytes, offsets, class_entry(bytes, offsets, index)?)
+    text_entry(bytes, offsets, class_name_index(bytes, offsets, index)?)
 }
 
 /// Returns the text of the `Class` constant at an index, if it is the name of a class.

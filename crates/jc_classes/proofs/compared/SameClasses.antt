@@ -20,9 +20,9 @@ use Rattle.jc_classes.specs.Lent.{reference_lent}
 use Rattle.jc_classes.specs.NamedTexts.{class_in_descriptor, named_by, without_dimensions}
 use Rattle.jc_classes.specs.Names.{Name, same_name}
 use Rattle.jc_classes.specs.Worlds.{text_of}
-use Rattle.jc_classes.specs.contracts.user.UserPartialEq.TheImpl.{eq-value as user_eq}
+use Rattle.jc_classes.specs.contracts.used.UserPartialEq.TheImpl.{eq-value as user_eq}
 use Rattle.jc_classes.specs.declared.reference.Reference.{Reference as LentReference}
-use Rattle.jc_classes.specs.declared.user.User.{User}
+use Rattle.jc_classes.specs.declared.used.User.{User}
 use Rattle.jc_classes.specs.inside.SameFacts.{IsSameUse, same_head, same_member, same_option, same_texts}
 use Rattle.jc_classes.proofs.worlds.NameTests.{decides_same}
 

@@ -10,8 +10,8 @@ use Rattle.jc_view.specs.Lookups.{member_descriptor_at, member_name_at, utf8_at}
 use Rattle.jc_view.proofs.places.RisingLists.{RisesBy}
 use Rattle.jc_view.proofs.reading.BigEndian.{then_some}
 use Rattle.jc_view.specs.declared.constant_pool.ConstantIndex.{ConstantIndex}
-use Rattle.jc_classes.specs.declared.reference_kind.ReferenceKind.{ReferenceKind}
-use Rattle.jc_classes.specs.declared.reference_kind.ReferenceKind.TheVariants as kinds
+use Rattle.jc_classes.specs.declared.reference.ReferenceKind.{ReferenceKind}
+use Rattle.jc_classes.specs.declared.reference.ReferenceKind.TheVariants as kinds
 use Rattle.jc_classes.specs.Facts.{Reference}
 use Rattle.jc_classes.specs.FactsOf.{class_reference, member_reference, reference_at, reference_of, references_in}
 use Rattle.jc_classes.specs.LinkErrors.{answered}

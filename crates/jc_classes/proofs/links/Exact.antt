@@ -14,7 +14,7 @@ use Rattle.jc_code.specs.InsnReading.{insns_of}
 use Rattle.jc_code.specs.MethodUses.{uses}
 use Rattle.jc_classes.specs.Facts.{Facts, Reference}
 use Rattle.jc_classes.specs.FactsOf.{facts_of, faulty_facts, references_in, sound_facts}
-use Rattle.jc_classes.specs.LinkErrors.{LinkFault, answered, link_at, link_by, link_fault, link_of, links_of, method_name, site_of}
+use Rattle.jc_classes.specs.LinkErrors.{LinkError, answered, link_at, link_by, link_error, link_of, links_of, method_name, site_of}
 use Rattle.jc_classes.specs.LinkLaws.{DoesNotLink, link_cmp}
 use Rattle.jc_classes.specs.Names.{Name}
 use Rattle.jc_classes.specs.Resolution.{Answer}
@@ -28,27 +28,27 @@ use Rattle.jc_classes.proofs.links.Methods.{has_name, method_is_named}
 -- ---- the error at one instruction
 
 -- an instruction has the error, by its reference and the answer to that
-pub record IsLinkOf (d : Name) (f : Facts) (answers : List Answer) (u : MethodUse) (l : LinkFault) : Type 0 where
+pub record IsLinkOf (d : Name) (f : Facts) (answers : List Answer) (u : MethodUse) (l : LinkError) : Type 0 where
   pub reference : Reference
   pub answer : Answer
   pub found : answered u.index f.references answers ≡ Some (reference, answer)
-  pub judged : link_fault (site_of d f u reference) u.kind answer ≡ Some (l.error, l.class)
+  pub judged : link_error (site_of d f u reference) u.kind answer ≡ Some (l.error, l.class)
   pub method : l.method ≡ u.method
   pub place : l.place ≡ u.place
 
-module _ (d : Name) (f : Facts) (answers : List Answer) (u : MethodUse) (l : LinkFault) where
+module _ (d : Name) (f : Facts) (answers : List Answer) (u : MethodUse) (l : LinkError) where
   link_is : link_of d f answers u ≡ Some l → IsLinkOf d f answers u l
   link_is e =
       let r = then_some (answered u.index f.references answers) (link_by d f u) l e in
-      let found = then_some (link_fault (site_of d f u r.0.0) u.kind r.0.1) (λ fault. Some (link_at u fault)) l r.2 in
+      let found = then_some (link_error (site_of d f u r.0.0) u.kind r.0.1) (λ fault. Some (link_at u fault)) l r.2 in
       let same : link_at u found.0 ≡ l = some_is found.2 in
       record {
         reference = r.0.0;
         answer = r.0.1;
         found = r.1;
-        judged = found.1 ∙ ap (λ (k : LinkFault). Some (k.error, k.class)) same;
-        method = sym (ap (λ (k : LinkFault). k.method) same);
-        place = sym (ap (λ (k : LinkFault). k.place) same);
+        judged = found.1 ∙ ap (λ (k : LinkError). Some (k.error, k.class)) same;
+        method = sym (ap (λ (k : LinkError). k.method) same);
+        place = sym (ap (λ (k : LinkError). k.place) same);
       }
 
   is_link : IsLinkOf d f answers u l → link_of d f answers u ≡ Some l
@@ -64,7 +64,7 @@ module _ (path : List ℕ) (c : ClassFile) (d : Name) (answers : List Answer) wh
   abbrev sound : Facts
   sound = sound_facts path c
 
-  module _ (l : LinkFault) (none : faults c ≡ []) where
+  module _ (l : LinkError) (none : faults c ≡ []) where
     link_listed : Contains (links_of d (stands.Class sound) answers) l → DoesNotLink d c answers l
     unfolding uses
     link_listed h =
@@ -96,7 +96,7 @@ module _ (path : List ℕ) (c : ClassFile) (d : Name) (answers : List Answer) wh
           answer = is.answer;
           has_answer = found.0;
           has_fault =
-              ap (λ n. link_fault (record { class = d; method = n; named = is.reference.named }) u.kind is.answer) (sym named) ∙ is.judged;
+              ap (λ n. link_error (record { class = d; method = n; named = is.reference.named }) u.kind is.answer) (sym named) ∙ is.judged;
         }
 
     listed_link : DoesNotLink d c answers l → Contains (links_of d (stands.Class sound) answers) l
@@ -118,7 +118,7 @@ module _ (path : List ℕ) (c : ClassFile) (d : Name) (answers : List Answer) wh
           reference = h.reference;
           answer = h.answer;
           found = is_answered h.reference.index 1 (1 + all_slots c.constants) (references_in c) answers h.reference h.answer answer.0 (references_rise c) answer.1 answer.2 refl;
-          judged = ap (λ n. link_fault (record { class = d; method = n; named = h.reference.named }) h.kind h.answer) named ∙ h.has_fault;
+          judged = ap (λ n. link_error (record { class = d; method = n; named = h.reference.named }) h.kind h.answer) named ∙ h.has_fault;
           method = refl;
           place = refl;
         } in
@@ -142,7 +142,7 @@ sound_or_faulty path c = by (faults c) refl
 nothing : {X : Type 0} (x : X) → Contains [] x → ⊥
 nothing x h = let lt = h.1 in omega arith
 
-pub links_exact : (path : List ℕ) (c : ClassFile) (d : Name) (answers : List Answer) (l : LinkFault) → Contains (links_of d (stands.Class (facts_of path c)) answers) l ↔ DoesNotLink d c answers l
+pub links_exact : (path : List ℕ) (c : ClassFile) (d : Name) (answers : List Answer) (l : LinkError) → Contains (links_of d (stands.Class (facts_of path c)) answers) l ↔ DoesNotLink d c answers l
 links_exact path c d answers l =
     elim (sound_or_faulty path c) [
       | inl (none, is) ↦ (
@@ -157,7 +157,7 @@ links_exact path c d answers l =
 
 -- ---- in order
 
-links_less : (d : Name) (f : Facts) (answers : List Answer) (a b : MethodUse) (y z : LinkFault) → link_of d f answers a ≡ Some y → link_of d f answers b ≡ Some z → use_cmp a b ≡ Less → link_cmp y z ≡ Less
+links_less : (d : Name) (f : Facts) (answers : List Answer) (a b : MethodUse) (y z : LinkError) → link_of d f answers a ≡ Some y → link_of d f answers b ≡ Some z → use_cmp a b ≡ Less → link_cmp y z ≡ Less
 links_less d f answers a b y z e g lt =
     let p = link_is d f answers a y e in
     let q = link_is d f answers b z g in

@@ -49,7 +49,7 @@ none_picked g (x ∷ xs) none = ap (λ o. option_to_list o ++ flat_map (λ x. op
 none_of : (d : Name) (s : Stands) (answers : List Answer) → AreNotLoaded answers → links_of d s answers ≡ []
 none_of d (stands.Class f) answers h = none_picked (link_of d f answers) f.uses (λ u. none_found d f u u.index f.references answers h)
 none_of d stands.Outside answers h = refl
-none_of d stands.Nothing answers h = refl
+none_of d stands.Absent answers h = refl
 
 pub none_unless_loaded : (m : World) (d : Name) (p : Part) → IsPart m d p → (p.load ≡ Loaded → ⊥) → p.links ≡ []
 none_unless_loaded m d p h unless = h.links ∙ none_of d (m d) p.answers (not_loaded m d p.load unless (references_of (m d)) p.answers h.answers)

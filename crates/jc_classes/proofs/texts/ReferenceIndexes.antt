@@ -13,7 +13,7 @@ use Rattle.jc_view.specs.declared.constant_pool.ConstantIndex.{ConstantIndex}
 use Rattle.jc_view.specs.ConstantPool as pool
 use Rattle.jc_view.specs.ClassFile.{ClassFile, all_slots, class_text_at, constant_at}
 use Rattle.jc_view.specs.Lookups.{member_descriptor_at, member_name_at, utf8_at}
-use Rattle.jc_classes.specs.declared.reference_kind.ReferenceKind.{ReferenceKind}
+use Rattle.jc_classes.specs.declared.reference.ReferenceKind.{ReferenceKind}
 use Rattle.jc_classes.specs.Facts.{Reference}
 use Rattle.jc_classes.specs.FactsOf.{member_reference, reference_at, reference_of, references_in}
 use Rattle.jc_classes.specs.FactsOrder.{AreByIndex, AreByPlace}

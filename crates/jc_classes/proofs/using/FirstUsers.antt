@@ -10,7 +10,7 @@ use Rattle.std.proofs.lemmas.Iterator.Adapters.{position_from-zero}
 use Rattle.std.proofs.lemmas.List.{get_or-replicate, get_or_past, length-append, length-replicate, take_all}
 use Rattle.jc_view.specs.declared.constant_pool.ConstantIndex.{ConstantIndex}
 use Rattle.jc_view.specs.ClassFile.{ClassFile, Member, all_slots, constant_at}
-use Rattle.jc_view.specs.Lookups.{owner}
+use Rattle.jc_view.specs.Lookups.{class_index}
 use Rattle.jc_classes.specs.Users.{first_user, names_constant, uses_constant}
 use Rattle.jc_classes.specs.declared.first_users.FirstUsers.{FirstUsers}
 use Rattle.jc_classes.specs.inside.FirstUsers.{AddsFirst, AreFirst, AreSeen, IsEmpty, SetsFirst, first_at, method_if}
@@ -83,16 +83,16 @@ sets_more c m n names x old found new l is first second =
     (sets_both (λ i. list_any (names_constant c i) (take n names)) (λ i. names_constant c i x) m old found new first second)
 
 -- by the constant, and by the class of the member that it names
-pub owner_test : (c : ClassFile) (index : ConstantIndex) (o : Option ConstantIndex) → o ≡ option_and_then owner (constant_at c index)
+pub owner_test : (c : ClassFile) (index : ConstantIndex) (o : Option ConstantIndex) → o ≡ option_and_then class_index (constant_at c index)
     → (i : ℕ) → ((index.0 == i) || option_map_or (λ (class : ConstantIndex). class.0 == i) o false) ≡ names_constant c i index
 owner_test c index o e i = ap (λ p. (index.0 == i) || option_map_or (λ (class : ConstantIndex). class.0 == i) p false) e
 
-pub sets_alone : (c : ClassFile) (index : ConstantIndex) (m : ℕ) (old new : List (Option ℕ)) → None ≡ option_and_then owner (constant_at c index)
+pub sets_alone : (c : ClassFile) (index : ConstantIndex) (m : ℕ) (old new : List (Option ℕ)) → None ≡ option_and_then class_index (constant_at c index)
     → SetsFirst (λ i. index.0 == i) m old new → SetsFirst (λ i. names_constant c i index) m old new
 sets_alone c index m old new none sets =
     sets_equal (λ i. index.0 == i) (λ i. names_constant c i index) m old new (λ i. sym (or_false (index.0 == i)) ∙ owner_test c index None none i) sets
 
-pub sets_owner : (c : ClassFile) (index class : ConstantIndex) (m : ℕ) (old found new : List (Option ℕ)) → Some class ≡ option_and_then owner (constant_at c index)
+pub sets_owner : (c : ClassFile) (index class : ConstantIndex) (m : ℕ) (old found new : List (Option ℕ)) → Some class ≡ option_and_then class_index (constant_at c index)
     → SetsFirst (λ i. index.0 == i) m old found → SetsFirst (λ i. class.0 == i) m found new → SetsFirst (λ i. names_constant c i index) m old new
 sets_owner c index class m old found new some first second =
     sets_equal (λ i. (index.0 == i) || (class.0 == i)) (λ i. names_constant c i index) m old new (owner_test c index (Some class) some)

@@ -9,8 +9,8 @@ use Rattle.jc_classes.specs.FactsOf.{references_in, users_in}
 use Rattle.jc_classes.specs.UsedConstants.{used_constants}
 use Rattle.jc_classes.specs.Users.{first_user, user_by, user_of}
 use Rattle.jc_classes.specs.declared.facts.ReferenceEntry.{ReferenceEntry}
-use Rattle.jc_classes.specs.declared.reference_kind.ReferenceKind.TheVariants as kinds
-use Rattle.jc_classes.specs.declared.user.User.{User}
+use Rattle.jc_classes.specs.declared.reference.ReferenceKind.TheVariants as kinds
+use Rattle.jc_classes.specs.declared.used.User.{User}
 use Rattle.jc_classes.specs.inside.FactsShown.{reference_shown}
 use Rattle.jc_classes.specs.inside.FirstUsers.{AreFirst, first_at}
 use Rattle.jc_classes.specs.inside.Using.{are_marks, mark_at}

@@ -12,10 +12,10 @@ use Rattle.jc_view.specs.ConstantPool.{Constant}
 use Rattle.jc_view.specs.ClassFile.{Attribute, ClassFile, all_slots, constant_at}
 use Rattle.jc_code.specs.NamedConstants.{named_by_method}
 use Rattle.jc_file.proofs.violations.Constants.{usable_within}
-use Rattle.jc_view.specs.Lookups.{owner}
+use Rattle.jc_view.specs.Lookups.{class_index}
 use Rattle.jc_classes.specs.UsedConstants.{by_constants, by_named, classes_that, is_among, is_resolved, named, named_by_handle, named_by_methods, named_by_table, used_constants}
 use Rattle.jc_classes.specs.Users.{first_user, is_owner, names_constant, user_by, user_of, uses_constant}
-use Rattle.jc_classes.specs.declared.user.User.TheVariants as user
+use Rattle.jc_classes.specs.declared.used.User.TheVariants as user
 use Rattle.jc_classes.proofs.using.Adding.{named_whole}
 
 or_first : (a b : Bool) → a ≡ true → (a || b) ≡ true
@@ -81,7 +81,7 @@ code_named c test e =
 
 -- the class of a member that is named
 abbrev owner_named : ClassFile → ℕ → List ConstantIndex
-owner_named c index = option_to_list (if is_among (named c) index then option_and_then owner (constant_at c (record { 0 = index })) else None)
+owner_named c index = option_to_list (if is_among (named c) index then option_and_then class_index (constant_at c (record { 0 = index })) else None)
 
 owner_there : (i : ℕ) (o : Option ConstantIndex) (b : Bool) → b ≡ true → option_map_or (λ (class : ConstantIndex). class.0 == i) o false ≡ true
     → is_among (option_to_list (if b then o else None)) i ≡ true
@@ -89,17 +89,17 @@ owner_there i None b among e = absurd cc
 owner_there i (Some class) true among e = or_first (class.0 == i) false e
 owner_there i (Some class) false among e = absurd cc
 
-owner_within : (c : ClassFile) (i index : ℕ) (o : Option Constant) → constant_at c (record { 0 = index }) ≡ o → option_map_or (λ (class : ConstantIndex). class.0 == i) (option_and_then owner o) false ≡ true
+owner_within : (c : ClassFile) (i index : ℕ) (o : Option Constant) → constant_at c (record { 0 = index }) ≡ o → option_map_or (λ (class : ConstantIndex). class.0 == i) (option_and_then class_index o) false ≡ true
     → (1 ≤ index) × (index < 1 + all_slots c.constants)
 owner_within c i index None at e = absurd cc
 owner_within c i index (Some entry) at e = usable_within c index entry at
 
-owner_used : (c : ClassFile) (i : ℕ) (x : ConstantIndex) → is_among (named c) x.0 ≡ true → is_owner c i x ≡ true → is_among (by_named owner c) i ≡ true
+owner_used : (c : ClassFile) (i : ℕ) (x : ConstantIndex) → is_among (named c) x.0 ≡ true → is_owner c i x ≡ true → is_among (by_named class_index c) i ≡ true
 owner_used c i x among owns =
     let within = owner_within c i x.0 (constant_at c x) refl owns in
     any_in (owner_named c) (λ (index : ConstantIndex). index.0 == i) (range_with_len 1 (all_slots c.constants))
     (any_number (λ index. is_among (owner_named c index) i) 1 (all_slots c.constants) x.0 within.0 within.1
-    (owner_there i (option_and_then owner (constant_at c x)) (is_among (named c) x.0) among owns))
+    (owner_there i (option_and_then class_index (constant_at c x)) (is_among (named c) x.0) among owns))
 
 -- ---- what a method uses is used
 
@@ -107,7 +107,7 @@ used_by_name : (c : ClassFile) (i : ℕ) → list_any (names_constant c i) (name
 unfolding used_constants
 used_by_name c i e =
     let h = has_one (names_constant c i) (named c) (code_named c (names_constant c i) e) in
-    let owners = by_named owner c in
+    let owners = by_named class_index c in
     let classes = classes_that (is_resolved c) c in
     any_front (λ (index : ConstantIndex). index.0 == i) (named c ++ owners) classes (⊎_elim
     (λ same. any_front (λ (index : ConstantIndex). index.0 == i) (named c) owners (h.there (λ (index : ConstantIndex). index.0 == i) same))

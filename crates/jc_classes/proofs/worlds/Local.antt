@@ -182,7 +182,7 @@ module _ (R : Name → Type 0) (m n : World) (g : Agree R m n) where
 
   mutual
     pub load_there : {x : Name} {a : Loading} → R x → Load m x a → Load n x a
-    load_there {x = x} r (load.missing e) = load.missing (along R m n g (λ q. q ≡ stands.Nothing) x r e)
+    load_there {x = x} r (load.missing e) = load.missing (along R m n g (λ q. q ≡ stands.Absent) x r e)
     load_there {x = x} r (load.outside e) = load.outside (along R m n g (λ q. q ≡ stands.Outside) x r e)
     load_there {x = x} r (load.faulty {r = y} e o) = load.faulty (along R m n g (λ q. q ≡ stands.Class y) x r e) o
     load_there {x = x} r (load.round {r = y} e o a) = load.round (along R m n g (λ q. q ≡ stands.Class y) x r e) o (above_there R m n g r a)

@@ -46,13 +46,13 @@ apart e f = absurd (false≢true (sym f ∙ e))
 none_some : {X A : Type 0} {x : X} → None ≡ Some x → A
 none_some e = absurd cc
 
-record_nothing : {A : Type 0} {o : Stands} {r : Facts} → o ≡ stands.Class r → o ≡ stands.Nothing → A
+record_nothing : {A : Type 0} {o : Stands} {r : Facts} → o ≡ stands.Class r → o ≡ stands.Absent → A
 record_nothing e f = absurd cc
 
 record_outside : {A : Type 0} {o : Stands} {r : Facts} → o ≡ stands.Class r → o ≡ stands.Outside → A
 record_outside e f = absurd cc
 
-nothing_outside : {A : Type 0} {o : Stands} → o ≡ stands.Nothing → o ≡ stands.Outside → A
+nothing_outside : {A : Type 0} {o : Stands} → o ≡ stands.Absent → o ≡ stands.Outside → A
 nothing_outside e f = absurd cc
 
 record_one : {o : Stands} {x y : Facts} → o ≡ stands.Class x → o ≡ stands.Class y → x ≡ y

@@ -5,8 +5,8 @@ use Rattle.std.proofs.lemmas.List.Elements.{Contains-append_left, Contains-appen
 use Rattle.jc_classes.specs.Facts.{Named, Reference}
 use Rattle.jc_classes.specs.LinkErrors.{links_of}
 use Rattle.jc_classes.specs.Names.{Name, object}
-use Rattle.jc_classes.specs.declared.reference_kind.ReferenceKind.{ReferenceKind}
-use Rattle.jc_classes.specs.declared.reference_kind.ReferenceKind.TheVariants as kind
+use Rattle.jc_classes.specs.declared.reference.ReferenceKind.{ReferenceKind}
+use Rattle.jc_classes.specs.declared.reference.ReferenceKind.TheVariants as kind
 use Rattle.jc_classes.specs.Worlds.{World, Above, supertypes_of, references_of, format_faults_of, code_faults_of}
 use Rattle.jc_classes.specs.Facts.Named.{Class, Array}
 use Rattle.jc_classes.specs.Loading.{Loading}

@@ -5,7 +5,7 @@ use Rattle.std.specs.Option.{option_map_or, option_to_list}
 use Rattle.jc_base.specs.Bytes.{bytes_cmp}
 use Rattle.jc_view.specs.declared.constant_pool.ConstantIndex.{ConstantIndex}
 use Rattle.jc_view.specs.ClassFile.{ClassFile, constant_at}
-use Rattle.jc_view.specs.Lookups.{signature_entry, utf8_at}
+use Rattle.jc_view.specs.Lookups.{name_and_type_index, utf8_at}
 use Rattle.jc_classes.specs.NameLists.{has}
 use Rattle.jc_classes.specs.NamedTexts.{named_by}
 use Rattle.jc_classes.specs.Names.{Name}
@@ -30,7 +30,7 @@ AreKnown test c known = (i : ℕ) (names : Bool) → slice_index_or known i None
 
 -- the descriptor of the member that the constant at the index refers to
 abbrev pub member_descriptor : ClassFile → ConstantIndex → Option ConstantIndex
-member_descriptor c index = option_and_then (descriptor_in c) (option_and_then signature_entry (constant_at c index))
+member_descriptor c index = option_and_then (descriptor_in c) (option_and_then name_and_type_index (constant_at c index))
 
 abbrev pub descriptor_of_member : ClassFile → ConstantIndex → List ConstantIndex
 descriptor_of_member c index = option_to_list (member_descriptor c index)

@@ -9,7 +9,7 @@ use Rattle.jc_view.specs.Places.{PlacedAttribute}
 use Rattle.jc_view.specs.AttributeReading.{after_bootstrap, bootstrap_value}
 use Rattle.jc_view.specs.ClassFile.{ClassFile, all_slots, constant_at}
 use Rattle.jc_view.specs.Reading.{table_value}
-use Rattle.jc_view.specs.Lookups.{owner}
+use Rattle.jc_view.specs.Lookups.{class_index}
 use Rattle.jc_classes.specs.UsedConstants.{is_among, named_by_table}
 
 -- the constants that an attribute of the class names, if it is a BootstrapMethods attribute
@@ -24,7 +24,7 @@ arguments_at xs = flat_map (λ m. m.arguments) (table_value after_bootstrap boot
 abbrev pub owners : ClassFile → List ConstantIndex → List ConstantIndex
 owners c names =
     flat_map
-    (λ index. option_to_list (if is_among names index then option_and_then owner (constant_at c (record { 0 = index })) else None))
+    (λ index. option_to_list (if is_among names index then option_and_then class_index (constant_at c (record { 0 = index })) else None))
     (range_with_len 1 (all_slots c.constants))
 
 abbrev pub mark_at : List Bool → ℕ → Bool

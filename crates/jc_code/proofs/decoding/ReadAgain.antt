@@ -90,10 +90,10 @@ insn_again at (insns.Push opcode value) s rest is =
       | inl p ↦ by_opcode at opcode operands.Byte (insns.Push opcode value) s rest p.0 (again_of opcode 1 byte_value (λ z. insns.Push opcode z) value (byte_bytes value) s rest p.2 (again_signed w8 1 refl value rest p.1))
       | inr p ↦ by_opcode at opcode operands.Short (insns.Push opcode value) s rest p.0 (again_of opcode 2 short_value (λ z. insns.Push opcode z) value (short_bytes value) s rest p.2 (again_signed w16 2 refl value rest p.1))
     ]
-insn_again at (insns.Load opcode index) s rest is =
+insn_again at (insns.Ldc opcode index) s rest is =
     elim is [
-      | inl p ↦ by_opcode at opcode operands.ShortLoad (insns.Load opcode index) s rest p.0 (again_of opcode 1 (big_number 1) (λ n. insns.Load opcode (index_of n)) index.0 (big_bytes 1 index.0) s rest p.2 (again_number 1 index.0 rest p.1))
-      | inr p ↦ by_opcode at opcode operands.Load (insns.Load opcode index) s rest p.0 (index_again opcode (λ i. insns.Load opcode i) index s rest p.1 p.2)
+      | inl p ↦ by_opcode at opcode operands.ShortLoad (insns.Ldc opcode index) s rest p.0 (again_of opcode 1 (big_number 1) (λ n. insns.Ldc opcode (index_of n)) index.0 (big_bytes 1 index.0) s rest p.2 (again_number 1 index.0 rest p.1))
+      | inr p ↦ by_opcode at opcode operands.Load (insns.Ldc opcode index) s rest p.0 (index_again opcode (λ i. insns.Ldc opcode i) index s rest p.1 p.2)
     ]
 insn_again at (insns.Local opcode index false) s rest is =
     by_opcode at opcode (operands.Local is.0.0) (insns.Local opcode index false) s rest is.0.1 (again_of opcode 1 (big_number 1) (λ n. insns.Local opcode n false) index (big_bytes 1 index) s rest is.2 (again_number 1 index rest is.1))

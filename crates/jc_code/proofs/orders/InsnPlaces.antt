@@ -13,8 +13,8 @@ pub spelling_begins : (at : ℕ) (insn : Insn) (s : List ℕ) → IsSpelling at 
 spelling_begins at (insns.Plain opcode) s h = begun _ _ s h.1
 spelling_begins at (insns.Push opcode value) s (inl h) = begun _ _ s h.2
 spelling_begins at (insns.Push opcode value) s (inr h) = begun _ _ s h.2
-spelling_begins at (insns.Load opcode index) s (inl h) = begun _ _ s h.2
-spelling_begins at (insns.Load opcode index) s (inr h) = begun _ _ s h.2
+spelling_begins at (insns.Ldc opcode index) s (inl h) = begun _ _ s h.2
+spelling_begins at (insns.Ldc opcode index) s (inr h) = begun _ _ s h.2
 spelling_begins at (insns.Local opcode index false) s h = begun _ _ s h.2
 spelling_begins at (insns.Local opcode index true) s h = begun _ _ s h.2
 spelling_begins at (insns.Increment index amount false) s h = begun _ _ s h.2

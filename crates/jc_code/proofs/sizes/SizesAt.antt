@@ -13,7 +13,7 @@ use Rattle.jc_view.specs.ConstantPool as pool
 use Rattle.jc_view.specs.ConstantPool.{Constant, kind_of, utf8_text}
 use Rattle.jc_view.specs.ClassFile.{ClassFile, slots, all_slots, constant_at, constant_from_first}
 use Rattle.jc_view.specs.Lent.{constant_of}
-use Rattle.jc_view.specs.Lookups.{member_descriptor_at, is_entry, is_kind, signature_entry, utf8_at}
+use Rattle.jc_view.specs.Lookups.{member_descriptor_at, is_entry, is_kind, name_and_type_index, utf8_at}
 use Rattle.jc_view.proofs.reading.Pools.{slots_is}
 use Rattle.jc_code.specs.CodeRules.{dimensions_of, slots_at}
 use Rattle.jc_code.specs.inside.TextSizes.{AreKnown, at_index, dimensions_in, entry_slots, interface_slots, slots_in, slots_of_text}
@@ -83,7 +83,7 @@ module _ (c : ClassFile) (i : ℕ) where
   abbrev slots_by : Option Constant → Option ℕ
   slots_by o =
       if option_map_or (is_kind kinds.InterfaceMethodref) o false
-      then option_map (λ type. sum_by slots_of type.params) (option_and_then method_type_of (option_and_then (λ entry. option_and_then (member_descriptor_at c) (signature_entry entry)) o))
+      then option_map (λ type. sum_by slots_of type.params) (option_and_then method_type_of (option_and_then (λ entry. option_and_then (member_descriptor_at c) (name_and_type_index entry)) o))
       else None
 
   pub slots_missing : None ≡ constant_at c (at_index i) → interface_slots c i ≡ None

@@ -16,14 +16,14 @@ use jc_view::{ConstantIndex, ConstantKind};
 
 /// Returns whether `ldc` or `ldc_w` loads a constant that does not take one slot.
 pub(crate) fn breaks_s6(scope: &Scope, opcode: Opcode, index: ConstantIndex) -> bool
-    ensures { result ≡ breaks_s6 scope.now (insns.Load opcode index) }
+    ensures { result ≡ breaks_s6 scope.now (insns.Ldc opcode index) }
 {
     opcode != Opcode::LDC2_W && !is_single(scope.class(), index)
 }
 
 /// Returns whether `ldc2_w` loads neither a `Long` nor a `Double`.
 pub(crate) fn breaks_s7(scope: &Scope, opcode: Opcode, index: ConstantIndex) -> bool
-    ensures { result ≡ breaks_s7 scope.now (insns.Load opcode index) }
+    ensures { result ≡ breaks_s7 scope.now (insns.Ldc opcode index) }
 {
     opcode == Opcode::LDC2_W && !is_double(scope.class(), index)
 }

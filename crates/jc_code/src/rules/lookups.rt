@@ -49,7 +49,7 @@ pub(crate) fn is_either_method(class: &ClassView, index: ConstantIndex) -> bool
 pub(crate) fn referred_name<'a>(class: &ClassView<'a>, index: ConstantIndex) -> Option<&'a [u8]>
     ensures { option_copied result ≡ referred_name class.now index }
 {
-    class.member_name_at(class.signature_entry(index)?)
+    class.member_name_at(class.name_and_type_index(index)?)
 }
 
 /// Returns whether a method's name begins with `<`.

@@ -7,8 +7,8 @@ use Rattle.jc_view.specs.declared.attribute_kind.Holder.TheVariants as holders
 use Rattle.jc_view.specs.ClassFile.{Attribute, ClassFile, attribute_bytes}
 use Rattle.jc_view.specs.Places.{PlacedAttribute, attributes_from, attributes_in, attributes_place}
 use Rattle.jc_view.specs.Attributes.{is_recognised, of_kind, bootstrap_attributes}
-use Rattle.jc_file.specs.FormatRules.{is_told}
-use Rattle.jc_file.specs.inside.BootstrapsRead.{told_by}
+use Rattle.jc_file.specs.FormatRules.{is_declared}
+use Rattle.jc_file.specs.inside.BootstrapsRead.{declared_by}
 use Rattle.jc_view.specs.Lent.{AttributesLeft}
 use Rattle.jc_file.specs.inside.Recognised.{of_kind_left}
 
@@ -32,7 +32,7 @@ pub bootstraps_placed : (c : ClassFile) → map in_place (filter (λ a. is_recog
 bootstraps_placed c = of_kind_placed c kinds.BootstrapMethods holders.Class (attributes_place c + 2) c.attributes
 
 -- below the number that is told
-pub is_told-told_by : (attributes : List Attribute) (number : ℕ) → is_told attributes number ≡ nat_lt number (told_by attributes)
+pub is_told-told_by : (attributes : List Attribute) (number : ℕ) → is_declared attributes number ≡ nat_lt number (declared_by attributes)
 is_told-told_by [] number = grind arith
 is_told-told_by (a ∷ []) number = refl
 is_told-told_by (a ∷ b ∷ others) number = grind arith
@@ -40,5 +40,5 @@ is_told-told_by (a ∷ b ∷ others) number = grind arith
 pub bootstraps_are : (c : ClassFile) (it : AttributesLeft) (xs : List PlacedAttribute) → it ≡ record { class = c; left = attributes_in c } → of_kind_left kinds.BootstrapMethods it ≡ xs → map in_place xs ≡ bootstrap_attributes c
 bootstraps_are c it xs e k = ap (map in_place) (sym k) ∙ ap (λ r. map in_place (of_kind_left kinds.BootstrapMethods r)) e ∙ bootstraps_placed c
 
-pub told_is : (c : ClassFile) (it : AttributesLeft) (xs : List PlacedAttribute) → it ≡ record { class = c; left = attributes_in c } → of_kind_left kinds.BootstrapMethods it ≡ xs → told_by (map in_place xs) ≡ told_by (bootstrap_attributes c)
-told_is c it xs e k = ap told_by (bootstraps_are c it xs e k)
+pub told_is : (c : ClassFile) (it : AttributesLeft) (xs : List PlacedAttribute) → it ≡ record { class = c; left = attributes_in c } → of_kind_left kinds.BootstrapMethods it ≡ xs → declared_by (map in_place xs) ≡ declared_by (bootstrap_attributes c)
+told_is c it xs e k = ap declared_by (bootstraps_are c it xs e k)

@@ -10,11 +10,11 @@ use Rattle.jc_base.specs.DescriptorTests.{begins_with, method_type_of}
 use Rattle.jc_view.specs.declared.constant_pool.ConstantIndex.{ConstantIndex}
 use Rattle.jc_view.specs.declared.constant_pool.ConstantKind.TheVariants as kinds
 use Rattle.jc_view.specs.ConstantPool as pool
-use Rattle.jc_view.specs.ConstantPool.{Constant, kind_of, tag_of, kind_of_tag, utf8_text, class_entry}
+use Rattle.jc_view.specs.ConstantPool.{Constant, kind_of, tag_of, kind_of_tag, utf8_text, class_name_index}
 use Rattle.jc_view.specs.ClassFile.{ClassFile, Attribute, all_slots, slots, constant_at, constant_from_first}
 use Rattle.jc_view.specs.Lookups.{utf8_at}
 use Rattle.jc_file.specs.Faults.{constants_with}
-use Rattle.jc_file.specs.FormatRules.{returns_value, lacks_member_entries, breaks_f1, breaks_f2, breaks_f3, breaks_f4, fails_beside, breaks_f5, breaks_f6, breaks_f7, fits_handle, breaks_f8, is_wrong_name, breaks_f9, breaks_f10, told_count, is_told, breaks_f11}
+use Rattle.jc_file.specs.FormatRules.{returns_value, lacks_member_entries, breaks_f1, breaks_f2, breaks_f3, breaks_f4, fails_beside, breaks_f5, breaks_f6, breaks_f7, fits_handle, breaks_f8, is_wrong_name, breaks_f9, breaks_f10, declared_count, is_declared, breaks_f11}
 use Rattle.jc_view.specs.Attributes.{bootstrap_attributes}
 use Rattle.jc_file.specs.Violations.{IsEntry, ReturnsValue, LacksMemberEntries, BreaksF1, BreaksF2, BreaksF3, BreaksF4, MisfitsName, BreaksF5, BreaksF6, IsBracketed, BreaksF7, FitsHandle, BreaksF8, IsNameAmiss, BreaksF9, BreaksF10, Tells, BreaksF11, AtConstant}
 use Rattle.jc_file.proofs.violations.Lookups.{TextsDecided, kind_decided, entry_decided, has_text, other_text, spelled_decided, field_decided, method_decided, array_decided, gives_name, gives_descriptor, refers_to, other_descriptor, same_text, never}
@@ -153,22 +153,22 @@ f10_decided tests c constant = never
 
 -- ---- bootstrap methods
 
-tells_decided : (a : Attribute) (number : ℕ) → Decides (ltb number (told_count a)) (Tells a number)
+tells_decided : (a : Attribute) (number : ℕ) → Decides (ltb number (declared_count a)) (Tells a number)
 tells_decided a number =
     elim (cases_lt (length a.bytes) 2) [
       | inl short ↦
-          let none : told_count a ≡ 0 = cond-true (ltb (length a.bytes) 2) 0 (big_number 2 a.bytes) (lt-ltb (length a.bytes) 2 short) in
-          (λ e. let lt = ltb-true number (told_count a) e in absurd (omega (arith, none)), λ h. absurd (let le = h.0 in omega arith))
+          let none : declared_count a ≡ 0 = cond-true (ltb (length a.bytes) 2) 0 (big_number 2 a.bytes) (lt-ltb (length a.bytes) 2 short) in
+          (λ e. let lt = ltb-true number (declared_count a) e in absurd (omega (arith, none)), λ h. absurd (let le = h.0 in omega arith))
       | inr long ↦
-          let count : told_count a ≡ big_number 2 a.bytes = cond-false (ltb (length a.bytes) 2) 0 (big_number 2 a.bytes) (le-ltb (length a.bytes) 2 long) in
-          like (λ lt. (long, subst (λ n. number < n) count lt)) (λ h. subst (λ n. number < n) (sym count) h.1) (below number (told_count a))
+          let count : declared_count a ≡ big_number 2 a.bytes = cond-false (ltb (length a.bytes) 2) 0 (big_number 2 a.bytes) (le-ltb (length a.bytes) 2 long) in
+          like (λ lt. (long, subst (λ n. number < n) count lt)) (λ h. subst (λ n. number < n) (sym count) h.1) (below number (declared_count a))
     ]
 
 -- the only element is so
 abbrev IsOnly : List Attribute → ℕ → Type 0
 IsOnly told number = (a : Attribute) × (told ≡ a ∷ []) × Tells a number
 
-only_decided : (told : List Attribute) (number : ℕ) → Decides (is_told told number) (IsOnly told number)
+only_decided : (told : List Attribute) (number : ℕ) → Decides (is_declared told number) (IsOnly told number)
 only_decided [] number = (λ e. absurd (false≢true e), λ h. absurd (let e = ap length h.1 in omega (arith, e)))
 only_decided (a ∷ []) number =
     like (λ h. (a, refl, h)) (λ h. subst (λ x. Tells x number) (ap (λ xs. get_or xs 0 a) (sym h.1)) h.2) (tells_decided a number)

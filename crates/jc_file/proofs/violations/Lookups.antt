@@ -12,9 +12,9 @@ use Rattle.jc_base.specs.DescriptorTests.{field_type_of, is_field_text, method_t
 use Rattle.jc_view.specs.declared.constant_pool.ConstantIndex.{ConstantIndex}
 use Rattle.jc_view.specs.declared.constant_pool.ConstantKind.{ConstantKind}
 use Rattle.jc_view.specs.ConstantPool as pool
-use Rattle.jc_view.specs.ConstantPool.{Constant, kind_of, tag_of, kind_of_tag, utf8_text, class_entry}
+use Rattle.jc_view.specs.ConstantPool.{Constant, kind_of, tag_of, kind_of_tag, utf8_text, class_name_index}
 use Rattle.jc_view.specs.ClassFile.{Attribute, ClassFile, constant_at, class_text_at}
-use Rattle.jc_view.specs.Lookups.{utf8_at, is_kind, is_entry, name_and_type, signature_entry, name_and_type_at, member_name_at, member_descriptor_at, name_of, passes, fails, lacks}
+use Rattle.jc_view.specs.Lookups.{utf8_at, is_kind, is_entry, name_and_type, name_and_type_index, name_and_type_at, member_name_at, member_descriptor_at, name_of, passes, fails, lacks}
 use Rattle.jc_file.specs.FormatRules.{is_array_text}
 use Rattle.jc_file.specs.Violations.{IsEntry, NamesKind, HasText, HasClassText, Has, IsRecognised, GivesName, GivesDescriptor, RefersTo, IsArrayDescriptor}
 use Rattle.jc_view.proofs.reading.FirstConstant.{kind_of_its_tag}
@@ -52,7 +52,7 @@ text_entry : (constant : Constant) (text : List ℕ) → utf8_text constant ≡ 
 text_entry (pool.Utf8 t) text e = ap (λ (x : List ℕ). pool.Utf8 x) cc
 text_entry constant text e = absurd cc
 
-class_entry_is : (constant : Constant) (name : ConstantIndex) → class_entry constant ≡ Some name → constant ≡ pool.Class name
+class_entry_is : (constant : Constant) (name : ConstantIndex) → class_name_index constant ≡ Some name → constant ≡ pool.Class name
 class_entry_is (pool.Class n) name e = ap (λ (x : ConstantIndex). pool.Class x) cc
 class_entry_is constant name e = absurd cc
 
@@ -116,9 +116,9 @@ module _ (c : ClassFile) {test : List ℕ → Bool} {Is : List ℕ → Type 0} (
 
 module _ (c : ClassFile) {test : List ℕ → Bool} {Is : List ℕ → Type 0} (each : (text : List ℕ) → Decides (test text) (Is text)) (r : Constant) where
   pub refers_to : Decides (passes test (name_of c r)) (RefersTo c Is r)
-  refers_to = by (signature_entry r) refl
+  refers_to = by (name_and_type_index r) refl
     where
-      by : (o : Option ConstantIndex) → signature_entry r ≡ o → Decides (passes test (name_of c r)) (RefersTo c Is r)
+      by : (o : Option ConstantIndex) → name_and_type_index r ≡ o → Decides (passes test (name_of c r)) (RefersTo c Is r)
       by None e = (
         λ h. absurd (let n : passes test (name_of c r) ≡ false = rw e refl in false≢true (sym n ∙ h)),
         λ h. absurd (let some = h.1 in let none = e in cc),
@@ -147,13 +147,13 @@ never = (λ e. false≢true e, λ h. absurd h)
 class_at : (c : ClassFile) (index : ConstantIndex) (text : List ℕ) → class_text_at c index ≡ Some text
     → (name : ConstantIndex) × IsEntry c index (pool.Class name) × IsEntry c name (pool.Utf8 text)
 class_at c index text e =
-    let class = then_some (constant_at c index) (λ class. option_and_then (λ entry. option_and_then utf8_text (constant_at c entry)) (class_entry class)) text e in
-    let entry = then_some (class_entry class.0) (λ entry. option_and_then utf8_text (constant_at c entry)) text class.2 in
+    let class = then_some (constant_at c index) (λ class. option_and_then (λ entry. option_and_then utf8_text (constant_at c entry)) (class_name_index class)) text e in
+    let entry = then_some (class_name_index class.0) (λ entry. option_and_then utf8_text (constant_at c entry)) text class.2 in
     (entry.0, class.1 ∙ ap (λ (x : Constant). Some x) (class_entry_is class.0 entry.0 entry.1), (text_at c entry.0 text).0 entry.2)
 
 class_from : (c : ClassFile) (index name : ConstantIndex) (text : List ℕ) → IsEntry c index (pool.Class name) → IsEntry c name (pool.Utf8 text) → class_text_at c index ≡ Some text
 class_from c index name text class is =
-    ap (option_and_then (λ class. option_and_then (λ entry. option_and_then utf8_text (constant_at c entry)) (class_entry class))) class ∙ (text_at c name text).1 is
+    ap (option_and_then (λ class. option_and_then (λ entry. option_and_then utf8_text (constant_at c entry)) (class_name_index class))) class ∙ (text_at c name text).1 is
 
 module _ (c : ClassFile) {test : List ℕ → Bool} {Is : List ℕ → Type 0} (each : (text : List ℕ) → Decides (test text) (Is text)) (index : ConstantIndex) where
   pub has_class_text : Decides (passes test (class_text_at c index)) (HasClassText c Is index)

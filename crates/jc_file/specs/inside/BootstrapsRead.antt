@@ -4,7 +4,7 @@ use Rattle.std.specs.List.{list_all}
 use Rattle.jc_view.specs.ClassFile.{Attribute, ClassFile}
 use Rattle.jc_view.specs.Reading.{table_value}
 use Rattle.jc_view.specs.AttributeReading.{after_bootstrap, bootstrap_value}
-use Rattle.jc_file.specs.FormatRules.{is_bootstrap, told_count}
+use Rattle.jc_file.specs.FormatRules.{is_bootstrap, declared_count}
 
 -- the bootstrap method at the front of the bytes is well-formed
 abbrev pub is_bootstrap_at : ClassFile → List ℕ → Bool
@@ -15,6 +15,6 @@ abbrev pub are_bootstraps_at : ClassFile → List ℕ → Bool
 are_bootstraps_at c xs = list_all (is_bootstrap c) (table_value after_bootstrap bootstrap_value xs)
 
 -- the number of methods of the only attribute, or 0 if there is none or more than one
-abbrev pub told_by : List Attribute → ℕ
-told_by (a ∷ []) = told_count a
-told_by others = 0
+abbrev pub declared_by : List Attribute → ℕ
+declared_by (a ∷ []) = declared_count a
+declared_by others = 0

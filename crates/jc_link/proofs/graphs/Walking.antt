@@ -14,7 +14,7 @@ use Rattle.jc_classes.proofs.numbering.Rising.{contains_of, has_of}
 use Rattle.jc_classes.specs.Numbers.{name_at}
 use Rattle.jc_classes.specs.Parts.{Reach, class_in, class_of, names_in}
 use Rattle.jc_classes.specs.Worlds.{Stands, World, references_of, supertypes_of}
-use Rattle.jc_classes.specs.Worlds.Stands.{Nothing}
+use Rattle.jc_classes.specs.Worlds.Stands.{Absent}
 use Rattle.jc_link.specs.inside.Gathering.{IsClosedGraph, stand_at, supertypes_at}
 use Rattle.jc_link.specs.inside.GraphShown.{AreNumbersOf, AreReferred, AreStarts, class_at, nodes_at}
 use Rattle.jc_resolve.specs.Numbered.{NumberReferences}
@@ -123,7 +123,7 @@ module _ (m : World) (d : Name) (ns : List Name) (st : List Stands) (rs : List (
   next = λ i. supertypes_at rs i
 
   here : (i : ℕ) → i < length ns → map (name_at ns) (supertypes_at rs i) ≡ supertypes_of (m (name_at ns i))
-  here i l = net.closed.supertypes i l ∙ ap supertypes_of (ap (λ z. stand_at z i) all ∙ get_or-map m ns i [] Nothing l)
+  here i l = net.closed.supertypes i l ∙ ap supertypes_of (ap (λ z. stand_at z i) all ∙ get_or-map m ns i [] Absent l)
 
   up : (i v : ℕ) → i < length ns → Contains (supertypes_at rs i) v → Contains (supertypes_of (m (name_at ns i))) (name_at ns v)
   up i v l c = subst (λ xs. Contains xs (name_at ns v)) (here i l) (contains_map (name_at ns) (supertypes_at rs i) v c)
@@ -188,7 +188,7 @@ reach_numbered m ns st rs at_object classes references net referred all d x amon
     let l : class < length ns = referred.classes_in place 0 there.1 in
     let p : place < length references = omega (arith, there.1, referred.size) in
     let nodes = nodes_at references place in
-    let here : stand_at st class ≡ m d = ap (λ z. stand_at z class) all ∙ get_or-map m ns class [] Nothing l ∙ ap m there.2 in
+    let here : stand_at st class ≡ m d = ap (λ z. stand_at z class) all ∙ get_or-map m ns class [] Absent l ∙ ap m there.2 in
     let named = subst (λ (s : Stands). NumberReferences ns nodes (references_of s)) here (referred.named place p) in
     let starts = class ∷ at_object ∷ flat_map option_to_list nodes in
     let from = are_starts m d ns class at_object nodes there.2 net.object.1 named in

@@ -8,12 +8,12 @@ use Rattle.jc_file.specs.declared.fault.Fault.{Fault}
 use Rattle.jc_classes.specs.Names.{Name}
 use Rattle.jc_classes.specs.Numbers.{name_at}
 use Rattle.jc_classes.specs.Inheritance.{InheritanceErrors, IsInheritance}
-use Rattle.jc_classes.specs.LinkErrors.{LinkFault, links_of}
+use Rattle.jc_classes.specs.LinkErrors.{LinkError, links_of}
 use Rattle.jc_classes.specs.Loading.{Load, Loading}
 use Rattle.jc_classes.specs.Parts.{AreAnswers, IsPart}
 use Rattle.jc_classes.specs.Resolution.{Answer}
 use Rattle.jc_classes.specs.Worlds.{Above, Stands, World, references_of, format_faults_of, code_faults_of}
-use Rattle.jc_classes.specs.Worlds.Stands.{Nothing}
+use Rattle.jc_classes.specs.Worlds.Stands.{Absent}
 use Rattle.jc_resolve.specs.Numbered.{Numbered, Agrees, TellsAnswers, standing_at}
 use Rattle.jc_link.specs.inside.TheClass.{TellsCircular}
 use Rattle.jc_link.specs.inside.Gathering.{stand_at}
@@ -21,13 +21,13 @@ use Rattle.jc_link.specs.inside.Gathering.{stand_at}
 -- names, and what a world has at each
 module _ (m : World) (ns : List Name) (st : List Stands) (all : st ≡ map m ns) where
   at : (i : ℕ) → i < length ns → stand_at st i ≡ m (name_at ns i)
-  at i l = ap (λ z. stand_at z i) all ∙ get_or-map m ns i [] Nothing l
+  at i l = ap (λ z. stand_at z i) all ∙ get_or-map m ns i [] Absent l
 
   agrees : (supertypes : List (List ℕ)) → Agrees m (record { names = ns; standing = st; supertypes = supertypes })
   agrees supertypes = λ i l. sym (at i l)
 
 -- what numbered classes say of one of them is the part of the class
-pub part_made : (m : World) (d : Name) (ns : List Name) (st : List Stands) (supertypes : List (List ℕ)) (h : Numbered) (class : ℕ) (ring : Bool) (how : Loading) (found : List Answer) (errors : List LinkFault) (faults : List Fault) (wrong : List (ℕ × CodeFault)) (own_stands : Stands)
+pub part_made : (m : World) (d : Name) (ns : List Name) (st : List Stands) (supertypes : List (List ℕ)) (h : Numbered) (class : ℕ) (ring : Bool) (how : Loading) (found : List Answer) (errors : List LinkError) (faults : List Fault) (wrong : List (ℕ × CodeFault)) (own_stands : Stands)
     → st ≡ map m ns → class < length ns → name_at ns class ≡ d → h ≡ record { names = ns; standing = st; supertypes = supertypes }
     → TellsCircular h class ring
     → ((k : World) → Agrees k h → Load k (name_at h.names class) how)

@@ -7,10 +7,10 @@ use Rattle.std.specs.List.{Contains, All}
 use Rattle.std.specs.Option.{option_to_list}
 use Rattle.jc_classes.specs.Facts.{IsNamedBefore, Reference}
 use Rattle.jc_classes.specs.Facts.Named.{Class}
-use Rattle.jc_classes.specs.declared.reference_kind.ReferenceKind.TheVariants as kind
+use Rattle.jc_classes.specs.declared.reference.ReferenceKind.TheVariants as kind
 use Rattle.jc_classes.specs.Names.{Name}
 use Rattle.jc_classes.specs.Worlds.{Stands, World, supertypes_of}
-use Rattle.jc_classes.specs.Worlds.Stands.{Nothing}
+use Rattle.jc_classes.specs.Worlds.Stands.{Absent}
 use Rattle.jc_classes.specs.Parts.{class_of, class_in, names_in}
 use Rattle.jc_classes.specs.Numbers.{name_at, IsOnce, Grows, AddsNumbers}
 use Rattle.jc_link.specs.inside.Gathering.{stand_at, supertypes_at, IsAsked, Nodes}
@@ -103,7 +103,7 @@ refs_again a b s rs number k node x g size before at is =
 -- ---- places
 
 pub stand_left : (xs : List Stands) (x : Stands) (i : ℕ) → i < length xs → stand_at (xs ++ x ∷ []) i ≡ stand_at xs i
-stand_left xs x i l = get_or_append_left xs (x ∷ []) Nothing i l
+stand_left xs x i l = get_or_append_left xs (x ∷ []) Absent i l
 
 pub supertypes_left : (xs : List (List ℕ)) (x : List ℕ) (i : ℕ) → i < length xs → supertypes_at (xs ++ x ∷ []) i ≡ supertypes_at xs i
 supertypes_left xs x i l = get_or_append_left xs (x ∷ []) [] i l
@@ -153,7 +153,7 @@ asked_add m ns ns2 st rs o direct g l is more =
       size = omega arith;
       standing = λ i k. ⊎_elim
           (λ (p : i < at). let q = g.standing i p in (omega (arith, q.0), stand_left st o i p ∙ q.1 ∙ ap m (sym (grows.same i q.0))))
-          (λ (p : at ≡ i). (omega arith, get_or_push st o Nothing i p ∙ is ∙ ap m (ap (name_at ns) p ∙ sym (grows.same i (omega arith)))))
+          (λ (p : at ≡ i). (omega arith, get_or_push st o Absent i p ∙ is ∙ ap m (ap (name_at ns) p ∙ sym (grows.same i (omega arith)))))
           (place_cases at i (omega arith));
       within = λ a b c. ⊎_elim (λ q. let r = g.within a b q in omega arith) (λ q. all_of direct (length ns2) more.nodes b q) (supertype_in rs direct a b c);
       above = λ i k. ⊎_elim

@@ -10,12 +10,12 @@ use Rattle.jc_classes.specs.Names.{Name, object}
 use Rattle.jc_classes.specs.Numbers.{name_at, IsOnce, Grows, AddsNumbers}
 use Rattle.jc_classes.specs.Parts.{class_of, names_in}
 use Rattle.jc_classes.specs.Worlds.{Stands, World, supertypes_of}
-use Rattle.jc_classes.specs.Worlds.Stands.{Nothing}
+use Rattle.jc_classes.specs.Worlds.Stands.{Absent}
 use Rattle.jc_classes.specs.declared.standing.Standing.{Standing}
 use Rattle.jc_resolve.specs.Numbered.{IsClosed}
 
 abbrev pub stand_at : List Stands → ℕ → Stands
-stand_at stands i = slice_index_or stands i Nothing
+stand_at stands i = slice_index_or stands i Absent
 
 abbrev pub supertypes_at : List (List ℕ) → ℕ → List ℕ
 supertypes_at supertypes i = slice_index_or supertypes i []

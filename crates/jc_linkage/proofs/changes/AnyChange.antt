@@ -11,8 +11,8 @@ use Rattle.jc_classes.specs.Worlds.{World}
 use Rattle.jc_classes.proofs.worlds.Parts.{hits_either, part_there, reach_back, reach_there}
 use Rattle.jc_link.specs.Closures.{facts_standing}
 use Rattle.jc_linkage.specs.Affected.{IsAffected}
-use Rattle.jc_linkage.specs.declared.kept.Fresh.{Fresh}
-use Rattle.jc_linkage.specs.declared.kept.Kept.{Kept}
+use Rattle.jc_linkage.specs.declared.class_entry.NewEntry.{NewEntry}
+use Rattle.jc_linkage.specs.declared.class_entry.ClassEntry.{ClassEntry}
 use Rattle.jc_linkage.specs.inside.Kept.{AllFresh, AreKeys, IsKept, IsKeptOf, KeptHits, KeptMap, fresh_at, fresh_names, held_in, keys_of, names_kept, required_by}
 use Rattle.jc_linkage.specs.inside.Kept.Relation.{Reaches}
 use Rattle.jc_linkage.proofs.equations.Booleans.{or_split, or_join, and_split, and_join}
@@ -66,7 +66,7 @@ module _ (touched g h : Name → Bool) (w v : World) (kept : KeptMap) (differ : 
       (cases_Bool (touched d))
 
   -- what is kept of a class that reaches no touched name stays right
-  pub keeps : (d : Name) (k : Kept) → Avoids touched w d → IsKeptOf w d k → IsKeptOf v d k
+  pub keeps : (d : Name) (k : ClassEntry) → Avoids touched w d → IsKeptOf w d k → IsKeptOf v d k
   keeps d k avoids of =
       let there : w d ≡ v d = differ d (avoids d itself) in
       record {
@@ -80,12 +80,12 @@ module _ (touched g h : Name → Bool) (w v : World) (kept : KeptMap) (differ : 
       }
 
   -- with the affected classes made afresh, and those that are no longer given left out, what is kept is right
-  pub holds_after : (after : KeptMap) (made : List Fresh) → AllFresh v made
+  pub holds_after : (after : KeptMap) (made : List NewEntry) → AllFresh v made
       → ((d : Name) → has (fresh_names made) d ≡ true → IsAffected h v touched d) → ((d : Name) → IsAffected h v touched d → has (fresh_names made) d ≡ true)
       → ((d : Name) → map.get after d ≡ fresh_at made d (cond (h d) (map.get kept d) None))
       → IsKept h v after
   holds_after after made all sound complete at =
-      let split : (d : Name) (k : Kept) → map.get after d ≡ Some k → (h d ≡ true) × IsKeptOf v d k =
+      let split : (d : Name) (k : ClassEntry) → map.get after d ≡ Some k → (h d ≡ true) × IsKeptOf v d k =
       λ d k e. ⊎_elim
       (λ p. ((sound d p.1).0, p.0))
       (λ p. ⊎_elim

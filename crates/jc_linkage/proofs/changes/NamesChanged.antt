@@ -15,7 +15,7 @@ use Rattle.jc_link.proofs.tables.Changes.{worlds_differ}
 use Rattle.jc_link.specs.declared.meter.Meter.{Meter}
 use Rattle.jc_linkage.specs.Affected.{IsAffected, IsCounted, NoRepeat, counts_of}
 use Rattle.jc_linkage.specs.Steps.{at_step, step_name}
-use Rattle.jc_linkage.specs.declared.kept.Fresh.{Fresh}
+use Rattle.jc_linkage.specs.declared.class_entry.NewEntry.{NewEntry}
 use Rattle.jc_linkage.specs.declared.links.Links.{Links}
 use Rattle.jc_linkage.specs.declared.step.Step.{Step}
 use Rattle.jc_linkage.specs.inside.Holding.{IsHeld, comer, given_in, name_of}
@@ -79,7 +79,7 @@ users_kept kept links first second gone names linked users d h =
     (p.1, ap is_some (kept_by (map.get kept d) hit.0 hit.2).1)
 
 -- two steps were made, and parts of the classes that they affect
-pub record AreMade (prefixes : List Name) (old new : Places) (first second : Option Step) (gone : Name → Bool) (kept mid : KeptMap) (links : Links) (fresh last : List Fresh) : Type 0 where
+pub record AreMade (prefixes : List Name) (old new : Places) (first second : Option Step) (gone : Name → Bool) (kept mid : KeptMap) (links : Links) (fresh last : List NewEntry) : Type 0 where
   pub held : IsHeld old prefixes kept links
   pub stood : (n : Name) → at_step first n ≡ true → given_in old n ≡ true
   pub stands : (n : Name) → at_step second n ≡ true → given_in new n ≡ true
@@ -102,7 +102,7 @@ users_by first second a b gone names fresh links at_first at_second same users d
     ∙ ap (λ z. (has (users_at links.reach (name_of first)) d || has (users_at links.reach z) d) && not (gone d)) at_second
 
 pub made_of : (first second : Option Step) (gone : Name → Bool) (comes : Option Name)
-    {prefixes : List Name} {old new : Places} {kept mid : KeptMap} {links : Links} {names : List Name} {fresh : List Fresh} {old_meter new_meter : Meter}
+    {prefixes : List Name} {old new : Places} {kept mid : KeptMap} {links : Links} {names : List Name} {fresh : List NewEntry} {old_meter new_meter : Meter}
     → IsHeld old prefixes kept links
     → ((n : Name) → at_step first n ≡ true → given_in old n ≡ true) → ((n : Name) → at_step second n ≡ true → given_in new n ≡ true)
     → ((n : Name) → (at_step first n || at_step second n) ≡ false → class_at new n ≡ class_at old n)
@@ -122,7 +122,7 @@ made_of first second gone comes held stood stands stays leaves come users once r
   at = ready.at;
 }
 
-module _ {prefixes : List Name} {old new : Places} {first second : Option Step} {gone : Name → Bool} {kept mid : KeptMap} {links : Links} {fresh last : List Fresh}
+module _ {prefixes : List Name} {old new : Places} {first second : Option Step} {gone : Name → Bool} {kept mid : KeptMap} {links : Links} {fresh last : List NewEntry}
     (made : AreMade prefixes old new first second gone kept mid links fresh last) where
   abbrev pub touches : Name → Bool
   touches n = at_step first n || at_step second n

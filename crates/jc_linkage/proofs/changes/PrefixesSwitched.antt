@@ -15,8 +15,8 @@ use Rattle.jc_link.proofs.tables.Changes.{prefixes_differ}
 use Rattle.jc_link.specs.declared.meter.Meter.{Meter}
 use Rattle.jc_linkage.specs.Affected.{IsAffected, IsCounted, NoRepeat, counts_of}
 use Rattle.jc_linkage.specs.Switches.{switches}
-use Rattle.jc_linkage.specs.declared.kept.Fresh.{Fresh}
-use Rattle.jc_linkage.specs.declared.kept.Kept.{Kept}
+use Rattle.jc_linkage.specs.declared.class_entry.NewEntry.{NewEntry}
+use Rattle.jc_linkage.specs.declared.class_entry.ClassEntry.{ClassEntry}
 use Rattle.jc_linkage.specs.declared.links.Links.{Links}
 use Rattle.jc_linkage.specs.inside.Holding.{IsHeld, given_in}
 use Rattle.jc_linkage.specs.inside.Kept.{AllFresh, AreLinked, KeptHits, KeptMap, fresh_at, fresh_names}
@@ -49,7 +49,7 @@ record_some None n = by (same_name n object)
     by true = refl
     by false = refl
 
-no_fresh : (xs : List Fresh) → fresh_names xs ≡ [] → xs ≡ []
+no_fresh : (xs : List NewEntry) → fresh_names xs ≡ [] → xs ≡ []
 no_fresh [] e = refl
 no_fresh (x ∷ xs) e = absurd cc
 
@@ -63,7 +63,7 @@ module _ (places : Places) (old new : List Name) (kept : KeptMap) (links : Links
   given_kept : (n : Name) → is_some (fin.get kept n) ≡ given_in places n
   given_kept n = by (fin.get kept n) (given_in places n) refl refl
     where
-      by : (o : Option Kept) (b : Bool) → fin.get kept n ≡ o → given_in places n ≡ b → is_some (fin.get kept n) ≡ given_in places n
+      by : (o : Option ClassEntry) (b : Bool) → fin.get kept n ≡ o → given_in places n ≡ b → is_some (fin.get kept n) ≡ given_in places n
       by (Some k) b e g = ap is_some e ∙ sym (held.parts.only n k e)
       by None true e g = absurd (false≢true (sym (ap is_some e) ∙ held.parts.complete n g))
       by None false e g = ap is_some e ∙ sym g
@@ -104,7 +104,7 @@ module _ (places : Places) (old new : List Name) (kept : KeptMap) (links : Links
         names (has names) (λ d. given_in places d && not (given_in places d)) (λ d. not (given_in places d) && given_in places d)
         (λ d h. user_hits d (sound d h)) (λ d h. complete d (hits_user d h)) (λ d. refl) (λ d. refl) (λ d. none_moves (has names d) (given_in places d)) d
 
-    module _ {mid : KeptMap} {fresh : List Fresh} {old_meter new_meter : Meter} (once : NoRepeat names) (ready : IsPrepared (world places new) names None kept mid fresh old_meter new_meter) where
+    module _ {mid : KeptMap} {fresh : List NewEntry} {old_meter new_meter : Meter} (once : NoRepeat names) (ready : IsPrepared (world places new) names None kept mid fresh old_meter new_meter) where
       alone : ready.last ≡ []
       alone = no_fresh ready.last ready.newcomer
 
@@ -130,7 +130,7 @@ module _ (places : Places) (old new : List Name) (kept : KeptMap) (links : Links
       given_only : (d : Name) → fin.get kept d ≡ cond (given_in places d) (fin.get kept d) None
       given_only d = by (fin.get kept d) (given_in places d) (given_kept d)
         where
-          by : (o : Option Kept) (b : Bool) → is_some o ≡ b → o ≡ cond b o None
+          by : (o : Option ClassEntry) (b : Bool) → is_some o ≡ b → o ≡ cond b o None
           by None true e = absurd (false≢true e)
           by None false e = refl
           by (Some k) true e = refl

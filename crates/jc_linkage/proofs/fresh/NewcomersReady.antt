@@ -18,8 +18,8 @@ use Rattle.jc_link.specs.Graphs.{ClassGraph}
 use Rattle.jc_link.specs.Meters.{counted}
 use Rattle.jc_link.specs.Tables.{Places, world}
 use Rattle.jc_link.specs.declared.meter.Meter.{Meter}
-use Rattle.jc_linkage.specs.declared.kept.Fresh.{Fresh}
-use Rattle.jc_linkage.specs.declared.kept.Kept.{Kept}
+use Rattle.jc_linkage.specs.declared.class_entry.NewEntry.{NewEntry}
+use Rattle.jc_linkage.specs.declared.class_entry.ClassEntry.{ClassEntry}
 use Rattle.jc_linkage.specs.inside.Kept.{AllFresh, IsClassAt, KeptMap, Relation, fresh_at, fresh_names, held_in, names_by}
 use Rattle.jc_linkage.specs.inside.Prepared.{HasAskedFor, IsPrepared, IsPreparedOver}
 use Rattle.jc_linkage.specs.inside.Users.{is_name}
@@ -43,7 +43,7 @@ ready_none m kept meter = record {
 }
 
 -- the parts of the names, and that of the one that comes
-pub ready_both : (m : World) (names : List Name) (comes : Option Name) (kept now : KeptMap) (fresh last : List Fresh) (old mid new : Meter)
+pub ready_both : (m : World) (names : List Name) (comes : Option Name) (kept now : KeptMap) (fresh last : List NewEntry) (old mid new : Meter)
     → fresh_names fresh ≡ names → AllFresh m fresh → mid.made ≡ counted old.made (length names)
     → fresh_names last ≡ option_to_list comes → AllFresh m last → new.made ≡ counted mid.made (length (option_to_list comes))
     → ((d : Name) → map.get now d ≡ fresh_at last d (map.get kept d)) → IsPrepared m names comes kept now fresh old new
@@ -57,7 +57,7 @@ ready_both m names comes kept now fresh last old mid new others parts made newco
       more ∙ ap (λ a. counted a (length (option_to_list comes))) made ∙ counted_add old.made (length names) (length (option_to_list comes))
       ∙ ap (counted old.made)
       (ap (λ z. length z + length (option_to_list comes)) (sym others) ∙ ap (λ z. length (fresh_names fresh) + length z) (sym newcomer)
-      ∙ sym (ap length (map-append (λ (x : Fresh). x.name.items) fresh last) ∙ length-append (fresh_names fresh) (fresh_names last)));
+      ∙ sym (ap length (map-append (λ (x : NewEntry). x.name.items) fresh last) ∙ length-append (fresh_names fresh) (fresh_names last)));
 }
 
 pub one_has : (o : Option Name) (d : Name) → has (option_to_list o) d ≡ is_name o d
@@ -109,7 +109,7 @@ one_once (Some n) = (refl, tt)
 -- ---- one that is put in
 
 -- a class of which nothing was kept is put in, and linked
-pub newcomer_linked : (r : Relation) (kept : KeptMap) (name : Name) (newcomer : Kept) (f : Bool) (d n : Name) → map.get kept name ≡ None
+pub newcomer_linked : (r : Relation) (kept : KeptMap) (name : Name) (newcomer : ClassEntry) (f : Bool) (d n : Name) → map.get kept name ≡ None
     → ((held_in r kept d n || f) || (same_name d name && has (names_by r newcomer) n)) ≡ (held_in r (map.insert kept name newcomer) d n || f)
 newcomer_linked r kept name newcomer f d n absent =
     all_linked (held_in r kept d n) f (same_name d name) (has (names_by r newcomer) n) (held_at r kept name None d n absent)
@@ -131,8 +131,8 @@ class_behind xs o g is i at n comes =
     (omega (arith, at, size), ap (λ ns. name_at ns i) classes ∙ name_last xs n i at)
 
 -- nothing is kept of the class that comes
-pub newcomer_absent : (newcomer : Option Fresh) (comes : Option Name) (kept : KeptMap) → fresh_names (option_to_list newcomer) ≡ option_to_list comes
-    → ((n : Name) → comes ≡ Some n → map.get kept n ≡ None) → IfSome newcomer (λ (x : Fresh). map.get kept x.name.items ≡ None)
+pub newcomer_absent : (newcomer : Option NewEntry) (comes : Option Name) (kept : KeptMap) → fresh_names (option_to_list newcomer) ≡ option_to_list comes
+    → ((n : Name) → comes ≡ Some n → map.get kept n ≡ None) → IfSome newcomer (λ (x : NewEntry). map.get kept x.name.items ≡ None)
 newcomer_absent None comes kept same absent = tt
 newcomer_absent (Some x) None kept same absent = absurd cc
 newcomer_absent (Some x) (Some n) kept same absent = let named : x.name.items ≡ n = cc in ap (map.get kept) named ∙ absent n refl

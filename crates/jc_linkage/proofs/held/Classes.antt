@@ -15,7 +15,7 @@ use Rattle.jc_link.specs.Tables.{Places, class_at, classes_in, classes_of, place
 use Rattle.jc_report.specs.Reports.{Class, name_of}
 use Rattle.jc_report.proofs.rows.RowsAreOne.{sorted_names_one}
 use Rattle.jc_linkage.specs.Linkages.{AreHeldClasses, IsHeldClass, Linkage, given, world_held}
-use Rattle.jc_linkage.specs.declared.kept.Kept.{Kept}
+use Rattle.jc_linkage.specs.declared.class_entry.ClassEntry.{ClassEntry}
 use Rattle.jc_linkage.specs.inside.Holding.{AreNamed}
 use Rattle.jc_linkage.specs.inside.Kept.{IsKept, KeptMap}
 use Rattle.jc_linkage.specs.inside.Lending.{with_parts}
@@ -76,7 +76,7 @@ module _ (places : Places) (named : AreNamed places) where
 
 -- ---- one kept part for each class
 
-pub none_kept : (fs : List Facts) (ks : List (Name × Kept)) → ks ≡ [] → with_parts fs ks ≡ []
+pub none_kept : (fs : List Facts) (ks : List (Name × ClassEntry)) → ks ≡ [] → with_parts fs ks ≡ []
 none_kept [] ks e = refl
 none_kept (f ∷ fs) [] e = refl
 none_kept (f ∷ fs) (k ∷ ks) e = absurd cc
@@ -87,16 +87,16 @@ names fs = map (λ (f : Facts). f.name) fs
 same_head : (x y : Name) (xs ys : List Name) → x ∷ xs ≡ y ∷ ys → (x ≡ y) × (xs ≡ ys)
 same_head x y xs ys e = (cc, cc)
 
-names_stay : (fs : List Facts) (ks : List (Name × Kept)) → names fs ≡ keys_of ks → map name_of (with_parts fs ks) ≡ names fs
+names_stay : (fs : List Facts) (ks : List (Name × ClassEntry)) → names fs ≡ keys_of ks → map name_of (with_parts fs ks) ≡ names fs
 names_stay [] ks e = refl
 names_stay (f ∷ fs) [] e = absurd cc
 names_stay (f ∷ fs) (k ∷ ks) e = ap (λ ns. f.name ∷ ns) (names_stay fs ks (same_head f.name k.0 (names fs) (keys_of ks) e).1)
 
 -- a class with a part is of the facts, and the part is kept at its name
-abbrev IsOf : List Facts → List (Name × Kept) → Class → Type 0
-IsOf fs ks c = Has fs c.facts × ((k : Kept) × Has ks (name_of c, k) × (k.part ≡ c.part))
+abbrev IsOf : List Facts → List (Name × ClassEntry) → Class → Type 0
+IsOf fs ks c = Has fs c.facts × ((k : ClassEntry) × Has ks (name_of c, k) × (k.part ≡ c.part))
 
-each_of : (fs : List Facts) (ks : List (Name × Kept)) → names fs ≡ keys_of ks → (c : Class) → Has (with_parts fs ks) c → IsOf fs ks c
+each_of : (fs : List Facts) (ks : List (Name × ClassEntry)) → names fs ≡ keys_of ks → (c : Class) → Has (with_parts fs ks) c → IsOf fs ks c
 each_of [] ks e c h = absurd h
 each_of (f ∷ fs) [] e c h = absurd cc
 each_of (f ∷ fs) (k ∷ ks) e c (inl is) =
@@ -119,9 +119,9 @@ module _ (a : Linkage) (kept : KeptMap) (held : IsKept (given a) (world_held a) 
       let found = has-from_map (λ (f : Facts). f.name) (classes_of a.classes) n (has_from (names (classes_of a.classes)) n h) in
       let at : class_at a.classes n ≡ Some found.0 = ap (class_at a.classes) (sym found.2) ∙ at_own_name a.classes named found.0 found.1 in
       let k = kept_of a kept held n found.0 at in
-      from_has (fin.keys kept) n (has-map (λ (e : Name × Kept). e.0) (fin.entries kept) (n, k.0) (has_from (fin.entries kept) (n, k.0) (entry_from_get kept n k.0 k.1))))
+      from_has (fin.keys kept) n (has-map (λ (e : Name × ClassEntry). e.0) (fin.entries kept) (n, k.0) (has_from (fin.entries kept) (n, k.0) (entry_from_get kept n k.0 k.1))))
       (λ n h.
-      let found = has-from_map (λ (e : Name × Kept). e.0) (fin.entries kept) n (has_from (fin.keys kept) n h) in
+      let found = has-from_map (λ (e : Name × ClassEntry). e.0) (fin.entries kept) n (has_from (fin.keys kept) n h) in
       let at : fin.get kept n ≡ Some found.0.1 = ap (fin.get kept) (sym found.2) ∙ get_from_entry kept found.0.0 found.0.1 (from_has (fin.entries kept) found.0 found.1) in
       let f = facts_of a kept held n found.0.1 at in
       subst (Contains (names (classes_of a.classes))) (named n f.0 f.1) (from_has (names (classes_of a.classes)) f.0.name (has-map (λ (x : Facts). x.name) (classes_of a.classes) f.0 (among_classes a.classes named n f.0 f.1))))

@@ -15,7 +15,7 @@ use Rattle.jc_report.specs.RowKeys.{row_key}
 use Rattle.jc_report.specs.Rows.{AreRows, Row}
 use Rattle.jc_index.proofs.indexes.Lists.{keys_list}
 use Rattle.jc_linkage.specs.Linkages.{AreHeldClasses, Linkage, world_held}
-use Rattle.jc_linkage.specs.declared.kept.Kept.{Kept}
+use Rattle.jc_linkage.specs.declared.class_entry.ClassEntry.{ClassEntry}
 use Rattle.jc_linkage.specs.declared.links.Links.{Links}
 use Rattle.jc_linkage.specs.inside.Holding.{IsHeld}
 use Rattle.jc_linkage.specs.inside.Kept.{AreKeys, IsKeptOf, KeptMap, keys_of, names_kept, required_by}
@@ -27,7 +27,7 @@ rows_back : (rows : List Row) → map row_of (map row_key rows) ≡ rows
 rows_back [] = refl
 rows_back (row ∷ rows) = (λ i. row_back row i ∷ rows_back rows i)
 
-pub keys_required : (a : Linkage) (d : Name) (f : Facts) (k : Kept) → IsKeptOf (world_held a) d k → facts_standing (world_held a d) ≡ Some f → AreKeys (keys_of k) (required_rows f k.part)
+pub keys_required : (a : Linkage) (d : Name) (f : Facts) (k : ClassEntry) → IsKeptOf (world_held a) d k → facts_standing (world_held a d) ≡ Some f → AreKeys (keys_of k) (required_rows f k.part)
 keys_required a d f k of e = subst (λ o. AreKeys (keys_of k) (required_by o k.part)) e of.required
 
 module _ (a : Linkage) (kept : KeptMap) (links : Links) (held : IsHeld a.classes a.prefixes kept links) (classes : List Class) (h : AreHeldClasses a classes) where

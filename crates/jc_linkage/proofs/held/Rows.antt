@@ -19,7 +19,7 @@ use Rattle.jc_report.specs.Rows.{AreRows, Row}
 use Rattle.jc_report.proofs.row_keys.KeyOrder.{row_of}
 use Rattle.jc_report.proofs.row_keys.RowsOfKeys.{rows_of_keys}
 use Rattle.jc_linkage.specs.Linkages.{AreHeldClasses, IsHeldClass, Linkage, given, world_held}
-use Rattle.jc_linkage.specs.declared.kept.Kept.{Kept}
+use Rattle.jc_linkage.specs.declared.class_entry.ClassEntry.{ClassEntry}
 use Rattle.jc_linkage.specs.inside.Kept.{AreKeys, IsKept, IsKeptOf, KeptMap}
 use Rattle.jc_linkage.proofs.held.Places.{facts_of, kept_of, record_given, some_one}
 
@@ -39,10 +39,10 @@ class_of a classes h d f p e part =
     )
 
 module _ (a : Linkage) (kept : KeptMap) (held : IsKept (given a) (world_held a) kept)
-    (rows : Facts → Part → List Row) (keys : Kept → List Name)
-    (are : (d : Name) (f : Facts) (k : Kept) → IsKeptOf (world_held a) d k → facts_standing (world_held a d) ≡ Some f → AreKeys (keys k) (rows f k.part)) where
+    (rows : Facts → Part → List Row) (keys : ClassEntry → List Name)
+    (are : (d : Name) (f : Facts) (k : ClassEntry) → IsKeptOf (world_held a) d k → facts_standing (world_held a d) ≡ Some f → AreKeys (keys k) (rows f k.part)) where
   -- a key that is kept of a class is that of a row that the class gives
-  row_kept : (d : Name) (k : Kept) → fin.get kept d ≡ Some k → (key : Name) → has (keys k) key ≡ true
+  row_kept : (d : Name) (k : ClassEntry) → fin.get kept d ≡ Some k → (key : Name) → has (keys k) key ≡ true
       → (f : Facts) × (class_at a.classes d ≡ Some f) × ((row : Row) × Has (rows f k.part) row × (row_key row ≡ key))
   row_kept d k e key there =
       let f = facts_of a kept held d k e in
@@ -52,7 +52,7 @@ module _ (a : Linkage) (kept : KeptMap) (held : IsKept (given a) (world_held a) 
 
   module _ (classes : List Class) (h : AreHeldClasses a classes) where
     -- a key that is kept with a name is that of a row that the class of the name gives
-    pub class_given : (d : Name) (k : Kept) → fin.get kept d ≡ Some k → (key : Name) → has (keys k) key ≡ true
+    pub class_given : (d : Name) (k : ClassEntry) → fin.get kept d ≡ Some k → (key : Name) → has (keys k) key ≡ true
         → (c : Class) × (row : Row) × Contains classes c × (name_of c ≡ d) × Contains (rows c.facts c.part) row × (row_key row ≡ key)
     class_given d k e key there =
         let found = row_kept d k e key there in
@@ -62,12 +62,12 @@ module _ (a : Linkage) (kept : KeptMap) (held : IsKept (given a) (world_held a) 
         let same : rows f k.part ≡ rows c.0.facts c.0.part = (λ i. rows (sym c.3 i) (sym c.4 i)) in
         (c.0, row, c.1, c.2, subst (λ rs. Contains rs row) same (from_has (rows f k.part) row found.2.1), found.2.2)
 
-    row_given : (d : Name) (k : Kept) → fin.get kept d ≡ Some k → (key : Name) → has (keys k) key ≡ true → (row : Row) × GivesRow rows classes row × (key ≡ row_key row)
+    row_given : (d : Name) (k : ClassEntry) → fin.get kept d ≡ Some k → (key : Name) → has (keys k) key ≡ true → (row : Row) × GivesRow rows classes row × (key ≡ row_key row)
     row_given d k e key there =
         let found = class_given d k e key there in
         (found.1, record { class = found.0; among = found.2; gives = found.4 }, sym found.5)
 
-    pub key_given : (row : Row) (g : GivesRow rows classes row) → (k : Kept) × (fin.get kept (name_of g.class) ≡ Some k) × (has (keys k) (row_key row) ≡ true)
+    pub key_given : (row : Row) (g : GivesRow rows classes row) → (k : ClassEntry) × (fin.get kept (name_of g.class) ≡ Some k) × (has (keys k) (row_key row) ≡ true)
     key_given row g =
         let c = g.class in
         let is = All-contains (IsHeldClass a) classes c h.sound g.among in
@@ -83,8 +83,8 @@ module _ (a : Linkage) (kept : KeptMap) (held : IsKept (given a) (world_held a) 
         )
 
     pub rows_of_kept : (all : List Name) → IsStrictlySortedBy name_cmp all
-        → ((key : Name) → has all key ≡ true → (d : Name) × (k : Kept) × (fin.get kept d ≡ Some k) × (has (keys k) key ≡ true))
-        → ((d : Name) (k : Kept) → fin.get kept d ≡ Some k → (key : Name) → has (keys k) key ≡ true → has all key ≡ true)
+        → ((key : Name) → has all key ≡ true → (d : Name) × (k : ClassEntry) × (fin.get kept d ≡ Some k) × (has (keys k) key ≡ true))
+        → ((d : Name) (k : ClassEntry) → fin.get kept d ≡ Some k → (key : Name) → has (keys k) key ≡ true → has all key ≡ true)
         → AreRows (map row_of all) (GivesRow rows classes)
     rows_of_kept all rises sound complete = rows_of_keys all (GivesRow rows classes) rises
         (λ key there. let k = sound key (has_of all key there) in row_given k.0 k.1 k.2 key k.3)

@@ -7,7 +7,7 @@ use Rattle.jc_classes.specs.Names.{Name, same_name}
 use Rattle.jc_classes.proofs.worlds.NameTests.{same_is, same_self}
 use Rattle.jc_link.specs.Tables.{Places, class_at, placed}
 use Rattle.jc_linkage.specs.Steps.{Classes, at_step, class_by, step_class, step_name}
-use Rattle.jc_linkage.specs.declared.kept.Kept.{Kept}
+use Rattle.jc_linkage.specs.declared.class_entry.ClassEntry.{ClassEntry}
 use Rattle.jc_linkage.specs.declared.step.Step.{Step}
 use Rattle.jc_linkage.specs.declared.step.Step.TheVariants.{Put, Remove}
 use Rattle.jc_linkage.specs.inside.Holding.{AreBack, AreNamed, AreThere, CountsStep, PutsClass, comer, given_in, leaver, name_of, stepped_by}
@@ -86,7 +86,7 @@ pub comer_absent : (kept : KeptMap) (s : Option Step) (n : Name) → comer kept 
 comer_absent kept None n h = absurd (none_some h)
 comer_absent kept (Some s) n h = by (map.get kept (step_name s)) refl h
   where
-    by : (o : Option Kept) → map.get kept (step_name s) ≡ o → cond (is_some o) None (Some (step_name s)) ≡ Some n → map.get kept n ≡ None
+    by : (o : Option ClassEntry) → map.get kept (step_name s) ≡ o → cond (is_some o) None (Some (step_name s)) ≡ Some n → map.get kept n ≡ None
     by None e h = ap (map.get kept) (sym (some_one h)) ∙ e
     by (Some k) e h = absurd (none_some h)
 

@@ -15,8 +15,8 @@ use Rattle.jc_report.specs.ClassRows.{required_rows}
 use Rattle.jc_report.specs.RequiredRows.{spelled_all}
 use Rattle.jc_report.specs.RowKeys.{row_key}
 use Rattle.jc_report.specs.Rows.{Row}
-use Rattle.jc_linkage.specs.declared.kept.Kept.{Kept}
-use Rattle.jc_linkage.specs.declared.kept.Fresh.{Fresh}
+use Rattle.jc_linkage.specs.declared.class_entry.ClassEntry.{ClassEntry}
+use Rattle.jc_linkage.specs.declared.class_entry.NewEntry.{NewEntry}
 use Rattle.jc_linkage.specs.declared.links.Links.{Links}
 
 -- ---- entries
@@ -30,25 +30,25 @@ abbrev pub AreKeys : (keys : List Name) → List Row → Type 0
 AreKeys keys rows = (key : Name) → has keys key ≡ has (map row_key rows) key
 
 -- the keys of the rows in the entry
-abbrev pub keys_of : Kept → List Name
+abbrev pub keys_of : ClassEntry → List Name
 keys_of k = spelled_all k.required
 
 -- the keys are those of the rows that the class requires by its part
 abbrev pub HasKeysOf : World → Name → (keys : List Name) → Part → Type 0
 HasKeysOf m d keys part = AreKeys keys (required_by (facts_standing (m d)) part)
 
-pub record IsKeptOf (m : World) (d : Name) (k : Kept) : Type 0 where
+pub record IsKeptOf (m : World) (d : Name) (k : ClassEntry) : Type 0 where
   pub part : IsPart m d k.part
   pub reach : Lists k.reach (Reach m d)
   pub required : HasKeysOf m d (keys_of k) k.part
 
 abbrev pub KeptMap : Type 0
-KeptMap = fin.FinMap name_cmp Kept
+KeptMap = fin.FinMap name_cmp ClassEntry
 
 -- each given class has its entry, and no other name has an entry
 pub record IsKept (given : Name → Bool) (m : World) (kept : KeptMap) : Type 0 where
-  pub only : (d : Name) (k : Kept) → fin.get kept d ≡ Some k → given d ≡ true
-  pub sound : (d : Name) (k : Kept) → fin.get kept d ≡ Some k → IsKeptOf m d k
+  pub only : (d : Name) (k : ClassEntry) → fin.get kept d ≡ Some k → given d ≡ true
+  pub sound : (d : Name) (k : ClassEntry) → fin.get kept d ≡ Some k → IsKeptOf m d k
   pub complete : (d : Name) → given d ≡ true → IsSome (fin.get kept d)
 
 -- ---- links
@@ -58,11 +58,11 @@ pub data Relation : Type 0 where
   Reaches : Relation
   Requires : Relation
 
-abbrev pub names_by : Relation → Kept → List Name
+abbrev pub names_by : Relation → ClassEntry → List Name
 names_by Reaches k = k.reach
 names_by Requires k = keys_of k
 
-abbrev pub names_kept : Relation → Option Kept → List Name
+abbrev pub names_kept : Relation → Option ClassEntry → List Name
 names_kept r None = []
 names_kept r (Some k) = names_by r k
 
@@ -92,19 +92,19 @@ AreLinked kept links = (r : Relation) (n d : Name) → linked r links n d ≡ he
 abbrev pub IsClassAt : ClassGraph → (place : ℕ) → Name → Type 0
 IsClassAt g place name = (place < length g.classes) × (name_at g.classes place ≡ name)
 
-abbrev pub fresh_names : List Fresh → List Name
-fresh_names fresh = map (λ (x : Fresh). x.name.items) fresh
+abbrev pub fresh_names : List NewEntry → List Name
+fresh_names fresh = map (λ (x : NewEntry). x.name.items) fresh
 
 -- whether the class has the relation to the name by its new entry
-abbrev pub fresh_has : Relation → List Fresh → (class name : Name) → Bool
+abbrev pub fresh_has : Relation → List NewEntry → (class name : Name) → Bool
 fresh_has r [] d n = false
 fresh_has r (x ∷ xs) d n = (same_name d x.name.items && has (names_by r x.kept) n) || fresh_has r xs d n
 
-abbrev pub AllFresh : World → List Fresh → Type 0
+abbrev pub AllFresh : World → List NewEntry → Type 0
 AllFresh m [] = Unit {0}
 AllFresh m (x ∷ xs) = IsKeptOf m x.name.items x.kept × AllFresh m xs
 
 -- the new entry of a class, and o if there is none
-abbrev pub fresh_at : List Fresh → Name → Option Kept → Option Kept
+abbrev pub fresh_at : List NewEntry → Name → Option ClassEntry → Option ClassEntry
 fresh_at [] d o = o
 fresh_at (x ∷ xs) d o = if same_name d x.name.items then Some x.kept else fresh_at xs d o

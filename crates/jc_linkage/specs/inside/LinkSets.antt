@@ -3,8 +3,8 @@ use Rattle.std.specs.Prelude.{◌≡◌, Bool, ◌&&◌, ◌||◌, not, List, Op
 use Rattle.jc_classes.specs.NameLists.{has}
 use Rattle.jc_classes.specs.Names.{Name, same_name}
 use Rattle.jc_index.specs.Indexes.{Between}
-use Rattle.jc_linkage.specs.declared.kept.Fresh.{Fresh}
-use Rattle.jc_linkage.specs.declared.kept.Kept.{Kept}
+use Rattle.jc_linkage.specs.declared.class_entry.NewEntry.{NewEntry}
+use Rattle.jc_linkage.specs.declared.class_entry.ClassEntry.{ClassEntry}
 use Rattle.jc_linkage.specs.declared.links.Links.{Links}
 use Rattle.jc_linkage.specs.inside.Kept.{KeptMap, Relation, fresh_has, held_in, linked, names_by}
 use Rattle.jc_linkage.specs.inside.Users.{is_name}
@@ -16,11 +16,11 @@ LinkSet = Relation → (name class : Name) → Bool
 -- ---- sets
 
 -- the links of the class to each name of its entry
-abbrev pub links_of : (class : Name) → Kept → LinkSet
+abbrev pub links_of : (class : Name) → ClassEntry → LinkSet
 links_of class kept r n d = same_name d class && has (names_by r kept) n
 
 -- the links of the class to each name of the entry `kept` that the entry `other` lacks
-abbrev pub links_but : (class : Name) → (kept other : Kept) → LinkSet
+abbrev pub links_but : (class : Name) → (kept other : ClassEntry) → LinkSet
 links_but class kept other r n d = same_name d class && (has (names_by r kept) n && not (has (names_by r other) n))
 
 -- the links of the class to each name of its entry in the map
@@ -28,7 +28,7 @@ abbrev pub links_held : (class : Name) → KeptMap → LinkSet
 links_held class kept r n d = same_name d class && held_in r kept d n
 
 -- the links of the class to each name of its entry in the map that its new entry lacks
-abbrev pub links_lost : (class : Name) → KeptMap → Kept → LinkSet
+abbrev pub links_lost : (class : Name) → KeptMap → ClassEntry → LinkSet
 links_lost class kept now r n d = same_name d class && (held_in r kept d n && not (has (names_by r now) n))
 
 -- the links of the removed class to each name of its entry in the map
@@ -40,14 +40,14 @@ abbrev pub all_held : KeptMap → LinkSet
 all_held kept r n d = held_in r kept d n
 
 -- the links of all new entries
-abbrev pub all_fresh : List Fresh → LinkSet
+abbrev pub all_fresh : List NewEntry → LinkSet
 all_fresh fresh r n d = fresh_has r fresh d n
 
 abbrev pub together : (these those : LinkSet) → LinkSet
 together these those r n d = these r n d || those r n d
 
 -- the links of the entries in the map, and of the new entries
-abbrev pub held_and_fresh : KeptMap → List Fresh → LinkSet
+abbrev pub held_and_fresh : KeptMap → List NewEntry → LinkSet
 held_and_fresh kept fresh r n d = held_in r kept d n || fresh_has r fresh d n
 
 abbrev pub without : (these those : LinkSet) → LinkSet

@@ -7,7 +7,7 @@ use Rattle.std.specs.Option.{option_copied}
 use Rattle.jc_classes.specs.NameLists.{has}
 use Rattle.jc_classes.specs.Names.{Name, same_name}
 use Rattle.jc_index.specs.Indexes.{UserLists, users_of}
-use Rattle.jc_linkage.specs.declared.kept.Kept.{Kept}
+use Rattle.jc_linkage.specs.declared.class_entry.ClassEntry.{ClassEntry}
 use Rattle.jc_linkage.specs.inside.Kept.{KeptMap}
 
 abbrev pub is_name : Option Name → Name → Bool
@@ -42,7 +42,7 @@ HasUsers names lists first second gone =
     (d : Name) → has names d ≡ (is_user_of lists (option_copied first) (option_copied second) d && not (is_name (option_copied gone) d))
 
 -- the entry of a class; the removed class has none
-abbrev pub kept_but : (gone : Option Name) → KeptMap → Name → Option Kept
+abbrev pub kept_but : (gone : Option Name) → KeptMap → Name → Option ClassEntry
 kept_but gone kept d = cond (is_name gone d) None (map.get kept d)
 
 -- each of the names has an entry, and none is the name of the removed class

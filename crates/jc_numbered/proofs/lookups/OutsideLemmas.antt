@@ -17,7 +17,7 @@ use Rattle.jc_numbered.proofs.lookups.Bridge.{filter_in, filter_out, node_in, ab
 is_out : (s o : Stands) → o ≡ s → Decides (is_outside s) (o ≡ stands.Outside)
 is_out (stands.Class r) o e = (λ q. absurd cc, λ q. absurd cc)
 is_out stands.Outside o e = (λ q. e, λ q. refl)
-is_out stands.Nothing o e = (λ q. absurd cc, λ q. absurd cc)
+is_out stands.Absent o e = (λ q. absurd cc, λ q. absurd cc)
 
 module _ (m : World) (count : ℕ) (x : Indexed) (graph : IsGraph count x) (index : IsIndexed m x)
     (start : ℕ) (within : start < count) (flags : List Bool) (list : List ℕ) (tells : TellsAbove count x.supertypes (start ∷ []) flags list) where

@@ -7,7 +7,7 @@ use Rattle.std.specs.declared.alloc.Global.{Global}
 use Rattle.jc_classes.specs.Names.{Name, names_of}
 use Rattle.jc_classes.specs.Numbers.{name_at}
 use Rattle.jc_classes.specs.Worlds.{Stands, World, superclass_of, supertypes_of}
-use Rattle.jc_classes.specs.Worlds.Stands.{Nothing}
+use Rattle.jc_classes.specs.Worlds.Stands.{Absent}
 use Rattle.jc_classes.specs.Lent.{stands_of}
 use Rattle.jc_classes.specs.declared.standing.Standing.{Standing}
 use Rattle.jc_graph.specs.Graph.{successors_of}
@@ -34,7 +34,7 @@ abbrev pub indexed_name : Indexed → ℕ → Name
 indexed_name x i = name_at x.names i
 
 abbrev pub standing_of : Indexed → ℕ → Stands
-standing_of x i = slice_index_or x.standing i Nothing
+standing_of x i = slice_index_or x.standing i Absent
 
 abbrev pub rank_at : Indexed → ℕ → ℕ
 rank_at x i = slice_index_or x.rank i 0

@@ -9,7 +9,7 @@ use Rattle.jc_numbered.specs.inside.Indexed.{Indexed, indexed_name, standing_of,
 abbrev pub is_outside : Stands → Bool
 is_outside (stands.Class r) = false
 is_outside stands.Outside = true
-is_outside stands.Nothing = false
+is_outside stands.Absent = false
 
 -- whether a node is outside
 abbrev pub lies_outside : Indexed → ℕ → Bool

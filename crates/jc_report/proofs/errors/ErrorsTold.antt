@@ -11,7 +11,7 @@ use Rattle.jc_classes.specs.Names.{Name}
 use Rattle.jc_classes.specs.Parts.{AreAnswers, Part}
 use Rattle.jc_classes.specs.Resolution.{Answer}
 use Rattle.jc_classes.specs.Worlds.{World, references_of}
-use Rattle.jc_classes.specs.declared.user.User.{User}
+use Rattle.jc_classes.specs.declared.used.User.{User}
 use Rattle.jc_link.specs.Prefixes.{is_covered}
 use Rattle.jc_link.specs.Tables.{or_built_in, stands_by}
 use Rattle.jc_report.specs.ErrorsText.{Asked, answer_errors, answered_text, class_errors, classes_errors, code_error, code_text, errors_text, file_error, final_superclass_error, has_error_among, has_inheritance_error, has_listed_error, inheritance_errors, is_asked, is_listed, is_wrong_class, is_wrong_file, overridden_error}

@@ -4,9 +4,9 @@ use Rattle.std.specs.declared.cmp.Ordering.TheVariants.{Equal}
 use Rattle.std.specs.Ordering.{nat_cmp, ordering_then}
 use Rattle.std.specs.Cmp.{Equal-is}
 use Rattle.jc_classes.specs.Names.{name_cmp}
-use Rattle.jc_classes.specs.declared.reference_kind.ReferenceKind.{ReferenceKind}
-use Rattle.jc_classes.specs.declared.reference_kind.ReferenceKind.TheVariants as kinds
-use Rattle.jc_classes.specs.contracts.reference_kind.ReferenceKindOrd.TheImpl as kind_order
+use Rattle.jc_classes.specs.declared.reference.ReferenceKind.{ReferenceKind}
+use Rattle.jc_classes.specs.declared.reference.ReferenceKind.TheVariants as kinds
+use Rattle.jc_classes.specs.contracts.reference.ReferenceKindOrd.TheImpl as kind_order
 use Rattle.jc_report.specs.declared.row.Row.{Row}
 use Rattle.jc_report.specs.contracts.row.RowOrd.TheImpl as row_order
 use Rattle.jc_report.specs.contracts.row.RowOrd.TheImpl.Laws as laws

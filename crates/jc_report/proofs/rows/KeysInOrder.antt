@@ -16,7 +16,7 @@ use Rattle.jc_classes.specs.Facts.{Facts, Key, Member}
 use Rattle.jc_classes.specs.Names.{same_name}
 use Rattle.jc_classes.specs.Worlds.{key_of}
 use Rattle.jc_classes.specs.MemberOrder.{IsOrder, key_at, key_cmp, place_cmp}
-use Rattle.jc_classes.specs.declared.reference_kind.ReferenceKind.{ReferenceKind}
+use Rattle.jc_classes.specs.declared.reference.ReferenceKind.{ReferenceKind}
 use Rattle.jc_classes.proofs.worlds.NameTests.{same_is, same_self}
 use Rattle.jc_report.specs.inside.MemberRows.{is_last, is_open_by, key_if, keys_after, members_by, open_key, open_keys}
 use Rattle.jc_report.proofs.rows.RisingLists.{all_by, by_all}

@@ -5,8 +5,8 @@ use Rattle.std.specs.List.{filter}
 use Rattle.jc_base.proofs.Membership.{Has, has-cases, has-from_map}
 use Rattle.jc_classes.specs.Facts.{Facts, Member}
 use Rattle.jc_classes.specs.Parts.{Part}
-use Rattle.jc_classes.specs.declared.reference_kind.ReferenceKind.{ReferenceKind}
-use Rattle.jc_classes.specs.declared.reference_kind.ReferenceKind.TheVariants as kinds
+use Rattle.jc_classes.specs.declared.reference.ReferenceKind.{ReferenceKind}
+use Rattle.jc_classes.specs.declared.reference.ReferenceKind.TheVariants as kinds
 use Rattle.jc_report.specs.ClassRows.{class_row, is_open, is_open_method, member_row, open_rows, provided_rows}
 use Rattle.jc_report.specs.Rows.{Row}
 

@@ -15,8 +15,8 @@ use Rattle.jc_classes.specs.MemberOrder.{IsOrder, key_cmp}
 use Rattle.jc_classes.specs.Names.{Name}
 use Rattle.jc_classes.specs.Parts.{Part}
 use Rattle.jc_classes.specs.Worlds.{key_of}
-use Rattle.jc_classes.specs.declared.reference_kind.ReferenceKind.{ReferenceKind}
-use Rattle.jc_classes.specs.declared.reference_kind.ReferenceKind.TheVariants as kinds
+use Rattle.jc_classes.specs.declared.reference.ReferenceKind.{ReferenceKind}
+use Rattle.jc_classes.specs.declared.reference.ReferenceKind.TheVariants as kinds
 use Rattle.jc_report.specs.ClassRows.{class_row, is_loaded, is_open, is_open_method, member_row, open_rows, provided_rows}
 use Rattle.jc_report.specs.Rows.{AreRows, Row, kind_number, row_cmp}
 use Rattle.jc_report.specs.inside.MemberRows.{is_open_by, key_row, keys_after, members_by, open_keys, rows_by}

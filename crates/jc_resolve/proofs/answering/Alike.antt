@@ -9,8 +9,8 @@ use Rattle.jc_classes.specs.Parts.{IsAnswer, ResolvesOf}
 use Rattle.jc_classes.specs.Resolution.{Answer, ResolvesClass, ResolvesField, ResolvesInterfaceMethod, ResolvesMethod}
 use Rattle.jc_classes.specs.Resolution.{Answer as answer}
 use Rattle.jc_classes.specs.Worlds.{World, text_of}
-use Rattle.jc_classes.specs.declared.reference_kind.ReferenceKind.{ReferenceKind}
-use Rattle.jc_classes.specs.declared.reference_kind.ReferenceKind.TheVariants as kind
+use Rattle.jc_classes.specs.declared.reference.ReferenceKind.{ReferenceKind}
+use Rattle.jc_classes.specs.declared.reference.ReferenceKind.TheVariants as kind
 use Rattle.jc_numbered.specs.declared.loads.Load.{Load}
 use Rattle.jc_numbered.specs.inside.Indexed.{Indexed, indexed_name}
 use Rattle.jc_numbered.specs.inside.Loading.{load_at}

@@ -125,7 +125,7 @@ module _ (m : World) (count : ℕ) (x : Indexed) (graph : IsGraph count x) (inde
       class_of r e false o false q = load.through (record_same v l ∙ e) o (λ a. let t : true ≡ false = sym (d.1 (circular_back v l a)) ∙ q in absurd cc) (each_of r e q)
 
       by : (o : Stands) → standing_of x v ≡ o → defs.Load m (indexed_name x v) (loading_of x (load_by (standing_of x v) flag v (judged_each x loads v (has_superclass (standing_of x v)) (x.supertypes v))))
-      by stands.Nothing e = subst (λ z. defs.Load m (indexed_name x v) (loading_of x (load_by z flag v (judged_each x loads v (has_superclass (standing_of x v)) (x.supertypes v))))) (sym e) (load.missing (record_same v l ∙ e))
+      by stands.Absent e = subst (λ z. defs.Load m (indexed_name x v) (loading_of x (load_by z flag v (judged_each x loads v (has_superclass (standing_of x v)) (x.supertypes v))))) (sym e) (load.missing (record_same v l ∙ e))
       by stands.Outside e = subst (λ z. defs.Load m (indexed_name x v) (loading_of x (load_by z flag v (judged_each x loads v (has_superclass (standing_of x v)) (x.supertypes v))))) (sym e) (load.outside (record_same v l ∙ e))
       by (stands.Class r) e = subst (λ z. defs.Load m (indexed_name x v) (loading_of x (load_by z flag v (judged_each x loads v (has_superclass (standing_of x v)) (x.supertypes v))))) (sym e) (class_of r e (is_faulty r) refl flag refl)
 

@@ -7,7 +7,7 @@ use Rattle.std.specs.Option.{option_to_list}
 use Rattle.jc_classes.specs.Names.{Name, same_name}
 use Rattle.jc_classes.specs.Worlds.{World, Stands, superclass_of, interfaces_of}
 use Rattle.jc_classes.specs.Facts.{Reference}
-use Rattle.jc_classes.specs.Worlds.Stands.{Nothing}
+use Rattle.jc_classes.specs.Worlds.Stands.{Absent}
 use Rattle.jc_classes.specs.Loading.{Loading}
 use Rattle.jc_classes.specs.Resolution.Answer.{NotLoaded}
 use Rattle.jc_classes.specs.Parts.{IsAnswer, AreAnswers, class_of}
@@ -30,14 +30,14 @@ use Rattle.jc_resolve.proofs.loading.Goods.{falls, stays}
 -- ---- the map that a net is
 
 look : List Name → List Stands → Name → Stands
-look [] rs n = Nothing
-look (k ∷ ks) [] n = Nothing
+look [] rs n = Absent
+look (k ∷ ks) [] n = Absent
 look (k ∷ ks) (r ∷ rs) n = cond (same_name n k) r (look ks rs n)
 
 abbrev at : List Name → ℕ → Name
 at ks i = get_or ks i []
 
-look_at : (ks : List Name) (rs : List Stands) → ((i j : ℕ) → i < length ks → j < length ks → at ks i ≡ at ks j → i ≡ j) → length rs ≡ length ks → (i : ℕ) → i < length ks → look ks rs (at ks i) ≡ get_or rs i Nothing
+look_at : (ks : List Name) (rs : List Stands) → ((i j : ℕ) → i < length ks → j < length ks → at ks i ≡ at ks j → i ≡ j) → length rs ≡ length ks → (i : ℕ) → i < length ks → look ks rs (at ks i) ≡ get_or rs i Absent
 unfolding look
 look_at [] rs once e i l = absurd (omega arith)
 look_at (k ∷ ks) [] once e i l = absurd (omega arith)
@@ -45,7 +45,7 @@ look_at (k ∷ ks) (r ∷ rs) once e zero l = ap (λ b. cond b r (look ks rs k))
 look_at (k ∷ ks) (r ∷ rs) once e (suc i) l =
     by (same_name (at ks i) k) refl (look_at ks rs (λ a b p q h. let s = once (suc a) (suc b) (omega arith) (omega arith) h in omega arith) (omega arith) i (omega arith))
   where
-    by : (b : Bool) → same_name (at ks i) k ≡ b → look ks rs (at ks i) ≡ get_or rs i Nothing → cond b r (look ks rs (at ks i)) ≡ get_or rs i Nothing
+    by : (b : Bool) → same_name (at ks i) k ≡ b → look ks rs (at ks i) ≡ get_or rs i Absent → cond b r (look ks rs (at ks i)) ≡ get_or rs i Absent
     by true s h = let z = once (suc i) 0 l (omega arith) (same_is (at ks i) k s) in absurd (omega arith)
     by false s h = h
 
@@ -79,7 +79,7 @@ begins_at count x net a o e = by (under a (length x.names))
         let f = first_few (superclass_of (standing_of x a)) (interfaces_of (standing_of x a)) in
         omega arith
     by (inr l) =
-        let p : standing_of x a ≡ Nothing = get_or_past x.standing a Nothing (omega (arith, net.names, net.standing)) in
+        let p : standing_of x a ≡ Absent = get_or_past x.standing a Absent (omega (arith, net.names, net.standing)) in
         let q = ap (λ r. superclass_count r) p in
         omega arith
 

@@ -2,7 +2,7 @@
 use Rattle.std.specs.Prelude.{◌≡◌, ◌≢◌, ℕ, ◌<◌, List, length, slice_get, Option, Some}
 use Rattle.std.specs.List.{Contains}
 use Rattle.jc_classes.specs.Facts.{Reference}
-use Rattle.jc_classes.specs.LinkErrors.{LinkFault, links_of}
+use Rattle.jc_classes.specs.LinkErrors.{LinkError, links_of}
 use Rattle.jc_classes.specs.Parts.{AreAnswers, IsAnswer}
 use Rattle.jc_classes.specs.Resolution.{Answer}
 use Rattle.jc_classes.specs.Worlds.{World, references_of}
@@ -60,7 +60,7 @@ abbrev pub node_references : Classes → ℕ → List Reference
 node_references c class = references_of (standing_of (indexed_of c) class)
 
 -- the errors of the instructions of the class
-abbrev pub node_links : Classes → ℕ → List Answer → List LinkFault
+abbrev pub node_links : Classes → ℕ → List Answer → List LinkError
 node_links c class answers = links_of (indexed_name (indexed_of c) class) (standing_of (indexed_of c) class) answers
 
 -- the answers to the references of the class

@@ -14,7 +14,7 @@ use Rattle.jc_numbered.specs.inside.Loading.{judged_each}
 use Rattle.jc_resolve.specs.inside.Resolved.{loading_of}
 
 abbrev pub load_by : Stands → Bool → ℕ → Load → Load
-load_by stands.Nothing flag v each = Fails fault.NoClass v
+load_by stands.Absent flag v each = Fails fault.NoClass v
 load_by stands.Outside flag v each = Outside
 load_by (stands.Class r) flag v each = cond (is_faulty r) (Fails fault.Format v) (cond flag (Fails fault.Circular v) each)
 

@@ -7,7 +7,7 @@ use Rattle.jc_classes.specs.Parts.{ResolvesOf}
 use Rattle.jc_classes.specs.Resolution.{Answer, ResolvesClass, Settles, Starts, class_answer}
 use Rattle.jc_classes.specs.Worlds.{World, text_of}
 use Rattle.jc_classes.specs.declared.linkage_error.LinkageError.{LinkageError}
-use Rattle.jc_numbered.specs.declared.classes.Hit.{Hit}
+use Rattle.jc_numbered.specs.declared.classes.FoundMember.{FoundMember}
 use Rattle.jc_numbered.specs.inside.Indexed.{Indexed, indexed_name, IsIndexed}
 use Rattle.jc_numbered.specs.inside.Loading.{load_at, sees}
 use Rattle.jc_numbered.specs.inside.Shown.{found_at, indexed_of}
@@ -38,7 +38,7 @@ TellsMember Resolves l named k e = (m : World) (r : Reference) → TellsLoads m 
     → NamesSo (reach_of l) named r → r.key ≡ k → Resolves m (asker_of l) r.named k (entry_shown (indexed_name (reach_of l)) r e)
 
 -- the answer to a reference to a member, by what look-up from `start` found; `missing` is the error if it found nothing
-abbrev pub TellsOutcome : Look → NamedNode → Key → LinkageError → ℕ → Option Hit → Entry ℕ → Type 0
+abbrev pub TellsOutcome : Look → NamedNode → Key → LinkageError → ℕ → Option FoundMember → Entry ℕ → Type 0
 TellsOutcome l named k missing start found e = (m : World) (r : Reference) → IsIndexed m (reach_of l)
     → NamesSo (reach_of l) named r → r.key ≡ k
     → Settles m (asker_of l) r.named (indexed_name (reach_of l) start) missing

@@ -10,8 +10,8 @@ use Rattle.jc_classes.specs.Resolution.{Start, class_answer, object_start, start
 use Rattle.jc_classes.specs.Resolution.{Start as start}
 use Rattle.jc_numbered.specs.inside.Indexed.{Indexed, indexed_name, good_at, IsIndexed}
 use Rattle.jc_numbered.specs.inside.Loading.{load_at}
-use Rattle.jc_numbered.specs.declared.access.Target.{Target}
-use Rattle.jc_numbered.specs.declared.access.Target.TheVariants as target
+use Rattle.jc_numbered.specs.declared.access.AccessTarget.{AccessTarget}
+use Rattle.jc_numbered.specs.declared.access.AccessTarget.TheVariants as target
 use Rattle.jc_numbered.specs.declared.loads.Load.{Load as LoadState}
 use Rattle.jc_numbered.specs.declared.loads.Load.TheVariants as state
 use Rattle.jc_resolve.specs.declared.entry.Entry.{Entry}
@@ -63,7 +63,7 @@ has_loaded (state.Fails f v) = false
 abbrev pub TellsGood : Indexed → List LoadState → Type 0
 TellsGood x loads = (v : ℕ) → load_at loads v ≡ state.Loaded → good_at x v ≡ true
 
-abbrev pub target_at : NamedNode → Target
+abbrev pub target_at : NamedNode → AccessTarget
 target_at (reference.Class v) = target.Class v
 target_at (reference.Array e) = target.Array
 

@@ -2,7 +2,7 @@
 use Rattle.std.specs.Prelude.{◌≡◌, ℕ, ◌&&◌, Bool, false, not, List, [], Option, Some, None, option_map, slice_get}
 use Rattle.jc_classes.specs.Facts.{Member, Reference}
 use Rattle.jc_classes.specs.LinkErrors as defs
-use Rattle.jc_classes.specs.LinkErrors.{Fault, final_fault, is_init, link_fault, member_fault, site_of}
+use Rattle.jc_classes.specs.LinkErrors.{ErrorAt, final_error, is_init, link_error, member_error, site_of}
 use Rattle.jc_classes.specs.Names.{Name, same_name}
 use Rattle.jc_classes.specs.Resolution.{Answer}
 use Rattle.jc_classes.specs.Resolution.{Answer as answer}
@@ -37,8 +37,8 @@ is_other_init text (answer.Error e n) = false
 
 -- ---- errors, without the class at fault
 
-abbrev pub error_of : Option Fault → Option LinkageError
-error_of fault = option_map (λ (f : Fault). f.0) fault
+abbrev pub error_of : Option ErrorAt → Option LinkageError
+error_of fault = option_map (λ (f : ErrorAt). f.0) fault
 
 -- these are the reference of the site and its answer
 pub record IsAt (s : Site) (r : Reference) (a : Answer) : Type 0 where
@@ -49,14 +49,14 @@ abbrev pub site_at : Site → Reference → defs.Site
 site_at s r = site_of s.class.now s.facts.now s.one r
 
 abbrev pub TellsError : Site → Option LinkageError → Type 0
-TellsError s error = (r : Reference) (a : Answer) → IsAt s r a → error ≡ error_of (link_fault (site_at s r) s.one.kind a)
+TellsError s error = (r : Reference) (a : Answer) → IsAt s r a → error ≡ error_of (link_error (site_at s r) s.one.kind a)
 
 -- the error for a member with these flags
 abbrev pub TellsMemberError : Site → ℕ → Option LinkageError → Type 0
 TellsMemberError s flags error = (r : Reference) (home : Name) (x : Member) → IsAt s r (answer.ToMember home x) → flags ≡ x.flags
-    → error ≡ error_of (member_fault (site_at s r) s.one.kind home x)
+    → error ≡ error_of (member_error (site_at s r) s.one.kind home x)
 
 -- the error for a store into the member
 abbrev pub TellsFinal : Site → ℕ → List ℕ → Option LinkageError → Type 0
 TellsFinal s flags initializer error = (r : Reference) (home : Name) (x : Member) → IsAt s r (answer.ToMember home x) → flags ≡ x.flags
-    → error ≡ error_of (final_fault (site_at s r) initializer home x)
+    → error ≡ error_of (final_error (site_at s r) initializer home x)

@@ -4,11 +4,11 @@ use Rattle.clap.specs.Faults.{fault_of, is_simple_and_free}
 use Rattle.clap.specs.Kinds.{HasKind, IsAmong}
 use Rattle.clap.specs.Simple.{Shape, app_of, subcommand_of}
 use Rattle.clap.specs.Values.{kind_of}
-use Rattle.clap.specs.Walk.{Row}
+use Rattle.clap.specs.FolderWalk.{Row}
 use Rattle.clap.specs.declared.builder.command.Command.{Command}
 use Rattle.clap.specs.declared.error.Error.{Error}
 use Rattle.clap.specs.declared.error.kind.ErrorKind.TheVariants.{OutOfMemory}
-use Rattle.jc_session.specs.declared.fault.Fault.{Fault}
+use Rattle.jc_session.specs.declared.program_error.ProgramError.{ProgramError}
 use Rattle.jc_session.specs.Statuses.{NamesCommand, NoMemory, Usage}
 use Rattle.jc_session.specs.Words.{HasFault, IsUsageError, Word, jclink_command}
 use Rattle.jc_session.specs.inside.LentFaults.{fault_lent}
@@ -22,7 +22,7 @@ pub no_fault : (command : Command) (words : List Word) → app_of command ≡ jc
 no_fault command words is passes = ap (λ a. fault_of a words) (sym is) ∙ passes (ap is_simple_and_free is ∙ line_is_free)
 
 -- and one that fails finds one, unless an allocation failed
-pub failed : (command : Command) (words : List Word) (error : Error) (fault : Fault) → app_of command ≡ jclink_command
+pub failed : (command : Command) (words : List Word) (error : Error) (fault : ProgramError) → app_of command ≡ jclink_command
     → (is_simple_and_free (app_of command) ≡ true → HasKind (fault_of (app_of command) words) error)
     → (kind_of error ≡ OutOfMemory → fault_lent fault ≡ NoMemory) → (fault_lent fault ≡ Usage) ⊎ (fault_lent fault ≡ NoMemory) → FailsFor (IsUsageError words) fault
 unfolding HasFault

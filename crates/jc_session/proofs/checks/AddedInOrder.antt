@@ -3,8 +3,8 @@ use Rattle.std.proofs.Common.{◌≡◌, ℕ, List, [], ◌∷◌, ◌++◌, Opt
 use Rattle.std.specs.FinMap as map
 use Rattle.jc_report.specs.Files.{Files}
 use Rattle.jc_report.specs.Trees.{IsTree, Tree}
-use Rattle.jc_session.specs.declared.checking.CheckError.{CheckError}
-use Rattle.jc_session.specs.declared.checking.CheckError.TheVariants as errors
+use Rattle.jc_session.specs.declared.tree_check.CheckError.{CheckError}
+use Rattle.jc_session.specs.declared.tree_check.CheckError.TheVariants as errors
 use Rattle.jc_input.specs.declared.edit.EditError.{EditError}
 use Rattle.jc_input.specs.declared.source.SourceError.TheVariants as sources
 use Rattle.jc_session.specs.Checks.{Added, All, Answer, GivesAnswers, Lacks, Refused, Unread, added, answered_add, judged_add, stops_at}

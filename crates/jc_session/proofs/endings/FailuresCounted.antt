@@ -8,11 +8,11 @@ use Rattle.jc_input.specs.declared.edit.EditError.{EditError}
 use Rattle.jc_input.specs.declared.edit.EditError.TheVariants as errors
 use Rattle.jc_input.specs.declared.source.SourceError.{SourceError}
 use Rattle.jc_input.specs.declared.source.SourceError.TheVariants as sources
-use Rattle.jc_input.specs.FileEdits.{size_fault}
+use Rattle.jc_input.specs.FileEdits.{size_refusal}
 use Rattle.std.specs.Io.KnownBytes.{Keeps}
 use Rattle.jc_session.specs.Checks.{CheckFault, FileRefused, FileUnread, WriteFailed}
 use Rattle.jc_session.specs.Checks as checks
-use Rattle.jc_session.specs.Statuses.{Checks, CountsInput, CountsOutput, Fault, ListsAs, ListsFile, NoMemory, Outcome, Refused, Usage, fault_of, outcome_of_check}
+use Rattle.jc_session.specs.Statuses.{Checks, CountsInput, CountsOutput, ProgramError, ListsAs, ListsFile, NoMemory, Outcome, Refused, Usage, fault_of, outcome_of_check}
 use Rattle.jc_session.specs.Words.{Word}
 
 pub input_counts : (e : RunError) (old new : ℕ) → CountsReads {T = Ended} (Err e) old new → CountsInput (Err (fault_of e)) old new
@@ -26,10 +26,10 @@ output_counts run_errors.Write old new counts = counts
 output_counts run_errors.NoMemory old new counts = counts
 
 -- with no run no device fails
-pub input_idle : (fault : Fault) (n : ℕ) → (fault ≡ Usage) ⊎ (fault ≡ NoMemory) → CountsInput (Err fault) n n
+pub input_idle : (fault : ProgramError) (n : ℕ) → (fault ≡ Usage) ⊎ (fault ≡ NoMemory) → CountsInput (Err fault) n n
 input_idle fault n is = ⊎_elim (λ e. subst (λ x. CountsInput (Err x) n n) (sym e) refl) (λ e. subst (λ x. CountsInput (Err x) n n) (sym e) refl) is
 
-pub output_idle : (fault : Fault) (n : ℕ) → (fault ≡ Usage) ⊎ (fault ≡ NoMemory) → CountsOutput (Err fault) n n
+pub output_idle : (fault : ProgramError) (n : ℕ) → (fault ≡ Usage) ⊎ (fault ≡ NoMemory) → CountsOutput (Err fault) n n
 output_idle fault n is = ⊎_elim (λ e. subst (λ x. CountsOutput (Err x) n n) (sym e) refl) (λ e. subst (λ x. CountsOutput (Err x) n n) (sym e) refl) is
 
 counts_of_check : (checked : Result Bool CheckFault) (n : ℕ) → CountsInput (outcome_of_check checked) n n
@@ -47,7 +47,7 @@ input_unread words outcome before now n =
 
 -- nor does a listing
 pub input_unlisted : (path : List ℕ) (answer : Result (List ℕ) SourceError) (outcome : Outcome) (before now : Option (List ℕ)) (n : ℕ) → ListsAs path answer outcome before now → CountsInput outcome n n
-input_unlisted path (Ok bytes) outcome before now n lists = sized (size_fault bytes) lists
+input_unlisted path (Ok bytes) outcome before now n lists = sized (size_refusal bytes) lists
   where
     sized : (o : Option EditError) → MatchOption o (ListsFile bytes outcome before now) (λ _. (outcome ≡ Err (Refused errors.TooLarge path)) × Keeps before now) → CountsInput outcome n n
     sized None h = ⊎_elim (λ did. subst (λ x. CountsInput x n n) (sym did.0) refl) (⊎_elim (λ did. subst (λ x. CountsInput x n n) (sym did.0) refl) (λ did. subst (λ x. CountsInput x n n) (sym did.0) refl)) h

@@ -1,7 +1,7 @@
 -- A usage error, or no memory for the arguments, performs nothing.
 use Rattle.std.proofs.Common.{◌≡◌, ◌⊎◌, ℕ, List, Option, Err, ap, inl, inr, refl, ⊎_elim}
 use Rattle.std.proofs.KnownBytes.{Keeps-refl}
-use Rattle.jc_session.specs.declared.fault.Fault.{Fault as LentFault}
+use Rattle.jc_session.specs.declared.program_error.ProgramError.{ProgramError as LentFault}
 use Rattle.jc_session.specs.Statuses.{NoMemory, Performs, Usage}
 use Rattle.jc_session.specs.Words.{IsUsageError}
 use Rattle.jc_session.specs.inside.LentFaults.{fault_lent}

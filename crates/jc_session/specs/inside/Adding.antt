@@ -3,9 +3,9 @@ use Rattle.std.specs.Prelude.{◌≡◌, ℕ, Bool, List, [], Option, Result, Ok
 use Rattle.std.specs.FinMap as map
 use Rattle.jc_report.specs.Files.{Files}
 use Rattle.jc_report.specs.Trees.{IsTree, Tree}
-use Rattle.jc_session.specs.declared.checking.CheckError.{CheckError}
-use Rattle.jc_session.specs.declared.checking.CheckError.TheVariants as errors
-use Rattle.jc_session.specs.declared.checking.CheckForm.{CheckForm}
+use Rattle.jc_session.specs.declared.tree_check.CheckError.{CheckError}
+use Rattle.jc_session.specs.declared.tree_check.CheckError.TheVariants as errors
+use Rattle.jc_session.specs.declared.tree_check.CheckForm.{CheckForm}
 use Rattle.jc_session.specs.Checks.{Added, All, Answer, AreAdded, CheckFault, ChecksAs, GivesAnswers, Refused, Unread, added, answered_add}
 use Rattle.jc_input.specs.Sources.{SourceAnswers}
 

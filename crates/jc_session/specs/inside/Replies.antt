@@ -25,8 +25,8 @@ use Rattle.jc_session.specs.ListedText.{listed_text}
 
 -- the change that adds a file with these bytes at a path, or replaces the bytes of that file
 abbrev pub placed : Placing → List ℕ → List ℕ → Change
-placed placings.New path bytes = Adds path bytes
-placed placings.Other path bytes = Replaces path bytes
+placed placings.Add path bytes = Adds path bytes
+placed placings.Replace path bytes = Replaces path bytes
 
 -- the edit was made and changed the files and prefixes h to g, or it was refused and h and g are equal
 abbrev pub IsEdited : Contents → Contents → EditChange → Result Done EditError → Type 0

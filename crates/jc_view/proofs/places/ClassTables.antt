@@ -7,7 +7,7 @@ use Rattle.jc_view.specs.declared.attribute_kind.Holder.{Holder}
 use Rattle.jc_view.specs.declared.attribute_kind.Holder.TheVariants as holders
 use Rattle.jc_view.specs.declared.layout_reader.ClassParts as reader
 use Rattle.jc_view.specs.declared.layout_reader.ClassTables.{ClassTables}
-use Rattle.jc_view.specs.declared.table.Table.{Table}
+use Rattle.jc_view.specs.declared.entries.Entries.{Entries}
 use Rattle.jc_view.specs.ConstantPool.{constant_bytes, index_bytes, index_value}
 use Rattle.jc_view.specs.ClassFile.{ClassFile, Attribute, Member, counted, attribute_bytes, member_bytes, magic, head_bytes, tail_bytes, layout, all_slots}
 use Rattle.jc_view.specs.Places.{fields_place, methods_place, attributes_place, members_from, attributes_from}
@@ -26,14 +26,14 @@ use Rattle.jc_view.proofs.refusals.FirstRefusal.{good_of, gone_over, parts_found
 
 -- ---- one table
 
-stands_whole : (one : List ℕ → Option (List ℕ)) (xs rest : List ℕ) (end : ℕ) (t : Table) → after_table one xs ≡ Some rest → StandsAt xs end t → IsWhole one t
+stands_whole : (one : List ℕ → Option (List ℕ)) (xs rest : List ℕ) (end : ℕ) (t : Entries) → after_table one xs ≡ Some rest → StandsAt xs end t → IsWhole one t
 stands_whole one xs rest end t e h =
     let b = then_some (after 2 xs) (after_each one (big_number 2 xs)) rest e in
     let here : t.cursor.rest ≡ b.0 = h.rest ∙ (after_some 2 xs b.0 b.1).left in
     let all : after_each one t.left t.cursor.rest ≡ Some rest = ap (λ (n : ℕ). after_each one n t.cursor.rest) h.count ∙ ap (after_each one (big_number 2 xs)) here ∙ b.2 in
     rw all refl
 
-table_of : {X : Type 0} (one : List ℕ → Option (List ℕ)) (value : List ℕ → X) (xs : List ℕ) (end : ℕ) (t : Table) → StandsAt xs end t → entries one value t ≡ table_value one value xs
+table_of : {X : Type 0} (one : List ℕ → Option (List ℕ)) (value : List ℕ → X) (xs : List ℕ) (end : ℕ) (t : Entries) → StandsAt xs end t → entries one value t ≡ table_value one value xs
 table_of one value xs end t h i = entries one value (record { left = h.count i; cursor = record { place = t.cursor.place; rest = h.rest i } })
 
 -- ---- lengths of a class file
@@ -112,7 +112,7 @@ module _ (c : ClassFile) (xs rest : List ℕ) (end : ℕ) (t : ClassTables) (h :
   fields_begin : t.fields.cursor.place ≡ fields_place c + 2
   fields_begin = omega (arith, fields.place, long, length-layout c, attributes_long, methods_long, fields_long)
 
-  members_are : (holder : Holder) (place : ℕ) (ys : List ℕ) (table : Table) (members : List Member) → StandsAt ys end table → table.cursor.place ≡ place → members ≡ members_in ys
+  members_are : (holder : Holder) (place : ℕ) (ys : List ℕ) (table : Entries) (members : List Member) → StandsAt ys end table → table.cursor.place ≡ place → members ≡ members_in ys
       → members_from holder table.cursor.place (entries after_member member_value table) ≡ members_from holder place members
   members_are holder place ys table members s e f =
       ap (λ (n : ℕ). members_from holder n (entries after_member member_value table)) e ∙ ap (members_from holder place) (table_of after_member member_value ys end table s ∙ sym f)

@@ -6,7 +6,7 @@ use Rattle.jc_base.proofs.Common.{both_true}
 use Rattle.jc_base.specs.Cursor.{Reading, past}
 use Rattle.jc_base.specs.Endian.{big_bytes, big_number}
 use Rattle.jc_view.specs.declared.code.CodeBody.{CodeBody}
-use Rattle.jc_view.specs.declared.table.Table.{Table}
+use Rattle.jc_view.specs.declared.entries.Entries.{Entries}
 use Rattle.jc_view.specs.ConstantPool.{index_bytes}
 use Rattle.jc_view.specs.ClassFile.{Attribute, counted}
 use Rattle.jc_view.specs.Reading.{after, after_each, after_table, table_value, after_attribute, attribute_value}
@@ -21,7 +21,7 @@ use Rattle.jc_view.proofs.places.Entries.{HasLength, after_length, table_length}
 
 -- ---- the table that was lent
 
-pub lent_whole : (one : List ℕ → Option (List ℕ)) (old new : Reading) (t : Table) → LendsTable (after_table one) old (Some t) new → IsWhole one t
+pub lent_whole : (one : List ℕ → Option (List ℕ)) (old new : Reading) (t : Entries) → LendsTable (after_table one) old (Some t) new → IsWhole one t
 lent_whole one old new t h =
     let b = then_some (after 2 old.rest) (after_each one (big_number 2 old.rest)) new.rest h.0 in
     let here : drop 2 old.rest ≡ b.0 = (after_some 2 old.rest b.0 b.1).left in
@@ -29,12 +29,12 @@ lent_whole one old new t h =
     let all : after_each one t.left t.cursor.rest ≡ Some new.rest = ap (λ (n : ℕ). after_each one n t.cursor.rest) h.2 ∙ ap (after_each one (big_number 2 old.rest)) rest ∙ b.2 in
     rw all refl
 
-table_is : (t : Table) (n : ℕ) (cursor : Reading) → t.left ≡ n → t.cursor ≡ cursor → t ≡ record { left = n; cursor = cursor }
+table_is : (t : Entries) (n : ℕ) (cursor : Reading) → t.left ≡ n → t.cursor ≡ cursor → t ≡ record { left = n; cursor = cursor }
 table_is t n cursor e f i = record { left = e i; cursor = f i }
 
-pub lent_entries : {X : Type 0} (after_it one : List ℕ → Option (List ℕ)) (value : List ℕ → X) (old new : Reading) (t : Table) → LendsTable after_it old (Some t) new → entries one value t ≡ table_value one value old.rest
+pub lent_entries : {X : Type 0} (after_it one : List ℕ → Option (List ℕ)) (value : List ℕ → X) (old new : Reading) (t : Entries) → LendsTable after_it old (Some t) new → entries one value t ≡ table_value one value old.rest
 lent_entries after_it one value old new t h =
-    ap (λ (s : Table). entries one value s) (table_is t (big_number 2 old.rest) (past 2 old) h.2 h.3)
+    ap (λ (s : Entries). entries one value s) (table_is t (big_number 2 old.rest) (past 2 old) h.2 h.3)
 
 -- ---- the parts of a code
 

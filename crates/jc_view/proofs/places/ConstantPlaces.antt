@@ -9,7 +9,7 @@ use Rattle.jc_base.specs.Endian.{big_number}
 use Rattle.jc_view.specs.declared.constant_pool.ConstantIndex.{ConstantIndex}
 use Rattle.jc_view.specs.declared.constant_pool.ConstantKind.{ConstantKind}
 use Rattle.jc_view.specs.ConstantPool as pool
-use Rattle.jc_view.specs.ConstantPool.{class_entry, Constant, kind_of, tag_of, kind_of_tag, is_wide, body_bytes, constant_bytes, FitsConstant, utf8_text}
+use Rattle.jc_view.specs.ConstantPool.{class_name_index, Constant, kind_of, tag_of, kind_of_tag, is_wide, body_bytes, constant_bytes, FitsConstant, utf8_text}
 use Rattle.jc_view.specs.ClassFile.{class_text_at, ClassFile, tail_bytes, layout, FitsClassFile, all_slots, constant_from_first, constant_at}
 use Rattle.jc_view.specs.Places.{unusable_index, places_of, place_at, IsLent}
 use Rattle.jc_view.specs.Reading.{after}
@@ -205,7 +205,7 @@ text_lies c index text fits e =
     let found = then_some (constant_at c index) utf8_text text e in
     lent c index text fits (found.1 ∙ ap (λ (k : Constant). Some k) (utf8_is found.0 text found.2))
 
-class_is : (k : Constant) (entry : ConstantIndex) → class_entry k ≡ Some entry → k ≡ pool.Class entry
+class_is : (k : Constant) (entry : ConstantIndex) → class_name_index k ≡ Some entry → k ≡ pool.Class entry
 class_is (pool.Class n) entry e = ap (λ (x : ConstantIndex). pool.Class x) cc
 class_is k entry e = absurd cc
 
@@ -213,15 +213,15 @@ class_is k entry e = absurd cc
 pub class_text_is : (c : ClassFile) (index : ConstantIndex) (text : List ℕ) → class_text_at c index ≡ Some text
     → (entry : ConstantIndex) × (constant_at c index ≡ Some (pool.Class entry)) × (constant_at c entry ≡ Some (pool.Utf8 text))
 class_text_is c index text e =
-    let class = then_some (constant_at c index) (λ class. option_and_then (λ entry. option_and_then utf8_text (constant_at c entry)) (class_entry class)) text e in
-    let entry = then_some (class_entry class.0) (λ entry. option_and_then utf8_text (constant_at c entry)) text class.2 in
+    let class = then_some (constant_at c index) (λ class. option_and_then (λ entry. option_and_then utf8_text (constant_at c entry)) (class_name_index class)) text e in
+    let entry = then_some (class_name_index class.0) (λ entry. option_and_then utf8_text (constant_at c entry)) text class.2 in
     let found = then_some (constant_at c entry.0) utf8_text text entry.2 in
     (entry.0, class.1 ∙ ap (λ (k : Constant). Some k) (class_is class.0 entry.0 entry.1), found.1 ∙ ap (λ (k : Constant). Some k) (utf8_is found.0 text found.2))
 
 pub class_text_from : (c : ClassFile) (index entry : ConstantIndex) (text : List ℕ) → constant_at c index ≡ Some (pool.Class entry) → constant_at c entry ≡ Some (pool.Utf8 text)
     → class_text_at c index ≡ Some text
 class_text_from c index entry text class is =
-    ap (option_and_then (λ class. option_and_then (λ entry. option_and_then utf8_text (constant_at c entry)) (class_entry class))) class ∙ ap (option_and_then utf8_text) is
+    ap (option_and_then (λ class. option_and_then (λ entry. option_and_then utf8_text (constant_at c entry)) (class_name_index class))) class ∙ ap (option_and_then utf8_text) is
 
 -- the text of a Class constant
 pub class_text_lies : (c : ClassFile) (index : ConstantIndex) (text : List ℕ) → FitsClassFile c → class_text_at c index ≡ Some text → (entry : ConstantIndex) × (constant_at c index ≡ Some (pool.Class entry)) × IsLent c entry text

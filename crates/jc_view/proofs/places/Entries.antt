@@ -6,7 +6,7 @@ use Rattle.jc_base.proofs.Common.{left_of}
 use Rattle.jc_base.specs.Cursor.{Reading}
 use Rattle.jc_base.specs.Endian.{big_bytes, big_number}
 use Rattle.jc_view.specs.declared.attribute_kind.Holder.{Holder}
-use Rattle.jc_view.specs.declared.table.Table.{Table}
+use Rattle.jc_view.specs.declared.entries.Entries.{Entries}
 use Rattle.jc_view.specs.ConstantPool.{index_bytes}
 use Rattle.jc_view.specs.ClassFile.{Attribute, Member, counted, attribute_bytes, member_bytes}
 use Rattle.jc_view.specs.Places.{PlacedAttribute, PlacedMember, attributes_from, members_from}
@@ -139,7 +139,7 @@ no_members holder place members e = ap (members_from holder place) e
 
 -- ---- a table that is gone over at once
 
-pub lends_same : (f g : List ℕ → Option (List ℕ)) → ((xs : List ℕ) → f xs ≡ g xs) → (old : Reading) (result : Option Table) (new : Reading) → LendsTable f old result new → LendsTable g old result new
+pub lends_same : (f g : List ℕ → Option (List ℕ)) → ((xs : List ℕ) → f xs ≡ g xs) → (old : Reading) (result : Option Entries) (new : Reading) → LendsTable f old result new → LendsTable g old result new
 lends_same f g same old None new h = sym (same old.rest) ∙ h
 lends_same f g same old (Some t) new h = (sym (same old.rest) ∙ h.0, h.1, h.2, h.3)
 

@@ -3,7 +3,7 @@ use Rattle.std.proofs.Common.{◌≡◌, ◌∙◌, ℕ, suc, ◌+◌, ◌-◌, 
 use Rattle.std.specs.List.{list_all}
 use Rattle.jc_base.specs.Cursor.{Reading, past}
 use Rattle.jc_base.specs.Endian.{big_number}
-use Rattle.jc_view.specs.declared.table.Table.{Table}
+use Rattle.jc_view.specs.declared.entries.Entries.{Entries}
 use Rattle.jc_view.specs.Reading.{after, after_each, each_value, after_indexes}
 use Rattle.jc_view.specs.inside.Tables.{IsWhole}
 use Rattle.jc_view.proofs.reading.BigEndian.{after_some, then_some}
@@ -12,7 +12,7 @@ use Rattle.jc_view.proofs.reading.Tables.{indexes_are}
 is_there : {A : Type 0} (o : Option A) (x : A) → o ≡ Some x → IsSome o
 is_there o x e = rw e refl
 
-pub indexes_whole : (old : Reading) (t : Table) (rest : List ℕ) → after_indexes old.rest ≡ Some rest → t.left ≡ big_number 2 old.rest → t.cursor ≡ past 2 old → IsWhole (after 2) t
+pub indexes_whole : (old : Reading) (t : Entries) (rest : List ℕ) → after_indexes old.rest ≡ Some rest → t.left ≡ big_number 2 old.rest → t.cursor ≡ past 2 old → IsWhole (after 2) t
 indexes_whole old t rest e count at =
     let b = then_some (after 2 old.rest) (after_each (after 2) (big_number 2 old.rest)) rest (sym (indexes_are old.rest) ∙ e) in
     let behind : b.0 ≡ drop 2 old.rest = sym (after_some 2 old.rest b.0 b.1).left in

@@ -4,7 +4,7 @@ use Rattle.jc_base.proofs.Common.{left_of}
 use Rattle.jc_base.specs.Cursor.{Reading}
 use Rattle.jc_base.specs.Endian.{big_number}
 use Rattle.jc_view.specs.declared.layout_reader.ClassTables.{ClassTables}
-use Rattle.jc_view.specs.declared.table.Table.{Table}
+use Rattle.jc_view.specs.declared.entries.Entries.{Entries}
 use Rattle.jc_view.specs.declared.constant_pool.ConstantIndex.{ConstantIndex}
 use Rattle.jc_view.specs.ConstantPool.{index_bytes, IsIndex, index_value}
 use Rattle.jc_view.specs.ClassFile.{ClassFile, Attribute, Member, counted, attribute_bytes, member_bytes, tail_bytes, FitsTable, FitsAttribute, FitsMember}
@@ -158,7 +158,7 @@ tail_again c rest fits =
 
 -- ---- where the tables stand
 
-stands : (after_it : List ℕ → Option (List ℕ)) (tail old new : Reading) (xs : List ℕ) (t : Table) → xs ≡ old.rest → KeepsEnd tail old → LendsTable after_it old (Some t) new → StandsAt xs (tail.place + length tail.rest) t
+stands : (after_it : List ℕ → Option (List ℕ)) (tail old new : Reading) (xs : List ℕ) (t : Entries) → xs ≡ old.rest → KeepsEnd tail old → LendsTable after_it old (Some t) new → StandsAt xs (tail.place + length tail.rest) t
 stands after_it tail old new xs t same keeps h =
     let place : t.cursor.place ≡ old.place + 2 = ap (λ (r : Reading). r.place) h.3 in
     record {

@@ -8,7 +8,7 @@ use Rattle.jc_view.specs.Reading.{PartsRead, parts_at, class_value}
 use Rattle.jc_view.specs.Refusal.{IsLayoutOf, IsNamed, IsReadable, IsRefusal}
 use Rattle.jc_view.specs.inside.Outcomes.{Fails}
 use Rattle.jc_view.specs.inside.Tables.{HasVersion}
-use Rattle.jc_view.specs.declared.version.Version.{Version}
+use Rattle.jc_view.specs.declared.view.Version.{Version}
 use Rattle.jc_view.specs.inside.ConstantPlaces.{Holds}
 use Rattle.jc_view.proofs.reading.BigEndian.{IsBytes}
 use Rattle.jc_view.proofs.reading.PoolLoop.{fails_is}

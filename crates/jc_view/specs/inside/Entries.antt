@@ -7,7 +7,7 @@ use Rattle.jc_view.specs.declared.attributes.AttributeEntry.{AttributeEntry}
 use Rattle.jc_view.specs.declared.members.MemberEntry.{MemberEntry}
 use Rattle.jc_view.specs.declared.code.CodeBody.{CodeBody}
 use Rattle.jc_view.specs.declared.code.Instructions.{Instructions}
-use Rattle.jc_view.specs.declared.table.Table.{Table}
+use Rattle.jc_view.specs.declared.entries.Entries.{Entries}
 use Rattle.jc_view.specs.ClassFile.{Attribute, Member}
 use Rattle.jc_view.specs.Places.{PlacedAttribute, PlacedMember, attributes_from, members_from}
 use Rattle.jc_view.specs.Reading.{after, after_attribute, attribute_value, after_member, member_value}
@@ -25,7 +25,7 @@ abbrev pub placed_attribute : Holder → AttributeEntry → PlacedAttribute
 placed_attribute holder a = record { holder = holder; place = a.place; attribute = attribute_of a }
 
 -- the attributes that are left in a table
-abbrev pub placed_attributes : Holder → Table → List PlacedAttribute
+abbrev pub placed_attributes : Holder → Entries → List PlacedAttribute
 placed_attributes holder t = attributes_from holder t.cursor.place (entries after_attribute attribute_value t)
 
 -- Some: the attribute at the old place, and the cursor is at its end; None: the bytes end before the attribute does
@@ -54,7 +54,7 @@ pub record IsMemberEntry (m : MemberEntry) : Type 0 where
   pub place : m.attributes.cursor.place ≡ m.place + 8
 
 -- the members that are left in a table
-abbrev pub placed_members : Holder → Table → List PlacedMember
+abbrev pub placed_members : Holder → Entries → List PlacedMember
 placed_members holder t = members_from holder t.cursor.place (entries after_member member_value t)
 
 -- Some: the member at the old place, and the cursor is at its end; None: the bytes end before the member does

@@ -2,29 +2,29 @@
 use Rattle.std.specs.Prelude.{◌≡◌, ℕ, ◌+◌, List, length, drop, Option, Some, None, Ok, IsSome}
 use Rattle.jc_base.specs.Cursor.{Reading, past}
 use Rattle.jc_base.specs.Endian.{big_number}
-use Rattle.jc_view.specs.declared.table.Table.{Table}
+use Rattle.jc_view.specs.declared.entries.Entries.{Entries}
 use Rattle.jc_view.specs.declared.layout_reader.ClassParts.{ClassParts}
 use Rattle.jc_view.specs.declared.layout_reader.ClassTables.{ClassTables}
-use Rattle.jc_view.specs.declared.version.Version.{Version}
+use Rattle.jc_view.specs.declared.view.Version.{Version}
 use Rattle.jc_view.specs.Reading.{after_each, each_value, fields_at, methods_at, attributes_at, head_at, pool_at}
 use Rattle.jc_view.specs.Moves.{KeepsEnd}
 
 -- the entries that are left
-abbrev pub entries : {X : Type 0} → (List ℕ → Option (List ℕ)) → (List ℕ → X) → Table → List X
+abbrev pub entries : {X : Type 0} → (List ℕ → Option (List ℕ)) → (List ℕ → X) → Entries → List X
 entries after_one value t = each_value after_one value t.left t.cursor.rest
 
 -- all entries that are left are whole
-abbrev pub IsWhole : (List ℕ → Option (List ℕ)) → Table → Type 0
+abbrev pub IsWhole : (List ℕ → Option (List ℕ)) → Entries → Type 0
 IsWhole after_one t = IsSome (after_each after_one t.left t.cursor.rest)
 
 -- Some: the table at the old place, and the cursor is at its end; None: the bytes end before the table does
-abbrev pub LendsTable : (List ℕ → Option (List ℕ)) → Reading → Option Table → Reading → Type 0
+abbrev pub LendsTable : (List ℕ → Option (List ℕ)) → Reading → Option Entries → Reading → Type 0
 LendsTable after_it old None new = after_it old.rest ≡ None
 LendsTable after_it old (Some t) new =
     (after_it old.rest ≡ Some new.rest) × KeepsEnd old new × (t.left ≡ big_number 2 old.rest) × (t.cursor ≡ past 2 old)
 
 -- the table begins with its count at the front of these bytes, which end at the end of the file
-pub record StandsAt (xs : List ℕ) (end : ℕ) (t : Table) : Type 0 where
+pub record StandsAt (xs : List ℕ) (end : ℕ) (t : Entries) : Type 0 where
   pub count : t.left ≡ big_number 2 xs
   pub rest : t.cursor.rest ≡ drop 2 xs
   pub place : t.cursor.place + length xs ≡ end + 2

@@ -4,14 +4,14 @@ use Rattle.std.specs.Option.{option_to_list}
 use Rattle.std.specs.Prelude.{option_and_then}
 use Rattle.jc_view.specs.declared.constant_pool.ConstantIndex.{ConstantIndex}
 use Rattle.jc_view.specs.ClassFile.{ClassFile, all_slots, constant_at}
-use Rattle.jc_view.specs.Lookups.{owner}
+use Rattle.jc_view.specs.Lookups.{class_index}
 use Rattle.jc_classes.specs.UsedConstants.{is_among, named}
 use Rattle.jc_classes.proofs.using.Adding.{next_in_range}
 use Rattle.jc_classes.proofs.using.Marking.{mark_there}
 use Rattle.jc_classes.proofs.used.add_owners.Goals as goal
 
 abbrev owner_at : ClassFile → ℕ → Option ConstantIndex
-owner_at class index = option_and_then owner (constant_at class (record { 0 = index }))
+owner_at class index = option_and_then class_index (constant_at class (record { 0 = index }))
 
 abbrev owner_if : ClassFile → List ConstantIndex → ℕ → List ConstantIndex
 owner_if class names index = option_to_list (if is_among names index then owner_at class index else None)

@@ -6,7 +6,7 @@ use Rattle.std.specs.declared.alloc.Global.{Global}
 use Rattle.jc_classes.specs.Lent.{stands_of}
 use Rattle.jc_classes.specs.Numbers.{name_at}
 use Rattle.jc_classes.specs.Worlds.{World}
-use Rattle.jc_classes.specs.Worlds.Stands.{Nothing}
+use Rattle.jc_classes.specs.Worlds.Stands.{Absent}
 use Rattle.jc_link.specs.inside.Gathering.{stand_at, stands_in, supertypes_in}
 use Rattle.jc_link.specs.inside.GraphAsked.{AreReferredIn, IsAskedBy}
 use Rattle.jc_link.specs.inside.GraphShown.{class_at, nodes_in}
@@ -49,7 +49,7 @@ loop-class-preserved c =
     let inv = c.loop-class.invariant in
     let here : at < length st = c.requires.classes i 0 l in
     let inside : at < length r.standing.items = omega (arith, here, length-map r.standing.items stands_of) in
-    let own : o ≡ stand_at st at = ap stands_of c.index.ensures ∙ sym (get_or-map stands_of r.standing.items at _ Nothing inside) in
+    let own : o ≡ stand_at st at = ap stands_of c.index.ensures ∙ sym (get_or-map stands_of r.standing.items at _ Absent inside) in
     let pushed : nodes_in c.push.new.self.items ≡ refs ++ nodes ∷ [] =
     ap nodes_in c.in_ok-push.ensures.items ∙ map-append (λ (v : Vec (Option ℕ) Global). v.items) c.loop-class.references.items (c.in_ok-nodes.nodes ∷ []) in
     let before = λ (m : World) (h : IsAskedBy m a r). (inv.asked m h).standing at here in

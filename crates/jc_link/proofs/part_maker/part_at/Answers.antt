@@ -6,7 +6,7 @@ use Rattle.std.specs.declared.alloc.Global.{Global}
 use Rattle.jc_classes.specs.Lent.{stands_of}
 use Rattle.jc_classes.specs.Numbers.{name_at}
 use Rattle.jc_classes.specs.Worlds.{format_faults_of, code_faults_of, references_of}
-use Rattle.jc_classes.specs.Worlds.Stands.{Nothing}
+use Rattle.jc_classes.specs.Worlds.Stands.{Absent}
 use Rattle.jc_resolve.specs.Numbered.{NumberReferences, Numbered}
 use Rattle.jc_link.specs.Graphs.{ClassGraph, IsIn}
 use Rattle.jc_link.specs.inside.Gathering.{stand_at, stands_in}
@@ -62,7 +62,7 @@ returns-clause-part c = λ m lies.
     let in_names : class < length a.names = omega (arith, is_class, class_in a c.graph.invariant c.args.graph.now c.graph.view_is place c.requires.place) in
     let name : name_at a.names class ≡ name_at c.args.graph.now.classes place = ap (name_at a.names) is_class ∙ class_name a c.graph.invariant c.args.graph.now c.graph.view_is place c.requires.place in
     let within : class < length a.standing.items = omega (arith, in_names, c.graph.invariant.graph.closed.standing, length-map a.standing.items stands_of) in
-    let own : stands_of c.index-own.result.now ≡ stand_at (stands_in a.standing.items) class = ap stands_of c.index-own.ensures ∙ sym (get_or-map stands_of a.standing.items class _ Nothing within) in
+    let own : stands_of c.index-own.result.now ≡ stand_at (stands_in a.standing.items) class = ap stands_of c.index-own.ensures ∙ sym (get_or-map stands_of a.standing.items class _ Absent within) in
     let all = subst (IsIn m) (sym c.graph.view_is) lies in
     let is : c.args.hierarchy.now ≡ record { names = a.names; standing = stands_in a.standing.items; supertypes = c.requires.hierarchy.supertypes } =
     c.requires.hierarchy.is ∙ ap (λ (g : ClassGraph). record { names = g.names; standing = g.stands; supertypes = c.requires.hierarchy.supertypes }) (sym c.graph.view_is) in

@@ -6,7 +6,7 @@ use Rattle.std.specs.declared.vec.Vec.{Vec}
 use Rattle.std.specs.declared.alloc.Global.{Global}
 use Rattle.jc_classes.specs.Numbers.{name_at}
 use Rattle.jc_classes.specs.Worlds.{Stands, references_of}
-use Rattle.jc_classes.specs.Worlds.Stands.{Nothing}
+use Rattle.jc_classes.specs.Worlds.Stands.{Absent}
 use Rattle.jc_resolve.specs.Numbered.{NumberReferences}
 use Rattle.jc_link.specs.Graphs.{ClassGraph, IsIn}
 use Rattle.jc_link.specs.inside.Gathering.{stand_at, stands_in}
@@ -56,7 +56,7 @@ returns-clause-starts c = λ m lies.
     c.in_ok-push_some.ensures ∙ ap (λ z. z ++ flat_map option_to_list nodes) (c.in_ok-push-2.ensures.items ∙ ap (λ z. z ++ a.object ∷ []) (c.in_ok-push.ensures.items ∙ ap (λ z. z ++ class ∷ []) c.in_ok-starts.ensures.items)) in
     let all = subst (IsIn m) (sym c.graph.view_is) lies in
     let here : stand_at (stands_in a.standing.items) (class_at a.classes.items place) ≡ m d =
-    ap (stand_at (stands_in a.standing.items)) (sym is_class) ∙ ap (λ z. stand_at z class) all ∙ get_or-map m a.names class [] Nothing in_names ∙ ap m name in
+    ap (stand_at (stands_in a.standing.items)) (sym is_class) ∙ ap (λ z. stand_at z class) all ∙ get_or-map m a.names class [] Absent in_names ∙ ap m name in
     let named = subst (λ (s : Stands). NumberReferences a.names nodes (references_of s)) here
     (subst (λ z. NumberReferences a.names z (references_of (stand_at (stands_in a.standing.items) (class_at a.classes.items place)))) (sym at)
     (whole.referred.named place (omega (arith, held, length-map references (λ (v : Vec (Option ℕ) Global). v.items))))) in

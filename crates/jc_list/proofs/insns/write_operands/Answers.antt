@@ -36,5 +36,5 @@ returns-in-InvokeInterface g c = sends_equal (search rules) c.write_counted_entr
 pub returns-in-NewArray : goal.returns-in-NewArray
 returns-in-NewArray g c = sends_equal (ap (operands_text c.args.class.now) (sym c.in-NewArray.is)) c.write_number-in-NewArray.ensures
 
-pub returns-in-Load : goal.returns-in-Load
-returns-in-Load g c = sends_equal (search rules) c.write_entry.ensures
+pub returns-in-Ldc : goal.returns-in-Ldc
+returns-in-Ldc g c = sends_equal (search rules) c.write_entry.ensures

@@ -3,8 +3,8 @@ use Rattle.jc_text.proofs.Sending.{sends_equal}
 use Rattle.jc_classes.specs.Facts.{Key}
 use Rattle.jc_classes.specs.Lent.{key_lent}
 use Rattle.jc_classes.specs.Names.{Name}
-use Rattle.jc_classes.specs.declared.reference_kind.ReferenceKind.{ReferenceKind}
-use Rattle.jc_classes.specs.declared.reference_kind.ReferenceKind.TheVariants as kinds
+use Rattle.jc_classes.specs.declared.reference.ReferenceKind.{ReferenceKind}
+use Rattle.jc_classes.specs.declared.reference.ReferenceKind.TheVariants as kinds
 use Rattle.jc_report.specs.PartText.{member_text, named_text}
 use Rattle.jc_report.proofs.part_text.write_named.Goals as goal
 

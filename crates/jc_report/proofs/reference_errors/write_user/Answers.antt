@@ -2,8 +2,8 @@ use Rattle.std.proofs.Common.{◌≡◌, ◌⊎◌, ◌∙◌, ap, inl, inr, sym
 use Rattle.jc_text.proofs.Sending.{sends_equal}
 use Rattle.jc_text.specs.Escapes.{shown}
 use Rattle.jc_classes.specs.Facts.{Facts}
-use Rattle.jc_classes.specs.declared.user.User.{User}
-use Rattle.jc_classes.specs.declared.user.User.TheVariants as users
+use Rattle.jc_classes.specs.declared.used.User.{User}
+use Rattle.jc_classes.specs.declared.used.User.TheVariants as users
 use Rattle.jc_report.specs.ErrorsText.{user_text}
 use Rattle.jc_report.proofs.reference_errors.write_user.Goals as goal
 

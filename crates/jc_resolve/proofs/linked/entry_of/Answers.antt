@@ -1,5 +1,5 @@
 use Rattle.std.proofs.Common.{◌≡◌, ◌∙◌, None, Some, option_map, ap, sym}
-use Rattle.jc_resolve.specs.inside.Links.{link_shown}
+use Rattle.jc_resolve.specs.inside.LinkErrors.{link_shown}
 use Rattle.jc_resolve.specs.inside.Numbers.{number_from}
 use Rattle.jc_resolve.proofs.linking.Judging.{no_link, one_link}
 use Rattle.jc_resolve.proofs.linked.entry_of.Goals as goal

@@ -7,7 +7,7 @@ use Rattle.jc_code.specs.declared.insn.LinkKind.TheVariants as kinds
 use Rattle.jc_code.specs.declared.method_use.MethodUse.{MethodUse}
 use Rattle.jc_classes.specs.LinkErrors.{link_of}
 use Rattle.jc_classes.proofs.texts.Entries.{shown_some}
-use Rattle.jc_resolve.specs.inside.Links.{link_shown}
+use Rattle.jc_resolve.specs.inside.LinkErrors.{link_shown}
 use Rattle.jc_resolve.proofs.linked.links_of.Goals as goal
 
 pub loop-one-preserved : goal.loop-one-preserved

@@ -2,7 +2,7 @@ use Rattle.std.proofs.Common.{◌≡◌, map, take}
 use Rattle.std.specs.List.{flat_map}
 use Rattle.std.specs.Option.{option_to_list}
 use Rattle.jc_classes.specs.LinkErrors.{link_of}
-use Rattle.jc_resolve.specs.inside.Links.{link_shown}
+use Rattle.jc_resolve.specs.inside.LinkErrors.{link_shown}
 use Rattle.jc_resolve.proofs.linked.links_of.Given as goal
 
 -- those of the instructions so far

@@ -25,14 +25,14 @@ pub returns-in-Add-clause-gives : goal.returns-in-Add-clause-gives
 returns-in-Add-clause-gives g c s known =
     let h = contents_of c.args.session.now in
     let path = c.in-Add.path.now in
-    rw c.in-Add.is (sourced_reply h s path (placed placings.New path), refl, c.answer_sourced.ensures.gives s known)
+    rw c.in-Add.is (sourced_reply h s path (placed placings.Add path), refl, c.answer_sourced.ensures.gives s known)
 
 pub returns-in-Add-clause-any : goal.returns-in-Add-clause-any
 returns-in-Add-clause-any g c =
     let h = contents_of c.args.session.now in
     let path = c.in-Add.path.now in
     rw c.in-Add.is
-    (owed_by_reply h (Add path) (λ s. sourced_reply h s path (placed placings.New path)) (λ s. MayLack h (placed placings.New path) (next_answer s path))
+    (owed_by_reply h (Add path) (λ s. sourced_reply h s path (placed placings.Add path)) (λ s. MayLack h (placed placings.Add path) (next_answer s path))
     c.answer_sourced.result (contents_of c.answer_sourced.new.session) (g.W.Output.written c.args.out.now) (g.W.Output.written c.answer_sourced.new.out)
     (λ s. refl) (λ s may. may) c.answer_sourced.ensures.any)
 
@@ -40,14 +40,14 @@ pub returns-in-Replace-clause-gives : goal.returns-in-Replace-clause-gives
 returns-in-Replace-clause-gives g c s known =
     let h = contents_of c.args.session.now in
     let path = c.in-Replace.path.now in
-    rw c.in-Replace.is (sourced_reply h s path (placed placings.Other path), refl, c.answer_sourced-in-Replace.ensures.gives s known)
+    rw c.in-Replace.is (sourced_reply h s path (placed placings.Replace path), refl, c.answer_sourced-in-Replace.ensures.gives s known)
 
 pub returns-in-Replace-clause-any : goal.returns-in-Replace-clause-any
 returns-in-Replace-clause-any g c =
     let h = contents_of c.args.session.now in
     let path = c.in-Replace.path.now in
     rw c.in-Replace.is
-    (owed_by_reply h (Replace path) (λ s. sourced_reply h s path (placed placings.Other path)) (λ s. MayLack h (placed placings.Other path) (next_answer s path))
+    (owed_by_reply h (Replace path) (λ s. sourced_reply h s path (placed placings.Replace path)) (λ s. MayLack h (placed placings.Replace path) (next_answer s path))
     c.answer_sourced-in-Replace.result (contents_of c.answer_sourced-in-Replace.new.session) (g.W.Output.written c.args.out.now) (g.W.Output.written c.answer_sourced-in-Replace.new.out)
     (λ s. refl) (λ s may. may) c.answer_sourced-in-Replace.ensures.any)
 

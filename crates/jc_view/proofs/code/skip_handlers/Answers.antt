@@ -1,7 +1,7 @@
 use Rattle.std.proofs.Common.{Some, sym, rules, arith}
 use Rattle.std.proofs.lemmas.Grind.{common_steps}
 use Rattle.jc_view.specs.AttributeReading.{after_handlers}
-use Rattle.jc_view.specs.declared.table.Table.{Table}
+use Rattle.jc_view.specs.declared.entries.Entries.{Entries}
 use Rattle.jc_view.specs.inside.Tables.{LendsTable}
 use Rattle.jc_view.proofs.reading.Tables.{after_all, table_of_size}
 use Rattle.jc_view.proofs.places.Entries.{lends_same}
@@ -14,6 +14,6 @@ returns-in_err-take c =
 
 pub returns : goal.returns
 returns c =
-    let table : Table = record { left = c.in_ok-count.count; cursor = c.fork-first.result } in
+    let table : Entries = record { left = c.in_ok-count.count; cursor = c.fork-first.result } in
     let at_once : LendsTable (after_all 8) c.args.cursor.now (Some table) c.take.new.self = grind (arith, common_steps) in
     lends_same (after_all 8) after_handlers (λ xs. sym (table_of_size 8 xs)) c.args.cursor.now (Some table) c.take.new.self at_once

@@ -1,0 +1,7 @@
+use Rattle.std.proofs.Common.{◌≡◌, ◌||◌, take}
+use Rattle.jc_classes.specs.Names.{Name}
+use Rattle.jc_linkage.specs.inside.Kept.{Relation, fresh_has, linked}
+use Rattle.jc_linkage.proofs.replacement.link_fresh.Given as goal
+
+abbrev pub invariant-loop-one : goal.invariant-loop-one
+invariant-loop-one l = (r : Relation) (n d : Name) → linked r l.links n d ≡ (linked r l.fn.links n d || fresh_has r (take l.one-index l.fresh) d n)

@@ -1,5 +1,0 @@
-use Rattle.jc_text.proofs.Sending.{◌⟫◌}
-use Rattle.jc_report.proofs.file_row_text.write_unreadable.Goals as goal
-
-pub returns : goal.returns
-returns g c = c.text.ensures ⟫ c.write_refusal.ensures

@@ -1,5 +1,0 @@
-use Rattle.jc_text.proofs.Sending.{◌⟫◌}
-use Rattle.jc_session.proofs.fault.write_with_path.Goals as goal
-
-pub returns : goal.returns
-returns g c = c.text.ensures ⟫ c.path.ensures ⟫ c.text-2.ensures
