@@ -5,21 +5,21 @@ ghost use Rattle.std.specs.Option.{option_copied};
 ghost use Rattle.jc_base.specs.DescriptorTests.{begins_with};
 ghost use Rattle.jc_code.specs.CodeRules.{double_kinds, is_either_method, is_init, is_one_of, is_special, referred_name, single_kinds};
 
-use jc_view::{ClassView, Constant, ConstantIndex};
+use jc_view::{ClassView, ConstantIndex, ConstantKind};
 
 /// Returns whether the index is that of a constant that takes one slot.
 pub(crate) fn is_single(class: &ClassView, index: ConstantIndex) -> bool
     ensures { result ≡ is_one_of class.now single_kinds index }
 {
     matches!(
-        class.constant(index.0),
+        class.kind(index),
         Some(
-            Constant::Integer(_)
-                | Constant::Float(_)
-                | Constant::String(_)
-                | Constant::Class(_)
-                | Constant::MethodType(_)
-                | Constant::MethodHandle(..)
+            ConstantKind::Integer
+                | ConstantKind::Float
+                | ConstantKind::String
+                | ConstantKind::Class
+                | ConstantKind::MethodType
+                | ConstantKind::MethodHandle
         )
     )
 }
@@ -29,8 +29,8 @@ pub(crate) fn is_double(class: &ClassView, index: ConstantIndex) -> bool
     ensures { result ≡ is_one_of class.now double_kinds index }
 {
     matches!(
-        class.constant(index.0),
-        Some(Constant::Long(_) | Constant::Double(_))
+        class.kind(index),
+        Some(ConstantKind::Long | ConstantKind::Double)
     )
 }
 
@@ -38,9 +38,9 @@ pub(crate) fn is_double(class: &ClassView, index: ConstantIndex) -> bool
 pub(crate) fn is_either_method(class: &ClassView, index: ConstantIndex) -> bool
     ensures { result ≡ is_either_method class.now index }
 {
-    match class.constant(index.0) {
-        Some(Constant::Methodref(..)) => true,
-        Some(Constant::InterfaceMethodref(..)) => class.version().major >= 52,
+    match class.kind(index) {
+        Some(ConstantKind::Methodref) => true,
+        Some(ConstantKind::InterfaceMethodref) => class.version().major >= 52,
         _ => false,
     }
 }

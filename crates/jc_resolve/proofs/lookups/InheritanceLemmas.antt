@@ -70,7 +70,7 @@ overridden_on x c m index ks next k old new adds e are =
 pub no_methods : (s : Standing) → ((f : Bor Facts) → s ≡ standing.Class f → ⊥) → methods_of (stands_of s) ≡ []
 no_methods (standing.Class f) e = absurd (e f refl)
 no_methods standing.Outside e = refl
-no_methods standing.Nothing e = refl
+no_methods standing.Absent e = refl
 
 -- a class without a record has no methods
 pub none_overridden : (x : Indexed) (c : ℕ) (found : List Inherited) → methods_of (standing_of x c) ≡ [] → found ≡ [] → TellsOverridden x c found
