@@ -10,13 +10,13 @@ ghost use Rattle.jc_code.specs.declared.code_fault.CodeFault.{CodeFault};
 ghost use Rattle.jc_code.specs.declared.code_fault.CodeRule.TheVariants as rules;
 ghost use Rattle.jc_code.specs.CodeFaults.{AreFaultsIfAny, AreFaultsOf, AreFaultsOfMethod};
 ghost use Rattle.jc_code.specs.CodeFaults.{code_of_member, fault_at, faults_of, handler_breaks, scope_with};
-ghost use Rattle.jc_code.specs.inside.FirstPass.{IsFirstPass};
+ghost use Rattle.jc_code.specs.inside.FirstPass.{IsFirstPass, named_if, uses_if};
 ghost use Rattle.jc_code.specs.inside.Found.{by_rule, faults_at, handler_faults, insn_faults};
 ghost use Rattle.jc_code.specs.CodeFaultOrder.{fault_cmp};
 ghost use Rattle.jc_code.specs.CodeViolations.{BreaksCode, ViolatesCode};
 ghost use Rattle.jc_code.specs.InsnReading.{insns_of};
 ghost use Rattle.jc_code.specs.MethodUses.{code_uses, uses_among};
-ghost use Rattle.jc_code.specs.NamedConstants.{named_by_code, named_by_insns};
+ghost use Rattle.jc_code.specs.NamedConstants.{named_by_code};
 ghost use Rattle.jc_code.specs.inside.Fronts.{BeginsWith};
 
 use crate::code_fault::{CodeFault, CodeRule};
@@ -176,7 +176,7 @@ fn list_and_name(
     ensures uses_kept { BeginsWith uses.new.items uses.old.items }
     ensures names_kept { BeginsWith names.new.items names.old.items }
 {
-    let faults = list_faults(alloc, sizes, code, method, uses, names)?;
+    let faults = list_faults(alloc, sizes, code, method, true, uses, names)?;
     push_catch_types(names, code)?;
     Ok(faults)
 }
@@ -187,28 +187,29 @@ fn faults_alone(alloc: Global, sizes: &TextSizes, code: &Code) -> Result<Vec<Cod
 {
     let mut uses = Vec::new(alloc);
     let mut names = Vec::new(alloc);
-    list_faults(alloc, sizes, code, 0, &mut uses, &mut names)
+    list_faults(alloc, sizes, code, 0, false, &mut uses, &mut names)
 }
 
 /// Returns the faults of the code of a method, in their order.
 ///
-/// Appends all uses, and the constants that instructions name.
+/// If they are wanted, appends all uses, and the constants that instructions name.
 fn list_faults(
     alloc: Global,
     sizes: &TextSizes,
     code: &Code,
     method: u16,
+    are_wanted: bool,
     uses: &mut Vec<MethodUse>,
     names: &mut Vec<ConstantIndex>,
 ) -> Result<Vec<CodeFault>, NoMemory>
     ensures faults { IfOk result (λ found. AreFaultsOf sizes.now code.now.code found.items) }
-    ensures uses { OnOk result (uses.new.items ≡ uses.old.items ++ uses_among method (insns_of code.now.code.code)) }
-    ensures names { OnOk result (names.new.items ≡ names.old.items ++ named_by_insns (insns_of code.now.code.code)) }
+    ensures uses { OnOk result (uses.new.items ≡ uses.old.items ++ uses_if are_wanted method (insns_of code.now.code.code)) }
+    ensures names { OnOk result (names.new.items ≡ names.old.items ++ named_if are_wanted (insns_of code.now.code.code)) }
     ensures uses_kept { BeginsWith uses.new.items uses.old.items }
     ensures names_kept { BeginsWith names.new.items names.old.items }
 {
     let bare = scope_with(sizes, code, Starts::none(alloc));
-    let pass = first_pass(alloc, &bare, code.bytes(), method, uses, names)?;
+    let pass = first_pass(alloc, &bare, code.bytes(), method, are_wanted, uses, names)?;
     list_passed(alloc, sizes, code, pass)
 }
 

@@ -2,9 +2,7 @@
 
 ghost use Rattle.std.specs.Prelude.{◌≡◌, ◌<◌, ◌^◌, ◌++◌, ◌∷◌, [], cond, length, IfOk, OnOk};
 ghost use Rattle.jc_code.specs.InsnReading.{insns_of};
-ghost use Rattle.jc_code.specs.MethodUses.{uses_among};
-ghost use Rattle.jc_code.specs.NamedConstants.{named_by_insns};
-ghost use Rattle.jc_code.specs.inside.FirstPass.{IsFirstPass};
+ghost use Rattle.jc_code.specs.inside.FirstPass.{IsFirstPass, name_if, named_if, use_if, uses_if};
 ghost use Rattle.jc_code.specs.inside.Found.{has_targets, insn_faults};
 ghost use Rattle.jc_code.specs.inside.Fronts.{BeginsWith};
 
@@ -34,19 +32,20 @@ pub(crate) struct FirstPass<'a> {
 
 /// Decodes each instruction of a method's code once, with a scope that has no starts yet.
 ///
-/// Appends the uses of references to `uses`, and the constants that instructions name to `names`.
+/// If they are wanted, appends the uses of references to `uses`, and the constants that instructions name to `names`.
 pub(crate) fn first_pass<'a>(
     alloc: Global,
     scope: &Scope,
     code: &'a [u8],
     method: u16,
+    are_wanted: bool,
     uses: &mut Vec<MethodUse>,
     names: &mut Vec<ConstantIndex>,
 ) -> Result<FirstPass<'a>, NoMemory>
     requires { length code.now < 2 ^ 16 }
     ensures found { IfOk result (λ pass. IsFirstPass scope.now code.now pass) }
-    ensures uses { OnOk result (uses.new.items ≡ uses.old.items ++ uses_among method (insns_of code.now)) }
-    ensures names { OnOk result (names.new.items ≡ names.old.items ++ named_by_insns (insns_of code.now)) }
+    ensures uses { OnOk result (uses.new.items ≡ uses.old.items ++ uses_if are_wanted method (insns_of code.now)) }
+    ensures names { OnOk result (names.new.items ≡ names.old.items ++ named_if are_wanted (insns_of code.now)) }
     ensures uses_kept { BeginsWith uses.new.items uses.old.items }
     ensures names_kept { BeginsWith names.new.items names.old.items }
 {
@@ -56,8 +55,7 @@ pub(crate) fn first_pass<'a>(
     let mut insns = Insns::new(code);
     while let Some((place, insn)) = insns.next() {
         marks[place as usize] = true;
-        push_use(uses, method, place as u16, &insn)?;
-        push_named(names, &insn)?;
+        push_if(are_wanted, uses, names, method, place as u16, &insn)?;
         if has_targets(&insn) {
             jumps.push((place, insn))?;
         } else {
@@ -70,6 +68,27 @@ pub(crate) fn first_pass<'a>(
         jumps,
         found,
     })
+}
+
+/// Adds the use of a reference by an instruction, and the constant that the instruction names, if they are wanted.
+fn push_if(
+    are_wanted: bool,
+    uses: &mut Vec<MethodUse>,
+    names: &mut Vec<ConstantIndex>,
+    method: u16,
+    place: u16,
+    insn: &Insn,
+) -> Result<(), NoMemory>
+    ensures uses { OnOk result (uses.new.items ≡ uses.old.items ++ use_if are_wanted method (place, insn.now)) }
+    ensures names { OnOk result (names.new.items ≡ names.old.items ++ name_if are_wanted (place, insn.now)) }
+    ensures uses_kept { BeginsWith uses.new.items uses.old.items }
+    ensures names_kept { BeginsWith names.new.items names.old.items }
+{
+    if are_wanted {
+        push_use(uses, method, place, insn)?;
+        push_named(names, insn)?;
+    }
+    Ok(())
 }
 
 /// Returns whether the rules over an instruction need the starts of instructions.

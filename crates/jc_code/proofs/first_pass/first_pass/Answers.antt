@@ -1,15 +1,12 @@
 use Rattle.std.proofs.Common.{◌≡◌, ℕ, ◌++◌, ◌∷◌, [], ◌∙◌, ap, cond, sym, subst, refl, true, false, length, map, append-nil, replicate, arith}
-use Rattle.std.specs.Option.{option_to_list}
 use Rattle.jc_code.specs.declared.insn.Insn.{Insn}
 use Rattle.jc_code.specs.Insns.{IsCode}
 use Rattle.jc_code.specs.inside.Found.{faults_of_others, has_targets, insn_faults, jumps_of}
-use Rattle.jc_code.specs.inside.Fronts.{BeginsWith}
 use Rattle.jc_code.specs.inside.Marks.{marked}
-use Rattle.jc_code.proofs.appended.Fronts.{added, begins_longer, begins_whole}
+use Rattle.jc_code.proofs.appended.Fronts.{added, begins_through, begins_whole}
 use Rattle.jc_code.proofs.marks.Marked.{has_marked, marked_none, marks_long, none_marked, place_within}
 use Rattle.jc_code.specs.InsnsLeft.{InsnsLeft}
-use Rattle.jc_code.specs.MethodUses.{use_at, uses_among}
-use Rattle.jc_code.specs.NamedConstants.{named_by_insn, named_by_insns}
+use Rattle.jc_code.specs.inside.FirstPass.{name_if, named_if, use_if, uses_if}
 use Rattle.jc_code.proofs.first_pass.first_pass.Goals as goal
 
 pub loop-place-init : goal.loop-place-init
@@ -43,10 +40,11 @@ index_mut-requires c =
     omega (arith, l, long)
 
 -- an instruction with targets
-pub loop-place-preserved-in-Continue-branch-4 : goal.loop-place-preserved-in-Continue-branch-4
-loop-place-preserved-in-Continue-branch-4 c =
+pub loop-place-preserved-in-Continue-branch-3 : goal.loop-place-preserved-in-Continue-branch-3
+loop-place-preserved-in-Continue-branch-3 c =
     let scope = c.args.scope.now in
     let method = c.args.method in
+    let wanted = c.args.are_wanted in
     let item : ℕ × Insn = (c.in-Some.place, c.in-Some.insn) in
     let left = c.next.new.self.left in
     let first = c.in-Some.ensures.steps.1.0 in
@@ -59,10 +57,10 @@ loop-place-preserved-in-Continue-branch-4 c =
       marks = more.marks;
       jumps = added jumps_of _ _ (item ∷ []) _ item left _ first (ap (λ b. cond b (item ∷ jumps_of left) (jumps_of left)) is_jump) c.in_ok-push.ensures.items held.jumps;
       found = added (faults_of_others scope) _ _ [] _ item left _ first (ap (λ b. cond b [] (insn_faults scope item) ++ faults_of_others scope left) is_jump) (sym (append-nil c.loop-place.found.items)) held.found;
-      uses = added (uses_among method) _ _ (option_to_list (use_at method item)) _ item left _ first refl c.in_ok-push_use.ensures.ok held.uses;
-      names = added named_by_insns _ _ (option_to_list (named_by_insn item.1)) _ item left _ first refl c.in_ok-push_named.ensures.ok held.names;
-      uses_kept = begins_longer c.args.uses.now.items c.loop-place.uses.items _ _ held.uses_kept c.in_ok-push_use.ensures.ok;
-      names_kept = begins_longer c.args.names.now.items c.loop-place.names.items _ _ held.names_kept c.in_ok-push_named.ensures.ok;
+      uses = added (uses_if wanted method) _ _ (use_if wanted method item) _ item left _ first refl c.in_ok-push_if.ensures.uses held.uses;
+      names = added (named_if wanted) _ _ (name_if wanted item) _ item left _ first refl c.in_ok-push_if.ensures.names held.names;
+      uses_kept = begins_through c.args.uses.now.items c.loop-place.uses.items _ held.uses_kept c.push_if.ensures.uses_kept;
+      names_kept = begins_through c.args.names.now.items c.loop-place.names.items _ held.names_kept c.push_if.ensures.names_kept;
     }
 
 -- an instruction without targets
@@ -70,6 +68,7 @@ pub loop-place-preserved : goal.loop-place-preserved
 loop-place-preserved c =
     let scope = c.args.scope.now in
     let method = c.args.method in
+    let wanted = c.args.are_wanted in
     let item : ℕ × Insn = (c.in-Some.place, c.in-Some.insn) in
     let left = c.next.new.self.left in
     let first = c.in-Some.ensures.steps.1.0 in
@@ -82,10 +81,10 @@ loop-place-preserved c =
       marks = more.marks;
       jumps = added jumps_of _ _ [] _ item left _ first (ap (λ b. cond b (item ∷ jumps_of left) (jumps_of left)) is_other) (sym (append-nil c.loop-place.jumps.items)) held.jumps;
       found = added (faults_of_others scope) _ _ (insn_faults scope item) _ item left _ first (ap (λ b. cond b [] (insn_faults scope item) ++ faults_of_others scope left) is_other) c.in_ok-add_insn_faults.ensures held.found;
-      uses = added (uses_among method) _ _ (option_to_list (use_at method item)) _ item left _ first refl c.in_ok-push_use.ensures.ok held.uses;
-      names = added named_by_insns _ _ (option_to_list (named_by_insn item.1)) _ item left _ first refl c.in_ok-push_named.ensures.ok held.names;
-      uses_kept = begins_longer c.args.uses.now.items c.loop-place.uses.items _ _ held.uses_kept c.in_ok-push_use.ensures.ok;
-      names_kept = begins_longer c.args.names.now.items c.loop-place.names.items _ _ held.names_kept c.in_ok-push_named.ensures.ok;
+      uses = added (uses_if wanted method) _ _ (use_if wanted method item) _ item left _ first refl c.in_ok-push_if.ensures.uses held.uses;
+      names = added (named_if wanted) _ _ (name_if wanted item) _ item left _ first refl c.in_ok-push_if.ensures.names held.names;
+      uses_kept = begins_through c.args.uses.now.items c.loop-place.uses.items _ held.uses_kept c.push_if.ensures.uses_kept;
+      names_kept = begins_through c.args.names.now.items c.loop-place.names.items _ held.names_kept c.push_if.ensures.names_kept;
     }
 
 pub returns-clause-found : goal.returns-clause-found
@@ -112,16 +111,16 @@ pub returns-clause-uses : goal.returns-clause-uses
 returns-clause-uses c =
     let method = c.args.method in
     sym (append-nil c.loop-place.uses.items)
-    ∙ ap (λ items. c.loop-place.uses.items ++ uses_among method items) (sym c.in_default.ensures.steps.1.0)
+    ∙ ap (λ items. c.loop-place.uses.items ++ uses_if c.args.are_wanted method items) (sym c.in_default.ensures.steps.1.0)
     ∙ c.loop-place.invariant.uses
-    ∙ ap (λ (read : InsnsLeft). c.args.uses.now.items ++ uses_among method read.left) c.new-insns.ensures.read
+    ∙ ap (λ (read : InsnsLeft). c.args.uses.now.items ++ uses_if c.args.are_wanted method read.left) c.new-insns.ensures.read
 
 pub returns-clause-names : goal.returns-clause-names
 returns-clause-names c =
     sym (append-nil c.loop-place.names.items)
-    ∙ ap (λ items. c.loop-place.names.items ++ named_by_insns items) (sym c.in_default.ensures.steps.1.0)
+    ∙ ap (λ items. c.loop-place.names.items ++ named_if c.args.are_wanted items) (sym c.in_default.ensures.steps.1.0)
     ∙ c.loop-place.invariant.names
-    ∙ ap (λ (read : InsnsLeft). c.args.names.now.items ++ named_by_insns read.left) c.new-insns.ensures.read
+    ∙ ap (λ (read : InsnsLeft). c.args.names.now.items ++ named_if c.args.are_wanted read.left) c.new-insns.ensures.read
 
 pub returns-clause-uses_kept : goal.returns-clause-uses_kept
 returns-clause-uses_kept c = c.loop-place.invariant.uses_kept
@@ -137,26 +136,20 @@ returns-in_err-marks-clause-uses_kept c = begins_whole c.args.uses.now.items
 pub returns-in_err-marks-clause-names_kept : goal.returns-in_err-marks-clause-names_kept
 returns-in_err-marks-clause-names_kept c = begins_whole c.args.names.now.items
 
-pub returns-in_err-push_use-clause-uses_kept : goal.returns-in_err-push_use-clause-uses_kept
-returns-in_err-push_use-clause-uses_kept c = subst (λ uses. BeginsWith uses c.args.uses.now.items) (sym c.in_err-push_use.ensures.err) c.loop-place.invariant.uses_kept
+pub returns-in_err-push_if-clause-uses_kept : goal.returns-in_err-push_if-clause-uses_kept
+returns-in_err-push_if-clause-uses_kept c = begins_through c.args.uses.now.items c.loop-place.uses.items _ c.loop-place.invariant.uses_kept c.push_if.ensures.uses_kept
 
-pub returns-in_err-push_use-clause-names_kept : goal.returns-in_err-push_use-clause-names_kept
-returns-in_err-push_use-clause-names_kept c = c.loop-place.invariant.names_kept
-
-pub returns-in_err-push_named-clause-uses_kept : goal.returns-in_err-push_named-clause-uses_kept
-returns-in_err-push_named-clause-uses_kept c = begins_longer c.args.uses.now.items c.loop-place.uses.items _ _ c.loop-place.invariant.uses_kept c.in_ok-push_use.ensures.ok
-
-pub returns-in_err-push_named-clause-names_kept : goal.returns-in_err-push_named-clause-names_kept
-returns-in_err-push_named-clause-names_kept c = subst (λ names. BeginsWith names c.args.names.now.items) (sym c.in_err-push_named.ensures.err) c.loop-place.invariant.names_kept
+pub returns-in_err-push_if-clause-names_kept : goal.returns-in_err-push_if-clause-names_kept
+returns-in_err-push_if-clause-names_kept c = begins_through c.args.names.now.items c.loop-place.names.items _ c.loop-place.invariant.names_kept c.push_if.ensures.names_kept
 
 pub returns-in_err-push-clause-uses_kept : goal.returns-in_err-push-clause-uses_kept
-returns-in_err-push-clause-uses_kept c = begins_longer c.args.uses.now.items c.loop-place.uses.items _ _ c.loop-place.invariant.uses_kept c.in_ok-push_use.ensures.ok
+returns-in_err-push-clause-uses_kept c = begins_through c.args.uses.now.items c.loop-place.uses.items _ c.loop-place.invariant.uses_kept c.push_if.ensures.uses_kept
 
 pub returns-in_err-push-clause-names_kept : goal.returns-in_err-push-clause-names_kept
-returns-in_err-push-clause-names_kept c = begins_longer c.args.names.now.items c.loop-place.names.items _ _ c.loop-place.invariant.names_kept c.in_ok-push_named.ensures.ok
+returns-in_err-push-clause-names_kept c = begins_through c.args.names.now.items c.loop-place.names.items _ c.loop-place.invariant.names_kept c.push_if.ensures.names_kept
 
 pub returns-in_err-add_insn_faults-clause-uses_kept : goal.returns-in_err-add_insn_faults-clause-uses_kept
-returns-in_err-add_insn_faults-clause-uses_kept c = begins_longer c.args.uses.now.items c.loop-place.uses.items _ _ c.loop-place.invariant.uses_kept c.in_ok-push_use.ensures.ok
+returns-in_err-add_insn_faults-clause-uses_kept c = begins_through c.args.uses.now.items c.loop-place.uses.items _ c.loop-place.invariant.uses_kept c.push_if.ensures.uses_kept
 
 pub returns-in_err-add_insn_faults-clause-names_kept : goal.returns-in_err-add_insn_faults-clause-names_kept
-returns-in_err-add_insn_faults-clause-names_kept c = begins_longer c.args.names.now.items c.loop-place.names.items _ _ c.loop-place.invariant.names_kept c.in_ok-push_named.ensures.ok
+returns-in_err-add_insn_faults-clause-names_kept c = begins_through c.args.names.now.items c.loop-place.names.items _ c.loop-place.invariant.names_kept c.push_if.ensures.names_kept

@@ -1,7 +1,6 @@
 use Rattle.std.proofs.Common.{◌≡◌, ◌++◌, length, map}
 use Rattle.jc_code.specs.inside.Found.{faults_of_others, jumps_of}
-use Rattle.jc_code.specs.MethodUses.{uses_among}
-use Rattle.jc_code.specs.NamedConstants.{named_by_insns}
+use Rattle.jc_code.specs.inside.FirstPass.{named_if, uses_if}
 use Rattle.jc_code.specs.inside.Fronts.{BeginsWith}
 use Rattle.jc_code.specs.inside.Marks.{marked}
 use Rattle.jc_code.proofs.marks.Marked.{IsMarked}
@@ -15,8 +14,8 @@ invariant-loop-place l = record {
   marks : IsMarked l.marks.items (length l.fn.code) l.initial.insns.end l.insns.left;
   jumps : l.jumps.items ++ jumps_of l.insns.left ≡ jumps_of l.initial.insns.left;
   found : l.found.items ++ faults_of_others l.fn.scope l.insns.left ≡ faults_of_others l.fn.scope l.initial.insns.left;
-  uses : l.uses.items ++ uses_among l.fn.method l.insns.left ≡ l.fn.uses.items ++ uses_among l.fn.method l.initial.insns.left;
-  names : l.names.items ++ named_by_insns l.insns.left ≡ l.fn.names.items ++ named_by_insns l.initial.insns.left;
+  uses : l.uses.items ++ uses_if l.fn.are_wanted l.fn.method l.insns.left ≡ l.fn.uses.items ++ uses_if l.fn.are_wanted l.fn.method l.initial.insns.left;
+  names : l.names.items ++ named_if l.fn.are_wanted l.insns.left ≡ l.fn.names.items ++ named_if l.fn.are_wanted l.initial.insns.left;
   uses_kept : BeginsWith l.uses.items l.fn.uses.items;
   names_kept : BeginsWith l.names.items l.fn.names.items;
 }
