@@ -10,7 +10,7 @@ use Rattle.jc_view.specs.declared.constant_pool.Constant.TheVariants as lent
 use Rattle.jc_view.specs.declared.constant_pool.ConstantIndex.{ConstantIndex}
 use Rattle.jc_view.specs.declared.constant_pool.ConstantKind.TheVariants as kinds
 use Rattle.jc_view.specs.ConstantPool as pool
-use Rattle.jc_view.specs.ConstantPool.{Constant, kind_of, utf8_text}
+use Rattle.jc_view.specs.ConstantPool.{Constant, utf8_text}
 use Rattle.jc_view.specs.ClassFile.{ClassFile, slots, all_slots, constant_at, constant_from_first}
 use Rattle.jc_view.specs.Lent.{constant_of}
 use Rattle.jc_view.specs.Lookups.{member_descriptor_at, is_entry, is_kind, name_and_type_index, utf8_at}

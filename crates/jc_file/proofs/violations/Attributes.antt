@@ -15,7 +15,6 @@ use Rattle.jc_view.specs.declared.constant_pool.ConstantKind.TheVariants as kind
 use Rattle.jc_view.specs.declared.attribute_kind.AttributeKind.{AttributeKind}
 use Rattle.jc_view.specs.declared.attribute_kind.AttributeKind.TheVariants as attributes
 use Rattle.jc_view.specs.ConstantPool as pool
-use Rattle.jc_view.specs.ConstantPool.{Constant, kind_of, IsIndex}
 use Rattle.jc_view.specs.ClassFile.{Attribute, Member, ClassFile, attribute_bytes, member_bytes, layout}
 use Rattle.jc_view.specs.Lookups.{utf8_at}
 use Rattle.jc_view.specs.Places.{PlacedAttribute, PlacedMember, attributes_from, members_from, member_attributes, fields_in, methods_in, attributes_in, fields_place, methods_place, attributes_place}

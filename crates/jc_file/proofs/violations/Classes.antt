@@ -9,7 +9,7 @@ use Rattle.jc_view.specs.declared.constant_pool.ConstantKind.TheVariants as kind
 use Rattle.jc_view.specs.declared.attribute_kind.AttributeKind.TheVariants as attributes
 use Rattle.jc_view.specs.declared.attribute_kind.Holder.TheVariants as holders
 use Rattle.jc_view.specs.ConstantPool as pool
-use Rattle.jc_view.specs.ConstantPool.{Constant, kind_of, IsIndex}
+use Rattle.jc_view.specs.ConstantPool.{Constant, kind_of}
 use Rattle.jc_view.specs.ClassFile.{ClassFile, constant_at}
 use Rattle.jc_file.specs.AccessFlags as flags
 use Rattle.jc_view.specs.Lookups.{is_kind}

@@ -10,7 +10,7 @@ use Rattle.jc_base.specs.DescriptorTests.{begins_with, method_type_of}
 use Rattle.jc_view.specs.declared.constant_pool.ConstantIndex.{ConstantIndex}
 use Rattle.jc_view.specs.declared.constant_pool.ConstantKind.TheVariants as kinds
 use Rattle.jc_view.specs.ConstantPool as pool
-use Rattle.jc_view.specs.ConstantPool.{Constant, kind_of, tag_of, kind_of_tag, utf8_text, class_name_index}
+use Rattle.jc_view.specs.ConstantPool.{Constant}
 use Rattle.jc_view.specs.ClassFile.{ClassFile, Attribute, all_slots, slots, constant_at, constant_from_first}
 use Rattle.jc_view.specs.Lookups.{utf8_at}
 use Rattle.jc_file.specs.Faults.{constants_with}

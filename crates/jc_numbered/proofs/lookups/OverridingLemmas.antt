@@ -1,5 +1,5 @@
 -- The walk up the superclasses of a class, for a FINAL method that it overrides.
-use Rattle.std.proofs.Common.{◌≡◌, ℕ, ◌<◌, ◌≤◌, Bool, true, false, ◌||◌, ◌&&◌, Option, Some, None, is_some, length, refl, sym, ap, subst, ◌∙◌, ◌⊎◌, inl, inr, ⊎_elim, arith}
+use Rattle.std.proofs.Common.{◌≡◌, ℕ, ◌<◌, ◌≤◌, true, false, ◌||◌, ◌&&◌, Option, Some, None, is_some, refl, sym, ap, subst, ◌∙◌, ◌⊎◌, inl, inr, ⊎_elim, arith}
 use Rattle.std.specs.FinMap as map
 use Rattle.std.proofs.lemmas.Bool.{false≢true, and_from, and_parts, or_cases, or_left, or_right}
 use Rattle.jc_file.specs.AccessFlags.{final, has, protected, public}
@@ -12,8 +12,8 @@ use Rattle.jc_classes.specs.Overriding.{Overrides as overrides}
 use Rattle.jc_classes.specs.Worlds.{Extends, World, member, methods_of, superclass_of, Extends as extends}
 use Rattle.jc_classes.proofs.using.DescriptorClasses.{no_name}
 use Rattle.jc_classes.proofs.worlds.NameTests.{same_is, same_self}
-use Rattle.jc_numbered.specs.inside.Indexed.{Indexed, IsGraph, IsIndexed, good_at, indexed_name, rank_at, standing_of, superclass_at}
-use Rattle.jc_numbered.specs.inside.Overriding.{IsPassed, Packages, is_final, is_open_at, opens, overridable_at, package_at}
+use Rattle.jc_numbered.specs.inside.Indexed.{Indexed, IsGraph, IsIndexed, good_at, indexed_name, rank_at, superclass_at}
+use Rattle.jc_numbered.specs.inside.Overriding.{IsPassed, Packages, is_final, opens, overridable_at, package_at}
 use Rattle.jc_numbered.specs.inside.Packages.{same_package}
 use Rattle.jc_numbered.proofs.lookups.Chain.{super_above, super_falls, super_good, super_is, super_node, super_none}
 

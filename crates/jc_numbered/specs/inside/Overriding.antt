@@ -1,5 +1,5 @@
 -- FINAL methods that a class overrides, among numbered classes.
-use Rattle.std.specs.Prelude.{◌≡◌, ℕ, ◌<◌, ◌⊎◌, Bool, true, false, ◌||◌, ◌&&◌, length, Option, Some, None}
+use Rattle.std.specs.Prelude.{◌≡◌, ℕ, ◌⊎◌, Bool, true, false, ◌||◌, ◌&&◌, Option, Some, None}
 use Rattle.std.specs.FinMap as map
 use Rattle.jc_base.specs.Bytes.{bytes_cmp}
 use Rattle.jc_file.specs.AccessFlags.{final, has, protected, public}

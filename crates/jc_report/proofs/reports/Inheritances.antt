@@ -1,5 +1,5 @@
 -- The errors of inheritance of the classes of a tree.
-use Rattle.std.proofs.Common.{◌≡◌, ◌∙◌, ◌||◌, ◌&&◌, ◌+◌, ◌++◌, ℕ, zero, suc, Bool, true, false, List, [], ◌∷◌, None, Some, ap, drop, map, refl, subst, sym}
+use Rattle.std.proofs.Common.{◌≡◌, ◌∙◌, ◌||◌, ◌&&◌, ◌+◌, ◌++◌, ℕ, zero, suc, false, List, [], ◌∷◌, None, Some, ap, drop, map, refl, subst, sym}
 use Rattle.std.specs.Prelude.{slice_get}
 use Rattle.std.proofs.lemmas.List.{drop_more}
 use Rattle.std.proofs.lemmas.Option.{get_or_from_slice_get, slice_get_within}
@@ -9,7 +9,7 @@ use Rattle.jc_classes.specs.Worlds.{World}
 use Rattle.jc_link.specs.Tables.{world}
 use Rattle.jc_report.specs.ErrorsText.{Asked, class_errors, classes_errors, has_inheritance_error, is_asked}
 use Rattle.jc_report.specs.Files.{Files}
-use Rattle.jc_report.specs.Reports.{Class, IsReport, Report, name_of, world_of}
+use Rattle.jc_report.specs.Reports.{Class, name_of, world_of}
 use Rattle.jc_report.specs.TreeErrors.{AreInheritances, is_any}
 use Rattle.jc_report.specs.Trees.{IsTree, Tree}
 use Rattle.jc_report.specs.inside.Made.{AreInherited}

@@ -6,7 +6,6 @@ use Rattle.jc_base.specs.TextTests.{is_class_text}
 use Rattle.jc_view.specs.declared.parse_error.ParseError.{ParseError}
 use Rattle.jc_view.specs.declared.parse_error.ParseError.TheVariants as errors
 use Rattle.jc_view.specs.ConstantPool as pool
-use Rattle.jc_view.specs.ConstantPool.{Constant, class_name_index, utf8_text}
 use Rattle.jc_view.specs.ClassFile.{ClassFile, class_text_at}
 use Rattle.jc_view.specs.Reading.{◌>>=◌, or_refusal, parts_at, class_value}
 use Rattle.jc_view.specs.Refusal.{IsLayoutOf, IsNamed, IsRefusal}

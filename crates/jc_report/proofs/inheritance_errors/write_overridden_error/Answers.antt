@@ -1,4 +1,4 @@
-use Rattle.std.proofs.Common.{ap, refl, sym}
+use Rattle.std.proofs.Common.{ap, sym}
 use Rattle.jc_text.proofs.Sending.{◌⟫◌, sends_equal}
 use Rattle.jc_report.specs.PartText.{member_text}
 use Rattle.jc_report.proofs.inheritance_errors.write_overridden_error.Goals as goal
