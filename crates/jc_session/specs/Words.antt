@@ -4,7 +4,7 @@ use Rattle.std.specs.List.{Contains}
 use Rattle.clap.specs.Faults.{fault_of}
 use Rattle.clap.specs.Kinds.{IsAmong}
 use Rattle.clap.specs.Simple.{App, new_app, new_rule, on_top, subcommand_of, with_rule, with_subcommand}
-use Rattle.clap.specs.FolderWalk.{Row, Rule, all_of, first_of, one_of}
+use Rattle.clap.specs.Walk.{Row, Rule, all_of, first_of, one_of}
 use Rattle.clap.specs.declared.builder.action.ArgAction.TheVariants.{Append, SetTrue}
 use Rattle.clap.specs.declared.error.kind.ErrorKind.{ErrorKind}
 use Rattle.jc_session.specs.declared.tree_check.CheckForm.{CheckForm}

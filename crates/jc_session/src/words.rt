@@ -4,7 +4,7 @@ ghost use Rattle.std.specs.Prelude.{◌≡◌, ◌⊎◌, ◌↔◌, IfErr, IfOk
 ghost use Rattle.clap.specs.Matches.{found_of};
 ghost use Rattle.clap.specs.Simple.{app_of, subcommand_rows_of};
 ghost use Rattle.clap.specs.Values.{kind_of};
-ghost use Rattle.clap.specs.FolderWalk.{rows_of, rule_of};
+ghost use Rattle.clap.specs.Walk.{rows_of, rule_of};
 ghost use Rattle.jc_session.specs.Statuses.{NamesCommand, NoMemory, Usage};
 ghost use Rattle.jc_session.specs.Words as line;
 ghost use Rattle.jc_session.specs.Words.{AreRefused, AsksForm, HoldsGiven, IsBadCheck, IsBadForm, IsUsageError, given};

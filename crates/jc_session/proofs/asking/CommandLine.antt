@@ -1,7 +1,7 @@
 -- The command line as `clap` has it, and what it finds among the words.
 use Rattle.std.proofs.Common.{◌≡◌, ◌∙◌, List, Option, ap, refl, sym, true}
 use Rattle.clap.specs.Simple.{HasMatchesOf, app_of, is_simple, subcommand_of, subcommand_rows_of}
-use Rattle.clap.specs.FolderWalk.{Row}
+use Rattle.clap.specs.Walk.{Row}
 use Rattle.clap.specs.declared.builder.command.Command.{Command}
 use Rattle.clap.specs.declared.parser.matches.ArgMatches.{ArgMatches}
 use Rattle.clap.proofs.OnLiterals.{clap_on_literals}

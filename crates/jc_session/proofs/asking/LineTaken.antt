@@ -8,7 +8,7 @@ use Rattle.clap.specs.Faults.{entered_fault, fault_of, is_simple_and_free, level
 use Rattle.clap.specs.Kinds.{Kinds, or_else}
 use Rattle.clap.specs.Lexer.{long_of, short_of}
 use Rattle.clap.specs.Simple.{Shape, built, built_leaf, entered, filled, help_rule, inherited, marked_built, names_of, subcommand_of, with_leaf_noted}
-use Rattle.clap.specs.FolderWalk.{Held, Names, Rule, Text, idle, long_or_other, nothing_held, rows_after, subcommand_met, subcommand_or_other, walk, walk_from, bundle_step, plain, Outcome, after_flag, short_or_plain, trailing}
+use Rattle.clap.specs.Walk.{Held, Names, Rule, Text, idle, long_or_other, nothing_held, rows_after, subcommand_met, subcommand_or_other, walk, walk_from, bundle_step, plain, Outcome, after_flag, short_or_plain, trailing}
 use Rattle.clap.specs.declared.error.kind.ErrorKind.TheVariants.{DisplayHelp, InvalidSubcommand, UnknownArgument}
 use Rattle.clap.proofs.OnLiterals.{clap_on_literals}
 use Rattle.clap.proofs.WalkLemmas.{walk_stopped}

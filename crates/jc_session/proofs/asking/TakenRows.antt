@@ -10,7 +10,7 @@ use Rattle.clap.specs.Faults.{check_fault, defaults_fault, level_fault, settle_f
 use Rattle.clap.specs.Simple.{Shape, filled, help_rule, with_index}
 use Rattle.clap.specs.Takes.{is_given}
 use Rattle.clap.specs.Values.{read_as}
-use Rattle.clap.specs.FolderWalk.{Held, Row, Rule, Text, default_rows, finished, first_of, has_row, more_values, nothing_held, one_of, reading_by, row_text, rows_after, stronger, settled, walk, walk_from, with_default, with_values}
+use Rattle.clap.specs.Walk.{Held, Row, Rule, Text, default_rows, finished, first_of, has_row, more_values, nothing_held, one_of, reading_by, row_text, rows_after, stronger, settled, walk, walk_from, with_default, with_values}
 use Rattle.clap.specs.declared.builder.value_parser.Reading.{Reading}
 use Rattle.clap.specs.declared.error.kind.ErrorKind.TheVariants.{MissingRequiredArgument}
 use Rattle.clap.specs.declared.parser.matches.ValueSource.{ValueSource}

@@ -4,7 +4,7 @@ use Rattle.clap.specs.Faults.{fault_of, is_simple_and_free}
 use Rattle.clap.specs.Kinds.{HasKind, IsAmong}
 use Rattle.clap.specs.Simple.{Shape, app_of, subcommand_of}
 use Rattle.clap.specs.Values.{kind_of}
-use Rattle.clap.specs.FolderWalk.{Row}
+use Rattle.clap.specs.Walk.{Row}
 use Rattle.clap.specs.declared.builder.command.Command.{Command}
 use Rattle.clap.specs.declared.error.Error.{Error}
 use Rattle.clap.specs.declared.error.kind.ErrorKind.TheVariants.{OutOfMemory}

@@ -1,7 +1,7 @@
 -- What the arguments ask for, as the requests of the code.
 use Rattle.std.specs.Prelude.{◌≡◌, ◌⊎◌, ℕ, List, codes, IfOk, Option, Result, Some, false}
 use Rattle.clap.specs.Simple.{App, app_of, with_subcommand}
-use Rattle.clap.specs.FolderWalk.{Row, first_of}
+use Rattle.clap.specs.Walk.{Row, first_of}
 use Rattle.clap.specs.declared.builder.command.Command.{Command}
 use Rattle.clap.specs.declared.builder.command.Command.TheViews.{out-Command}
 use Rattle.jc_session.specs.declared.program_error.ProgramError.{ProgramError as LentFault}

@@ -1,7 +1,7 @@
 use Rattle.std.proofs.Common.{◌≡◌, codes, false, rules}
 use Rattle.std.proofs.lemmas.Result.{IfOk-weaker}
 use Rattle.clap.specs.Simple.{new_app}
-use Rattle.clap.specs.FolderWalk.{rule_of}
+use Rattle.clap.specs.Walk.{rule_of}
 use Rattle.jc_session.specs.Words.{check_options, flag, path_wanted, prefix_option}
 use Rattle.jc_session.proofs.asking.Commands.{leaf_with}
 use Rattle.jc_session.proofs.words.check_command.Goals as goal
