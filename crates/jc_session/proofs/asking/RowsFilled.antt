@@ -7,7 +7,7 @@ use Rattle.clap.specs.Faults.{use_fault, settle_fault, react_fault, option_fault
 use Rattle.clap.specs.Kinds.{Kinds, or_else}
 use Rattle.clap.specs.Lexer.{long_of, short_of}
 use Rattle.clap.specs.Simple.{Shape}
-use Rattle.clap.specs.Walk.{Held, Names, Outcome, Row, Rule, Step, Text, Waiting, FolderWalk, after_flag, after_step, arg_by_id, arg_by_index, arg_by_long, arg_by_short, attached_value, bundle, bundle_met, bundle_step, done, flag_met, has_long, has_short, idle, is_pending, long_met, long_or_other, more_values, next, option, option_met, option_word, plain, plain_word, positional, positional_held, reacted, refused, settled, settled_rows, short_met, short_or_plain, subcommand, subcommand_met, subcommand_or_other, takes_several, takes_values, to_positional, trailing, used, used_by_id, value, waits, walked, walked_from, with_values, without, word_met}
+use Rattle.clap.specs.Walk.{Held, Names, Outcome, Row, Rule, Step, Text, Waiting, Walk, after_flag, after_step, arg_by_id, arg_by_index, arg_by_long, arg_by_short, attached_value, bundle, bundle_met, bundle_step, done, flag_met, has_long, has_short, idle, is_pending, long_met, long_or_other, more_values, next, option, option_met, option_word, plain, plain_word, positional, positional_held, reacted, refused, settled, settled_rows, short_met, short_or_plain, subcommand, subcommand_met, subcommand_or_other, takes_several, takes_values, to_positional, trailing, used, used_by_id, value, waits, walked, walked_from, with_values, without, word_met}
 use Rattle.clap.specs.declared.builder.value_parser.Reading.{Reading}
 use Rattle.clap.specs.declared.parser.matches.ValueSource.{ValueSource}
 use Rattle.clap.specs.declared.error.kind.ErrorKind.TheVariants.{TooManyValues}
@@ -160,7 +160,7 @@ module _ (fits : Fits) where
             after_flag_fits waiting word (bundle rules flags h).0 (bundle rules flags h).1 (bundle_fits (length flags) flags h.skip plain (record h { skip = 0 }) ok held)
 
   module _ (s : Shape) (names : Names) (all : UsesFit s.rules) where
-    met_fits : (w : FolderWalk) (word : Text) → word_fault s names w.is_trailing w.waiting word w.held ≡ [] → RowsFit fits w.held.rows
+    met_fits : (w : Walk) (word : Text) → word_fault s names w.is_trailing w.waiting word w.held ≡ [] → RowsFit fits w.held.rows
         → RowsFit fits (word_met s.rules names w.is_trailing w.waiting w.position word w.held).0.rows
     met_fits w word e held = trails w.is_trailing e
       where
@@ -184,7 +184,7 @@ module _ (fits : Fits) where
         goes_on true ok = held
         goes_on false ok = settled_fits s.rules s.args_override_self all h ok held
 
-    step_fits : (w : FolderWalk) (word : Text) (h : Held) (step : Step) → step_fault s w.position h step ≡ [] → RowsFit fits h.rows → RowsFit fits (after_step s.rules word w h step).held.rows
+    step_fits : (w : Walk) (word : Text) (h : Held) (step : Step) → step_fault s w.position h step ≡ [] → RowsFit fits h.rows → RowsFit fits (after_step s.rules word w h step).held.rows
     step_fits w word h (next waiting) e held = held
     step_fits w word h (trailing position) e held = held
     step_fits w word h (subcommand name) e held = held
@@ -194,7 +194,7 @@ module _ (fits : Fits) where
         found None ok = held
         found (Some a) ok = positional_fits a word h ok held
 
-    turn_fits : (w : FolderWalk) (word : Text) → turn_fault s names w word ≡ [] → RowsFit fits w.held.rows → RowsFit fits (walked s.rules names w word).held.rows
+    turn_fits : (w : Walk) (word : Text) → turn_fault s names w word ≡ [] → RowsFit fits w.held.rows → RowsFit fits (walked s.rules names w word).held.rows
     unfolding walked
     turn_fits w word e held = stops w.stopped e
       where
@@ -206,7 +206,7 @@ module _ (fits : Fits) where
             let parts = both_pass (word_fault s names w.is_trailing w.waiting word w.held) _ ok in
             step_fits w word _ _ parts.1 (met_fits w word parts.0 held)
 
-    pub walk_fits : (w : FolderWalk) (words : List Text) → walk_fault s names w words ≡ [] → RowsFit fits w.held.rows → RowsFit fits (fold (walked s.rules names) w words).held.rows
+    pub walk_fits : (w : Walk) (words : List Text) → walk_fault s names w words ≡ [] → RowsFit fits w.held.rows → RowsFit fits (fold (walked s.rules names) w words).held.rows
     unfolding walk_fault
     walk_fits w [] e held = held
     walk_fits w (word ∷ words) e held =
