@@ -41,6 +41,13 @@ impl Table {
         add_numbers(&mut self.rows, numbers);
         add(&mut self.rows, rest);
     }
+
+    /// Adds a member without attributes.
+    fn add_member(&mut self, pool: &mut Pool, tokens: &[Token<'_>]) -> Result<()> {
+        let member = member_of(pool, tokens)?;
+        self.add(&[member.flags, member.name, member.descriptor, 0], &[]);
+        Ok(())
+    }
 }
 
 /// A constant pool without duplicates.
@@ -105,27 +112,68 @@ fn low_byte(number: u16) -> u8 {
 /// A class file that is being built.
 #[derive(Drop)]
 struct Assembler {
+    head: Head,
     pool: Pool,
+    interfaces: Table,
+    fields: Table,
+    methods: Table,
+}
+
+/// The numbers of a class file that is being built, apart from its tables.
+#[derive(Clone, Copy)]
+struct Head {
     major: u16,
     flags: u16,
     this_class: u16,
     super_class: u16,
-    interfaces: Table,
-    fields: Table,
-    methods: Table,
-    /// The method that the next instructions belong to.
-    method: Option<Method>,
 }
 
-/// A method that is being built. Its code ends with `return`.
-#[derive(Drop)]
-struct Method {
+impl Head {
+    /// Reads the tokens of a line that sets one of the numbers.
+    fn set(&mut self, pool: &mut Pool, word: &str, values: &[Token<'_>]) -> Result<()> {
+        match values {
+            [Token::Word(value)] => self.set_word(word, value),
+            [Token::Quoted(name)] if word == "super" => {
+                self.super_class = pool.class(name);
+                Ok(())
+            }
+            _ => bail!("no line of a class"),
+        }
+    }
+
+    fn set_word(&mut self, word: &str, value: &str) -> Result<()> {
+        match word {
+            "version" => self.major = value.parse::<u16>()?,
+            "flags" => self.flags = hexadecimal(value)?,
+            "super" if value == "none" => self.super_class = 0,
+            _ => bail!("no line of a class"),
+        }
+        Ok(())
+    }
+}
+
+/// The flags, the name and the descriptor of a field or a method.
+#[derive(Clone, Copy)]
+struct Member {
     flags: u16,
     name: u16,
     descriptor: u16,
-    /// The index of the text `Code`.
-    attribute: u16,
-    code: Vec<u8>,
+}
+
+fn member_of(pool: &mut Pool, tokens: &[Token<'_>]) -> Result<Member> {
+    let [
+        Token::Word(flags),
+        Token::Quoted(name),
+        Token::Quoted(descriptor),
+    ] = tokens
+    else {
+        bail!("no line of a class");
+    };
+    Ok(Member {
+        flags: hexadecimal(flags)?,
+        name: pool.utf8(name),
+        descriptor: pool.utf8(descriptor),
+    })
 }
 
 fn hexadecimal(word: &str) -> Result<u16> {
@@ -135,169 +183,79 @@ fn hexadecimal(word: &str) -> Result<u16> {
 /// The bits NATIVE and ABSTRACT. A method with one of them has no `Code`.
 const WITHOUT_CODE: u16 = 0x0500;
 
-impl Assembler {
-    fn new(alloc: Global, name: &str) -> Assembler {
-        let mut pool = Pool {
-            indexes: ByteMap::new(alloc),
-            constants: Vec::new(alloc),
-        };
-        let this_class = pool.class(name);
-        let super_class = pool.class("java/lang/Object");
-        Assembler {
-            pool,
-            major: 52,
-            flags: 0x0021,
-            this_class,
-            super_class,
-            interfaces: Table::new(alloc),
-            fields: Table::new(alloc),
-            methods: Table::new(alloc),
-            method: None,
+/// Adds a method with this code. `attribute` is the index of the text `Code`.
+fn add_method(methods: &mut Table, method: Member, attribute: u16, code: &[u8]) {
+    let length = low_bytes(code.len());
+    let rows = &mut methods.rows;
+    methods.count = methods.count.wrapping_add(1);
+    add_numbers(
+        rows,
+        &[method.flags, method.name, method.descriptor, 1, attribute],
+    );
+    add_numbers(rows, &[0, length.wrapping_add(12), 2, 9, 0, length]);
+    add(rows, code);
+    add_numbers(rows, &[0, 0]);
+}
+
+/// Returns the instructions of the lines up to the first that does not begin with `does`, and then `return`.
+fn code_of(alloc: Global, pool: &mut Pool, lines: &[&str]) -> Result<Vec<u8>> {
+    let mut code = Vec::new(alloc);
+    for line in lines {
+        if !add_insn(alloc, pool, &mut code, line)? {
+            break;
         }
     }
+    add(&mut code, &[0xb1]);
+    Ok(code)
+}
 
-    fn take_lines(&mut self, alloc: Global, lines: &[&str]) -> Result<()> {
-        for line in lines {
-            let (tokens, _) = tokens_of(alloc, line)?;
-            self.take(&tokens)?;
+/// Adds the instruction of a line, if the line begins with `does`. Returns whether it does.
+fn add_insn(alloc: Global, pool: &mut Pool, code: &mut Vec<u8>, line: &str) -> Result<bool> {
+    let (tokens, _) = tokens_of(alloc, line)?;
+    match tokens.as_slice() {
+        [Token::Word("does"), rest @ ..] => {
+            instruct(pool, code, rest)?;
+            Ok(true)
         }
-        Ok(())
+        _ => Ok(false),
     }
+}
 
-    /// Reads the tokens of a line.
-    fn take(&mut self, tokens: &[Token]) -> Result<()> {
-        let [Token::Word(word), rest @ ..] = tokens else {
-            bail!("no line of a class");
-        };
-        match *word {
-            "refers" => {
-                self.refer(rest)?;
-                Ok(())
-            }
-            "field" | "method" => self.declare(word, rest),
-            "does" => self.instruct(rest),
-            _ => self.set(word, rest),
-        }
+/// Adds an instruction: its opcode, the index of its constant, and the operands after that.
+fn instruct(pool: &mut Pool, code: &mut Vec<u8>, tokens: &[Token<'_>]) -> Result<()> {
+    let [Token::Word(opcode), operands @ ..] = tokens else {
+        bail!("no instruction");
+    };
+    add(code, &[low_byte(hexadecimal(opcode)?)]);
+    add_operands(code, pool, operands)
+}
+
+/// Adds the index of a constant and the number after it, if there are such.
+fn add_operands(code: &mut Vec<u8>, pool: &mut Pool, operands: &[Token<'_>]) -> Result<()> {
+    let (constant, number) = match operands {
+        [constant @ .., Token::Word(number)] => (constant, Some(hexadecimal(number)?)),
+        _ => (operands, None),
+    };
+    if !constant.is_empty() {
+        add_numbers(code, &[refer(pool, constant)?]);
     }
-
-    /// Reads a line of two tokens.
-    fn set(&mut self, word: &str, values: &[Token]) -> Result<()> {
-        match (word, values) {
-            ("version", [Token::Word(major)]) => self.major = major.parse::<u16>()?,
-            ("flags", [Token::Word(flags)]) => self.flags = hexadecimal(flags)?,
-            ("super", [Token::Word("none")]) => self.super_class = 0,
-            ("super", [Token::Quoted(name)]) => self.super_class = self.pool.class(name),
-            ("implements", [Token::Quoted(name)]) => {
-                self.interfaces.add(&[self.pool.class(name)], &[]);
-            }
-            _ => bail!("no line of a class"),
-        }
-        Ok(())
+    if let Some(number) = number {
+        add_numbers(code, &[number]);
     }
+    Ok(())
+}
 
-    /// Adds a field or a method. A method with a `Code` gets the code `return`.
-    fn declare(&mut self, kind: &str, tokens: &[Token]) -> Result<()> {
-        let [
-            Token::Word(flags),
+/// Returns the index of a constant that names a class, a field or a method.
+fn refer(pool: &mut Pool, tokens: &[Token<'_>]) -> Result<u16> {
+    match tokens {
+        [Token::Word("class"), Token::Quoted(name)] => Ok(pool.class(name)),
+        [
+            Token::Word(kind),
+            Token::Quoted(class),
             Token::Quoted(name),
             Token::Quoted(descriptor),
-        ] = tokens
-        else {
-            bail!("no line of a class");
-        };
-        let flags = hexadecimal(flags)?;
-        let name = self.pool.utf8(name);
-        let descriptor = self.pool.utf8(descriptor);
-        if kind == "field" {
-            self.fields.add(&[flags, name, descriptor, 0], &[]);
-        } else {
-            self.add_method(flags, name, descriptor);
-        }
-        Ok(())
-    }
-
-    fn add_method(&mut self, flags: u16, name: u16, descriptor: u16) {
-        self.finish_method();
-        if flags & WITHOUT_CODE != 0 {
-            return self.methods.add(&[flags, name, descriptor, 0], &[]);
-        }
-        self.method = Some(Method {
-            flags,
-            name,
-            descriptor,
-            attribute: self.pool.utf8("Code"),
-            code: Vec::new(*self.pool.constants.allocator()),
-        });
-    }
-
-    /// Adds the current method, if there is one, to the table of methods.
-    fn finish_method(&mut self) {
-        if let Some(mut method) = self.method.take() {
-            let attribute = method.attribute;
-            let numbers = [method.flags, method.name, method.descriptor, 1, attribute];
-            add(&mut method.code, &[0xb1]);
-            let length = low_bytes(method.code.len());
-            self.methods.add(&numbers, &[]);
-            let rows = &mut self.methods.rows;
-            add_numbers(rows, &[0, length.wrapping_add(12), 2, 9, 0, length]);
-            add(rows, &method.code);
-            add_numbers(rows, &[0, 0]);
-        }
-    }
-
-    /// Adds an instruction: its opcode, the index of its constant, and the operands after that.
-    fn instruct(&mut self, tokens: &[Token]) -> Result<()> {
-        let [Token::Word(opcode), operands @ ..] = tokens else {
-            bail!("no instruction");
-        };
-        let opcode = low_byte(hexadecimal(opcode)?);
-        let (constant, more) = match operands {
-            [constant @ .., Token::Word(more)] => (constant, Some(hexadecimal(more)?)),
-            _ => (operands, None),
-        };
-        let index = match constant {
-            [] => None,
-            _ => Some(self.refer(constant)?),
-        };
-        let Some(method) = &mut self.method else {
-            bail!("no method with a code");
-        };
-        add(&mut method.code, &[opcode]);
-        if let Some(index) = index {
-            add_numbers(&mut method.code, &[index]);
-        }
-        if let Some(more) = more {
-            add_numbers(&mut method.code, &[more]);
-        }
-        Ok(())
-    }
-
-    /// Returns the index of a constant that names a class, a field or a method.
-    fn refer(&mut self, tokens: &[Token]) -> Result<u16> {
-        match tokens {
-            [Token::Word("class"), Token::Quoted(name)] => Ok(self.pool.class(name)),
-            [
-                Token::Word(kind),
-                Token::Quoted(class),
-                Token::Quoted(name),
-                Token::Quoted(descriptor),
-            ] => Ok(self.pool.member(tag_of(kind)?, class, name, descriptor)),
-            _ => bail!("no reference"),
-        }
-    }
-
-    fn file(mut self, alloc: Global) -> Vec<u8> {
-        self.finish_method();
-        let mut file = Vec::new(alloc);
-        let head = [0xcafe, 0xbabe, 0, self.major, self.pool.count()];
-        add_numbers(&mut file, &head);
-        add(&mut file, &self.pool.constants);
-        add_numbers(&mut file, &[self.flags, self.this_class, self.super_class]);
-        add_table(&mut file, &self.interfaces);
-        add_table(&mut file, &self.fields);
-        add_table(&mut file, &self.methods);
-        add_numbers(&mut file, &[0]);
-        file
+        ] => Ok(pool.member(tag_of(kind)?, class, name, descriptor)),
+        _ => bail!("no reference"),
     }
 }
 
@@ -308,6 +266,107 @@ fn tag_of(kind: &str) -> Result<u8> {
         "imethod" => Ok(11),
         _ => bail!("no kind of reference"),
     }
+}
+
+impl Assembler {
+    fn new(alloc: Global, name: &str) -> Assembler {
+        let mut pool = Pool {
+            indexes: ByteMap::new(alloc),
+            constants: Vec::new(alloc),
+        };
+        let this_class = pool.class(name);
+        let super_class = pool.class("java/lang/Object");
+        Assembler {
+            head: Head {
+                major: 52,
+                flags: 0x0021,
+                this_class,
+                super_class,
+            },
+            pool,
+            interfaces: Table::new(alloc),
+            fields: Table::new(alloc),
+            methods: Table::new(alloc),
+        }
+    }
+
+    fn take_lines(&mut self, alloc: Global, lines: &[&str]) -> Result<()> {
+        for (place, line) in lines.iter().enumerate() {
+            let (tokens, _) = tokens_of(alloc, line)?;
+            let (_, next) = lines.split_at(place + 1);
+            self.take(alloc, &tokens, next)?;
+        }
+        Ok(())
+    }
+
+    /// Reads the tokens of a line. The instructions of a method are on the next lines.
+    fn take(&mut self, alloc: Global, tokens: &[Token<'_>], next: &[&str]) -> Result<()> {
+        let [Token::Word(word), rest @ ..] = tokens else {
+            bail!("no line of a class");
+        };
+        match *word {
+            "does" if self.methods.count > 0 => Ok(()),
+            "refers" => self.refer(rest),
+            "field" => self.fields.add_member(&mut self.pool, rest),
+            "method" => self.method(alloc, rest, next),
+            "implements" => self.implement(rest),
+            _ => self.head.set(&mut self.pool, word, rest),
+        }
+    }
+
+    fn refer(&mut self, tokens: &[Token<'_>]) -> Result<()> {
+        refer(&mut self.pool, tokens)?;
+        Ok(())
+    }
+
+    fn implement(&mut self, tokens: &[Token<'_>]) -> Result<()> {
+        let [Token::Quoted(name)] = tokens else {
+            bail!("no line of a class");
+        };
+        self.interfaces.add(&[self.pool.class(name)], &[]);
+        Ok(())
+    }
+
+    fn method(&mut self, alloc: Global, tokens: &[Token<'_>], next: &[&str]) -> Result<()> {
+        take_method(alloc, &mut self.pool, &mut self.methods, tokens, next)
+    }
+
+    fn file(&self, alloc: Global) -> Vec<u8> {
+        let mut file = Vec::new(alloc);
+        add_numbers(
+            &mut file,
+            &[0xcafe, 0xbabe, 0, self.head.major, self.pool.count()],
+        );
+        add(&mut file, &self.pool.constants);
+        add_numbers(
+            &mut file,
+            &[self.head.flags, self.head.this_class, self.head.super_class],
+        );
+        add_table(&mut file, &self.interfaces);
+        add_table(&mut file, &self.fields);
+        add_table(&mut file, &self.methods);
+        add_numbers(&mut file, &[0]);
+        file
+    }
+}
+
+/// Adds a method. If it has a `Code`, its instructions are those of the next lines that begin with `does`, and then `return`.
+fn take_method(
+    alloc: Global,
+    pool: &mut Pool,
+    methods: &mut Table,
+    tokens: &[Token<'_>],
+    next: &[&str],
+) -> Result<()> {
+    let method = member_of(pool, tokens)?;
+    if method.flags & WITHOUT_CODE != 0 {
+        methods.add(&[method.flags, method.name, method.descriptor, 0], &[]);
+        return Ok(());
+    }
+    let attribute = pool.utf8("Code");
+    let code = code_of(alloc, pool, next)?;
+    add_method(methods, method, attribute, &code);
+    Ok(())
 }
 
 /// Returns the class file with this name that the lines describe.

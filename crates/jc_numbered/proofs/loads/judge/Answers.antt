@@ -10,3 +10,6 @@ returns-else-is_wrong c = grind (arith, common_steps)
 
 pub returns-in-Outside : goal.returns-in-Outside
 returns-in-Outside c = grind (arith, common_steps)
+
+pub returns-in-Fails : goal.returns-in-Fails
+returns-in-Fails c = grind (arith, common_steps)
