@@ -2,6 +2,7 @@
 # Prints the linkage errors of a class path.
 #
 #     classpath.sh [--java FILE] [--only PREFIX]... [--outside PREFIX]... [--keep DIR] CLASSPATH
+#     classpath.sh --help
 #
 # CLASSPATH is written as for `java -cp`: folders and jars, separated by colons, for example app/classes:lib/*:x.jar.
 # `lib/*` means the files of lib whose names end in .jar or .JAR, sorted by name. A virtual machine uses them in an unspecified
@@ -20,7 +21,7 @@
 #
 # --only PREFIX       prints only the errors of classes whose names begin with PREFIX, and of unreadable files whose paths in
 #                     their entries do; up to 54 times. PREFIX has slashes, for example com/acme/. If no class file with such a
-#                     path is read, standard error says so.
+#                     path is read, standard error says so. If that is so for each PREFIX, the status is 3.
 #
 # --outside PREFIX    names that begin with PREFIX are outside too
 #
@@ -39,16 +40,21 @@
 # The name of a class is the one in its file, whatever the path of the file in its entry is. A virtual machine finds only
 # files whose paths are the names of their classes. The script needs python3.
 #
-# Status 0: nothing is wrong. 1: a line was printed. 2: a usage error. 3: an entry is missing or damaged, no class file is
-# read, or the tree cannot be written. 2, 3, 4 and 70 are also the statuses of jclink. The environment's JCLINK may name the
-# program.
+# Status 0: nothing is wrong. 1: a line was printed. 2: a usage error. 3: an entry is missing or damaged, no class file that
+# is asked for is read, or the tree cannot be written. 2, 3, 4 and 70 are also the statuses of jclink. The environment's
+# JCLINK may name the program.
 set -u -o pipefail
 export LC_ALL=C
 here=$(dirname "$(readlink -f "$0")")
 jclink=${JCLINK:-$here/../jclink}
 
+help() {
+  sed -n '2,/^set /s/^# \{0,1\}//p' "$0"
+}
+
 usage() {
   sed -n '4s/^#  *//p' "$0" >&2
+  echo 'classpath.sh --help prints the options' >&2
   exit 2
 }
 
@@ -68,6 +74,7 @@ while [ $# -gt 0 ]; do
     --only) only+=("$2") ;;
     --outside) outside+=("--outside=$2") ;;
     --keep) keep=$2 ;;
+    -h | --help) help && exit ;;
     --) shift && break ;;
     -*) usage ;;
     *) break ;;
@@ -125,10 +132,19 @@ select_own() {
 mapfile -t entries <"$tree/entries"
 mapfile -t prefixes <"$tree/outside"
 folders=("$tree"/[0-9]*)
+is_any=
 for prefix in "${only[@]}"; do
   found=("$tree"/[0-9]*/"$prefix"*)
-  [ -e "${found[0]}" ] || echo "--only $prefix: no class file with such a path is read" >&2
+  if [ -e "${found[0]}" ]; then
+    is_any=yes
+  else
+    echo "--only $prefix: no class file with such a path is read" >&2
+  fi
 done
+if [ ${#only[@]} -gt 0 ] && [ -z "$is_any" ]; then
+  find "$tree/" -mindepth 1 -delete
+  fail '--only asks for no class file that is read; a prefix has slashes, for example com/acme/'
+fi
 first=${folders[0]##*/} options=("${prefixes[@]/#/--outside=}" "${only[@]/#/--only=}")
 if [ ${#only[@]} -gt 0 ]; then
   # The path of an unreadable file begins with the number of its entry.

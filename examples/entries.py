@@ -47,6 +47,7 @@ class Folder:
     def __init__(self, shown):
         self.path, self.shown, self.name = shown, shown.rstrip("/") + "/", shown
         self.hidden = self.jars = 0
+        self.advice = f"; {self.shown}* means the jars of a folder"
 
     def class_files(self):
         return self.below("", ())
@@ -65,6 +66,8 @@ class Folder:
                     yield prefix + found.name, found.path
                 elif not os.path.exists(found.path):
                     raise Failure(f"{self.shown}{prefix}{found.name}: a link that leads nowhere")
+            elif not prefix and found.name.endswith(JAR):
+                self.jars += 1
 
     def version(self, file):
         with open(file, "rb") as opened:
@@ -93,6 +96,7 @@ class Jar:
         self.files = {utf8_name(info): info for info in infos}
         self.hidden = len(infos) - len(self.files)
         self.jars = sum(name.endswith(JAR) for name in self.archive.namelist())
+        self.advice = ""
 
     def class_path(self):
         """Returns the URLs in the manifest's Class-Path."""
@@ -156,7 +160,10 @@ def open_entry(shown):
         return Folder(shown)
     if os.path.isfile(shown):
         return Jar(shown)
-    raise Failure(f"{shown}: " + ("a link that leads nowhere" if os.path.islink(shown) else "there is no such file or folder"))
+    if os.path.islink(shown):
+        raise Failure(f"{shown}: a link that leads nowhere")
+    advice = f"; {os.path.dirname(shown)}/* means the jars of a folder" if shown.endswith(("*.jar", "*.JAR")) else ""
+    raise Failure(f"{shown}: there is no such file or folder{advice}")
 
 
 def named_by(jar):
@@ -238,7 +245,7 @@ class Tree:
         if versions:
             print(f"{entry.name}: {skipped_text(versions)} not read", file=sys.stderr)
         if entry.jars:
-            print(f"{entry.name}: {counted(entry.jars, 'jar in it is', 'jars in it are')} not read", file=sys.stderr)
+            print(f"{entry.name}: {counted(entry.jars, 'jar in it is', 'jars in it are')} not read{entry.advice}", file=sys.stderr)
 
     def write(self, entry, file, folder, path):
         if entry.size(file) > MAX_FILE:

@@ -11,8 +11,8 @@ whose path has a line end, since no line can name it.
 Names that begin with a PREFIX and that no file gives are outside. Without a PREFIX these are java/ and javax/. The lines
 `outside add PREFIX` and `outside drop PREFIX` of standard input change the prefixes.
 
-If the session ends, for example because a PREFIX is empty, the script ends with its status. Without JCLINK or FOLDER the
-status is 2.
+It runs until it is interrupted, also after the end of its standard input. If the session ends, for example because a PREFIX
+is empty, the script ends with its status. Without JCLINK or FOLDER the status is 2.
 """
 import os
 import pathlib

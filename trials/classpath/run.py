@@ -390,9 +390,12 @@ def try_only(place):
     paths = (r"bad/app/Cut\.class", r"bad/lib/Cut\.class", r"cut\.jar!app/Cut2\.class")
     app, lib, jar = (rf"{path}: unreadable 1 Magic\n" for path in paths)
     for words, out in (("", app + lib + jar + main + user), ("--only app/", app + jar + main + user), ("--only=lib/", lib),
-                       ("--only app/Main", main), ("--only lib/ --only app/U", lib + user), ("--only none/", ""),
-                       ("--only 0", ""), ("--only app/Cut.", app), ("--only app/ --outside lib/", app + jar)):
-        yield is_so(place.run(*words.split(), both), 1 if out else 0, out)
+                       ("--only app/Main", main), ("--only lib/ --only app/U", lib + user), ("--only app/Cut.", app),
+                       ("--only app/ --outside lib/", app + jar)):
+        yield is_so(place.run(*words.split(), both), 1, out)
+    for word in ("none/", "0", "app.lib"):
+        yield fails(place.run("--only", word, both), "a prefix has slashes") and f"--only {word}: " in place.run("--only", word, both)[2]
+    yield is_so(place.run("--only", "lib/", "old"), 0, "")
     # A prefix that is the prefix of no path is named.
     yield is_so(place.run("--only", "app.", "--only", "lib/", both), 1, lib, "--only app.: no class file")
     yield "--only" not in place.run("--only", "app/", both)[2]

@@ -108,9 +108,11 @@ def try_fresh(checkout):
     yield prints(checkout.run("jclink", "session"), 0, "first session\na line\n")
     for words in ((), ("check",), ("session", "word"), ("word",), ("check --help",)):
         yield prints(checkout.run("jclink", *words), 2, "", "jclink: usage\n" + HINT)
-    for word in ("--help", "-h", "help"):
-        status, out, err = checkout.run("jclink", word)
+    for words in (("--help",), ("-h",), ("help",), ("check", "--help"), ("list", "-h"), ("session", "--help")):
+        status, out, err = checkout.run("jclink", *words)
         yield prints((status, out[:13], err), 0, "jclink check ")
+    for word in ("--help", "--version"):
+        yield prints(checkout.run("jclink", word, "x"), 2, "", f"jclink: {word} takes no argument: x\n")
     status, out, err = checkout.run("jclink", "--version")
     yield status == 0 and err == "" and KIT in out and out.endswith("\ndist/x86_64-linux, built from this checkout's sources\n")
     link = checkout.folder / "link"
@@ -266,6 +268,16 @@ def try_released(folder):
     took = time.monotonic() - began
     print(f"the first answer took {took:.2f} s")
     yield done.returncode == 0 and done.stdout.startswith("[files]\nA.class: class A\n") and took < 1
+    (folder / "empty").mkdir()
+    for status, words, told in (
+        (0, ("check", "empty"), "empty has no class files"),
+        (2, ("check", "--used", "tree"), "--used and --only need --errors\n" + HINT),
+        (2, ("check", "--errors", "--unknown", "tree"), "usage\n" + HINT),
+        (3, ("check", "tree/A.class"), "tree/A.class is a file"),
+        (3, ("list", "tree"), "tree is a folder"),
+    ):
+        done = subprocess.run([common.TOP / "jclink", *words], cwd=folder, env={"PATH": PATH}, capture_output=True, text=True, check=False)
+        yield prints((done.returncode, "", done.stderr), status, "", f"jclink: {told}")
 
 
 def main():
