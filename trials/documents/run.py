@@ -14,7 +14,8 @@ lib/, for example /usr/share/maven. Nothing is downloaded: commands that begin w
 
 The trial also checks four things:
 
-- The lines of a block that begins with `use` are lines of a crate's source, in the same order.
+- The lines of a block that begins with `use` are lines of a crate's source, in the same order. The lines of an example in a
+  comment of a crate's source are lines of the file that the comment names.
 - The links, files, options and statuses that documents name exist (names.py).
 - The counts in documents are those of the repository (trials/results.py).
 - examples/hold.py prints the changes of a folder.
@@ -82,6 +83,22 @@ def try_quotes(path):
         right = is_in_a_crate(lines)
         if not right:
             print(f"{path.relative_to(common.TOP)}: no crate has `{lines[0]}`, ..")
+        yield right
+
+
+def examples(text):
+    """Yields the examples in comments of a source, each as the path of the file that has its lines, and these lines."""
+    for path, block in re.findall(r"/// For example \(`([^`]+)`\):\n *///\n */// ```\n(.*?)\n */// ```\n", text, re.S):
+        yield path, [re.sub(r"^ */// ?", "", line).strip() for line in block.splitlines()]
+
+
+def try_examples(path):
+    """Yields for each example in the comments of a source whether the file that it names has its lines."""
+    for source, lines in examples(path.read_text()):
+        found = [line.strip() for line in (common.TOP / source).read_text().splitlines()]
+        right = matches(["..", *lines, ".."], found)
+        if not right:
+            print(f"{path.relative_to(common.TOP)}: {source} does not have the lines of the example")
         yield right
 
 
@@ -221,9 +238,10 @@ def main():
     print(f"{len(named)} names, {named.count(False)} wrong", flush=True)
     named.append(try_counts())
     right = [right for path in names.documents() for right in try_quotes(path)]
+    right += [right for path in sorted(common.TOP.glob("crates/*/src/**/*.rt")) for right in try_examples(path)]
     if not only_names:
         right += try_commands({name: folder for name, folder in options.items() if folder})
-    print(f"{len(right)} commands, quotes and changes, {right.count(False)} differ")
+    print(f"{len(right)} commands, quotes, examples and changes, {right.count(False)} differ")
     sys.exit(0 if named and all(named + right) else 1)
 
 

@@ -13,6 +13,20 @@ use std::marker::Model;
 ///
 /// It ends at the end of the code, or at the first offset without an instruction. Its view has the
 /// instructions that are left, the offset reached, and the offset where the instructions end.
+///
+/// For example (`crates/jc_rows/src/code_answers.rt`):
+///
+/// ```
+/// let mut insns = Insns::new(code);
+/// while let Some((place, insn)) = insns.next() {
+///     out.decimal(place);
+///     out.text(b" ");
+///     out.text(insn.mnemonic().as_bytes());
+///     ..
+/// }
+/// ..
+/// out.decimal(insns.rest());
+/// ```
 #[derive(Drop)]
 pub struct Insns<'a> {
     cursor: Cursor<'a>,

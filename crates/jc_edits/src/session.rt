@@ -26,6 +26,20 @@ use std::marker::Model;
 
 /// A session: class files by path, outside prefixes, and the report of them. Contracts see a record of the files, the
 /// prefixes, and the numbers of look-ups and of parts that were made.
+///
+/// For example (`crates/jc_rows/src/edits.rt`):
+///
+/// ```
+/// match session.report().class(name.as_bytes()) {
+///     Some(class) => write_answer(out, class.answer(index)),
+///     None => out.text(b"no class"),
+/// }
+/// ..
+/// match session.edit(Edit::Add(path, bytes)) {
+///     Ok(_) => Ok(()),
+///     Err(_) => bail!("a refused edit"),
+/// }
+/// ```
 #[derive(Drop)]
 pub struct Session {
     alloc: Global,

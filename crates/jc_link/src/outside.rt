@@ -21,6 +21,16 @@ const LONGEST_PREFIX: usize = 256;
 pub const MOST_PREFIXES: usize = 64;
 
 /// The outside prefixes, each once. The model is the list of prefixes.
+///
+/// For example (`crates/jc_rows/src/prefix_answers.rt`):
+///
+/// ```
+/// match made(alloc, lines) {
+///     Ok(Ok(outside)) if outside.covers(name.as_bytes()) => out.text(b"outside"),
+///     Ok(Ok(_)) => out.text(b"not outside"),
+///     ..
+/// Ok(Outside::new(alloc, &prefixes))
+/// ```
 #[derive(Drop)]
 pub struct Outside {
     prefixes: Prefixes,

@@ -15,6 +15,16 @@ use std::marker::Model;
 use std::mem;
 
 /// The classes that files give, by name, and the built-in `java/lang/Object`.
+///
+/// For example (`crates/jc_report/src/tree.rt`):
+///
+/// ```
+/// let (table, meter) = Table::new(alloc)?;
+/// ..
+/// let facts = Facts::of(self.alloc, view, path)?;
+/// ..
+/// self.table.put(facts).or(Err(NoMemory))
+/// ```
 #[derive(Drop)]
 pub struct Table {
     alloc: Global,

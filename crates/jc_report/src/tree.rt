@@ -26,6 +26,21 @@ use std::marker::Model;
 
 /// The class files of a tree: the name of the class in each file, and the facts of each class. The bytes of the files are
 /// not kept. If several files have a class of one name, the tree takes it from the one with the least path.
+///
+/// For example (`crates/jc_session/src/tree_check.rt`):
+///
+/// ```
+/// let report = TreeReport::make(alloc, tree, outside, meter)?;
+/// match write_report(&report, out) {
+///     Ok(()) => Ok(report.wrong()),
+///     Err(_) => Err(CheckError::Write),
+/// }
+/// ..
+/// let (mut tree, meter) = Tree::new(alloc)?;
+/// ..
+/// match tree.add(path, bytes) {
+///     Ok(tree) => Ok(tree),
+/// ```
 #[derive(Drop)]
 pub struct Tree {
     alloc: Global,

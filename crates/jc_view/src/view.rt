@@ -36,6 +36,18 @@ pub struct Version {
 }
 
 /// A readable class file. The texts that it returns are slices of the file.
+///
+/// For example (`crates/jc_rows/src/class_answers.rt`):
+///
+/// ```
+/// match parse(alloc, bytes) {
+///     Ok(view) => {
+///         out.text(b"class ");
+///         out.path(view.name());
+///     }
+///     Err(refusal) => write_refusal(out, refusal),
+/// }
+/// ```
 #[derive(Drop)]
 pub struct ClassView<'a> {
     bytes: &'a [u8],
