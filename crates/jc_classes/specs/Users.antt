@@ -10,11 +10,12 @@ use Rattle.jc_classes.specs.declared.used.User.TheVariants as user
 use Rattle.jc_view.specs.Lookups.{class_index}
 use Rattle.jc_classes.specs.UsedConstants.{is_among, used_constants}
 
--- whether the constant is a reference to a member whose class is the constant at i
+-- whether `member` is the index of a reference to a member whose class is the constant at i
 abbrev pub is_owner : ClassFile → ℕ → ConstantIndex → Bool
 is_owner c i member = option_map_or (λ class. class.0 == i) (option_and_then class_index (constant_at c member)) false
 
--- whether code that names a constant uses the constant at i: it is the same constant, or the class of the member
+-- whether code that names the constant at `index` uses the constant at i: the indexes are equal, or the constant at
+-- `index` is a reference to a member of the class at i
 abbrev pub names_constant : ClassFile → ℕ → ConstantIndex → Bool
 names_constant c i index = (index.0 == i) || is_owner c i index
 
@@ -26,7 +27,7 @@ uses_constant c i m = list_any (names_constant c i) (named_by_method c m)
 abbrev pub first_user : ClassFile → ℕ → Option ℕ
 first_user c i = position (uses_constant c i) c.methods
 
--- the user of a constant: the first method, if there is one, and else something else or nothing
+-- what uses a constant: the first method whose code does, if there is one, or else something else or nothing
 abbrev pub user_by : (method : Option ℕ) → (is_used : Bool) → User
 user_by (Some number) is_used = user.Method number
 user_by None true = user.Other

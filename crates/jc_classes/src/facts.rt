@@ -20,12 +20,13 @@ use std::alloc::Global;
 use std::marker::Model;
 use std::rc::Rc;
 
-/// The facts of a class file: its names and flags, the members that it declares, its references and its faults. A file
-/// with a format fault keeps only its path, name, flags and format faults.
+/// The facts of a class file: the data that linking uses. They are its path, name, flags and supertypes, the members
+/// that it declares, its references and their uses, and its faults. If the file has a format fault, they are only its
+/// path, name, flags and format faults.
 #[derive(Drop)]
 pub struct Facts {
     pub(crate) path: Vec<u8>,
-    /// The texts of names and descriptors, by their numbers, shared with the references that are lent.
+    /// Names and descriptors, shared with `References`. The fields below refer to them by number.
     pub(crate) texts: Rc<TextList>,
     pub(crate) name: u16,
     pub(crate) flags: u16,
@@ -33,8 +34,9 @@ pub struct Facts {
     pub(crate) interfaces: Vec<u16>,
     pub(crate) fields: Vec<MemberEntry>,
     pub(crate) methods: Vec<MemberEntry>,
-    /// The numbers of the fields and of the methods, in the order in which they are searched.
+    /// The numbers of the fields for look-up, sorted by name and then by descriptor. Ties keep file order.
     pub(crate) field_order: Vec<u16>,
+    /// The numbers of the methods, in the same order.
     pub(crate) method_order: Vec<u16>,
     pub(crate) references: Rc<Vec<ReferenceEntry>>,
     pub(crate) uses: Vec<MethodUse>,
@@ -52,8 +54,8 @@ pub struct Faults {
     pub code: Vec<(usize, CodeFault)>,
 }
 
-/// A field or a method, by the numbers of its texts. They are first the indexes of the constants, and later the numbers
-/// of the texts that are kept.
+/// A field or a method. In `Facts`, `name` and `descriptor` are numbers of texts in `Facts::texts`. While a class file
+/// is read, they are first the indexes of its Utf8 constants.
 #[derive(Clone, Copy)]
 pub(crate) struct MemberEntry {
     pub(crate) name: u16,
@@ -61,8 +63,8 @@ pub(crate) struct MemberEntry {
     pub(crate) flags: u16,
 }
 
-/// A reference, by the numbers of its texts, which have the same two meanings as in a `MemberEntry`. A reference to a
-/// class has the empty text as name and as descriptor.
+/// A reference, and the index of its constant. `class`, `name` and `descriptor` refer to texts in the same two ways as
+/// in a `MemberEntry`. In a reference to a class, `name` and `descriptor` refer to the empty text.
 #[derive(Clone, Copy, PartialEq, Eq)]
 pub(crate) struct ReferenceEntry {
     pub(crate) index: u16,
@@ -73,7 +75,7 @@ pub(crate) struct ReferenceEntry {
 }
 
 impl Faults {
-    /// Returns these faults, for sharing.
+    /// Puts faults into an `Rc`, so that they can be shared.
     pub(crate) fn shared(
         alloc: Global,
         format: Vec<Fault>,
@@ -86,7 +88,7 @@ impl Faults {
     }
 }
 
-/// Returns an empty list of references, for sharing.
+/// Returns an empty list of references in an `Rc`.
 pub(crate) fn no_references(alloc: Global) -> Result<Rc<Vec<ReferenceEntry>>, NoMemory>
     ensures { IfOk result (λ references. references.value.items ≡ []) }
 {
@@ -159,7 +161,7 @@ impl Facts {
         }
     }
 
-    /// Returns the name of the direct superinterface of a number. Each name is listed once, in file order.
+    /// Returns the name of the direct superinterface at `number`, from 0 in file order. Each name is listed once.
     pub fn interface(&self, number: usize) -> Option<&[u8]>
         ensures { option_copied result ≡ slice_get self.now.interfaces number }
     {
@@ -176,7 +178,7 @@ impl Facts {
         self.interfaces.len()
     }
 
-    /// Returns the field of a number, in file order.
+    /// Returns the field at `number`, from 0 in file order.
     pub fn own_field(&self, number: usize) -> Option<Member<'_>>
         ensures { option_map member_lent result ≡ slice_get self.now.fields number }
     {
@@ -200,7 +202,7 @@ impl Facts {
         self.field_order.as_slice()
     }
 
-    /// Returns the method of a number, in file order.
+    /// Returns the method at `number`, from 0 in file order.
     pub fn own_method(&self, number: usize) -> Option<Member<'_>>
         ensures { option_map member_lent result ≡ slice_get self.now.methods number }
     {
@@ -224,7 +226,8 @@ impl Facts {
         self.method_order.as_slice()
     }
 
-    /// Returns the reference of a number. References are numbered in ascending order of the indexes of their constants.
+    /// Returns the reference at `number`. References are numbered from 0, in ascending order of the indexes of their
+    /// constants.
     pub fn reference(&self, number: usize) -> Option<Reference<'_>>
         ensures { option_map reference_lent result ≡ slice_get self.now.references number }
     {
@@ -241,15 +244,15 @@ impl Facts {
         self.references.as_ref().len()
     }
 
-    /// Returns the uses of references by instructions, by method and then by offset. Only methods with exactly one
-    /// well-formed `Code` that has no fault have uses here.
+    /// Returns the instructions that may fail to link although their references resolve (JVMS 6.5), sorted by method
+    /// and then by offset. Covers only methods with exactly one well-formed `Code` that has no fault.
     pub fn uses(&self) -> &[MethodUse]
         ensures { result.now ≡ self.now.uses }
     {
         self.uses.as_slice()
     }
 
-    /// Returns what uses the reference of a number: the first method whose code uses it, something else, or nothing.
+    /// Returns what uses the reference at `number`: the first method whose code uses it, something else, or nothing.
     /// Does not allocate.
     ///
     /// Code uses a reference if an instruction or an exception handler names it. Code uses a reference to a class also
@@ -261,7 +264,8 @@ impl Facts {
         self.users.get(number).copied()
     }
 
-    /// Has no effect. Its contract says that references are sorted by index, and uses by method and then by offset.
+    /// States in its contract that references are sorted by index, and uses by method and then by offset. Has no
+    /// effect.
     pub fn are_in_order(&self)
         ensures references { AreByIndex self.now.references }
         ensures uses { AreByPlace self.now.uses }
@@ -271,7 +275,7 @@ impl Facts {
 
     /// Returns the references. They share their texts with the facts, and may outlive them.
     ///
-    /// Returns `NoMemory` only when the count of owners would overflow.
+    /// Returns `NoMemory` only when the strong count of an `Rc` would overflow.
     pub fn shared_references(&self) -> Result<References, NoMemory>
         ensures { IfOk result (λ references. references ≡ self.now.references) }
     {
@@ -283,7 +287,7 @@ impl Facts {
 
     /// Returns the faults, shared with the facts.
     ///
-    /// Returns `NoMemory` only when the count of owners would overflow.
+    /// Returns `NoMemory` only when the strong count of the `Rc` would overflow.
     pub fn shared_faults(&self) -> Result<Rc<Faults>, NoMemory>
         ensures format { IfOk result (λ faults. faults.value.format.items ≡ self.now.format_faults) }
         ensures code { IfOk result (λ faults. faults.value.code.items ≡ self.now.code_faults) }
@@ -293,7 +297,7 @@ impl Facts {
 }
 
 impl ReferenceEntry {
-    /// Returns the reference with its texts.
+    /// Returns the reference with the texts to which its numbers refer.
     pub(crate) fn lend(self, texts: &TextList) -> Reference<'_>
         ensures { reference_lent result ≡ reference_shown texts.now self }
     {

@@ -10,24 +10,26 @@ pub enum LinkageError {
     NoClass,
     /// The class breaks a rule of the format (`ClassFormatError`, JVMS 4.8, 5.3.5).
     Format,
-    /// The class is its own superclass or superinterface (`ClassCircularityError`, JVMS 5.3.5).
+    /// The class is one of its own transitive supertypes (`ClassCircularityError`, JVMS 5.3.5).
     Circular,
     /// A class where an interface is required, or the reverse (`IncompatibleClassChangeError`, JVMS 5.3.5, 5.4.3.3,
-    /// 5.4.3.4). Also a STATIC member where an instance member is required, or the reverse (JVMS 6.5).
+    /// 5.4.3.4). Also a STATIC member where an instance member is required, or the reverse, or a PRIVATE method that
+    /// `invokeinterface` names (JVMS 6.5).
     Incompatible,
     /// The class or the member is not accessible (`IllegalAccessError`, JVMS 5.4.4). Also a store into a FINAL field
-    /// from outside its class or its initializer (JVMS 6.5).
+    /// outside `<clinit>` (`putstatic`) or `<init>` (`putfield`) of the class that declares it (JVMS 6.5).
     IllegalAccess,
     /// Look-up finds no field (`NoSuchFieldError`, JVMS 5.4.3.2).
     NoField,
-    /// Look-up finds no method (`NoSuchMethodError`, JVMS 5.4.3.3, 5.4.3.4, 6.5).
+    /// Look-up finds no method (`NoSuchMethodError`, JVMS 5.4.3.3, 5.4.3.4). Also an `<init>` that `invokespecial`
+    /// names and that the named class does not declare itself (JVMS 6.5).
     NoMethod,
     /// The class is an interface or ABSTRACT, and `new` names it (`InstantiationError`, JVMS 6.5).
     Instantiation,
 }
 
 impl LinkageError {
-    /// Returns its number in the report.
+    /// Returns the number of the error in the report.
     pub fn code(self) -> u8
         ensures { result ≡ error_code self }
     {
@@ -43,7 +45,7 @@ impl LinkageError {
         }
     }
 
-    /// Returns its name in the report.
+    /// Returns the name of the error in the report.
     pub fn name(self) -> &'static str
         ensures { result.now ≡ error_name self }
     {

@@ -8,11 +8,11 @@ use jc_base::NoMemory;
 use std::alloc::Global;
 use std::marker::Model;
 
-/// Texts, one after another in a buffer. The model is the list of texts.
+/// A list of texts, stored one after another in one buffer. Its model is the list of texts.
 #[derive(Drop)]
 pub struct TextList {
     bytes: Vec<u8>,
-    /// Where each text ends.
+    /// The offset in `bytes` where each text ends.
     ends: Vec<u32>,
 }
 
@@ -39,7 +39,7 @@ impl TextList {
         }
     }
 
-    /// Returns an empty list, with room for `texts` texts that have `bytes` bytes together.
+    /// Returns an empty list with room for `texts` texts of `bytes` bytes in total.
     ///
     /// Returns `NoMemory` only when an allocation fails.
     pub fn with_room(alloc: Global, texts: usize, bytes: usize) -> Result<TextList, NoMemory>
@@ -52,8 +52,8 @@ impl TextList {
 
     /// Appends a text. If there is an error, the list does not change.
     ///
-    /// Returns `NoMemory` when an allocation fails, and when the texts would have more than 4,294,967,295 bytes
-    /// together.
+    /// Returns `NoMemory` when an allocation fails, and when the texts would have more than 4,294,967,295 bytes in
+    /// total.
     pub fn push(&mut self, text: &[u8]) -> Result<(), NoMemory>
         ensures ok { OnOk result (self.new ≡ self.old ++ text.now ∷ []) }
         ensures err { OnErr result (self.new ≡ self.old) }
@@ -76,7 +76,7 @@ impl TextList {
         self.ends.len()
     }
 
-    /// Returns whether another list is known to be the same. Does not allocate.
+    /// Returns whether another list is equal. The contract covers only the result `true`. Does not allocate.
     pub fn is_same(&self, other: &TextList) -> bool
         ensures { IsTrue result → self.now ≡ other.now }
     {
@@ -84,7 +84,7 @@ impl TextList {
             && self.bytes.as_slice() == other.bytes.as_slice()
     }
 
-    /// Returns the list without spare room. Does not allocate.
+    /// Returns the list without spare capacity. Does not allocate.
     pub fn fitted(self) -> TextList
         ensures { result ≡ self }
     {
@@ -97,7 +97,7 @@ impl TextList {
         TextList { bytes, ends }
     }
 
-    /// Returns the text of a number. Returns an empty text if there is none.
+    /// Returns the text at `number`, or an empty text if there is none.
     pub fn text(&self, number: usize) -> &[u8]
         ensures { result.now ≡ slice_index_or self.now number [] }
     {
@@ -110,7 +110,7 @@ impl TextList {
     }
 }
 
-/// Appends the place where a text ends.
+/// Appends the offset where a text ends. Returns `NoMemory` also if the offset does not fit in a `u32`.
 fn push_end(ends: &mut Vec<u32>, end: usize) -> Result<(), NoMemory>
     ensures ok { OnOk result (ends.new.items ≡ ends.old.items ++ end ∷ []) }
     ensures err { OnErr result (ends.new.items ≡ ends.old.items) }
@@ -121,7 +121,7 @@ fn push_end(ends: &mut Vec<u32>, end: usize) -> Result<(), NoMemory>
     }
 }
 
-/// Returns the place where the text of a number begins.
+/// Returns the offset where the text at `number` begins.
 fn start(ends: &[u32], number: usize) -> usize
     requires { number < length ends.now }
     ensures { result ≡ start_at 0 ends.now number }

@@ -1,4 +1,4 @@
-//! The constants of a class file that are used: code resolves no others.
+//! The constants of a class file that are used. Code resolves no other constants.
 
 ghost use Rattle.std.specs.Prelude.{◌≡◌, ◌++◌, ◌<◌, ◌==◌, ◌^◌, None, length, IfOk, OnOk, if◌then◌else◌, option_and_then};
 ghost use Rattle.std.specs.List.{flat_map};
@@ -20,23 +20,24 @@ use jc_view::{
 };
 use std::alloc::Global;
 
-/// What uses a reference of a class file, so that a virtual machine may resolve it (JVMS 5.4.3).
+/// What uses a reference of a class file, and so may cause a virtual machine to resolve it (JVMS 5.4.3).
 #[derive(Clone, Copy, Debug, PartialEq, Eq)]
 pub enum User {
-    /// The code of a method that names the reference or, if it is to a class, a reference to a member of this class.
-    /// The number is that of the first such method in file order.
+    /// The code of a method. It names the reference or, for a reference to a class, a reference to a member of this
+    /// class. The number is that of the first such method, from 0 in file order.
     Method(u16),
-    /// A method handle, an argument of a bootstrap method, or a descriptor that code resolves, but no code of a method.
+    /// No code of a method, but a method handle, an argument of a bootstrap method, or a descriptor that code resolves.
     Other,
     /// Nothing. No code resolves the reference.
     Nothing,
 }
 
-/// Returns a mark for each constant of a class file by its index, set if the constant is used.
+/// Returns a mark for each index of the constant pool, which is set if the constant is used.
 ///
-/// A constant is used if an instruction, an exception handler, a method handle or an argument of a bootstrap method
-/// names it. A Class constant is also used if it is the class of a named reference to a member. It is also used if its
-/// class is in a descriptor that code resolves. `marks` marks the constants that the code of methods names.
+/// A constant is named if an instruction, an exception handler or a method handle refers to it, or if it is an argument
+/// of a bootstrap method. A named constant is used. So is a Class constant that is the class of a named reference to a
+/// member, or whose class is in a descriptor that code resolves. `marks` has the marks of the constants that the code
+/// of methods names.
 ///
 /// Returns `NoMemory` only when an allocation fails.
 pub(crate) fn used(
@@ -85,7 +86,7 @@ fn add_by_handles(names: &mut Vec<ConstantIndex>, class: &ClassView) -> Result<(
     Ok(())
 }
 
-/// Returns the member that the method handle at `index` refers to.
+/// Returns the `reference_index` of the MethodHandle at `index`, if there is one (JVMS 4.4.8).
 fn named_by_handle(class: &ClassView, index: u16) -> Option<ConstantIndex>
     ensures { result ≡ option_and_then named_by_handle (constant_at class.now (record { 0 = index })) }
 {
@@ -139,8 +140,8 @@ fn add_by_table(alloc: Global, names: &mut Vec<ConstantIndex>, bytes: &[u8]) -> 
     }
 }
 
-/// Reads the arguments of the bootstrap methods in the table at the cursor, after its count. Returns `None` if the
-/// table is cut off.
+/// Reads the table of bootstrap methods at the cursor, which begins with its count, and returns all their arguments.
+/// Returns `None` if the table is cut off.
 fn read_arguments(
     alloc: Global,
     cursor: &mut Cursor,
@@ -160,7 +161,7 @@ fn read_arguments(
     Ok(Some(arguments))
 }
 
-/// Reads the arguments of the bootstrap method at the cursor.
+/// Reads the bootstrap method at the cursor, and returns its arguments.
 #[tactic(auto, unfolding(jc_view::specs::AttributeReading::after_bootstrap))]
 fn read_method<'a>(cursor: &mut Cursor<'a>) -> Option<Indexes<'a>>
     ensures { Lends (λ indexes. indexes) after_bootstrap (λ xs. (bootstrap_value xs).arguments) cursor.old result cursor.new }
@@ -204,7 +205,7 @@ fn owner_if_marked(class: &ClassView, marks: &[bool], index: u16) -> Option<Cons
     }
 }
 
-/// Returns a mark for each constant by its index, set if the constant is in `names`.
+/// Returns a mark for each index of the constant pool, which is set if the index is in `names`.
 pub(crate) fn marked(
     alloc: Global,
     class: &ClassView,

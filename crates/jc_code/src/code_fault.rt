@@ -5,7 +5,8 @@ ghost use Rattle.jc_code.specs.CodeFaultOrder.{rule_number};
 
 /// A static constraint of a method's code.
 ///
-/// An entry or a text that is missing or of the wrong kind breaks only the rules that require it.
+/// If a constant or its text is missing or of the wrong kind, only the rules that require it are
+/// broken.
 #[derive(Clone, Copy, PartialEq, Eq)]
 pub enum CodeRule {
     /// The code consists of instructions, from its first byte to its last (JVMS 4.9.1).
@@ -16,7 +17,7 @@ pub enum CodeRule {
     S3,
     /// Each target of a switch is an instruction of the method (JVMS 4.9.1).
     S4,
-    /// The values of a `lookupswitch` are in strictly ascending order (JVMS 6.5, lookupswitch).
+    /// The match values of a `lookupswitch` are in strictly ascending order (JVMS 6.5, lookupswitch).
     S5,
     /// `ldc` and `ldc_w` load an `Integer`, a `Float`, a `String`, a `Class`, a `MethodType` or a
     /// `MethodHandle` (JVMS 4.9.1).
@@ -27,7 +28,7 @@ pub enum CodeRule {
     S8,
     /// `invokevirtual` names a `Methodref` (JVMS 4.9.1).
     S9,
-    /// `invokespecial` and `invokestatic` name a `Methodref` or, at version 52, an
+    /// `invokespecial` and `invokestatic` name a `Methodref` or, from version 52 on, an
     /// `InterfaceMethodref` (JVMS 4.9.1).
     S10,
     /// `invokeinterface` names an `InterfaceMethodref` (JVMS 4.9.1).
@@ -52,14 +53,15 @@ pub enum CodeRule {
     S19,
     /// `multianewarray` creates at least one dimension, and no more than the class has (JVMS 4.9.1).
     S20,
-    /// `newarray` has the number of a primitive type, 4 to 11 (JVMS 4.9.1).
+    /// The `atype` of `newarray` is the number of a primitive type, 4 to 11 (JVMS 4.9.1).
     S21,
-    /// A local variable is below `max_locals`, with both slots of a `long` or a `double` (JVMS 4.9.1).
+    /// The index of a local variable is below `max_locals`. A `long` or a `double` takes this index
+    /// and the next, and both are below `max_locals` (JVMS 4.9.1).
     S22,
     /// A handler's range is from one instruction to a later one or to the end of the code, and its
     /// `handler_pc` is an instruction (JVMS 4.7.3).
     S23,
-    /// A handler catches a `Class`, or everything (JVMS 4.7.3).
+    /// The `catch_type` of a handler is 0 or the index of a `Class` (JVMS 4.7.3).
     S24,
 }
 
@@ -96,7 +98,7 @@ impl CodeRule {
         }
     }
 
-    /// The rules in their order.
+    /// All rules, in ascending order of number.
     pub const ALL: [CodeRule; 24] = [
         CodeRule::S1,
         CodeRule::S2,
@@ -127,7 +129,8 @@ impl CodeRule {
 
 /// A place where a rule is broken.
 ///
-/// The place is the offset of the instruction or, for S23 and S24, the number of the handler, from 0.
+/// The place is the offset of the instruction. For S1, it is the offset where the instructions end,
+/// before the end of the code. For S23 and S24, it is the number of the exception handler, from 0.
 #[derive(Clone, Copy, PartialEq, Eq)]
 pub struct CodeFault {
     pub rule: CodeRule,

@@ -18,10 +18,11 @@ use jc_base::NoMemory;
 use jc_view::ConstantIndex;
 use std::alloc::Global;
 
-/// What one pass finds: where instructions start, where they end, and the faults of the instructions without targets.
+/// The result of one pass: where instructions start, the offset where they end, and the faults of the instructions
+/// without targets.
 ///
-/// The instructions with targets, and their offsets, are in `jumps`. Their targets can be checked only when all starts are
-/// known.
+/// `jumps` has the instructions with targets, each with its offset. Their targets can be checked only when all starts
+/// are known.
 #[derive(Drop)]
 pub(crate) struct FirstPass<'a> {
     pub(crate) starts: Starts,
@@ -30,9 +31,10 @@ pub(crate) struct FirstPass<'a> {
     pub(crate) found: Vec<CodeFault>,
 }
 
-/// Decodes each instruction of a method's code once, with a scope that has no starts yet.
+/// Decodes each instruction of a method's code once. Does not use the starts in `scope`, which are not known yet.
 ///
-/// If they are wanted, appends the uses of references to `uses`, and the constants that instructions name to `names`.
+/// If `are_wanted`, appends the uses of references to `uses`, and the constants that instructions name to `names`. If
+/// an allocation fails, some of them may have been appended.
 pub(crate) fn first_pass<'a>(
     alloc: Global,
     scope: &Scope,
@@ -70,7 +72,7 @@ pub(crate) fn first_pass<'a>(
     })
 }
 
-/// Adds the use of a reference by an instruction, and the constant that the instruction names, if they are wanted.
+/// If `are_wanted`, appends the use of a reference by an instruction, and the constant that the instruction names.
 fn push_if(
     are_wanted: bool,
     uses: &mut Vec<MethodUse>,
@@ -91,7 +93,7 @@ fn push_if(
     Ok(())
 }
 
-/// Returns whether the rules over an instruction need the starts of instructions.
+/// Returns whether the rules for an instruction need the starts of instructions.
 fn has_targets(insn: &Insn) -> bool
     ensures { result ≡ has_targets insn.now }
 {

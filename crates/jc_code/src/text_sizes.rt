@@ -13,24 +13,25 @@ use jc_view::{ClassView, Constant, ConstantIndex, ConstantKind};
 use std::alloc::Global;
 use std::marker::Model;
 
-/// The dimensions of the arrays that a class names, and the slots of the interface methods that it names.
+/// The dimensions of the arrays that a class names, and the slots of the parameters of the interface
+/// methods that it names.
 ///
 /// Any number of constants and instructions may name the same long text. So each text is parsed here
-/// once as an array and once as the descriptor of a method, and not again for a look-up.
+/// at most once as an array and at most once as the descriptor of a method. Look-ups do not parse.
 ///
-/// The view is the class file.
+/// Its model is the class file.
 #[derive(Drop)]
 pub struct TextSizes<'c, 'a> {
     class: &'c ClassView<'a>,
     sizes: Sizes,
 }
 
-/// Sizes by the indexes of constants. Indexes after the end of a list have none.
+/// Sizes by the indexes of constants. After the end of a list, the sizes are 0 or `None`.
 #[derive(Drop)]
 struct Sizes {
     /// At the index of a text, the dimensions of the array that it describes, or 0.
     dims: Vec<u8>,
-    /// At the index of an `InterfaceMethodref`, the slots of its method's parameters.
+    /// At the index of an `InterfaceMethodref`, the number of slots of its method's parameters.
     slots: Vec<Option<u8>>,
 }
 
@@ -62,14 +63,15 @@ impl<'c, 'a> TextSizes<'c, 'a> {
         Ok(TextSizes { class, sizes })
     }
 
-    /// Returns the class that has the texts.
+    /// Returns the class whose texts describe the sizes.
     pub fn class(&self) -> &'c ClassView<'a>
         ensures { result.now ≡ self.now }
     {
         self.class
     }
 
-    /// Returns the dimensions of the class of an index, if there is one.
+    /// Returns the number of dimensions of the class that the `Class` constant at `index` names. It is 0
+    /// if this class is not an array. Returns `None` if there is no such constant, or if it has no text.
     pub(crate) fn dimensions(&self, index: ConstantIndex) -> Option<u8>
         ensures { result ≡ option_map dimensions_of (class_text_at self.now index) }
     {
@@ -79,6 +81,7 @@ impl<'c, 'a> TextSizes<'c, 'a> {
     }
 
     /// Returns the number of slots of the parameters of the method that an `InterfaceMethodref` names.
+    /// Returns `None` if the constant is of another kind, or if its descriptor is not that of a method.
     pub(crate) fn slots(&self, index: ConstantIndex) -> Option<u8>
         ensures { result ≡ interface_slots self.now index.0 }
     {
@@ -99,7 +102,7 @@ fn read_all(alloc: Global, class: &ClassView, sizes: &mut Sizes) -> Result<(), N
     Ok(())
 }
 
-/// Reads the sizes of the constant of an index, after those of all lower indexes.
+/// Reads the size at an index. The sizes at all lower indexes must have been read before.
 ///
 /// Reads only the first byte of most texts, and only the kind of most other constants.
 fn read_at(known: &mut KnownSlots, index: u16, sizes: &mut Sizes) -> Result<(), NoMemory>
@@ -118,7 +121,8 @@ fn read_at(known: &mut KnownSlots, index: u16, sizes: &mut Sizes) -> Result<(), 
     }
 }
 
-/// Reads the slots of the constant of an index, if it is an `InterfaceMethodref`, after those of all lower indexes.
+/// Reads the slots at an index, if it is that of an `InterfaceMethodref`. Those at all lower indexes must
+/// have been read before.
 fn read_slots(
     known: &mut KnownSlots,
     index: u16,
@@ -140,7 +144,7 @@ fn read_slots(
     }
 }
 
-/// Adds the dimensions of a text at its index, if it can be the descriptor of an array.
+/// Sets the dimensions of the text at an index, if the text can be the descriptor of an array.
 fn add_dimensions(dims: &mut Vec<u8>, index: u16, text: &[u8]) -> Result<(), NoMemory>
     ensures { FillsNext 0 index (dimensions_of text.now) result dims.old.items dims.new.items }
 {
@@ -151,7 +155,7 @@ fn add_dimensions(dims: &mut Vec<u8>, index: u16, text: &[u8]) -> Result<(), NoM
     Ok(())
 }
 
-/// Returns whether a text can be a descriptor only of an array.
+/// Returns whether a text begins with `[`: if it is a descriptor, it is that of an array.
 fn is_array(text: &[u8]) -> bool
     ensures { result ≡ begins_with 91 text.now }
 {
@@ -161,7 +165,7 @@ fn is_array(text: &[u8]) -> bool
     }
 }
 
-/// Adds a number of slots at an index, if there is one.
+/// Sets the number of slots at an index, if there is such a number.
 fn add_slots(slots: &mut Vec<Option<u8>>, index: u16, more: Option<u8>) -> Result<(), NoMemory>
     ensures { FillsNext None index more result slots.old.items slots.new.items }
 {
@@ -172,7 +176,7 @@ fn add_slots(slots: &mut Vec<Option<u8>>, index: u16, more: Option<u8>) -> Resul
     Ok(())
 }
 
-/// Returns the dimensions of the class of a text: 0, unless the text is the descriptor of an array.
+/// Returns the dimensions of the class that a text names: 0, unless the text is the descriptor of an array.
 fn dimensions_of(text: &[u8]) -> u8
     ensures { result ≡ dimensions_of text.now }
 {

@@ -7,7 +7,7 @@ use std::marker::Model;
 /// The size of the buffer in bytes.
 const ROOM: usize = 8192;
 
-/// Bytes that are not written yet. Its model is their list.
+/// A buffer of bytes that are not written yet. Its model is the list of these bytes.
 #[derive(Drop)]
 pub(crate) struct Pending {
     buffer: [u8; ROOM],

@@ -19,8 +19,8 @@ use crate::view::ClassView;
 use jc_base::Cursor;
 use std::marker::Model;
 
-/// An iterator over a table of attributes, in file order. Its model is the list of those that are left, each with its
-/// place.
+/// An iterator over a table of attributes, in file order. Its model is the class file and the list of the attributes
+/// that are left, each with its holder and its place.
 #[derive(Drop)]
 pub struct Attributes<'v, 'a> {
     pub(crate) class: &'v ClassView<'a>,
@@ -71,7 +71,8 @@ pub struct Attribute<'v, 'a> {
     entry: AttributeEntry<'a>,
 }
 
-/// An attribute as its table has it.
+/// An entry of a table of attributes. `place` is the number of bytes before it in the file, and `body` has the bytes
+/// after its `attribute_length`.
 #[derive(Drop)]
 pub(crate) struct AttributeEntry<'a> {
     pub(crate) place: usize,
@@ -122,7 +123,7 @@ impl<'v, 'a> Attribute<'v, 'a> {
         self.class.utf8(self.entry.name)
     }
 
-    /// Returns the contents of the attribute: the bytes after its `attribute_length`.
+    /// Returns the contents of the attribute, its `info`: the bytes after its `attribute_length` (JVMS 4.7).
     pub fn bytes(&self) -> &'a [u8]
         ensures { result.now ≡ self.now.attribute.attribute.bytes }
     {

@@ -5,8 +5,8 @@ use crate::entries::Entries;
 use crate::view::ClassView;
 use std::marker::Model;
 
-/// An iterator over the names of interfaces, in file order. It yields `None` for an interface whose index does not name
-/// a class. Its model is the list of the indexes that are left.
+/// An iterator over the names of the direct superinterfaces of a class, in file order. It yields `None` for an index
+/// that does not name a class. Its model is the class file and the list of the indexes that are left.
 #[derive(Drop)]
 pub struct Interfaces<'v, 'a> {
     pub(crate) class: &'v ClassView<'a>,

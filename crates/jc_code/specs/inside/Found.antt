@@ -41,12 +41,13 @@ jumps_of items = filter (λ item. has_targets item.1) items
 abbrev pub faults_of_others : Scope → List (ℕ × Insn) → List CodeFault
 faults_of_others s items = flat_map (λ item. cond (has_targets item.1) [] (insn_faults s item)) items
 
--- the scope before a start is known
+-- the scope before any start is known
 abbrev pub without_starts : Scope → Scope
 without_starts s = record { class = s.class; max_locals = s.max_locals; size = s.size; starts = [] }
 
 -- ---- in the order of the rules
 
+-- the faults that break the rule, in the order in which they were found
 abbrev pub against : CodeRule → List CodeFault → List CodeFault
 against rule faults = filter (λ fault. rule_number fault.rule == rule_number rule) faults
 

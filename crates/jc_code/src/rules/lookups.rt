@@ -1,4 +1,4 @@
-//! The constants that the indexes of instructions refer to.
+//! Look-ups of the constants that instructions name.
 
 ghost use Rattle.std.specs.Prelude.{◌≡◌};
 ghost use Rattle.std.specs.Option.{option_copied};
@@ -7,7 +7,7 @@ ghost use Rattle.jc_code.specs.CodeRules.{double_kinds, is_either_method, is_ini
 
 use jc_view::{ClassView, ConstantIndex, ConstantKind};
 
-/// Returns whether the index is that of a constant that takes one slot.
+/// Returns whether the index is that of a constant that `ldc` and `ldc_w` may load.
 pub(crate) fn is_single(class: &ClassView, index: ConstantIndex) -> bool
     ensures { result ≡ is_one_of class.now single_kinds index }
 {
@@ -24,7 +24,7 @@ pub(crate) fn is_single(class: &ClassView, index: ConstantIndex) -> bool
     )
 }
 
-/// Returns whether the index is that of a `Long` or a `Double`.
+/// Returns whether the index is that of a `Long` or a `Double`, which only `ldc2_w` may load.
 pub(crate) fn is_double(class: &ClassView, index: ConstantIndex) -> bool
     ensures { result ≡ is_one_of class.now double_kinds index }
 {
@@ -34,7 +34,7 @@ pub(crate) fn is_double(class: &ClassView, index: ConstantIndex) -> bool
     )
 }
 
-/// Returns whether the index is that of an entry that `invokespecial` and `invokestatic` may name.
+/// Returns whether the index is that of a constant that `invokespecial` and `invokestatic` may name.
 pub(crate) fn is_either_method(class: &ClassView, index: ConstantIndex) -> bool
     ensures { result ≡ is_either_method class.now index }
 {
@@ -45,7 +45,7 @@ pub(crate) fn is_either_method(class: &ClassView, index: ConstantIndex) -> bool
     }
 }
 
-/// Returns the name of the member that an entry refers to.
+/// Returns the name of the member that the constant at `index` refers to.
 pub(crate) fn referred_name<'a>(class: &ClassView<'a>, index: ConstantIndex) -> Option<&'a [u8]>
     ensures { option_copied result ≡ referred_name class.now index }
 {

@@ -1,4 +1,4 @@
-//! The rules over branches and switches.
+//! The rules S2 to S5, for branches and switches.
 
 ghost use Rattle.std.specs.Prelude.{◌≡◌, ◌==◌, ◌||◌, map, not};
 ghost use Rattle.std.specs.List.{list_all};

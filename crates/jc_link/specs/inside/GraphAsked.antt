@@ -1,4 +1,4 @@
--- A graph while it is built, from the data of the code.
+-- A class graph while it is built: definitions over the data of the Rust code.
 use Rattle.std.specs.Prelude.{ℕ, ◌<◌, ◌≤◌, List, length, map, Option, Some}
 use Rattle.std.specs.List.{All, Contains}
 use Rattle.jc_classes.specs.Names.{Name}
@@ -13,7 +13,7 @@ use Rattle.jc_link.specs.inside.GraphShown.{class_at, nodes_at}
 abbrev pub asked_count : Reached → ℕ
 asked_count r = length (stands_in r.standing.items)
 
--- for each of the first names, what it is and its supertypes; the other names are not looked up yet
+-- `r` has, for each of the first names, what the name is and its direct supertypes; the others are not looked up yet
 abbrev pub IsAskedBy : World → (names : List Name) → Reached → Type 0
 IsAskedBy m names r = IsAsked m names (stands_in r.standing.items) (supertypes_in r.supertypes.items)
 
@@ -23,13 +23,13 @@ IsMore old_names old next new_names new =
     IsReached old_names (stands_in old.standing.items) (supertypes_in old.supertypes.items) next
     new_names (stands_in new.standing.items) (supertypes_in new.supertypes.items)
 
--- the numbers of the classes, if no other names are numbered
+-- `classes` has the numbers of the classes, and no other names are numbered yet
 pub record AreClasses (names : List Name) (classes : List ℕ) : Type 0 where
   pub once : IsOnce names
   pub within : All (λ v. v < length names) classes
   pub only : (i : ℕ) → i < length names → Contains (map (name_at names) classes) (name_at names i)
 
--- for each of the first classes, in a world, the numbers of the classes that its references name
+-- `references` has, for each of the first classes, the numbers of the classes that its references name in the world m
 pub record AreReferredIn (m : World) (names : List Name) (classes : List ℕ) (references : List (List (Option ℕ))) : Type 0 where
   pub few : length references ≤ length classes
   pub named : (i : ℕ) → i < length references
