@@ -67,7 +67,7 @@ impl References {
 
     /// Returns the same references, shared.
     ///
-    /// Returns `NoMemory` only when the count of owners would overflow.
+    /// Returns `NoMemory` only when the strong count of the `Rc` would overflow.
     pub fn share(&self) -> Result<References, NoMemory>
         ensures { IfOk result (λ references. references ≡ self.now) }
     {

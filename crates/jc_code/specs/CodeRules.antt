@@ -79,7 +79,7 @@ single_kinds = kinds.Integer ∷ kinds.Float ∷ kinds.String ∷ kinds.Class �
 abbrev pub double_kinds : List ConstantKind
 double_kinds = kinds.Long ∷ kinds.Double ∷ []
 
--- ldc or ldc_w loads a constant that does not take one slot
+-- ldc or ldc_w names no constant that it may load
 abbrev pub breaks_s6 : Scope → Insn → Bool
 breaks_s6 s (insns.Ldc opcode index) = not (opcode == ldc2_w) && not (is_one_of s.class single_kinds index)
 breaks_s6 s insn = false

@@ -11,7 +11,7 @@ use std::marker::Model;
 
 /// An iterator over the instructions of a code, each with its offset from the start of the code.
 ///
-/// It ends at the end of the code, or at the first offset without an instruction. Its view has the
+/// It ends at the end of the code, or at the first offset without an instruction. Its model has the
 /// instructions that are left, the offset reached, and the offset where the instructions end.
 ///
 /// For example (`crates/jc_rows/src/code_answers.rt`):

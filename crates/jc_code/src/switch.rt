@@ -14,7 +14,7 @@ use std::marker::Model;
 
 /// A `tableswitch`: a target for each value from `low` to `high`, and one for all other values.
 ///
-/// Its view has these numbers and the targets.
+/// Its model has these numbers and the targets.
 #[derive(Drop)]
 pub struct TableSwitch<'a> {
     pub(crate) place: u32,
@@ -71,7 +71,7 @@ impl<'a> TableSwitch<'a> {
 
 /// An iterator over the targets of a `tableswitch`, which decodes each target when it reaches it.
 ///
-/// Its view is the list of the targets that are left.
+/// Its model is the list of the targets that are left.
 #[derive(Drop)]
 pub struct Targets<'a> {
     pub(crate) place: u32,
@@ -126,7 +126,7 @@ impl<'a> Iterator for Targets<'a> {
 
 /// A `lookupswitch`: values with a target each, and a target for all other values.
 ///
-/// Its view has the default target and the cases.
+/// Its model has the default target and the cases.
 #[derive(Drop)]
 pub struct LookupSwitch<'a> {
     pub(crate) place: u32,
@@ -176,7 +176,7 @@ pub struct Case {
 
 /// An iterator over the cases of a `lookupswitch`, which decodes each case when it reaches it.
 ///
-/// Its view is the list of the cases that are left.
+/// Its model is the list of the cases that are left.
 #[derive(Drop)]
 pub struct Cases<'a> {
     pub(crate) place: u32,

@@ -1,4 +1,4 @@
-//! The rules over the constants that instructions name, and over other operands.
+//! The rules for the constants that instructions name, and for other operands.
 
 ghost use Rattle.std.specs.Prelude.{◌≡◌, ◌&&◌, nat_le, not};
 ghost use Rattle.jc_view.specs.declared.constant_pool.ConstantKind.TheVariants as kinds;
@@ -14,7 +14,7 @@ use crate::rules::lookups::{
 use crate::scope::Scope;
 use jc_view::{ConstantIndex, ConstantKind};
 
-/// Returns whether `ldc` or `ldc_w` loads a constant that does not take one slot.
+/// Returns whether `ldc` or `ldc_w` names no constant that it may load.
 pub(crate) fn breaks_s6(scope: &Scope, opcode: Opcode, index: ConstantIndex) -> bool
     ensures { result ≡ breaks_s6 scope.now (insns.Ldc opcode index) }
 {

@@ -1,4 +1,4 @@
-//! The rules over exception handlers.
+//! The rules for exception handlers.
 
 ghost use Rattle.std.specs.Prelude.{◌≡◌};
 ghost use Rattle.jc_view.specs.Lent.{handler_of};
