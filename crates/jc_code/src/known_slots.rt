@@ -11,7 +11,7 @@ use std::marker::Model;
 
 /// The numbers of slots of methods' parameters, by the index of the descriptor.
 ///
-/// A descriptor is parsed on its first use. The view is the class file.
+/// A descriptor is parsed on its first use. The model is the class file.
 #[derive(Drop)]
 pub(crate) struct KnownSlots<'c, 'a> {
     class: &'c ClassView<'a>,

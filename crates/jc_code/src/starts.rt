@@ -8,7 +8,7 @@ use std::marker::Model;
 
 /// Starts of instructions, as a mark for each offset.
 ///
-/// The view is the list of the marked offsets.
+/// The model is the list of the marked offsets.
 #[derive(Drop)]
 pub(crate) struct Starts {
     pub(crate) marks: Vec<bool>,
