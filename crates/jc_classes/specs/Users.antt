@@ -14,8 +14,8 @@ use Rattle.jc_classes.specs.UsedConstants.{is_among, used_constants}
 abbrev pub is_owner : ClassFile → ℕ → ConstantIndex → Bool
 is_owner c i member = option_map_or (λ class. class.0 == i) (option_and_then class_index (constant_at c member)) false
 
--- whether code that names the constant at `index` uses the constant at i: the indexes are equal, or the constant at
--- `index` is a reference to a member of the class at i
+-- whether code that names the constant at `index` uses the constant at i. It does if the indexes are equal, or if the
+-- constant at `index` is a reference to a member of the class at i
 abbrev pub names_constant : ClassFile → ℕ → ConstantIndex → Bool
 names_constant c i index = (index.0 == i) || is_owner c i index
 
