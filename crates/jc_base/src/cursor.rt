@@ -71,7 +71,8 @@ impl<'a> Cursor<'a> {
         }
     }
 
-    /// Reads the next `count` bytes, and returns a cursor over them. It begins at the current place.
+    /// Reads the next `count` bytes, and returns a cursor over them. Its first place is the place of this cursor before
+    /// the call.
     pub fn part(&mut self, count: usize) -> Option<Cursor<'a>>
         ensures some { IsSome result ↔ HasLeft count self.old }
         ensures place { IfSome result (λ part. part.place ≡ self.old.place) }

@@ -36,8 +36,8 @@ impl<'a> Model for FieldDesc<'a> {
 }
 
 impl<'a> FieldDesc<'a> {
-    /// Parses a whole text. Returns `None` if it is not a field descriptor. One with 256 dimensions, for example, is
-    /// not.
+    /// Parses the whole text as a field descriptor. Returns `None` if it is not one; a field descriptor has at most 255
+    /// dimensions.
     pub fn read(text: &'a [u8]) -> Option<FieldDesc<'a>>
         ensures some { IsSome result ↔ IsFieldDescriptor text.now }
         ensures tree { IfSome result (IsField text.now) }
@@ -106,8 +106,8 @@ impl<'a> Model for MethodDesc<'a> {
 impl<'a> MethodDesc<'a> {
     ghost use Rattle.jc_base.specs.Params.{params_left};
 
-    /// Parses a whole text. Returns `None` if it is not a method descriptor. One whose parameters take 256 slots, for
-    /// example, is not.
+    /// Parses the whole text as a method descriptor. Returns `None` if it is not one; the parameters of a method
+    /// descriptor take at most 255 slots.
     pub fn read(text: &'a [u8]) -> Option<MethodDesc<'a>>
         ensures some { IsSome result ↔ IsMethodDescriptor text.now }
         ensures tree { IfSome result (IsMethod text.now) }
@@ -180,7 +180,7 @@ pub fn descriptors_are_determined()
     ensures method { (b : List ℕ) (t u : MethodType) → IsMethod b t → IsMethod b u → t ≡ u }
 {}
 
-/// States that the functions `field_type_of` and `method_type_of` decide what the definitions of descriptors say.
+/// States that `field_type_of` and `method_type_of` return the type of each descriptor, and `None` for any other text.
 pub fn descriptors_are_decided()
     ensures field { (b : List ℕ) (t : FieldType) → (field_type_of b ≡ Some t) ↔ IsField b t }
     ensures method { (b : List ℕ) (t : MethodType) → (method_type_of b ≡ Some t) ↔ IsMethod b t }

@@ -54,7 +54,7 @@ pub trait Output {
     /// The number of writes that failed, at most 2^64 - 1.
     ghost failures: { Self → ℕ };
 
-    /// Writes the first bytes, at least one of them if there are any, and returns their number.
+    /// Writes bytes from the front of `bytes`, at least one if there are any, and returns their number.
     fn write(&mut self, bytes: &[u8]) -> Result<usize, DeviceFault>
         ensures room { IfOk result (λ n. n ≤ length bytes.now) }
         ensures some { 0 < length bytes.now → IfOk result (λ n. 0 < n) }

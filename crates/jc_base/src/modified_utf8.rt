@@ -10,7 +10,8 @@ ghost use Rattle.jc_base.specs.FirstUnit.{six_bits, two_byte_unit, three_byte_un
 
 use std::alloc::{AllocError, Global};
 
-/// Checks that `text` is modified UTF-8 (JVMS 4.4.7). If it is not, returns the length of its longest prefix that is.
+/// Checks that `text` is modified UTF-8 (JVMS 4.4.7). If it is not, returns the length in bytes of its longest prefix
+/// that is.
 ///
 /// A surrogate does not need its pair. Each unit has one encoding, and an overlong encoding is an error. Does not
 /// allocate.
@@ -82,7 +83,7 @@ fn spelled_units(alloc: Global, text: &[u8]) -> Result<Vec<u16>, AllocError>
 /// The reason why a text has no units.
 #[derive(Clone, Copy, Debug, PartialEq, Eq)]
 pub enum UnitsError {
-    /// The text is not modified UTF-8. The number is the length of its longest prefix that is.
+    /// The text is not modified UTF-8. The number is the length in bytes of its longest prefix that is.
     Bad(usize),
     /// An allocation failed.
     NoMemory,
@@ -172,7 +173,8 @@ fn with_six_bits(high: u16, low: u16) -> u16
     (high << 6) | low
 }
 
-/// States that the unit that `first_unit` finds is the one that is encoded at the front, and that it finds every unit.
+/// States that `first_unit` returns the unit at the front and the number of bytes that encode it, and `None` only if
+/// there is no unit.
 pub fn first_unit_is_spelled()
     ensures found { (bytes : List ℕ) (u n : ℕ) → first_unit bytes ≡ Some (u, n) →
         IsUnit u × (take n bytes ≡ spelling u) × (n ≡ length (spelling u)) }
@@ -187,7 +189,7 @@ pub fn units_are_determined()
         IsLongestFront bytes m → IsLongestFront bytes n → m ≡ n }
 {}
 
-/// States that the bytes of a text are from 0x01 to 0xef (JVMS 4.4.7).
+/// States that the bytes of modified UTF-8 are from 0x01 to 0xef (JVMS 4.4.7).
 pub fn bytes_are_in_range()
     ensures { (bytes : List ℕ) → IsWellSpelled bytes → All (λ b. (0 < b) × (b < 0xf0)) bytes }
 {}

@@ -35,7 +35,7 @@ pub fn signatures_are_well_spelled()
     ensures { (kind : SigKind) (b : List ℕ) → IsSignature kind b → IsWellSpelled b }
 {}
 
-/// States that the function `is_signature` decides what the grammar says.
+/// States that `is_signature` is true of exactly the texts that the grammar derives.
 pub fn signatures_are_decided()
     ensures { (kind : SigKind) (b : List ℕ) → IsTrue (is_signature kind b) ↔ IsSignature kind b }
 {}

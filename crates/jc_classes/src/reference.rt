@@ -23,7 +23,7 @@ pub struct Reference<'a> {
     /// The index of its constant.
     pub index: u16,
     pub kind: ReferenceKind,
-    /// The text of the Class constant: the name of a class, or the descriptor of an array (JVMS 4.4.1).
+    /// The text of the `Class` constant: the name of a class, or the descriptor of an array (JVMS 4.4.1).
     pub class: &'a [u8],
     /// The name and the descriptor of the member. Both are empty in a reference to a class.
     pub key: Key<'a>,
@@ -37,8 +37,8 @@ impl<'a> Reference<'a> {
         is_array(self.class)
     }
 
-    /// Returns the class that the reference names; for an array, its innermost class. Returns `None` for an array of a
-    /// primitive type.
+    /// Returns the class that the reference names; for an array, the class that is its element type (JVMS 2.4). Returns
+    /// `None` if the element type is primitive.
     pub fn class_name(self) -> Option<&'a [u8]>
         ensures { option_copied result ≡ class_of (named_by self.entry.class.now) }
     {
@@ -46,15 +46,15 @@ impl<'a> Reference<'a> {
     }
 }
 
-/// Returns whether the text of a Class constant names an array.
+/// Returns whether the text of a `Class` constant names an array.
 fn is_array(text: &[u8]) -> bool
     ensures { result ≡ is_array (named_by text.now) }
 {
     text.first() == Some(&b'[')
 }
 
-/// Returns the class that the text of a Class constant names; for an array, its innermost class. Returns `None` for an
-/// array of a primitive type.
+/// Returns the class that the text of a `Class` constant names; for an array, the class that is its element type.
+/// Returns `None` if the element type is primitive.
 pub(crate) fn class_named(text: &[u8]) -> Option<&[u8]>
     ensures { option_copied result ≡ class_of (named_by text.now) }
 {
@@ -76,7 +76,7 @@ pub(crate) fn without_dimensions(descriptor: &[u8]) -> &[u8]
     rest
 }
 
-/// Returns the class between the `L` and the last character of a descriptor.
+/// Returns the class between the `L` at the front and the last byte of a descriptor, if there are both.
 pub(crate) fn class_in_descriptor(descriptor: &[u8]) -> Option<&[u8]>
     ensures { option_copied result ≡ class_in_descriptor descriptor.now }
 {

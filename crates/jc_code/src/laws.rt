@@ -10,8 +10,8 @@ ghost use Rattle.jc_view.specs.Outcome.{AreBytes};
 ghost use Rattle.jc_code.specs.Examples.{plain_code, plain_insns, cut_code, cut_insns, falling_code};
 ghost use Rattle.jc_code.specs.Examples.{falling_insns, wide_code, wide_insns, switch_code, switch_insns};
 
-/// A code has at most one instruction at each place. It has one list of instructions, which ends at one
-/// place.
+/// States that a code has at most one instruction at each place. It has at most one list of instructions, which ends at
+/// one place.
 pub fn instructions_are_apart()
     ensures one { (code : List ℕ) (at : ℕ) (a b : Insn) → Stands code at a → Stands code at b → a ≡ b }
     ensures items { (code : List ℕ) (items more : List (ℕ × Insn)) (end last : ℕ)
@@ -20,21 +20,21 @@ pub fn instructions_are_apart()
         → IsCode code items end → IsCode code more last → end ≡ last }
 {}
 
-/// The instructions of a code are those that are decoded from its start.
+/// States that `insns_of` and `end_of` return the instructions of a code and the place where they end.
 pub fn codes_are_read()
     ensures { (code : List ℕ) → AreBytes code → IsCode code (insns_of code) (end_of code) }
 {}
 
-/// There are 202 opcodes. Each group of opcodes begins at its number. The operands of an opcode have the
-/// number of bytes of their kind.
+/// States that there are 202 opcodes. A group of opcodes begins at the number of opcodes in the groups before it. The
+/// operands of an opcode other than a switch or `wide` have the number of bytes of their kind.
 pub fn opcode_table()
     ensures count { length opcodes ≡ 202 }
     ensures groups { IsTrue (begin_in_order 0 groups) }
     ensures lengths { (at : ℕ) (insn : Insn) (opcode : ℕ) (s : List ℕ) → IsSpelling at insn (opcode ∷ s) → IsSized opcode s }
 {}
 
-/// The table of a switch is the part of the code after the switch's numbers. The first of these numbers
-/// is at the first multiple of four after the place of the switch.
+/// States where the table of a switch is in the code: after the default target and the bounds, or after the default
+/// target and the count. The default target is at the first multiple of four after the place of the switch (JVMS 6.5).
 pub fn switch_tables_lie_in_the_code()
     ensures targets { (code : List ℕ) (at : ℕ) (switch : TableSwitch)
         → Stands code at (Insn.TableSwitch switch) → TargetsLieIn code at switch }
@@ -42,7 +42,7 @@ pub fn switch_tables_lie_in_the_code()
         → Stands code at (Insn.LookupSwitch switch) → CasesLieIn code at switch }
 {}
 
-/// The instructions of some codes, and where they end.
+/// States the instructions of some codes, and where they end.
 pub fn decoding_examples()
     ensures plain { IsCode plain_code plain_insns 5 }
     ensures cut { IsCode cut_code cut_insns 1 }

@@ -3,8 +3,8 @@
 ghost use Rattle.std.specs.Prelude.{◌≡◌};
 ghost use Rattle.jc_file.specs.FaultOrder.{rule_number};
 
-/// A rule of the class file format. A rule about a constant or a text that is missing, or of the wrong kind, is not
-/// broken unless the rule itself requires it.
+/// A rule of the class file format. If a constant or a text is missing or of the wrong kind, this breaks only the rules
+/// that require it.
 #[derive(Clone, Copy, PartialEq, Eq)]
 pub enum FormatRule {
     /// An index in a constant, other than a `MethodHandle`, names a constant of the right kind (JVMS 4.4).
@@ -35,8 +35,8 @@ pub enum FormatRule {
     F11,
     /// The flags of the class are a permitted combination (JVMS 4.1).
     F12,
-    /// `java/lang/Object` has no superclass, and every other class has one. It is a `Class` with the name of a class,
-    /// and for an interface it is `java/lang/Object` (JVMS 4.1).
+    /// `java/lang/Object` has no superclass, and every other class has one. The superclass is a `Class` with the name
+    /// of a class, and for an interface it is `java/lang/Object` (JVMS 4.1).
     F13,
     /// A direct superinterface is a `Class` with the name of a class (JVMS 4.1).
     F14,
@@ -53,7 +53,7 @@ pub enum FormatRule {
     /// The descriptor of a method is a method descriptor. Its parameters and the receiver take at most 255 slots (JVMS
     /// 4.6, 4.3.3).
     F20,
-    /// The flags of a method are a permitted combination (JVMS 4.6).
+    /// The flags of a method other than `<clinit>` are a permitted combination (JVMS 4.6).
     F21,
     /// No earlier method has the same name and descriptor (JVMS 4.6).
     F22,
@@ -115,7 +115,7 @@ impl FormatRule {
         }
     }
 
-    /// All rules, in their order.
+    /// All rules, in ascending order of their numbers.
     pub const ALL: [FormatRule; 30] = [
         FormatRule::F1,
         FormatRule::F2,
@@ -155,7 +155,7 @@ impl FormatRule {
 /// The meaning of `place` depends on the rule:
 /// - F1 to F11: an index of the constant pool.
 /// - F12, F13 and F27: 0.
-/// - F14: the number of an interface, from 0.
+/// - F14: the number of a direct superinterface, from 0.
 /// - F15 to F18 and F25: the number of a field, from 0.
 /// - F19 to F24 and F26: the number of a method, from 0.
 /// - F28 to F30: the number of bytes before the attribute in the file.

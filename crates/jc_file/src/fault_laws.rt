@@ -1,4 +1,4 @@
-//! Laws of the format faults: functions without a body, whose contracts say what the tests of the rules mean.
+//! Laws of the format faults: functions without an effect, whose contracts say what the tests of the rules mean.
 
 ghost use Rattle.std.specs.Prelude.{◌≡◌, [], ◌∷◌, ◌↔◌, ℕ, Contains};
 ghost use Rattle.jc_view.specs.declared.attribute_kind.AttributeKind.{AttributeKind};

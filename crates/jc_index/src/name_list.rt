@@ -69,15 +69,15 @@ impl NameList {
         self.names.is_empty()
     }
 
-    /// Returns whether the list has a name. Does not allocate.
+    /// Returns whether the list has a name, by a binary search. Does not allocate.
     pub fn has(&self, name: &[u8]) -> bool
         ensures { result ≡ has self.now name.now }
     {
         self.place(name).is_ok()
     }
 
-    /// Adds a name at its place. Allocates only if the list does not have the name. Returns `NoMemory` only when an
-    /// allocation fails.
+    /// Adds a name at its place, in at most linear time. Allocates only if the list does not have the name. Returns
+    /// `NoMemory` only when an allocation fails; then the list is unchanged.
     pub fn add(&mut self, name: Vec<u8>) -> Result<(), NoMemory>
         ensures ok { OnOk result ((n : Name) → has self.new n ≡ (has self.old n || same_name n name.items)) }
         ensures err { OnErr result (self.new ≡ self.old) }
@@ -88,7 +88,7 @@ impl NameList {
         }
     }
 
-    /// Removes a name. Does not allocate.
+    /// Removes a name, if the list has it, in at most linear time. Does not allocate.
     pub fn remove(&mut self, name: &[u8])
         ensures { (n : Name) → has self.new n ≡ (has self.old n && not (same_name n name.now)) }
     {

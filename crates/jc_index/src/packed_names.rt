@@ -12,8 +12,8 @@ use std::alloc::Global;
 use std::cmp::Ordering;
 use std::marker::Model;
 
-/// Names in the order of their bytes, without duplicates, in one buffer. They are kept and do not change. Its model is
-/// the list of them.
+/// Names in the order of their bytes, without duplicates, in one buffer. The list does not change after it is created.
+/// Its model is the list of the names.
 #[derive(Drop)]
 pub struct PackedNames {
     names: TextList,
@@ -64,14 +64,15 @@ impl PackedNames {
         self.names.len()
     }
 
-    /// Returns whether the other list is known to have the same names. Does not allocate.
+    /// Returns whether the other list has the same names. The contract covers only the result `true`. Takes time linear
+    /// in the size of the buffer. Does not allocate.
     pub fn is_same(&self, other: &PackedNames) -> bool
         ensures { IsTrue result → self.now ≡ other.now }
     {
         self.names.is_same(&other.names)
     }
 
-    /// Returns the name at a place, counted from 0. Returns an empty name after the last. Does not allocate.
+    /// Returns the name at `place`, counted from 0, or an empty name if there is none. Does not allocate.
     pub fn name(&self, place: usize) -> &[u8]
         ensures { result.now ≡ name_at self.now place }
     {

@@ -65,7 +65,7 @@ impl LentEdit<'_> {
     }
 }
 
-/// The cost of an accepted edit: the number of parts that were made, and of names that were looked up.
+/// The cost of an accepted edit: `made` parts were computed, and names were looked up `asks` times.
 #[derive(Clone, Copy)]
 pub struct Done {
     pub made: u64,

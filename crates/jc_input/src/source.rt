@@ -47,7 +47,7 @@ pub trait Source {
         ensures { TakesAnswer (answers self.old) path.now (answer_of result) (answers self.new) };
 }
 
-/// A source that returns given answers, one at each call, and then `Unread`.
+/// A source that returns given answers, one at each call, and then `Unread`. It ignores the paths.
 #[derive(Drop)]
 pub struct MemSource {
     // In reverse order.
@@ -135,8 +135,8 @@ impl<R: Files + AllocGlobal> Source for FileSource<'_, R> {
     }
 }
 
-/// Returns all bytes of a reader, without spare capacity. They are read into the buffer `room`, which is used again by the
-/// next file.
+/// Returns all bytes of a reader, without spare capacity. Reads them through the buffer `room`, which later files use
+/// again.
 fn read_all<R: Read>(alloc: Global, reader: &mut R, room: &mut [u8]) -> io::Result<Vec<u8>> {
     let mut bytes = Vec::new(alloc);
     for _ in 0..u64::MAX {

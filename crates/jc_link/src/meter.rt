@@ -3,7 +3,7 @@
 ghost use Rattle.std.specs.Prelude.{◌≡◌, ◌<◌, ◌^◌};
 ghost use Rattle.jc_link.specs.Meters.{counted};
 
-/// The number of look-ups in a table, and the number of parts that were computed. A count stops at its greatest value.
+/// The number of look-ups in a table, and the number of parts that were computed. A count stops at 2^64 - 1.
 /// [`Table::new`](crate::Table::new) returns a meter with each table, and nothing else makes one.
 #[derive(Drop)]
 pub struct Meter {

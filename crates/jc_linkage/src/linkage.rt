@@ -75,11 +75,11 @@ impl Linkage {
         Ok((linkage, meter))
     }
 
-    /// Applies a step and puts a class, if they are given. The step has an effect only if its name has a class and the
-    /// put class has another name. Recomputes only the parts of the classes whose reach has a name with a changed
-    /// class.
+    /// Applies the step `first` and then puts the class `put`, if they are given. The step has no effect if its name
+    /// has no class or is the name of `put`. Recomputes only the parts of the classes whose reach contains a name whose
+    /// class changed.
     ///
-    /// Returns `NoMemory` when an allocation fails. Then all classes stay as they were.
+    /// Returns `NoMemory` when an allocation fails. Then nothing changes, except that the meter may have counted.
     pub fn change(
         &mut self,
         first: Option<Step>,
@@ -204,8 +204,8 @@ impl Linkage {
         self.links.required.rows()
     }
 
-    /// Returns the number of classes that require the row at a place of [`Linkage::required`], from 0. Returns 0 if
-    /// there is no such row. Takes time linear in the place. Does not allocate.
+    /// Returns the number of classes that require the row at `place` in [`Linkage::required`], counted from 0. Returns
+    /// 0 if there is no such row. Takes time linear in `place`. Does not allocate.
     pub fn holders(&self, place: usize) -> usize
         ensures { CountsHoldersAt self.now place result }
     {

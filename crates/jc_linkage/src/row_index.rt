@@ -19,8 +19,8 @@ use jc_report::{RequiredRow, Row};
 use std::alloc::Global;
 use std::marker::Model;
 
-/// For each row the classes that require it, its users, in the order of their bytes. The model is a map from the keys
-/// of rows to lists of names.
+/// A map from rows to their users. The users of a row are the names of the classes that require it, in ascending order.
+/// The model is a map from the keys of rows to lists of names.
 #[derive(Drop)]
 pub struct RowIndex {
     alloc: Global,
@@ -53,15 +53,15 @@ impl RowIndex {
         }
     }
 
-    /// Has no effect. Its contract says that each row in the index has a user.
+    /// States that each row in the index has a user. Has no effect.
     pub fn rows_have_users(&self)
         ensures { HaveUsers self.now }
     {
         let _lists = &self.lists;
     }
 
-    /// Returns the users of the row at a place in the order of rows, from 0, if there is such a row. Takes time linear
-    /// in the place. Does not allocate.
+    /// Returns the users of the row at `place` in the order of rows, counted from 0, if there is such a row. Takes time
+    /// linear in `place`. Does not allocate.
     pub fn nth(&self, place: usize) -> Option<&NameList>
         ensures { option_copied result ≡ option_map (λ entry. entry.1) (slice_get (map.entries self.now) place) }
     {
@@ -108,7 +108,7 @@ impl RowIndex {
         }
     }
 
-    /// Adds a user to each of some rows. If an allocation fails, it may have been added to some of them.
+    /// Adds a user to each of these rows. After `NoMemory`, the user may have been added to some of them.
     pub fn link_all(&mut self, rows: &RowList, user: &[u8]) -> Result<(), NoMemory>
         ensures ok { OnOk result (LinkedAt self.old self.new (has (spelled_all rows.now)) user.now) }
         ensures err { OnErr result (LinkedAtSome self.old self.new (has (spelled_all rows.now)) user.now) }
@@ -117,7 +117,7 @@ impl RowIndex {
         self.link_all_but(rows, &none, user)
     }
 
-    /// Adds a user to each of some rows that `others` lacks. If an allocation fails, it may have been added to some of
+    /// Adds a user to each row of `rows` that `others` lacks. After `NoMemory`, the user may have been added to some of
     /// them.
     pub fn link_all_but(
         &mut self,
@@ -159,7 +159,7 @@ impl RowIndex {
         }
     }
 
-    /// Removes a user from each of some rows. Does not allocate.
+    /// Removes a user from each of these rows. Does not allocate.
     pub fn unlink_all(&mut self, rows: &RowList, user: &[u8])
         ensures { UnlinkedAt self.old self.new (has (spelled_all rows.now)) user.now }
     {
@@ -168,7 +168,7 @@ impl RowIndex {
         }
     }
 
-    /// Removes a user from each of some rows that `others` lacks. Does not allocate.
+    /// Removes a user from each row of `rows` that `others` lacks. Does not allocate.
     pub fn unlink_all_but(&mut self, rows: &RowList, others: &RowList, user: &[u8])
         ensures { UnlinkedAt self.old self.new (has_but (spelled_all rows.now) (spelled_all others.now)) user.now }
     {

@@ -50,8 +50,10 @@ impl RowList {
         }
     }
 
-    /// Returns the rows that a class requires by its part. Rows of `before` are reused if they are of the same
-    /// references.
+    /// Returns the rows that a class with these facts and this part requires. Rows of `before` are reused if they are
+    /// of the same references.
+    ///
+    /// Returns `NoMemory` only when an allocation fails or the references have as many owners as can be counted.
     pub fn of(
         alloc: Global,
         facts: &Facts,
@@ -98,7 +100,7 @@ impl RowList {
         self.rows.as_slice()
     }
 
-    /// Returns the place of a row, or else the place where it would be inserted. It tries a place first, and compares
+    /// Returns the place of a row, or else the place where it would be inserted. It tries `place` first, and compares
     /// there by number if `is_like` is set. Then it does a binary search. Does not allocate.
     pub(crate) fn find_near(
         &self,

@@ -27,7 +27,8 @@ pub struct Above {
 }
 
 impl Above {
-    /// Returns a value for no class yet. `count` is the number of nodes.
+    /// Creates a value that has not been asked for a class. `count` is the number of nodes. Returns `NoMemory` only
+    /// when an allocation fails.
     pub fn new(alloc: Global, count: usize) -> Result<Above, NoMemory>
         ensures size { IfOk result (λ above. length above.seen.flags ≡ count) }
         ensures none { IfOk result (λ above. above.start ≡ None) }
@@ -40,9 +41,9 @@ impl Above {
         })
     }
 
-    /// Finds the transitive supertypes of a class. Does nothing if the class was asked for last.
+    /// Finds the transitive supertypes of the class at node `start`. Does nothing if this class was asked for last.
     ///
-    /// Returns `NoMemory` only when an allocation fails.
+    /// Returns `NoMemory` only when an allocation fails. Then the content is unspecified.
     pub fn see(&mut self, alloc: Global, classes: &Classes, start: usize) -> Result<(), NoMemory>
         requires start { start < length classes.now.standing.now }
         requires above { Knows (length classes.now.standing.now) (indexed_of classes.now) self.old }
@@ -60,14 +61,15 @@ impl Above {
         Ok(())
     }
 
-    /// Returns the interfaces among the transitive supertypes, each once.
+    /// Returns the nodes of the interfaces among the transitive supertypes, each once.
     pub fn interfaces(&self) -> &[usize]
         ensures { result.now ≡ self.now.interfaces.items }
     {
         self.interfaces.as_slice()
     }
 
-    /// Returns the outside name among the transitive supertypes that is least in the order of bytes.
+    /// Returns the node of the outside name among the transitive supertypes that is least in the order of bytes, if
+    /// there is one.
     pub fn outside(&self) -> Option<usize>
         ensures { result ≡ self.now.outside }
     {

@@ -15,8 +15,8 @@ use jc_base::NoMemory;
 use jc_classes::References;
 use std::cmp::Ordering;
 
-/// A row that a class requires. It is the number of a reference and a shared owner of the class's texts, so it may outlive
-/// the class. Rows are compared by their [`Row`]s.
+/// A row that a class requires. It holds the number of a reference and shares the references of the class, so it may
+/// outlive the class. Rows are compared by their [`Row`]s.
 #[derive(Drop)]
 pub struct RequiredRow {
     references: References,
@@ -34,7 +34,7 @@ impl RequiredRow {
         }
     }
 
-    /// Returns the number of its reference.
+    /// Returns the number of its reference among the references of the class, from 0.
     pub fn number(&self) -> usize
         ensures { result ≡ self.now.number }
     {
@@ -107,7 +107,9 @@ impl Ord for RequiredRow {
     }
 }
 
-/// Returns the row of a reference, by its number.
+/// Returns the row of the reference at `number`. Does not allocate.
+///
+/// Returns `NoMemory` only if the references have as many owners as can be counted.
 pub(crate) fn numbered(references: &References, number: usize) -> Result<RequiredRow, NoMemory>
     ensures row { IfOk result (λ row. row_required row ≡ row_numbered references.now number) }
     ensures of { IfOk result (λ row. row.references ≡ references.now) }

@@ -24,8 +24,9 @@ use jc_view::outcomes_are_exact;
 use std::alloc::{AllocError, AllocFailed, Global};
 use std::marker::Model;
 
-/// The class files of a tree: the name of the class in each file, and the facts of each class. The bytes of the files are
-/// not kept. If several files have a class of one name, the tree takes it from the one with the least path.
+/// The class files of a tree: for each file the name of its class or why it is not readable, and the facts of each
+/// class. The bytes of the files are not kept. If several files name one class, its facts are those of the file with
+/// the least path.
 ///
 /// For example (`crates/jc_session/src/tree_check.rt`):
 ///
@@ -71,7 +72,8 @@ impl Model for Tree {
 }
 
 impl Tree {
-    /// Returns a tree without files, and the meter that counts the look-ups of its classes.
+    /// Returns a tree without files, and the meter that counts the look-ups of its classes. Returns `NoMemory` only
+    /// when an allocation fails.
     pub fn new(alloc: Global) -> Result<(Tree, Meter), NoMemory>
         ensures empty { IfOk result (λ made. IsTree map.empty made.0) }
         ensures asks { IfOk result (λ made. made.1.asks ≡ 0) }
@@ -100,8 +102,10 @@ impl Tree {
         self.outcomes.contains_key(path)
     }
 
-    /// Adds a file, and returns the tree. The order in which files are added does not matter. Returns `NoMemory` only when an
-    /// allocation fails.
+    /// Adds a file, and returns the tree. The order in which files are added does not matter.
+    ///
+    /// Returns `AlreadyThere` if the tree has a file at the path, and `NoMemory` only when an allocation fails. An
+    /// error drops the tree.
     pub fn add(self, path: &[u8], bytes: &[u8]) -> Result<Tree, AddError>
         ensures ok { (f : Files) → IsTree f self → IfOk result (HasOneMore f path.now bytes.now) }
         ensures err { (f : Files) → IsTree f self → IfErr result (λ e. map.contains_key f path.now ≡ is_there e) }

@@ -42,12 +42,13 @@ struct ErrorEntry {
 /// An instruction that does not link, although its reference resolves (JVMS 6.5).
 #[derive(Clone, Copy)]
 pub struct LinkError<'a> {
-    /// The number of its method.
+    /// The number of its method in the class file, from 0.
     pub method: u16,
     /// Its offset from the start of the code, in bytes.
     pub place: u16,
     pub error: LinkageError,
-    /// The class at fault.
+    /// The class at fault. For `NoMethod` it is the class or array that the reference names. Otherwise it is the class
+    /// that the reference resolves to, or the one that declares the member.
     pub class: &'a [u8],
 }
 
@@ -98,7 +99,7 @@ impl Linked {
         &self.answers
     }
 
-    /// Returns the instructions that do not link, by method and then by offset. Does not allocate.
+    /// Returns the instructions that do not link, sorted by method, then by offset. Does not allocate.
     pub fn links(&self) -> LinkErrors<'_>
         ensures { result ≡ self.now.links }
     {
@@ -163,7 +164,7 @@ fn lend<'a>(
     }
 }
 
-/// Returns the class or array that the reference of a number names.
+/// Returns the class or array that the reference at number `reference` names.
 fn class_named(references: &Option<References>, reference: usize) -> &[u8]
     ensures { result.now ≡ option_map_or (λ r. text_of r.named) (slice_get (references_in references.now) reference) [] }
 {
@@ -205,8 +206,8 @@ fn links_of(
     Ok(links)
 }
 
-/// Returns the error of an instruction of the class of this name, if it has one. `numbers` has the numbers of the
-/// references by the indexes of their constants.
+/// Returns the error of an instruction of the class of this name, if it has one. `numbers` maps the index of a constant
+/// to the number of its reference.
 fn entry_of(
     own: &[u8],
     facts: &Facts,

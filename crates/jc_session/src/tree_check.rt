@@ -36,10 +36,10 @@ pub enum CheckForm {
     },
 }
 
-/// Why a check fails. At `Write` a proper beginning of the text was written, otherwise nothing.
+/// Why a check fails. After `Write`, a proper prefix of the text has been written; after any other error, nothing.
 #[derive(Clone, Copy, Debug, Error)]
 pub enum CheckError<'p> {
-    /// The source returned no bytes for the file at this path.
+    /// The source returned `Unread` for the file at this path.
     #[error("a file can't be read")]
     Unread(&'p [u8]),
     /// The file at this path was refused, for this reason.
@@ -55,9 +55,9 @@ pub enum CheckError<'p> {
 
 /// Reads the files at the paths and writes the report of all, or its errors.
 ///
-/// Reads the files in the order of `paths`, and refuses a file if an edit that adds it is refused. Returns whether the
-/// report is wrong. For errors, returns whether there is an error that `form` asks for. Writes nothing before all parts
-/// are computed. Keeps only the data of a file that linking uses.
+/// Reads the files in the order of `paths`. A file is refused if an edit that adds it would be refused. For the report,
+/// returns what [`TreeReport::wrong`] returns. For errors, returns whether there is an error that `form` selects.
+/// Writes nothing before all parts are computed. Of each file, keeps only the data that linking uses.
 ///
 /// # Errors
 ///

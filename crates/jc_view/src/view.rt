@@ -105,15 +105,16 @@ impl<'a> ClassView<'a> {
         self.numbers.this_class
     }
 
-    /// Returns the index of the `Class` constant of the superclass, or 0.
+    /// Returns `super_class`: the index of the `Class` constant of the superclass, or 0 (JVMS 4.1). The index is not
+    /// checked.
     pub fn super_class(&self) -> ConstantIndex
         ensures { result ≡ self.now.super_class }
     {
         self.numbers.super_class
     }
 
-    /// Returns the text of the `Class` constant of the superclass. Returns `None` if `super_class` names none: in
-    /// `java/lang/Object`, it is 0.
+    /// Returns the text of the `Class` constant at `super_class`, or `None` if there is none. For example,
+    /// `super_class` is 0 in `java/lang/Object`.
     pub fn super_name(&self) -> Option<&'a [u8]>
         ensures { option_copied result ≡ class_text_at self.now self.now.super_class }
     {
@@ -135,8 +136,8 @@ impl<'a> ClassView<'a> {
         self.offsets.as_slice().len() as u16
     }
 
-    /// Returns the names of the direct superinterfaces. The iterator yields `None` for an interface whose index does
-    /// not name a class.
+    /// Returns the names of the direct superinterfaces, in file order. The iterator yields for each index what
+    /// [`ClassView::class_text`] returns.
     pub fn interfaces(&self) -> Interfaces<'_, 'a>
         ensures left { result ≡ record { class = self.now; left = self.now.interfaces } }
         ensures few { length self.now.interfaces < 2 ^ 16 }
@@ -147,7 +148,8 @@ impl<'a> ClassView<'a> {
         }
     }
 
-    /// Returns the indexes of the direct superinterfaces.
+    /// Returns the indexes of the `Class` constants of the direct superinterfaces, in file order. The indexes are not
+    /// checked.
     pub fn interface_indexes(&self) -> Indexes<'a>
         ensures left { result ≡ self.now.interfaces }
         ensures few { length self.now.interfaces < 2 ^ 16 }
@@ -195,42 +197,47 @@ impl<'a> ClassView<'a> {
         }
     }
 
-    /// Returns the text of the `Utf8` constant at an index.
+    /// Returns the text of the `Utf8` constant at an index, or `None` if there is no such constant. The text may not be
+    /// modified UTF-8.
     pub fn utf8(&self, index: ConstantIndex) -> Option<&'a [u8]>
         ensures { option_copied result ≡ utf8_at self.now index }
     {
         text_entry(self.bytes, &self.offsets, index)
     }
 
-    /// Returns the text of the `Class` constant at an index.
+    /// Returns the text of the `Class` constant at an index. Returns `None` if there is no such constant or if it does
+    /// not name a `Utf8` constant.
     pub fn class_text(&self, index: ConstantIndex) -> Option<&'a [u8]>
         ensures { option_copied result ≡ class_text_at self.now index }
     {
         class_text(self.bytes, &self.offsets, index)
     }
 
-    /// Returns the `name_index` of the `Class` constant at an index.
+    /// Returns the `name_index` of the `Class` constant at an index, or `None` if there is no such constant.
     pub fn class_name_index(&self, index: ConstantIndex) -> Option<ConstantIndex>
         ensures { result ≡ option_and_then class_name_index (constant_at self.now index) }
     {
         class_name_index(self.bytes, &self.offsets, index)
     }
 
-    /// Returns the indexes of the name and of the descriptor in the `NameAndType` at an index.
+    /// Returns the indexes of the name and of the descriptor in the `NameAndType` at an index, or `None` if there is no
+    /// such constant.
     pub fn name_and_type(&self, index: ConstantIndex) -> Option<(ConstantIndex, ConstantIndex)>
         ensures { result ≡ name_and_type_at self.now index }
     {
         name_and_type_entry(self.bytes, &self.offsets, index)
     }
 
-    /// Returns the `class_index` of the reference to a field or method at an index.
+    /// Returns the `class_index` of the `Fieldref`, `Methodref` or `InterfaceMethodref` at an index, or `None` if there
+    /// is no such constant.
     pub fn class_index(&self, index: ConstantIndex) -> Option<ConstantIndex>
         ensures { result ≡ option_and_then class_index (constant_at self.now index) }
     {
         owner_entry(self.bytes, &self.offsets, index)
     }
 
-    /// Returns the `name_and_type_index` of the reference to a field or method, or of the `InvokeDynamic`, at an index.
+    /// Returns the `name_and_type_index` of the constant at an index. Returns `None` if there is no `Fieldref`,
+    /// `Methodref`, `InterfaceMethodref` or `InvokeDynamic` at the index.
     pub fn name_and_type_index(&self, index: ConstantIndex) -> Option<ConstantIndex>
         ensures { result ≡ option_and_then name_and_type_index (constant_at self.now index) }
     {
@@ -263,7 +270,7 @@ impl<'a> ClassView<'a> {
         kind_entry(self.bytes, &self.offsets, index)
     }
 
-    /// Returns whether the constant at an index is usable and of this kind.
+    /// Returns whether there is a constant of this kind at an index.
     pub fn is_entry(&self, kind: ConstantKind, index: ConstantIndex) -> bool
         ensures { result ≡ is_entry self.now kind index }
     {
