@@ -14,7 +14,8 @@ use std::collections::{BTreeMap, btree_map};
 use std::marker::Model;
 use std::mem;
 
-/// A map from byte strings to values, in the order of the bytes of its keys.
+/// A map from byte strings to values, in the order of the bytes of its keys. Look-up, insertion and removal compare a
+/// logarithmic number of keys.
 #[derive(Drop)]
 pub struct ByteMap<V> {
     entries: BTreeMap<Vec<u8>, V>,
@@ -74,7 +75,7 @@ impl<V> ByteMap<V> {
         self.entries.contains_key(key)
     }
 
-    /// Inserts the value at the key, and returns the previous value.
+    /// Inserts the value at the key, and returns the previous value, if there was one.
     ///
     /// If the map has the key already, the map keeps its own key and drops the new one. Fails only when an allocation
     /// for a new key fails, and then returns the key and the value.
@@ -88,7 +89,7 @@ impl<V> ByteMap<V> {
         self.entries.insert(key, value)
     }
 
-    /// Removes the key, and returns its value. Does not allocate.
+    /// Removes the key, and returns its value, if the map has the key. Does not allocate.
     pub fn remove(&mut self, key: &[u8]) -> Option<V>
         ensures before { result ≡ map.get self.old key.now }
         ensures removed { self.new ≡ map.remove self.old key.now }

@@ -20,7 +20,7 @@ pub struct MemInput<'a> {
     failures: u64,
 }
 
-/// An output that keeps the bytes that are written, up to a fixed number.
+/// An output that keeps the bytes that are written, up to a fixed number. After that, writes fail.
 #[derive(Drop)]
 pub struct MemOutput {
     bytes: Vec<u8>,

@@ -11,7 +11,7 @@ ghost use Rattle.jc_base.specs.TextTests.{units_of, is_unqualified_text, is_meth
 use crate::modified_utf8::check_units;
 
 /// Returns whether `text` is an unqualified name, for example of a field or a local variable (JVMS 4.2.2). Such a name
-/// has at least one character, and none of `.`, `;`, `[` and `/`. Does not allocate.
+/// is modified UTF-8. It has at least one character, and none of `.`, `;`, `[` and `/`. Does not allocate.
 pub fn is_unqualified(text: &[u8]) -> bool
     ensures name { IsTrue result ↔ IsUnqualifiedName text.now }
     ensures computed { result ≡ is_unqualified_text text.now }
@@ -169,7 +169,7 @@ pub fn names_are_well_spelled()
     ensures method { (b : List ℕ) → IsMethodName b → IsWellSpelled b }
 {}
 
-/// States that the functions of `TextTests` decide what the definitions of names say.
+/// States that the functions of `specs/TextTests.antt` decide what the definitions of names and of modified UTF-8 say.
 pub fn texts_are_decided()
     ensures units { (b us : List ℕ) → (units_of b ≡ Some us) ↔ Spells us b }
     ensures unqualified { (b : List ℕ) → IsTrue (is_unqualified_text b) ↔ IsUnqualifiedName b }

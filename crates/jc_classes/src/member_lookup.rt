@@ -64,7 +64,7 @@ impl Facts {
     }
 
     /// Returns the method with this name and descriptor that an interface declares, if it is neither PRIVATE nor
-    /// STATIC. A class that is no interface has none.
+    /// STATIC. Returns `None` if the class is no interface. Does not allocate.
     pub fn given(&self, key: Key) -> Option<Member<'_>>
         ensures { option_map member_lent result ≡ given_by (stands.Class self.now) (key_lent key.entry) }
     {

@@ -27,7 +27,7 @@ pub enum Insn<'a> {
         opcode: Opcode,
         index: ConstantIndex,
     },
-    /// A load, a store or `ret`, `wide` or not.
+    /// A load, a store or `ret` with the index of a local variable as an operand, `wide` or not.
     Local {
         opcode: Opcode,
         index: u16,
@@ -56,13 +56,13 @@ pub enum Insn<'a> {
         opcode: Opcode,
         index: ConstantIndex,
     },
-    /// `invokeinterface`: the number of slots of its arguments and the receiver, and a byte that must be 0.
+    /// `invokeinterface`. `count` must be the number of slots of its receiver and its arguments, and `last` must be 0.
     InvokeInterface {
         index: ConstantIndex,
         count: u8,
         last: u8,
     },
-    /// `invokedynamic`, and two bytes that must be 0.
+    /// `invokedynamic`. `last` has the last two bytes, which must be 0.
     InvokeDynamic {
         index: ConstantIndex,
         last: u16,
@@ -83,7 +83,7 @@ pub enum Insn<'a> {
     },
 }
 
-/// The kinds of instructions that may fail to link although their reference resolves (JVMS 6.5).
+/// A kind of instruction that may fail to link although its reference resolves (JVMS 6.5).
 #[derive(Clone, Copy, PartialEq, Eq)]
 pub enum LinkKind {
     GetStatic,
@@ -128,9 +128,10 @@ impl<'a> Insn<'a> {
         self.opcode().mnemonic()
     }
 
-    /// Returns how the instruction uses the reference that it names, and the index of the reference.
+    /// Returns how the instruction uses the reference that it names, and the index of the reference in the constant
+    /// pool.
     ///
-    /// `None` for an instruction that links whenever its reference resolves.
+    /// Returns `None` if the instruction is of no [`LinkKind`].
     pub fn link_use(&self) -> Option<(LinkKind, u16)>
         ensures { result ≡ link_use self.now }
     {

@@ -6,14 +6,14 @@ ghost use Rattle.jc_code.specs.inside.Entries.{entry_of};
 
 use std::marker::Model;
 
-/// A kind of operands.
+/// The kind of an opcode's operands (JVMS 6.5).
 #[derive(Clone, Copy)]
 pub enum Operands {
-    /// Nothing.
+    /// No operands.
     Empty,
-    /// Nothing: the opcode implies the local variable, which has this number of slots.
+    /// No operands: the opcode implies the index of a local variable. The variable has 1 or 2 slots.
     ImplicitLocal { index: u16, slots: u16 },
-    /// The index of a local variable, in one byte, or in two after `wide`; and its number of slots.
+    /// The index of a local variable, in one byte, or in two after `wide`. The variable has 1 or 2 slots.
     Local { slots: u16 },
     /// A signed byte.
     Byte,
@@ -21,7 +21,7 @@ pub enum Operands {
     Short,
     /// A constant, by an index of one byte.
     ShortLoad,
-    /// A constant, by its index.
+    /// A constant, by an index of two bytes.
     Load,
     /// The index of a local variable and a signed number, of one byte each, or of two after `wide`.
     Increment,
@@ -29,9 +29,9 @@ pub enum Operands {
     Branch,
     /// A signed offset of four bytes.
     WideBranch,
-    /// A pad, a default offset, the lowest and the highest value, and an offset for each value.
+    /// A pad of 0 to 3 bytes, a default offset, the lowest and the highest value, and an offset for each value.
     TableSwitch,
-    /// A pad, a default offset, and a counted list of pairs of a value and an offset.
+    /// A pad of 0 to 3 bytes, a default offset, and a counted list of pairs of a value and an offset.
     LookupSwitch,
     /// A field, by its index.
     Field,
@@ -116,7 +116,7 @@ impl Opcode {
 
     pub const JSR_W: Opcode = Opcode { number: 201 };
 
-    /// Returns the opcode of a number, if there is one.
+    /// Returns the opcode with this number, or `None` if the number is above 201.
     pub fn new(number: u8) -> Option<Opcode>
         ensures { result ≡ opcode_at number }
     {

@@ -1,7 +1,7 @@
 //! Laws of the definitions. A law is a function that does nothing, and its contract is the statement.
 ghost use Rattle.jc_edits.specs.Touched.{AffectedEitherWay, EditsDiffer, ReachStays, TouchedAreTaken};
 
-/// An edit changes nothing at names that it does not touch.
+/// An edit changes the world only at the names that it touches.
 pub fn edits_differ()
     ensures { EditsDiffer }
 {}

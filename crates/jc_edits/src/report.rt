@@ -26,7 +26,8 @@ use jc_report::{Asked, LentClass, is_any_wrong};
 use std::alloc::Global;
 use std::marker::Model;
 
-/// The report of the files of a session. Contracts see the files and the outside prefixes, which determine the report.
+/// The report of the files of a session. Its model is a record of the files and the outside prefixes, which determine
+/// the report.
 #[derive(Drop)]
 pub struct Report {
     pub(crate) held: ClaimedFiles,
@@ -48,7 +49,8 @@ impl Model for Report {
 }
 
 impl Report {
-    /// Returns the report of no files, and the meter that counts the parts and look-ups of its edits.
+    /// Returns the report of no files, and the meter that counts the parts and look-ups of its edits. Returns
+    /// `NoMemory` only when an allocation fails.
     pub(crate) fn new(alloc: Global, outside: Outside) -> Result<(Report, Meter), NoMemory>
         ensures held { IfOk result (λ made. made.0 ≡ record { files = map.empty; prefixes = outside }) }
         ensures asks { IfOk result (λ made. made.1.asks ≡ 0) }
@@ -59,8 +61,8 @@ impl Report {
         Ok((Report { held, linkage }, meter))
     }
 
-    /// Makes an edit of files that is not refused. If an allocation fails, nothing has changed. If the file at the path has these
-    /// bytes already, nothing is parsed, looked up or made.
+    /// Makes an edit of files that is not refused. If an allocation fails, nothing has changed, but the meter may have
+    /// counted. If the file at the path has these bytes already, nothing is parsed, looked up or computed.
     pub(crate) fn make(
         &mut self,
         alloc: Global,
@@ -93,7 +95,8 @@ impl Report {
         }
     }
 
-    /// Returns whether an edit leaves the files as they are: the file at the path has these bytes already. Does not allocate.
+    /// Returns whether an edit leaves the files as they are: the file at the path has these bytes already. Does not
+    /// allocate.
     fn is_unchanged(&self, edit: &LentEdit<'_>) -> bool
         ensures { IsTrue result → after self.now.files (change_lent edit.now) ≡ self.now.files }
     {
@@ -103,7 +106,8 @@ impl Report {
         }
     }
 
-    /// Makes an edit of the outside prefixes that is not refused. If an allocation fails, nothing has changed.
+    /// Makes an edit of the outside prefixes that is not refused. If an allocation fails, nothing has changed, but the
+    /// meter may have counted.
     pub(crate) fn make_prefix(
         &mut self,
         alloc: Global,
@@ -165,7 +169,7 @@ impl Report {
         self.linkage.circular()
     }
 
-    /// Returns the rows that the classes provide, sorted. Does not allocate.
+    /// Returns the rows that the classes provide, sorted, each once. Does not allocate.
     pub fn provided(&self) -> Provided<'_>
         ensures { (r : reports.Report) → IsReportOf self.now r → result ≡ r.provided }
     {
@@ -179,15 +183,15 @@ impl Report {
         self.linkage.required()
     }
 
-    /// Returns the number of classes that require the row at a place of [`Report::required`]. Places are counted from 0; beyond
-    /// the last row the number is 0. Does not allocate.
+    /// Returns the number of classes that require the row at a place of [`Report::required`]. Places are counted from
+    /// 0; beyond the last row the number is 0. Takes time linear in the place. Does not allocate.
     pub(crate) fn holders(&self, place: usize) -> usize
         ensures { CountsHoldersAt self.now place result }
     {
         self.linkage.holders(place)
     }
 
-    /// Returns the bytes of the file from which a class is taken.
+    /// Returns the bytes of the winner of a class, or `None` if no readable file names the class.
     pub(crate) fn winning_file(&self, name: &[u8]) -> Option<&[u8]>
         ensures { option_map (λ bytes. bytes.now) result ≡ option_and_then (map.get self.now.files) (winner self.now.files name.now) }
     {

@@ -14,13 +14,14 @@ use jc_report::{LentClass, ReportLists, write_lists, write_part};
 use jc_text::TextWriter;
 use thiserror::Error;
 
-/// The output failed.
+/// The error of writing a text to an output that failed.
 #[derive(Clone, Copy, Debug, PartialEq, Eq, Error)]
 #[error("the output failed")]
 pub struct WriteError;
 
-/// Writes a report: `[files]` and the files by path, `[parts]` and the classes by name, `[circular]`,
-/// `[provided]` and `[required]`. If the output fails, it has a beginning of this text. Does not allocate.
+/// Writes a report: `[files]` and the files by path, `[parts]` and the classes by name, `[circular]`, `[provided]` and
+/// `[required]`. Returns [`WriteError`] if the output fails; the output then has a beginning of this text. Does not
+/// allocate.
 pub fn write_report<W: Output>(report: &Report, out: &mut W) -> Result<(), WriteError>
     ensures text { WritesReport result (W.written out.old) (W.written out.new) report.now }
     ensures failures { CountsFault result (W.failures out.old) (W.failures out.new) }
@@ -46,8 +47,8 @@ fn write_held<W: Output>(text: &mut TextWriter<'_, W>, report: &Report)
     write_lists(text, lists);
 }
 
-/// Writes the part of a class, or `none` if the files do not have the class. If the output fails, it has a beginning of
-/// this text. Does not allocate.
+/// Writes the part of a class, or a line `none` if the files do not have the class. Returns [`WriteError`] if the
+/// output fails; the output then has a beginning of this text. Does not allocate.
 pub fn write_part_of<W: Output>(report: &Report, name: &[u8], out: &mut W) -> Result<(), WriteError>
     ensures text { WritesPart result (W.written out.old) (W.written out.new) report.now name.now }
     ensures failures { CountsFault result (W.failures out.old) (W.failures out.new) }

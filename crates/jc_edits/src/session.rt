@@ -24,8 +24,8 @@ use jc_link::{Meter, Outside, Part};
 use std::alloc::Global;
 use std::marker::Model;
 
-/// A session: class files by path, outside prefixes, and the report of them. Contracts see a record of the files, the
-/// prefixes, and the numbers of look-ups and of parts that were made.
+/// A session: class files by path, outside prefixes, and the report of them. Its model is a record of the files, the
+/// prefixes, the number of look-ups, and the number of parts that were computed.
 ///
 /// For example (`crates/jc_rows/src/edits.rt`):
 ///
@@ -59,7 +59,8 @@ impl Model for Session {
 }
 
 impl Session {
-    /// Returns a session without files. A name is outside if it begins with one of these prefixes and no file has its class.
+    /// Returns a session without files. A name is outside if it begins with one of these prefixes and has no class. The
+    /// class `java/lang/Object` is built in. Returns `NoMemory` only when an allocation fails.
     pub fn new(alloc: Global, outside: Outside) -> Result<Session, NoMemory>
         ensures { IfOk result (λ session. session ≡ record { files = map.empty; prefixes = outside; asks = 0; made = 0 }) }
     {
@@ -71,10 +72,11 @@ impl Session {
         })
     }
 
-    /// Makes an edit. A refused edit changes neither a file nor a prefix.
+    /// Makes an edit, and returns its cost. A refused edit changes neither a file nor a prefix. If an allocation fails,
+    /// the meter may have counted.
     ///
-    /// Recomputes only the parts of the classes whose reach has a name that the edit touches: a name whose class changes, or
-    /// that becomes outside or inside.
+    /// Recomputes only the parts of the classes whose reach has a name that the edit touches. It touches a name whose
+    /// facts change, and a name without a class that becomes outside or inside.
     pub fn edit(&mut self, edit: Edit) -> Result<Done, EditError>
         ensures judged { IsAnswered result (judge_edit (contents_of self.old) (change_of edit)) }
         ensures ok { OnOk result (contents_of self.new ≡ after_edit (contents_of self.old) (change_of edit)) }
@@ -165,22 +167,24 @@ impl Session {
         self.report.linkage.part(name)
     }
 
-    /// Returns the classes of the files whose reach has a name, sorted. The name may be one that no file has. Does not allocate.
+    /// Returns the names of the classes of the files whose reach has this name, sorted. No file needs to give this
+    /// name. Does not allocate.
     pub fn dependants(&self, name: &[u8]) -> &[Vec<u8>]
         ensures { Lists (names_of result.now) (IsDependant (contents_of self.now) name.now) }
     {
         self.report.linkage.dependants(name)
     }
 
-    /// Returns the number of classes that require the row at a place of [`Report::required`]. Places are counted from 0; beyond
-    /// the last row the number is 0. Does not allocate.
+    /// Returns the number of classes that require the row at a place of [`Report::required`]. Places are counted from
+    /// 0; beyond the last row the number is 0. Takes time linear in the place. Does not allocate.
     pub fn holders(&self, place: usize) -> usize
         ensures { CountsHoldersAt (contents_of self.now) place result }
     {
         self.report.holders(place)
     }
 
-    /// Returns the meter, which counts look-ups of classes and parts that were made. Does not allocate.
+    /// Returns the meter, which counts the look-ups in the table of classes and the parts that were computed. Does not
+    /// allocate.
     pub fn meter(&self) -> &Meter
         ensures asks { result.now.asks ≡ self.now.asks }
         ensures made { result.now.made ≡ self.now.made }
@@ -188,14 +192,14 @@ impl Session {
         &self.meter
     }
 
-    /// Returns the bytes of the file from which a class is taken. Does not allocate.
+    /// Returns the bytes of the winner of a class, or `None` if no readable file names the class. Does not allocate.
     pub fn winning_file(&self, name: &[u8]) -> Option<&[u8]>
         ensures { option_map (λ bytes. bytes.now) result ≡ option_and_then (map.get self.now.files) (winner self.now.files name.now) }
     {
         self.report.winning_file(name)
     }
 
-    /// Returns the bytes of the file at the path. Does not allocate.
+    /// Returns the bytes of the file at the path, readable or not. Does not allocate.
     pub fn file(&self, path: &[u8]) -> Option<&[u8]>
         ensures { option_map (λ bytes. bytes.now) result ≡ map.get self.now.files path.now }
     {

@@ -9,7 +9,7 @@ use std::alloc::Global;
 use std::marker::Model;
 
 /// The nodes that were seen, out of a fixed number of nodes. They are kept as a flag for each node, and as a list in
-/// the order in which they were added.
+/// the order in which they were added. Its model is a record of both.
 #[derive(Drop)]
 pub struct Seen {
     flags: Vec<bool>,
@@ -71,21 +71,21 @@ impl Seen {
         }
     }
 
-    /// Returns the number of nodes that were seen.
+    /// Returns the length of the list of nodes. A node that was added twice counts twice.
     pub fn len(&self) -> usize
         ensures { result ≡ length self.now.list }
     {
         self.list.len()
     }
 
-    /// Returns the nodes that were seen, in the order in which they were added.
+    /// Returns the list of the nodes that were seen, in the order in which they were added.
     pub fn nodes(&self) -> &[usize]
         ensures { result.now ≡ self.now.list }
     {
         self.list.as_slice()
     }
 
-    /// Returns the node at a place of the list.
+    /// Returns the node at a place of the list, counted from 0.
     pub fn node(&self, at: usize) -> usize
         requires { at < length self.now.list }
         ensures { result ≡ node_at self.now.list at }
@@ -93,7 +93,7 @@ impl Seen {
         self.list[at]
     }
 
-    /// Adds a node, unless it was seen.
+    /// Adds a node, unless it was seen. Returns `NoMemory` only when an allocation fails.
     fn add_once(&mut self, node: usize) -> Result<(), NoMemory>
         requires { node < length self.old.flags }
         ensures { OnOk result (SeesMore self.old.flags self.old.list self.new.flags self.new.list (node ∷ [])) }
@@ -105,7 +105,8 @@ impl Seen {
         Ok(())
     }
 
-    /// Adds the nodes of a list that were not seen. Returns `NoMemory` only when an allocation fails.
+    /// Adds the nodes of a list that were not seen, each once. Returns `NoMemory` only when an allocation fails; some
+    /// of the nodes may then be added.
     pub fn add_all(&mut self, nodes: &[usize]) -> Result<(), NoMemory>
         requires { All (λ v. v < length self.old.flags) nodes.now }
         ensures { OnOk result (SeesMore self.old.flags self.old.list self.new.flags self.new.list nodes.now) }

@@ -6,12 +6,12 @@ ghost use Rattle.jc_input.specs.RunErrors.{run_code};
 use jc_base::NoMemory;
 use thiserror::Error;
 
-/// How a run ends that has answered all its lines.
+/// How a run ends without an error.
 #[derive(Clone, Copy, Debug, PartialEq, Eq)]
 pub enum Ended {
-    /// With the line `end`.
+    /// With the line `end`. Later lines are not answered.
     End,
-    /// With the end of the input.
+    /// With the end of the input. All lines were answered.
     Eof,
 }
 
@@ -24,13 +24,13 @@ pub enum RunError {
     /// The output failed.
     #[error("the output failed")]
     Write,
-    /// An allocation failed, for a line or in the source.
+    /// An allocation failed in the run or in its source.
     #[error("memory was refused")]
     NoMemory,
 }
 
 impl RunError {
-    /// Returns the number of the error: 1, 2 or 3.
+    /// Returns the number of the error, from 1, in the order of the variants.
     pub fn code(&self) -> u8
         ensures { result ≡ run_code self.now }
     {

@@ -1,4 +1,4 @@
-//! Laws about the definitions only.
+//! Laws of the definitions. A law is a function that does nothing, and its contract is the statement.
 
 ghost use Rattle.jc_link.specs.TableLaws.{PlacesChange, PrefixesDiffer, ReachStays, WorldsDiffer};
 

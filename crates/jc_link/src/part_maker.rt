@@ -24,8 +24,8 @@ use jc_resolve::{Hierarchy, InheritanceErrors};
 use std::alloc::Global;
 use std::marker::Model;
 
-/// Computes the parts of the classes of a graph, for which it knows how each name loads. Its functions identify a class
-/// by its place among the classes of the graph. The model is the graph.
+/// Computes the parts and the reaches of the classes of a graph. It knows how each name of the graph loads. Its
+/// functions identify a class by its place among the classes of the graph, counted from 0. The model is the graph.
 #[derive(Drop)]
 pub struct PartMaker<'g, 't> {
     graph: &'g ClassGraph<'t>,
@@ -47,7 +47,7 @@ impl<'g, 't> Model for PartMaker<'g, 't> {
 }
 
 impl<'g, 't> PartMaker<'g, 't> {
-    /// Returns a part maker for a graph. It finds how each name of the graph loads.
+    /// Finds how each name of a graph loads, and returns a part maker for the graph.
     ///
     /// Returns `NoMemory` only when an allocation fails.
     pub fn new(alloc: Global, graph: &'g ClassGraph<'t>) -> Result<PartMaker<'g, 't>, NoMemory>

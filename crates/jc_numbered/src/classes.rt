@@ -31,14 +31,14 @@ pub struct Classes<'c, 't> {
     pub supertypes: &'c [Vec<usize>],
     /// The node of `java/lang/Object`.
     pub object: usize,
-    /// The place of each node in an order of loading.
+    /// The place of each node in an order of loading. The supertypes of a good node are before it.
     pub rank: Vec<usize>,
     /// Whether each node loads or is outside.
     pub good: Vec<bool>,
-    /// The length of the package of each name.
+    /// The length of the package of each name, in bytes.
     pub package_ends: Vec<usize>,
-    /// A bound on the number of transitive supertypes of each node, with the node itself. It does not hold for circular
-    /// nodes.
+    /// A bound on the number of transitive supertypes of each node, with the node itself. It may be too small if one of
+    /// these is circular.
     pub most_above: Vec<usize>,
     pub ghost names_size: { length names.now ≡ length standing.now },
     pub ghost supertypes_size: { length supertypes.now ≡ length standing.now },
@@ -78,7 +78,7 @@ impl<'c, 't> Classes<'c, 't> {
         self.standing.len()
     }
 
-    /// Returns the name of a node.
+    /// Returns the name of a node. Returns an empty name if there is no such node.
     pub fn name(&self, node: usize) -> &[u8]
         ensures { result.now ≡ indexed_name (indexed_of self.now) node }
     {
@@ -88,8 +88,8 @@ impl<'c, 't> Classes<'c, 't> {
         }
     }
 
-    /// Returns a bound on the number of transitive supertypes of a node, with the node itself. Only the cost of look-up
-    /// depends on it.
+    /// Returns a bound on the number of transitive supertypes of a node, with the node itself. It may be too small if
+    /// one of these is circular. Only the cost of look-up depends on it.
     pub fn most_above(&self, node: usize) -> usize
         ensures { result ≡ slice_index_or self.now.most_above.items node 1 }
     {
@@ -116,7 +116,7 @@ impl<'c, 't> Classes<'c, 't> {
         }
     }
 
-    /// Returns what a node is.
+    /// Returns what a node is: a class, outside or nothing.
     pub fn at(&self, node: usize) -> Standing<'t>
         requires { node < length self.now.standing.now }
         ensures { stands_of result ≡ standing_of (indexed_of self.now) node }
@@ -206,7 +206,7 @@ impl<'c, 't> Classes<'c, 't> {
         }
     }
 
-    /// Returns the superclass of a node.
+    /// Returns the node of the superclass of a node, if there is one.
     pub fn superclass(&self, node: usize) -> Option<usize>
         requires { node < length self.now.standing.now }
         ensures { result ≡ superclass_at (indexed_of self.now) node }
@@ -230,7 +230,8 @@ impl<'c, 't> Classes<'c, 't> {
         }
     }
 
-    /// Finds the transitive supertypes of some nodes, each once.
+    /// Puts the transitive supertypes of some nodes into `seen`, each once. Removes the nodes that it had before.
+    /// Returns `NoMemory` only when an allocation fails.
     pub fn see_above(&self, seen: &mut Seen, starts: &[usize]) -> Result<(), NoMemory>
         requires starts { All (λ v. v < length self.now.standing.now) starts.now }
         requires seen { length seen.old.flags ≡ length self.now.standing.now }
@@ -239,7 +240,8 @@ impl<'c, 't> Classes<'c, 't> {
         mark_above(self.supertypes, seen, starts)
     }
 
-    /// Returns the supertypes of a node.
+    /// Returns the nodes of the direct supertypes of a node: the superclass, if there is one, and then the
+    /// superinterfaces.
     pub fn supertypes(&self, node: usize) -> &[usize]
         requires { node < length self.now.supertypes.now }
         ensures { result.now ≡ successors_of self.now.supertypes.now node }
@@ -261,7 +263,9 @@ impl<'c, 't> Classes<'c, 't> {
         }
     }
 
-    /// Pushes the nodes where look-up of a field continues, so that the next one is on top of the stack.
+    /// Pushes the nodes where look-up of a field continues, so that the next one is on top of the stack. These are the
+    /// direct superinterfaces, and then the superclass (JVMS 5.4.3.2). Returns `NoMemory` only when an allocation
+    /// fails.
     pub fn push_onward(&self, node: usize, stack: &mut Vec<usize>) -> Result<(), NoMemory>
         requires { node < length self.now.standing.now }
         ensures { OnOk result (reverse stack.new.items ≡ onward_nodes (indexed_of self.now) node ++ reverse stack.old.items) }

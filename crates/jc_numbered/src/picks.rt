@@ -13,7 +13,8 @@ use jc_file::AccessFlag;
 use jc_graph::Seen;
 use std::alloc::Global;
 
-/// Returns the interfaces that declare a method with this name and descriptor, neither PRIVATE nor STATIC.
+/// Returns those of `nodes` that are interfaces and declare a method with this name and descriptor, neither PRIVATE nor
+/// STATIC. Keeps their order. Returns `NoMemory` only when an allocation fails.
 pub fn candidates(
     alloc: Global,
     classes: &Classes,
@@ -32,8 +33,8 @@ pub fn candidates(
     Ok(found)
 }
 
-/// Returns whether the method of a node is not ABSTRACT, and the node is not in `covered`. If `covered` has the
-/// supertypes of all candidates, the method is maximally-specific.
+/// Returns whether a node is a candidate whose method is not ABSTRACT, and the node is not in `covered`. If `covered`
+/// has the transitive supertypes of all candidates, the method is then maximally-specific.
 pub fn is_pick(classes: &Classes, covered: &Seen, node: usize, key: Key) -> bool
     requires node { node < length classes.now.standing.now }
     requires covered { length covered.now.flags ≡ length classes.now.standing.now }
@@ -64,7 +65,7 @@ fn lesser(classes: &Classes, node: usize, other: usize) -> usize
     }
 }
 
-/// Returns the node whose name is least in the order of bytes.
+/// Returns the one of `nodes` whose name is least in the order of bytes, or `None` if there are no nodes.
 pub fn lowest(classes: &Classes, nodes: &[usize]) -> Option<usize>
     requires { All (λ v. v < length classes.now.names.now) nodes.now }
     ensures { TellsLowest (indexed_of classes.now) nodes.now result }

@@ -21,7 +21,7 @@ use jc_resolve::{Answer, Answers};
 use std::marker::Model;
 use std::slice;
 
-/// A class of a tree: the facts of its file, and its part.
+/// A class of a tree or of a session: the facts of its winner, and its part. Both are borrowed.
 #[derive(Clone, Copy)]
 pub struct LentClass<'a> {
     pub facts: &'a Facts,
@@ -60,7 +60,7 @@ impl<'a> LentClass<'a> {
     }
 }
 
-/// Returns the answer to the reference of a number, if there is one.
+/// Returns the answer to the reference at `number`, if there is one.
 fn numbered(answers: &Answers, number: usize) -> Option<Answer<'_>>
     ensures { option_map answer_of result ≡ slice_get answers.now number }
 {
@@ -71,7 +71,7 @@ fn numbered(answers: &Answers, number: usize) -> Option<Answer<'_>>
     }
 }
 
-/// An iterator over the classes of a [`crate::TreeReport`], in the order of their names. Contracts see the list of the
+/// An iterator over the classes of a [`crate::TreeReport`], in the order of their names. Its model is the list of the
 /// classes that are left.
 #[derive(Drop)]
 pub struct LentClasses<'a, 't> {

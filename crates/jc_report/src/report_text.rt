@@ -32,12 +32,15 @@ pub struct ReportLists<F, C, P, Q> {
     pub classes: C,
     /// The same classes once more, for the circular ones among them.
     pub again: C,
+    /// The rows that the classes provide, sorted.
     pub provided: P,
+    /// The rows that the classes require, sorted.
     pub required: Q,
 }
 
-/// Writes a report: `[files]` and the files by path, `[parts]` and the classes by name, `[circular]`,
-/// `[provided]` and `[required]`. If the output fails, it has a beginning of this text.
+/// Writes a report: `[files]` and the files by path, `[parts]` and the classes by name, `[circular]`, `[provided]` and
+/// `[required]`. Returns `DeviceFault` if the output fails; the output then has a beginning of this text. Does not
+/// allocate.
 pub fn write_report<W: Output>(report: &TreeReport<'_>, out: &mut W) -> Result<(), DeviceFault>
     ensures ok { OnOk result (Appends (W.written out.old) (W.written out.new) (report_text report.now)) }
     ensures front { OnErr result (WritesFront (W.written out.old) (W.written out.new) (report_text report.now)) }
@@ -61,7 +64,8 @@ fn write_held<W: Output>(text: &mut TextWriter<'_, W>, report: &TreeReport<'_>)
     write_lists(text, lists);
 }
 
-/// Writes the report with these lists. If the output fails, it has a beginning of this text.
+/// Writes the report with these lists. If the output fails, it has a beginning of this text, and [`TextWriter::finish`]
+/// returns the error.
 pub fn write_lists<'a, W: Output, F, C, P, Q>(
     text: &mut TextWriter<'_, W>,
     lists: ReportLists<F, C, P, Q>,
@@ -132,7 +136,7 @@ fn write_circular<'a, W: Output, I: Iterator<Item = LentClass<'a>> + Drop>(
     }
 }
 
-/// Writes the name of a class and LF.
+/// Writes the name of a class, with escapes as [`TextWriter::shown`] writes them, and LF.
 pub fn write_name<W: Output>(text: &mut TextWriter<'_, W>, name: &[u8])
     ensures { Sends W.written W.failures text.old text.new (name_line name.now) }
 {

@@ -1,4 +1,4 @@
-//! The answers to the references of a class, as they are kept.
+//! The list of the answers to the references of a class.
 
 ghost use Rattle.std.specs.Prelude.{◌≡◌, ◌<◌, ℕ, [], Some, length, option_map, slice_get, slice_set, IfOk, IfSome, IsTrue, OnOk};
 ghost use Rattle.jc_classes.specs.Facts.{Reference as Refers};
@@ -23,7 +23,7 @@ use std::marker::Model;
 
 /// The answers to the references of a class, in the order of the references. They share the texts of the references
 /// with the facts of the class. Most answers name the class that the reference names; the names of other classes are
-/// listed, each once.
+/// listed, each once. The model is the list of the answers.
 #[derive(Drop)]
 pub struct Answers {
     references: Option<References>,
@@ -92,7 +92,7 @@ fn is_own(own: Option<u32>, node: usize) -> bool
     }
 }
 
-/// Returns a number as a `u32`. Returns `NoMemory` for more than 4,294,967,295 names.
+/// Returns a number as a `u32`, or `NoMemory` if it is above 4,294,967,295.
 fn small(number: usize) -> Result<u32, NoMemory>
     ensures { IfOk result (λ kept. kept ≡ number) }
 {
@@ -229,8 +229,8 @@ impl Answers {
         }
     }
 
-    /// Returns the answers to these references, given by nodes. `nodes` are the classes that the references name.
-    /// `places` has an item with any value for each class.
+    /// Returns the answers to these references. `entries` has the answers by nodes, and `nodes` the classes that the
+    /// references name. `places` is working memory: it has an item with any value for each class.
     pub(crate) fn of(
         alloc: Global,
         classes: &Classes,
@@ -258,7 +258,7 @@ impl Answers {
         self.entries.len()
     }
 
-    /// Returns the kind of the answer to the reference of a number, without its texts. Does not allocate.
+    /// Returns the kind of the answer to the reference at `number`, counted from 0. Does not allocate.
     pub fn kind(&self, number: usize) -> AnswerKind
         requires { number < length self.now }
         ensures { option_map kind_of (slice_get self.now number) ≡ Some result }
@@ -266,7 +266,7 @@ impl Answers {
         kind_of(self.entries[number])
     }
 
-    /// Returns what the answer to the reference of a number finds, if it finds anything. Does not allocate.
+    /// Returns what the answer to the reference at `number` finds, if it finds anything. Does not allocate.
     pub(crate) fn found(&self, number: usize) -> Option<Found>
         ensures { (answer : Told) → slice_get self.now number ≡ Some answer → found_of answer ≡ result }
     {
@@ -276,7 +276,7 @@ impl Answers {
         found_of(self.entries[number])
     }
 
-    /// Returns the answer to the reference of a number. Does not allocate.
+    /// Returns the answer to the reference at `number`, counted from 0. Does not allocate.
     pub fn at(&self, number: usize) -> Answer<'_>
         requires { number < length self.now }
         ensures { slice_get self.now number ≡ Some (answer_of result) }
@@ -361,7 +361,7 @@ fn name_entries(
     })
 }
 
-/// Returns the reference of a number.
+/// Returns the reference at `number`.
 fn reference_at(references: &Option<References>, number: usize) -> Option<Reference<'_>>
     ensures { option_map reference_lent result ≡ slice_get (references_in references.now) number }
 {

@@ -21,7 +21,8 @@ use crate::view::ClassView;
 use jc_base::Cursor;
 use std::marker::Model;
 
-/// A well-formed `Code` attribute.
+/// A well-formed `Code` attribute of a method (JVMS 4.7.3): its code has 1 to 65,535 bytes, and its parts take all
+/// bytes of its `info`.
 #[derive(Drop)]
 pub struct Code<'v, 'a> {
     pub(crate) class: &'v ClassView<'a>,
@@ -30,7 +31,7 @@ pub struct Code<'v, 'a> {
     pub(crate) body: CodeBody<'a>,
 }
 
-/// The parts of a `Code` attribute.
+/// The parts of the `info` of a `Code` attribute.
 #[derive(Drop)]
 pub(crate) struct CodeBody<'a> {
     instructions: Instructions<'a>,
@@ -38,7 +39,7 @@ pub(crate) struct CodeBody<'a> {
     attributes: Entries<'a>,
 }
 
-/// The instructions, with the depths that they need.
+/// The instructions, with the sizes of the operand stack and of the local variables.
 #[derive(Clone, Copy)]
 struct Instructions<'a> {
     max_stack: u16,
@@ -67,7 +68,7 @@ impl<'v, 'a> Code<'v, 'a> {
         self.class
     }
 
-    /// Returns the maximum depth of the operand stack.
+    /// Returns the maximum depth of the operand stack. A `long` or a `double` counts as two.
     pub fn max_stack(&self) -> u16
         ensures { result ≡ self.now.code.max_stack }
     {
@@ -100,7 +101,8 @@ impl<'v, 'a> Code<'v, 'a> {
         }
     }
 
-    /// Returns the attributes of the code. None of them are recognised.
+    /// Returns the attributes of the code, in file order. No kind of attribute is recognised in a `Code`, so
+    /// `Attribute::kind` returns `None` for each.
     pub fn attributes(&self) -> Attributes<'v, 'a>
         ensures { result ≡ record { class = self.now.class; left = code_attributes self.now.attribute self.now.code } }
     {
@@ -112,8 +114,9 @@ impl<'v, 'a> Code<'v, 'a> {
     }
 }
 
-/// An exception handler. It begins at `handler_pc` and handles exceptions that instructions from `start_pc` to before
-/// `end_pc` throw. It catches exceptions of the class `catch_type`, or all exceptions if `catch_type` is 0.
+/// An exception handler (JVMS 4.7.3). It begins at `handler_pc` and handles exceptions that instructions from
+/// `start_pc` to before `end_pc` throw. These are offsets from the start of the code. It catches exceptions of the
+/// class `catch_type`, or all exceptions if `catch_type` is 0.
 #[derive(Clone, Copy)]
 pub struct ExceptionHandler {
     pub start_pc: u16,

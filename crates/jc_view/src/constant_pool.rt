@@ -3,7 +3,7 @@
 ghost use Rattle.std.specs.Prelude.{◌≡◌};
 ghost use Rattle.jc_view.specs.ConstantPool.{kind_name, kind_of_tag, is_wide, tag_of};
 
-/// An index of the constant pool.
+/// An index into the constant pool (JVMS 4.1). There need not be a constant at the index.
 #[derive(Clone, Copy, PartialEq, Eq, Hash)]
 pub struct ConstantIndex(pub u16);
 
@@ -26,10 +26,11 @@ pub enum ConstantKind {
     InvokeDynamic,
 }
 
-/// A constant, whose text is a slice of the file (JVMS 4.4). A number is its bits, as they are in the file.
+/// A constant of a constant pool (JVMS 4.4). The text of a `Utf8` is a slice of the file. The value of an `Integer`,
+/// `Float`, `Long` or `Double` is given by its bits.
 #[derive(Clone, Copy)]
 pub enum Constant<'a> {
-    /// The bytes of the text.
+    /// The bytes of the text, which need not be modified UTF-8.
     Utf8(&'a [u8]),
     Integer(u32),
     Float(u32),
@@ -56,7 +57,7 @@ pub enum Constant<'a> {
 }
 
 impl ConstantKind {
-    /// Returns the kind of constants with this tag.
+    /// Returns the kind of constants with this tag, or `None` if no kind has the tag (JVMS 4.4, table 4.4-A).
     pub fn of_tag(tag: u8) -> Option<ConstantKind>
         ensures { result ≡ kind_of_tag tag }
     {
@@ -101,7 +102,7 @@ impl ConstantKind {
         }
     }
 
-    /// Returns the name of this kind in the standard, without `CONSTANT_` (JVMS 4.4, table 4.4-A).
+    /// Returns the name of this kind in the JVMS, without `CONSTANT_` (JVMS 4.4, table 4.4-A).
     pub fn name(self) -> &'static str
         ensures { result.now ≡ kind_name self }
     {

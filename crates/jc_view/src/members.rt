@@ -16,8 +16,8 @@ use crate::view::ClassView;
 use jc_base::Cursor;
 use std::marker::Model;
 
-/// An iterator over fields or methods, in file order. Its model is the list of those that are left, each with its
-/// place.
+/// An iterator over fields or methods, in file order. Its model is the class file and the list of the members that are
+/// left, each with its holder and its place.
 #[derive(Drop)]
 pub struct Members<'v, 'a> {
     pub(crate) class: &'v ClassView<'a>,
@@ -69,7 +69,7 @@ impl<'v, 'a> Iterator for Members<'v, 'a> {
     }
 }
 
-/// A field or a method.
+/// A field or a method of a class file (JVMS 4.5, 4.6).
 #[derive(Drop)]
 pub struct Member<'v, 'a> {
     class: &'v ClassView<'a>,
@@ -77,7 +77,7 @@ pub struct Member<'v, 'a> {
     entry: MemberEntry<'a>,
 }
 
-/// A field or a method as its table has it.
+/// An entry of a table of fields or methods. `place` is the number of bytes before it in the file.
 #[derive(Drop)]
 pub(crate) struct MemberEntry<'a> {
     pub(crate) place: usize,
