@@ -9,8 +9,8 @@ use jc_base::byte_map;
 use jc_report::FileRow;
 use std::marker::Model;
 
-/// An iterator over the rows of the files of a report, in the order of the paths. Contracts see the list of the rows that
-/// are left.
+/// An iterator over the rows of the files of a report, in the order of the paths. Its model is the list of the rows
+/// that are left.
 #[derive(Drop)]
 pub struct Rows<'a> {
     pub(crate) files: byte_map::Iter<'a, File>,

@@ -14,9 +14,9 @@ use jc_classes::{Facts, Key, Member, ReferenceKind, same};
 use std::marker::Model;
 use std::slice;
 
-/// An iterator over the rows of the PUBLIC and PROTECTED fields, or methods, of a class. It follows an order of the members'
-/// numbers. If adjacent members have the same name and descriptor, only the first has a row. Contracts see the list of the
-/// rows that are left.
+/// An iterator over the rows of the PUBLIC and PROTECTED fields, or methods, of a class. It follows an order of the
+/// members' numbers. If adjacent members have the same name and descriptor, only the first has a row. Its model is the
+/// list of the rows that are left.
 #[derive(Drop)]
 pub(crate) struct MemberRows<'a> {
     facts: &'a Facts,

@@ -16,7 +16,7 @@ use jc_classes::{Facts, ReferenceKind};
 use jc_link::Part;
 use std::marker::Model;
 
-/// An iterator over the rows that a class provides, borrowed from its facts. Contracts see the list of the rows that are
+/// An iterator over the rows that a class provides, borrowed from its facts. Its model is the list of the rows that are
 /// left.
 #[derive(Drop)]
 pub struct ProvidedRows<'a> {

@@ -13,7 +13,7 @@ use jc_link::Part;
 use jc_resolve::Answers;
 use std::marker::Model;
 
-/// An iterator over the rows that a class requires, borrowed from its facts. Contracts see the list of the rows that are
+/// An iterator over the rows that a class requires, borrowed from its facts. Its model is the list of the rows that are
 /// left.
 #[derive(Drop)]
 pub struct RequiredRows<'a> {

@@ -5,7 +5,7 @@ ghost use Rattle.std.specs.Iterator.{YieldsFirstRef, item_count};
 use crate::lent_class::LentClasses;
 use std::marker::Model;
 
-/// An iterator over the names of the circular classes of a [`crate::TreeReport`], sorted. Contracts see the list of the
+/// An iterator over the names of the circular classes of a [`crate::TreeReport`], sorted. Its model is the list of the
 /// names that are left.
 #[derive(Drop)]
 pub struct TreeCircular<'a, 't> {

@@ -9,8 +9,8 @@ use crate::provided_rows::{ProvidedRows, provided_in_order};
 use crate::row::Row;
 use std::marker::Model;
 
-/// An iterator over the rows that the classes of a [`crate::TreeReport`] provide, sorted, borrowed from the facts of the
-/// classes. Contracts see the list of the rows that are left.
+/// An iterator over the rows that the classes of a [`crate::TreeReport`] provide, sorted, borrowed from the facts of
+/// the classes. Its model is the list of the rows that are left.
 #[derive(Drop)]
 pub struct TreeProvided<'a, 't> {
     pub(crate) classes: LentClasses<'a, 't>,

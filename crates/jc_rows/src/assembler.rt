@@ -350,7 +350,8 @@ impl Assembler {
     }
 }
 
-/// Adds a method. If it has a `Code`, its instructions are those of the next lines that begin with `does`, and then `return`.
+/// Adds a method. If it has a `Code`, its instructions are those of the next lines that begin with `does`, and then
+/// `return`.
 fn take_method(
     alloc: Global,
     pool: &mut Pool,
