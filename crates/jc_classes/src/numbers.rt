@@ -100,7 +100,7 @@ impl Numbers {
         self.names.len()
     }
 
-    /// Returns the name of a number.
+    /// Returns the name at the number `node`. There must be such a name.
     pub fn name(&self, node: usize) -> &[u8]
         requires { node < length self.now }
         ensures { result.now ≡ name_at self.now node }
@@ -155,7 +155,7 @@ impl Numbers {
         Err(NoMemory)
     }
 
-    /// Appends the number of a name to a list.
+    /// Appends the number of a name to a list. A name without a number gets the next one.
     ///
     /// Returns `NoMemory` only when an allocation fails. Then the list does not change, but the name may have been
     /// added.
@@ -175,7 +175,7 @@ impl Numbers {
         Ok(())
     }
 
-    /// Returns copies of the names, in the order of their bytes.
+    /// Returns copies of the names, in ascending order of their bytes.
     ///
     /// Returns `NoMemory` only when an allocation fails.
     pub fn rising(&self, alloc: Global) -> Result<Vec<Vec<u8>>, NoMemory>

@@ -38,7 +38,7 @@ impl References {
         self.entries.as_ref().len()
     }
 
-    /// Returns the reference of a number. Does not allocate.
+    /// Returns the reference at `number`, from 0, or `None` after the last. Does not allocate.
     pub fn at(&self, number: usize) -> Option<Reference<'_>>
         ensures { option_map reference_lent result ≡ slice_get self.now number }
     {
@@ -48,7 +48,8 @@ impl References {
         }
     }
 
-    /// Returns the class that the reference of a number names, or the descriptor of the array. Does not allocate.
+    /// Returns the name of the class that the reference at `number` names. If it names an array, returns the descriptor
+    /// of the array. Does not allocate.
     pub fn class(&self, number: usize) -> Option<&[u8]>
         ensures { option_copied result ≡ option_map (λ r. text_of r.named) (slice_get self.now number) }
     {
@@ -56,7 +57,7 @@ impl References {
         Some(self.texts.as_ref().text(entry.class as usize))
     }
 
-    /// Returns whether other references are known to be the same. It may return `false` for equal references whose
+    /// Returns whether `other` is known to have the same references. It may return `false` for equal references whose
     /// texts are numbered in another order. Does not allocate.
     pub fn is_same(&self, other: &References) -> bool
         ensures { IsTrue result → self.now ≡ other.now }
@@ -65,7 +66,7 @@ impl References {
             && self.texts.as_ref().is_same(other.texts.as_ref())
     }
 
-    /// Returns the same references, shared.
+    /// Returns the same references, which are shared and not copied.
     ///
     /// Returns `NoMemory` only when the strong count of the `Rc` would overflow.
     pub fn share(&self) -> Result<References, NoMemory>

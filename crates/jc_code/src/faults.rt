@@ -36,13 +36,14 @@ use jc_base::NoMemory;
 use jc_view::{ClassView, Code, ConstantIndex, ExceptionHandler, Member};
 use std::alloc::Global;
 
-/// Returns all places of a method's code where a static constraint is broken, by rule and then by place.
+/// Returns all places of a method's code where a static constraint is broken, by rule and then by place (JVMS 4.7.3,
+/// 4.9.1). `method` is the method's number.
 ///
 /// If the code does not consist of instructions to its end, S1 is the only fault. A method without
 /// exactly one well-formed `Code` has no fault, nor does a number without a method.
 ///
-/// Returns `NoMemory` only when an allocation fails. To check all methods of a class, call `faults_in`
-/// with the code of each, because this function first searches for the method.
+/// Returns `NoMemory` only when an allocation fails. To check all methods of a class, call [`faults_in`] with the code
+/// of each. This function searches for the method and computes the text sizes of the class each time.
 pub fn code_faults(
     alloc: Global,
     class: &ClassView,
@@ -106,7 +107,7 @@ pub fn method_code<'v, 'a>(member: &Member<'v, 'a>) -> Option<Code<'v, 'a>>
 
 /// Returns the faults of the code of a method, in the order of [`code_faults`].
 ///
-/// The sizes are those of the method's class, and are computed once for all its methods. Returns
+/// The sizes are those of the method's class. The caller can compute them once for all its methods. Returns
 /// `NoMemory` only when an allocation fails.
 pub fn faults_in(alloc: Global, sizes: &TextSizes, code: &Code) -> Result<Vec<CodeFault>, NoMemory>
     ensures listed { IfOk result (λ found. AreFaultsOf sizes.now code.now.code found.items) }
@@ -121,11 +122,12 @@ pub fn faults_in(alloc: Global, sizes: &TextSizes, code: &Code) -> Result<Vec<Co
     faults_alone(alloc, sizes, code)
 }
 
-/// Returns the faults of the code of a method, as [`faults_in`] does.
+/// Returns the faults of the code of a method, as [`faults_in`] does, and lists its uses and the constants it names.
 ///
 /// Appends to `uses` what the instructions do with the references that they name, or nothing if the code has a
-/// fault. Appends to `names` the constants that the code names. After an error both are as they were. Returns
-/// `NoMemory` only when an allocation fails.
+/// fault. In these uses the method has the number `method`. Appends to `names` the constants that the code names.
+///
+/// Returns `NoMemory` only when an allocation fails. Then both lists are as they were.
 pub fn faults_and_uses(
     alloc: Global,
     sizes: &TextSizes,
@@ -305,7 +307,7 @@ fn add_handler_faults(
     Ok(())
 }
 
-/// Adds the faults of the exception handler of a number.
+/// Adds the faults of the exception handler at the number `place`.
 #[tactic(auto, unfolding(crate::specs::CodeFaults::handler_breaks))]
 fn add_of_handler(
     found: &mut Vec<CodeFault>,

@@ -14,7 +14,8 @@ use std::marker::Model;
 
 /// A `tableswitch`: a target for each value from `low` to `high`, and one for all other values.
 ///
-/// Its model has these numbers and the targets.
+/// A target is an offset from the start of the code. It can be negative or past the end of the code. The model has the
+/// default target, `low`, `high` and the other targets.
 #[derive(Drop)]
 pub struct TableSwitch<'a> {
     pub(crate) place: u32,
@@ -71,7 +72,7 @@ impl<'a> TableSwitch<'a> {
 
 /// An iterator over the targets of a `tableswitch`, which decodes each target when it reaches it.
 ///
-/// Its model is the list of the targets that are left.
+/// Its model has the offset of the instruction, and the list of the targets that are left.
 #[derive(Drop)]
 pub struct Targets<'a> {
     pub(crate) place: u32,
@@ -99,7 +100,8 @@ impl<'a> Targets<'a> {
         self.left
     }
 
-    /// Returns the bytes of the targets that are left, as a slice of the code.
+    /// Returns the bytes of the targets that are left, as a slice of the code. Each target has four bytes: its signed
+    /// offset from the instruction.
     pub fn bytes(&self) -> &'a [u8]
         ensures { result.now ≡ flat_map (target_bytes self.now.place) self.now.left }
     {
@@ -126,7 +128,8 @@ impl<'a> Iterator for Targets<'a> {
 
 /// A `lookupswitch`: values with a target each, and a target for all other values.
 ///
-/// Its model has the default target and the cases.
+/// A target is an offset from the start of the code. It can be negative or past the end of the code. The model has the
+/// default target and the cases.
 #[derive(Drop)]
 pub struct LookupSwitch<'a> {
     pub(crate) place: u32,
@@ -167,7 +170,7 @@ impl<'a> LookupSwitch<'a> {
     }
 }
 
-/// A value of a `lookupswitch`, and its target.
+/// A value of a `lookupswitch`, and its target, which is an offset from the start of the code.
 #[derive(Clone, Copy)]
 pub struct Case {
     pub value: i32,
@@ -176,7 +179,7 @@ pub struct Case {
 
 /// An iterator over the cases of a `lookupswitch`, which decodes each case when it reaches it.
 ///
-/// Its model is the list of the cases that are left.
+/// Its model has the offset of the instruction, and the list of the cases that are left.
 #[derive(Drop)]
 pub struct Cases<'a> {
     pub(crate) place: u32,
@@ -204,7 +207,8 @@ impl<'a> Cases<'a> {
         self.left
     }
 
-    /// Returns the bytes of the cases that are left, as a slice of the code.
+    /// Returns the bytes of the cases that are left, as a slice of the code. Each case has eight bytes: its value, and
+    /// the signed offset of its target from the instruction.
     pub fn bytes(&self) -> &'a [u8]
         ensures { result.now ≡ flat_map (case_bytes self.now.place) self.now.left }
     {
@@ -229,7 +233,7 @@ impl<'a> Iterator for Cases<'a> {
     }
 }
 
-/// Reads a case of a `lookupswitch` at an offset.
+/// Reads a case of the `lookupswitch` that is at the offset `place` of the code.
 fn read_case(place: u32, cursor: &mut Cursor) -> Option<Case>
     ensures { Lends same (after 8) (case_value place) cursor.old result cursor.new }
 {

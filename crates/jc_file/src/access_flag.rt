@@ -9,7 +9,8 @@ use crate::flags::{
     STATIC, STRICT, SUPER, SYNCHRONIZED, SYNTHETIC, TRANSIENT, VARARGS, VOLATILE, has,
 };
 
-/// An access flag. Some flags share a bit, whose meaning differs between classes, fields and methods.
+/// An access flag. Some flags share a bit, whose meaning differs between classes, fields and methods. `ACC_MODULE` is
+/// missing, because a class file can set it only from version 53.0 on.
 #[derive(Clone, Copy)]
 pub enum AccessFlag {
     Public,
@@ -74,7 +75,7 @@ impl AccessFlag {
         AccessFlag::Synthetic,
     ];
 
-    /// Returns the bit of the flag.
+    /// Returns the mask of the flag, in which only its bit is set.
     pub fn mask(self) -> u16
         ensures { result ≡ mask_of self }
     {
@@ -100,7 +101,7 @@ impl AccessFlag {
         }
     }
 
-    /// Returns the name of the flag in the standard, without `ACC_`.
+    /// Returns the name of the flag in the JVMS, without `ACC_`.
     pub fn name(self) -> &'static str
         ensures { result.now ≡ flag_name self }
     {
@@ -134,7 +135,8 @@ impl AccessFlag {
     }
 }
 
-/// States that the tables of flags are those of the standard.
+/// States that [`AccessFlag::OF_CLASS`], [`AccessFlag::OF_FIELD`] and [`AccessFlag::OF_METHOD`] are the lists of flags
+/// in the definitions.
 pub fn access_flags_are_tabled()
     ensures class { OF_CLASS ≡ class_flags }
     ensures field { OF_FIELD ≡ field_flags }

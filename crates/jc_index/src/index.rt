@@ -15,8 +15,8 @@ use jc_base::{ByteMap, NoMemory, byte_map};
 use std::alloc::Global;
 use std::marker::Model;
 
-/// An index from names to their users, which are names too. Each list of users is in the order of their bytes. Its
-/// model is a map from names to lists of names.
+/// An index from names to their users, which are names too. Each list of users is in ascending order, without
+/// duplicates. The index has only names that have a user. Its model is a map from names to lists of names.
 #[derive(Drop)]
 pub struct Index {
     alloc: Global,
@@ -49,7 +49,7 @@ impl Index {
         }
     }
 
-    /// States that each name of the index has a user.
+    /// States that each name of the index has a user. Has no effect.
     pub fn names_have_users(&self)
         ensures { HaveUsers self.now }
     {
@@ -74,8 +74,8 @@ impl Index {
         self.lists.get(name)
     }
 
-    /// Returns the name at a place among the names that have users, counted from 0, with its users. Returns `None`
-    /// after the last. Does not allocate.
+    /// Returns the name at a place in the order of [`Index::keys`], from 0, with its users. Returns `None` after the
+    /// last. Takes time linear in the place. Does not allocate.
     pub fn nth(&self, place: usize) -> Option<(&[u8], &NameList)>
         ensures name { option_map (λ entry. entry.0.now) result ≡ slice_get (map.keys self.now) place }
         ensures list { IfSome result (λ entry. map.get self.now entry.0.now ≡ Some entry.1.now) }
@@ -83,7 +83,7 @@ impl Index {
         self.lists.iter().nth(place)
     }
 
-    /// Returns an iterator over the names that have users, in ascending order.
+    /// Returns an iterator over the names that have users, in ascending order. Does not allocate.
     pub fn keys(&self) -> Keys<'_>
         ensures { Lists result (λ name. is_key self.now name ≡ true) }
     {
@@ -92,7 +92,8 @@ impl Index {
         }
     }
 
-    /// Adds a user to the list of a name. Returns `NoMemory` only when an allocation fails.
+    /// Adds a user to the list of a name. Returns `NoMemory` only when an allocation fails, and then the index does not
+    /// change.
     pub fn link(&mut self, name: &[u8], user: &[u8]) -> Result<(), NoMemory>
         ensures ok { OnOk result (Linked self.old self.new name.now user.now) }
         ensures err { OnErr result (self.new ≡ self.old) }
@@ -108,7 +109,7 @@ impl Index {
         Ok(())
     }
 
-    /// Removes a user from the list of a name. Does not allocate.
+    /// Removes a user from the list of a name, if the list has it. Does not allocate.
     pub fn unlink(&mut self, name: &[u8], user: &[u8])
         ensures { Unlinked self.old self.new name.now user.now }
     {
@@ -120,8 +121,8 @@ impl Index {
         }
     }
 
-    /// Adds a user to the list of each of these names. Returns `NoMemory` only when an allocation fails, and then some
-    /// of the lists may have the user.
+    /// Adds a user to the list of each of these names. Returns `NoMemory` only when an allocation fails. Then the user
+    /// may have been added to some of the lists.
     pub fn link_all(&mut self, names: &PackedNames, user: &[u8]) -> Result<(), NoMemory>
         ensures ok { OnOk result (LinkedAt self.old self.new (has names.now) user.now) }
         ensures err { OnErr result (LinkedAtSome self.old self.new (has names.now) user.now) }
@@ -130,8 +131,8 @@ impl Index {
         self.link_all_but(names, &none, user)
     }
 
-    /// Adds a user to the list of each of these names that is not one of `others`. Returns `NoMemory` only when an
-    /// allocation fails, and then some of the lists may have the user.
+    /// Adds a user to the list of each name of `names` that is not one of `others`. Returns `NoMemory` only when an
+    /// allocation fails. Then the user may have been added to some of the lists.
     pub fn link_all_but(
         &mut self,
         names: &PackedNames,
@@ -181,7 +182,7 @@ impl Index {
         }
     }
 
-    /// Removes a user from the list of each of these names that is not one of `others`. Does not allocate.
+    /// Removes a user from the list of each name of `names` that is not one of `others`. Does not allocate.
     pub fn unlink_all_but(&mut self, names: &PackedNames, others: &PackedNames, user: &[u8])
         ensures { UnlinkedAt self.old self.new (has_but names.now others.now) user.now }
     {

@@ -7,12 +7,12 @@ use crate::edit::EditError;
 
 const LONGEST_PATH: usize = 4_096;
 
-/// The largest number of bytes of a file.
+/// The greatest size of a file, in bytes.
 pub const LARGEST_FILE: usize = 16_777_216;
 
 const MOST_FILES: usize = 65_535;
 
-/// Returns the refusal of a path that is empty or too long.
+/// Returns `BadPath` if a path is empty or longer than 4,096 bytes.
 pub fn path_refusal(path: &[u8]) -> Option<EditError>
     ensures { result ≡ files_of.path_refusal path.now }
 {
@@ -23,7 +23,7 @@ pub fn path_refusal(path: &[u8]) -> Option<EditError>
     }
 }
 
-/// Returns the refusal of a file that is too large.
+/// Returns `TooLarge` if a file has more than 16,777,216 bytes.
 pub fn size_refusal(bytes: &[u8]) -> Option<EditError>
     ensures { result ≡ files_of.size_refusal bytes.now }
 {
@@ -34,7 +34,7 @@ pub fn size_refusal(bytes: &[u8]) -> Option<EditError>
     }
 }
 
-/// Returns the refusal of one more file if there are as many as allowed.
+/// Returns `TooMany` if there are `count` files, and one more would exceed 65,535.
 pub fn room_refusal(count: usize) -> Option<EditError>
     ensures { result ≡ files_of.room_beside count }
 {

@@ -18,13 +18,13 @@ const KEPT: usize = 8193;
 /// The number of bytes that one read asks for.
 const CHUNK: usize = 4096;
 
-/// A buffer for one line, without its LF. It keeps the first 8,193 bytes.
+/// A buffer for one line, without its LF. It keeps the first 8,193 bytes of the line and drops the others.
 #[derive(Drop)]
 pub struct Line {
     bytes: Vec<u8>,
 }
 
-/// The bytes that were read ahead and do not belong to a line yet.
+/// A buffer of bytes that were read ahead and do not belong to a line yet.
 #[derive(Drop)]
 pub struct Ahead {
     chunk: [u8; CHUNK],
@@ -43,7 +43,7 @@ impl Model for Line {
 }
 
 impl Line {
-    /// Returns an empty line, with all the memory that lines need.
+    /// Returns an empty line, with all the memory that lines need. Returns `NoMemory` only when an allocation fails.
     pub fn new(alloc: Global) -> Result<Line, NoMemory>
         ensures { IfOk result (λ line. line ≡ []) }
     {
@@ -131,10 +131,13 @@ impl Ahead {
     }
 }
 
-/// Reads the next line, and returns whether an LF ended it. If not, it is what follows the last LF of the input.
+/// Reads the next line, and returns whether an LF ended it. If not, the line is the rest of the input, which has no LF.
 ///
-/// Bytes that were read after the end of the line stay in `ahead`. Nothing is read while `ahead` has a whole line, nor after
-/// the input has ended. After an error `ahead` is empty, and the beginning of the unfinished line is lost.
+/// Bytes that were read after the end of the line stay in `ahead`. Nothing is read while `ahead` has a whole line, nor
+/// after the input has ended.
+///
+/// Returns [`RunError::Read`] when the input fails. Then `ahead` is empty, and the beginning of the unfinished line is
+/// lost.
 pub fn read_line<R: Input>(
     line: &mut Line,
     ahead: &mut Ahead,
@@ -172,8 +175,8 @@ pub fn read_line<R: Input>(
     Ok(true)
 }
 
-/// Moves the bytes before the first LF, or all of them, from `ahead` to the line. Returns whether there was an LF, which is
-/// dropped.
+/// Moves the bytes before the first LF, or all of them, from `ahead` to the line. Returns whether there was an LF,
+/// which is dropped.
 fn take_front(line: &mut Line, ahead: &mut Ahead) -> bool
     ensures found { result ≡ is_some (position is_line_feed ahead.old) }
     ensures line { line.new ≡ take 8193 (line.old ++ before_first is_line_feed ahead.old) }

@@ -55,9 +55,10 @@ impl<'t> Model for ClassGraph<'t> {
 }
 
 impl<'t> ClassGraph<'t> {
-    /// Builds the graph of all classes of a table. It looks up each name once.
+    /// Builds the graph of all classes of a table, in the order of their names. It looks up each name once.
     ///
-    /// Returns `NoMemory` when an allocation fails, and when there are more than 4,294,967,295 names.
+    /// Returns `NoMemory` when an allocation fails, and when the number of a class that a reference names is greater
+    /// than 4,294,967,295.
     pub fn of(
         alloc: Global,
         table: &'t Table,
@@ -78,7 +79,8 @@ impl<'t> ClassGraph<'t> {
 
     /// Builds the graph of the classes of some names, and of one more if it is given. It looks up each name once.
     ///
-    /// Returns `NoMemory` when an allocation fails, and when there are more than 4,294,967,295 names.
+    /// Returns `NoMemory` when an allocation fails, and when the number of a class that a reference names is greater
+    /// than 4,294,967,295.
     pub fn around(
         alloc: Global,
         table: &'t Table,
@@ -100,7 +102,7 @@ impl<'t> ClassGraph<'t> {
         Ok(graph)
     }
 
-    /// Returns the facts of the class at a place among the classes, if it has any. Does not allocate.
+    /// Returns the facts of the class at a place in the order of the classes, from 0, if it has any. Does not allocate.
     pub fn record(&self, place: usize) -> Option<&'t Facts>
         requires { place < length self.now.classes }
         ensures { (m : World) → IsIn m self.now → option_copied result ≡ facts_standing (m (name_at self.now.classes place)) }

@@ -90,7 +90,8 @@ impl Model for Outside {
 }
 
 impl Outside {
-    /// Returns these prefixes. A prefix that is given twice is kept once, but counts twice for the limit of 64.
+    /// Creates outside prefixes from a list. A prefix that is given twice is kept once, but counts twice for the limit
+    /// of 64. [`OutsideError`] lists the errors.
     pub fn new(alloc: Global, prefixes: &[&[u8]]) -> Result<Outside, OutsideError>
         ensures bad { IsErrOf result errors.BadPrefix ↔ HasFault prefixes.now errors.BadPrefix }
         ensures many { IsErrOf result errors.TooManyPrefixes ↔ HasFault prefixes.now errors.TooManyPrefixes }
@@ -147,7 +148,8 @@ impl Outside {
         }
     }
 
-    /// Returns these prefixes with one at the end. If it is one of them, it is moved to the end.
+    /// Returns these prefixes with `prefix` at the end. If it is one of them already, it moves to the end. Its length
+    /// and the number of prefixes are not checked.
     ///
     /// Returns `NoMemory` only when an allocation fails.
     pub fn plus(&self, alloc: Global, prefix: &[u8]) -> Result<Outside, NoMemory>
@@ -160,7 +162,7 @@ impl Outside {
         })
     }
 
-    /// Returns these prefixes without one.
+    /// Returns these prefixes without `prefix`.
     ///
     /// Returns `NoMemory` only when an allocation fails.
     pub fn minus(&self, alloc: Global, prefix: &[u8]) -> Result<Outside, NoMemory>

@@ -29,8 +29,8 @@ use std::alloc::Global;
 use std::marker::Model;
 use std::rc::Rc;
 
-/// What jclink finds out about a class. A name without a class has no answers and no faults: it is known only how it
-/// loads.
+/// What jclink finds out about a class. The part of a name without a class says only how the name loads: it has no
+/// faults and no answers.
 #[derive(Drop)]
 pub struct Part {
     circular: bool,
@@ -51,7 +51,7 @@ impl Model for Part {
 }
 
 impl Part {
-    /// Returns whether the class is its own superclass or superinterface.
+    /// Returns whether the class is one of its own transitive supertypes.
     pub fn is_circular(&self) -> bool
         ensures { result ≡ self.now.circular }
     {
@@ -65,7 +65,7 @@ impl Part {
         &self.load
     }
 
-    /// Returns the faults of its format, by rule and then by place.
+    /// Returns the format faults of the class file, by rule and then by place.
     pub fn format_faults(&self) -> &[Fault]
         ensures { result.now ≡ self.now.format_faults }
     {
@@ -75,7 +75,8 @@ impl Part {
         }
     }
 
-    /// Returns the faults of its methods' code, each with the number of the method.
+    /// Returns the faults of the methods' code, each with the number of the method. They are sorted by method, then by
+    /// rule and then by place.
     pub fn code_faults(&self) -> &[(usize, CodeFault)]
         ensures { result.now ≡ self.now.code_faults }
     {
@@ -85,7 +86,8 @@ impl Part {
         }
     }
 
-    /// Returns the answers to its references, in the order of the references (JVMS 5.4.3).
+    /// Returns the answers to the references of the class, in the order of the references (JVMS 5.4.3). If the class
+    /// does not load, each answer is `NotLoaded`.
     pub fn answers(&self) -> &Answers
         ensures { result.now ≡ self.now.answers }
     {
@@ -115,7 +117,7 @@ pub fn make_part(alloc: Global, closure: &Closure, meter: &mut Meter) -> Result<
     maker.part(alloc, 0, meter)
 }
 
-/// Returns the part of a class of a hierarchy. `own` is the class itself, and `references` has the numbers of the
+/// Returns the part of a class of a hierarchy. The faults are those of `own`, and `references` has the numbers of the
 /// classes that its references name.
 pub(crate) fn part_of(
     alloc: Global,

@@ -16,6 +16,8 @@ use std::mem;
 
 /// The classes that files give, by name, and the built-in `java/lang/Object`.
 ///
+/// A name can have a place, which has the facts of a class or is vacant. The model is the map from names to places.
+///
 /// For example (`crates/jc_report/src/tree.rt`):
 ///
 /// ```
@@ -68,8 +70,8 @@ impl Table {
         Ok((table, Meter::new()))
     }
 
-    /// Returns the facts that a file gives for a name, or the built-in ones if no file gives `java/lang/Object`. The
-    /// meter counts one look-up. Does not allocate.
+    /// Returns the facts that a file gives for a name. Returns the built-in facts for `java/lang/Object` if no file
+    /// gives it. The meter counts one look-up. Does not allocate.
     pub fn get(&self, name: &[u8], meter: &mut Meter) -> Option<&Facts>
         ensures found { option_copied result ≡ class_found self.now name.now }
         ensures asks { meter.new.asks ≡ counted meter.old.asks 1 }
@@ -101,7 +103,8 @@ impl Table {
         None
     }
 
-    /// Returns the classes that files give, sorted by name. No meter counts a look-up.
+    /// Returns an iterator over the classes that files give, sorted by name. No meter counts a look-up. Does not
+    /// allocate.
     pub fn classes(&self) -> TableClasses<'_>
         ensures { result ≡ classes_of self.now }
     {
@@ -110,8 +113,8 @@ impl Table {
         }
     }
 
-    /// Puts facts at the place of their class, and returns the facts of the file that were there. Returns an error only
-    /// when an allocation fails, and only if the name has no place. The error has the facts.
+    /// Puts facts at the place of their class, and returns the facts that were there before, if any. Allocates only if
+    /// the name has no place. If the allocation fails, the table does not change, and the error has the facts.
     pub fn put(&mut self, facts: Facts) -> Result<Option<Facts>, Facts>
         ensures before { IfOk result (λ before. before ≡ class_at self.old facts.name) }
         ensures ok { OnOk result (self.new ≡ map.insert self.old facts.name (Some facts)) }
@@ -134,7 +137,7 @@ impl Table {
         }
     }
 
-    /// Removes the facts of a file, with their place. Does not allocate.
+    /// Removes the place of a name, and returns the facts that were there, if any. Does not allocate.
     pub fn remove(&mut self, name: &[u8]) -> Option<Facts>
         ensures before { result ≡ class_at self.old name.now }
         ensures removed { self.new ≡ map.remove self.old name.now }
@@ -145,8 +148,8 @@ impl Table {
         }
     }
 
-    /// Removes the facts of a file, but keeps their place, so that the next `put` of this name does not allocate.
-    /// Changes nothing if there are no facts. Does not allocate.
+    /// Removes and returns the facts of a name, but keeps their place, so that the next `put` of this name does not
+    /// allocate. Changes nothing if there are no facts. Does not allocate.
     pub fn vacate(&mut self, name: &[u8]) -> Option<Facts>
         ensures before { result ≡ class_at self.old name.now }
         ensures vacated { OnSome result (self.new ≡ map.insert self.old name.now None) }

@@ -1,4 +1,4 @@
-//! How a node loads by its supertypes.
+//! How a node loads, given how its supertypes load (JVMS 5.3.5).
 
 ghost use Rattle.std.specs.Prelude.{◌≡◌, ◌<◌, length};
 ghost use Rattle.std.specs.List.{All};
@@ -20,7 +20,8 @@ pub enum Load {
     Fails(LinkageError, usize),
 }
 
-/// Returns whether the class of `other` is accessible to the class of `node` (JVMS 5.4.4).
+/// Returns whether the class of `other` is accessible to the class of `node` (JVMS 5.4.4). A name without a class
+/// counts as a class that is not PUBLIC.
 pub fn can_see(classes: &Classes, node: usize, other: usize) -> bool
     requires node { node < length classes.now.standing.now }
     requires other { other < length classes.now.standing.now }
@@ -66,7 +67,7 @@ fn judge(
 }
 
 /// Returns the first error that a supertype causes, in the order of supertypes. Returns `Loaded` if there is none.
-/// `has_superclass` says whether the first supertype is the superclass.
+/// `loads` has how each supertype loads, and `has_superclass` says whether the first supertype is the superclass.
 pub fn judge_each(
     classes: &Classes,
     loads: &[Load],

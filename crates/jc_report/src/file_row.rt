@@ -1,4 +1,4 @@
-//! The lines of files.
+//! The rows of files in a report, and their lines.
 
 ghost use Rattle.std.specs.Prelude.{◌≡◌, ◌++◌, [], codes, option_map, unwrap_or};
 ghost use Rattle.jc_text.specs.Escapes.{path_text, shown};
@@ -23,13 +23,14 @@ pub struct FileRow<'a> {
 pub enum FileState<'a> {
     /// The file has the tree's class of this name.
     Class(&'a [u8]),
-    /// The file has a class of this name, but so has the file at this lesser path, and the tree takes the class from there.
+    /// The file has a class of this name, but so has the file at this lesser path, and the tree takes the class from
+    /// there.
     Shadowed(&'a [u8], &'a [u8]),
     /// The file cannot be read as a class file.
     Unreadable(ParseError),
 }
 
-/// Writes the line of a file: its path and its state.
+/// Writes the line of a file: its path and its state, for example `a/B.class: class a/B`.
 pub fn write_file_row<W: Output>(text: &mut TextWriter<'_, W>, row: &FileRow)
     ensures { Sends W.written W.failures text.old text.new (row_text (row_lent row.now)) }
 {
@@ -65,7 +66,7 @@ fn write_unreadable<W: Output>(text: &mut TextWriter<'_, W>, refusal: ParseError
     write_refusal(text, refusal);
 }
 
-/// Writes a refusal: its number, its name and its place, if it has one.
+/// Writes a refusal: its number, its name and its place, if it has one, for example `4 Tag(10)`.
 pub fn write_refusal<W: Output>(text: &mut TextWriter<'_, W>, refusal: ParseError)
     ensures { Sends W.written W.failures text.old text.new (refusal_text refusal) }
 {

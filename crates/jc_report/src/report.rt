@@ -106,7 +106,7 @@ impl<'t> TreeReport<'t> {
     /// Makes the report of a tree.
     ///
     /// Each class gets its part once, in the order of the names; the meter counts the parts and the look-ups. Returns
-    /// `NoMemory` only when an allocation fails.
+    /// `NoMemory` when an allocation fails, and when there are too many names for [`ClassGraph::of`].
     pub fn make(
         alloc: Global,
         tree: &'t Tree,
@@ -191,14 +191,14 @@ impl<'t> TreeReport<'t> {
         self.wrong_among(Asked::all())
     }
 
-    /// Returns whether anything that is asked for is wrong.
+    /// Returns whether anything that is asked for is wrong, in the sense of [`TreeReport::wrong`].
     pub fn wrong_among(&self, asked: Asked<'_>) -> bool
         ensures { result ≡ is_wrong_among (asked_lent asked.entry) self.now }
     {
         is_any_wrong(self.files().iter().copied(), self.lent_classes(), asked)
     }
 
-    /// Returns the state of each file, in the order of the paths.
+    /// Returns the row of each file, in the order of the paths.
     pub fn files(&self) -> &[FileRow<'t>]
         ensures { map lent.row_lent result.now ≡ self.now.files }
     {
@@ -212,7 +212,8 @@ impl<'t> TreeReport<'t> {
         self.classes.as_slice()
     }
 
-    /// Returns the classes of the tree, borrowed, in the order of their names.
+    /// Returns an iterator over the classes of the tree, with their parts, in the order of their names. Does not
+    /// allocate.
     pub fn lent_classes(&self) -> LentClasses<'_, 't>
         ensures by_name { result ≡ self.now.classes }
         ensures circular { self.now.circular ≡ circular_names result }
@@ -222,7 +223,7 @@ impl<'t> TreeReport<'t> {
         }
     }
 
-    /// Returns the names of the circular classes, sorted. Does not allocate.
+    /// Returns an iterator over the names of the circular classes, sorted. Does not allocate.
     pub fn circular(&self) -> TreeCircular<'_, 't>
         ensures { result ≡ self.now.circular }
     {
@@ -231,7 +232,8 @@ impl<'t> TreeReport<'t> {
         }
     }
 
-    /// Returns the rows of the PUBLIC classes that load and of their PUBLIC and PROTECTED members, sorted.
+    /// Returns an iterator over the rows that the classes provide, sorted. These are the rows of the PUBLIC classes
+    /// that load, and of their PUBLIC and PROTECTED members except `<clinit>`. Does not allocate.
     pub fn provided(&self) -> TreeProvided<'_, 't>
         ensures { result ≡ self.now.provided }
     {
@@ -243,7 +245,8 @@ impl<'t> TreeReport<'t> {
         }
     }
 
-    /// Returns the rows of the classes and members that references name and that are outside or missing, sorted, each once.
+    /// Returns the rows that the classes require, sorted, each once. These are the rows of the references whose answer
+    /// is `Outside`, `NoClass`, `NoField` or `NoMethod`.
     pub fn required(&self) -> &[Row<'t>]
         ensures { map row_lent result.now ≡ self.now.required }
     {

@@ -38,8 +38,10 @@ impl<'t> Model for TreeErrors<'t> {
 }
 
 impl<'t> TreeErrors<'t> {
-    /// Makes the report of a tree, and finds the errors of inheritance of each class. Returns `NoMemory` only when an
-    /// allocation fails.
+    /// Makes the report of a tree, and finds the errors of inheritance of each class. The meter counts the parts and
+    /// the look-ups.
+    ///
+    /// Returns `NoMemory` when an allocation fails, and when there are too many names for [`ClassGraph::of`].
     pub fn make(
         alloc: Global,
         tree: &'t Tree,

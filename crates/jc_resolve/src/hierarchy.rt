@@ -26,7 +26,7 @@ use jc_numbered::{Classes, Load};
 use std::alloc::Global;
 use std::marker::Model;
 
-/// How a class loads.
+/// How a class loads (JVMS 5.3.5).
 #[derive(Drop)]
 pub enum Loading {
     /// The class loads.
@@ -37,7 +37,7 @@ pub enum Loading {
     Fails(LinkageError, Vec<u8>),
 }
 
-/// The numbered classes of a class graph, with how each of them loads.
+/// The numbered classes of a class graph, with how each of them loads. Its functions identify a class by its number.
 #[derive(Drop)]
 pub struct Hierarchy<'c, 't> {
     classes: Classes<'c, 't>,
@@ -45,7 +45,8 @@ pub struct Hierarchy<'c, 't> {
     circular: Vec<bool>,
     /// Working memory for look-up, if a class needed it before.
     room: Option<Workspace>,
-    /// The place of the name of each class among the listed names. Values that earlier answers left are ignored.
+    /// Working memory for `linked`: for each class whose name the answers list, the place of this name in their list.
+    /// Other values, which earlier calls left, are ignored.
     places: Vec<usize>,
 }
 
@@ -75,7 +76,9 @@ fn name_loading(alloc: Global, classes: &Classes, load: Load) -> Result<Loading,
 }
 
 impl<'c, 't> Hierarchy<'c, 't> {
-    /// Returns these classes with how each loads. `object` is the number of `java/lang/Object`.
+    /// Finds how each of some numbered classes loads. For each number, `names` has the name, `standing` says what the
+    /// name is, and `supertypes` has the numbers of its direct supertypes. `object` is the number of
+    /// `java/lang/Object`.
     ///
     /// Returns `NoMemory` only when an allocation fails.
     pub fn new(
@@ -101,7 +104,7 @@ impl<'c, 't> Hierarchy<'c, 't> {
         })
     }
 
-    /// Returns whether a class is its own superclass or superinterface. Does not allocate.
+    /// Returns whether a class is one of its own transitive supertypes. Does not allocate.
     pub fn is_circular(&self, class: usize) -> bool
         requires { class < length self.now.names }
         ensures { (m : World) → Agrees m self.now → Decides result (Above m (node_name self.now class) (node_name self.now class)) }
@@ -109,7 +112,7 @@ impl<'c, 't> Hierarchy<'c, 't> {
         self.circular[class]
     }
 
-    /// Returns how a class loads. It copies the name of the class at fault.
+    /// Returns how a class loads, with a copy of the name of the class at fault.
     ///
     /// Returns `NoMemory` only when an allocation fails.
     pub fn loading(&self, alloc: Global, class: usize) -> Result<Loading, NoMemory>
@@ -119,9 +122,10 @@ impl<'c, 't> Hierarchy<'c, 't> {
         name_loading(alloc, &self.classes, self.loads[class])
     }
 
-    /// Returns the answers to the references of a class, in their order, and the errors of its instructions. `nodes`
-    /// are the numbers of the classes that the references name. The cost depends on what is looked up, not on the
-    /// number of classes, except for working memory that is allocated once.
+    /// Returns the answers to the references of a class, in their order, and the errors of its instructions. For each
+    /// reference, `nodes` has the number of the class that it names; for an array, of its innermost class, if it has
+    /// one. The cost depends on what is looked up, not on the number of classes, except for working memory that is
+    /// allocated once.
     ///
     /// Returns `NoMemory` when an allocation fails.
     pub fn linked(

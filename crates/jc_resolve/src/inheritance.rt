@@ -113,8 +113,8 @@ impl InheritanceErrors {
         self.extends_final
     }
 
-    /// Returns the FINAL methods that methods of the class override (JVMS 4.10, 5.4.5), in the order of their names and
-    /// descriptors.
+    /// Returns, for each method of the class that overrides FINAL methods, the nearest of them (JVMS 4.10, 5.4.5). They
+    /// are in the order of their names and descriptors.
     pub fn overridden(&self) -> &[Inherited]
         ensures { result.now ≡ self.now.overridden }
     {
@@ -146,7 +146,7 @@ fn overridden(alloc: Global, classes: &Classes, class: usize) -> Result<Vec<Inhe
     }
 }
 
-/// Returns these methods, given the facts of the class.
+/// Returns the FINAL methods that the methods of a class override, given the facts of the class.
 fn overridden_by(
     alloc: Global,
     classes: &Classes,
@@ -184,7 +184,7 @@ fn push_overridden(
     Ok(())
 }
 
-/// Returns the name and the descriptor of the method of a number.
+/// Returns the name and the descriptor of the method at `number`. Both are empty if there is no such method.
 fn method_key(facts: &Facts, number: usize) -> Key<'_>
     ensures { key_lent result ≡ key_at facts.now.methods number }
 {
