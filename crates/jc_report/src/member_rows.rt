@@ -39,8 +39,8 @@ impl<'a> Model for MemberRows<'a> {
 }
 
 impl<'a> MemberRows<'a> {
-    /// Returns the rows of the fields or of the methods, by `kind`. `order` has the numbers of the members, sorted by name and
-    /// descriptor.
+    /// Returns the rows of the fields or of the methods, by `kind`. `order` has the numbers of the members, sorted by
+    /// name and descriptor.
     pub(crate) fn of(facts: &'a Facts, kind: ReferenceKind, order: &'a [u16]) -> MemberRows<'a>
         ensures { result ≡ rows_by kind facts.now order.now }
     {
