@@ -46,7 +46,8 @@ impl PackedNames {
 
     /// Creates a list of copies of these names: sorts them and removes duplicates.
     ///
-    /// Returns `NoMemory` when an allocation fails, and when the names would have more than 4,294,967,295 bytes in total.
+    /// Returns `NoMemory` when an allocation fails, and when the names would have more than 4,294,967,295 bytes in
+    /// total.
     pub fn of(alloc: Global, names: Vec<&[u8]>) -> Result<PackedNames, NoMemory>
         ensures same { IfOk result (λ packed. (name : Name) → has packed name ≡ has (map (λ n. n.now) names.entry.items) name) }
         ensures rises { IfOk result (λ packed. IsStrictlySortedBy name_cmp packed) }
