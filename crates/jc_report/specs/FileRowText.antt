@@ -1,4 +1,4 @@
--- The lines of files.
+-- The line of a file in the report.
 use Rattle.std.specs.Prelude.{ℕ, List, ◌++◌, codes, decimal}
 use Rattle.jc_text.specs.Escapes.{path_text, shown}
 use Rattle.jc_view.specs.declared.parse_error.ParseError.{ParseError}
@@ -6,10 +6,11 @@ use Rattle.jc_view.specs.declared.parse_error.ParseError.TheVariants as errors
 use Rattle.jc_view.specs.Refusal.{refusal_number}
 use Rattle.jc_report.specs.FileRows.{FileState, Class, Shadowed, Unreadable, FileRow}
 
+-- a place in the file, in parentheses
 abbrev pub at_text : ℕ → List ℕ
 at_text place = codes "(" ++ decimal place ++ codes ")"
 
--- a refusal, without its number
+-- the name of a refusal, and its place if it has one
 abbrev pub refusal_name : ParseError → List ℕ
 refusal_name errors.Magic = codes "Magic"
 refusal_name errors.Version = codes "Version"

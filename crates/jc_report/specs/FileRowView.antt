@@ -1,4 +1,4 @@
--- The row that a borrowed row shows.
+-- The row of a file that a call returns, as data.
 use Rattle.jc_report.specs.declared.file_row.FileRow.{FileRow}
 use Rattle.jc_report.specs.declared.file_row.FileState.{FileState}
 use Rattle.jc_report.specs.declared.file_row.FileState.TheVariants as lent

@@ -31,7 +31,7 @@ kind_text kinds.Field = codes "field"
 kind_text kinds.Method = codes "method"
 kind_text kinds.InterfaceMethod = codes "imethod"
 
--- a class by its name, a member with its name and descriptor
+-- what a reference or a row names: a class by its name, or a field or method by its class, name and descriptor
 abbrev pub named_text : ReferenceKind → Name → Key → List ℕ
 named_text kinds.Class class key = shown class
 named_text kinds.Field class key = member_text class key
@@ -43,9 +43,11 @@ reference_text r = kind_text r.kind ++ codes " " ++ named_text r.kind (text_of r
 
 -- ---- answers
 
+-- an error: its number, its name, and the name of the class at fault
 abbrev pub error_text : LinkageError → Name → List ℕ
 error_text error name = codes "error " ++ decimal (error_code error) ++ codes " " ++ error_name error ++ codes " " ++ shown name
 
+-- an answer; a member that is found is shown with the class that declares it
 abbrev pub answer_text : Answer → List ℕ
 answer_text (answer.ToClass class flags) = codes "To " ++ shown class
 answer_text (answer.ToMember class x) = codes "To " ++ member_text class (key_of x)
@@ -60,16 +62,18 @@ load_text (loading.Fails error name) = error_text error name
 
 -- ---- lines
 
+-- the first line of a part: the class, and how it loads
 abbrev pub load_line : Name → Loading → List ℕ
 load_line name load = codes "part " ++ shown name ++ codes ": " ++ load_text load ++ codes "\n"
 
 abbrev pub format_fault_line : Fault → List ℕ
 format_fault_line fault = codes "  " ++ format_line fault
 
+-- the line of a fault of code, which is given with the number of its method
 abbrev pub method_fault_line : ℕ × CodeFault → List ℕ
 method_fault_line fault = codes "  " ++ code_fault_line fault
 
--- an instruction that does not link
+-- an instruction that does not link: the number of its method, its offset in the code, and its error
 abbrev pub link_text : LinkError → List ℕ
 link_text link =
     codes "link " ++ decimal link.method ++ codes " " ++ decimal link.place ++ codes " " ++ error_text link.error link.class ++ codes "\n"
@@ -84,13 +88,14 @@ answered_text r a = codes "#" ++ decimal r.index ++ codes " " ++ reference_text 
 abbrev pub answer_line : Reference → Answer → List ℕ
 answer_line r a = codes "  " ++ answered_text r a ++ codes "\n"
 
--- the answer to each reference
+-- a line for each reference and the answer to it
 abbrev pub answer_lines : List Reference → List Answer → List ℕ
 answer_lines [] answers = []
 answer_lines (r ∷ rs) [] = []
 answer_lines (r ∷ rs) (a ∷ answers) = answer_line r a ++ answer_lines rs answers
 
--- the part of the class with these facts
+-- the lines of the part of the class with these facts: how it loads, its faults, its instructions that do not link, and
+-- the answers to its references
 unfoldable pub part_text : Facts → Part → List ℕ
 part_text f p =
     load_line f.name p.load ++ flat_map format_fault_line p.format_faults ++ flat_map method_fault_line p.code_faults

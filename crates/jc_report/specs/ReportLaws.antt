@@ -1,4 +1,4 @@
--- The laws of `laws.rt`.
+-- The laws of reports that `laws.rt` states.
 use Rattle.std.specs.Prelude.{◌≡◌, ◌↔◌, false, List, [], Some}
 use Rattle.jc_classes.specs.Facts.{Facts}
 use Rattle.jc_classes.specs.Names.{Name}
@@ -8,18 +8,18 @@ use Rattle.jc_report.specs.Files.{Files}
 use Rattle.jc_report.specs.Reports.{IsReport, Report, facts_at, is_wrong}
 use Rattle.jc_report.specs.TreeErrors.{IsTreeErrors, TreeErrors}
 
--- the report is determined by the files and the prefixes
+-- files and prefixes have at most one report
 abbrev pub ReportIsOne : Type 0
 ReportIsOne = (f : Files) (prefixes : List Name) (r s : Report) → IsReport f prefixes r → IsReport f prefixes s → r ≡ s
 
--- There is a line for what is asked for exactly if something of it is wrong or one of its classes has an error of
--- inheritance.
+-- the text of the errors that are asked for is empty if and only if there are none. There is one if a file or class
+-- that is asked for is wrong, or such a class has an error of inheritance
 abbrev pub ErrorsAreTold : Type 0
 ErrorsAreTold =
     (f : Files) (prefixes : List Name) (asked : Asked) (e : TreeErrors) → IsTreeErrors f prefixes e
     → (errors_text asked e ≡ []) ↔ (has_error_among asked e ≡ false)
 
--- if everything is asked for, something is wrong exactly if the report is wrong
+-- if all errors are asked for, a file or class that is asked for is wrong if and only if the report is wrong
 abbrev pub WrongAmongAll : Type 0
 WrongAmongAll = (r : Report) → is_wrong_among all_errors r ≡ is_wrong r
 

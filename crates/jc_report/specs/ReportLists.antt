@@ -1,4 +1,4 @@
--- The report whose lists some iterators return.
+-- Which report has the lists that iterators return.
 use Rattle.std.specs.Prelude.{◌≡◌, ℕ, List, Option}
 use Rattle.std.specs.Iterator.{AlwaysYields}
 use Rattle.jc_text.specs.Sends.{Sends}
@@ -19,6 +19,7 @@ pub record AreListsOf {F C P Q : Type 0} (next_file : F → Option FileRow → F
     (lists : ReportLists F C P Q) (r : Report) : Type 0 where
   pub files : AlwaysYields next_file lent.row_lent lists.files r.files
   pub classes : AlwaysYields next_class class_lent lists.classes r.classes
+  -- the classes a second time, for the circular ones among them
   pub again : AlwaysYields next_class class_lent lists.again r.classes
   pub circular : r.circular ≡ circular_names r.classes
   pub provided : AlwaysYields next_provided row_lent lists.provided r.provided
@@ -30,7 +31,8 @@ pub record AreListedIn {F C : Type 0} (next_file : F → Option FileRow → F �
   pub by_path : AlwaysYields next_file lent.row_lent files r.files
   pub by_name : AlwaysYields next_class class_lent classes r.classes
 
--- the text of the report was written
+-- the text of each report that is meant was passed to the writer. The functions return the bytes of its output and the
+-- output's number of failures
 abbrev pub SendsReport : {W : Type 0} (written : W → Option (List ℕ)) (failures : W → ℕ) (old new : TextWriter W)
     → (Report → Type 0) → Type 0
 SendsReport written failures old new IsMeant = (r : Report) → IsMeant r → Sends written failures old new (report_text r)

@@ -1,4 +1,4 @@
--- The report of files.
+-- The report of files and outside prefixes.
 use Rattle.std.specs.Prelude.{◌≡◌, ℕ, ◌==◌, Bool, true, false, ◌||◌, not, List, map, length}
 use Rattle.std.specs.Prelude.{Option, Some, None, Result, Ok, Err, option_and_then}
 use Rattle.std.specs.FinMap as fin
@@ -25,18 +25,21 @@ use Rattle.jc_report.specs.ClassRows.{provided_rows, required_rows}
 
 -- ---- the world of files and outside prefixes
 
+-- the facts of the file at a path by the outcome of reading it: None at a refusal
 abbrev pub facts_by : List ℕ → Result ClassFile ParseError → Option Facts
 facts_by path (Ok c) = Some (facts_of path c)
 facts_by path (Err refusal) = None
 
+-- the facts of the file at a path by its bytes: None if there is no file or its bytes are not readable
 abbrev pub facts_there : List ℕ → Option (List ℕ) → Option Facts
 facts_there path bytes = option_and_then (λ b. facts_by path (class_read b)) bytes
 
--- the facts of the class of a name, from the file with the least path that has it
+-- the facts that the files give for a name: those of its winner, the file with the least path that names the class
 abbrev pub facts_at : Files → Name → Option Facts
 facts_at f name = option_and_then (λ path. facts_there path (fin.get f path)) (winner f name)
 
--- at each name: the class of a file, or the built-in class, or else whether the name is outside
+-- what each name is: the class of its winner, else the built-in java/lang/Object, else outside if it begins with one of
+-- the prefixes, else nothing
 abbrev pub world_of : Files → List Name → World
 world_of f prefixes name = stands_by (or_built_in (facts_at f name) name) (is_covered prefixes name)
 
@@ -47,12 +50,13 @@ pub record Class : Type 0 where
   pub facts : Facts
   pub part : Part
 
+-- a report as data; `IsReport` says which one is the report of given files and prefixes
 pub record Report : Type 0 where
-  -- by path
+  -- in ascending order of path
   pub files : List FileRow
-  -- by name
+  -- the classes that the files give, in ascending order of name
   pub classes : List Class
-  -- by name
+  -- the names of the classes that are their own transitive supertypes, in ascending order
   pub circular : List Name
   pub provided : List Row
   pub required : List Row
@@ -60,21 +64,23 @@ pub record Report : Type 0 where
 abbrev pub name_of : Class → Name
 name_of c = c.facts.name
 
--- the names of the circular ones among some classes
+-- the names of those of the classes whose part is circular
 abbrev pub circular_names : List Class → List Name
 circular_names classes = map name_of (filter (λ c. c.part.circular) classes)
 
--- the class is that of the files, with its part in the world of all of them
+-- the files give these facts for the name of the class, and its part is the one in the world of the files and prefixes
 pub record IsClassOf (f : Files) (prefixes : List Name) (c : Class) : Type 0 where
   pub facts : facts_at f (name_of c) ≡ Some c.facts
   pub part : IsPart (world_of f prefixes) (name_of c) c.part
 
--- the row is one of those of these classes
+-- one of the classes gives the row; the function `rows` returns the rows that a class gives, by its facts and part
 pub record GivesRow (rows : Facts → Part → List Row) (classes : List Class) (row : Row) : Type 0 where
   pub class : Class
   pub among : Contains classes class
   pub gives : Contains (rows class.facts class.part) row
 
+-- r is the report of the files and prefixes: it has a row for each file and exactly one entry for each class that the
+-- files give. The circular names and both lists of rows are those of these classes
 pub record IsReport (f : Files) (prefixes : List Name) (r : Report) : Type 0 where
   pub files : r.files ≡ rows f
   pub rises : IsStrictlySortedBy name_cmp (map name_of r.classes)
@@ -98,12 +104,13 @@ is_error (answer.Outside n) = false
 is_error answer.NotLoaded = false
 is_error (answer.Error e n) = true
 
--- a format fault, a code fault, a load error, an instruction that does not link or a reference that does not resolve
+-- the part has a format fault, a code fault, a load error, an instruction that does not link or an answer that is an
+-- error
 abbrev pub is_wrong_part : Part → Bool
 is_wrong_part p =
     not (length p.format_faults == 0) || not (length p.code_faults == 0) || is_load_error p.load
     || not (length p.links == 0) || list_any is_error p.answers
 
--- there is an unreadable file, or a class with one of these
+-- a file is unreadable, or the part of a class is wrong
 abbrev pub is_wrong : Report → Bool
 is_wrong r = list_any is_unreadable r.files || list_any (λ c. is_wrong_part c.part) r.classes

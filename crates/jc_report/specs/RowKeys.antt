@@ -1,4 +1,4 @@
--- A row as a list of numbers. The lists are in the order of the rows.
+-- The key of a row: a list of numbers. Keys have the same order as their rows.
 use Rattle.std.specs.Prelude.{ℕ, ◌+◌, List, ◌∷◌, ◌++◌, map}
 use Rattle.jc_report.specs.Rows.{Row, kind_number}
 

@@ -1,4 +1,4 @@
--- The row that a borrowed row shows.
+-- The row of `[provided]` or `[required]` that a call returns, as data.
 use Rattle.jc_report.specs.Rows as rows
 use Rattle.jc_report.specs.declared.row.Row.{Row}
 

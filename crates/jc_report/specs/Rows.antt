@@ -9,12 +9,13 @@ use Rattle.jc_classes.specs.Names.{Name, name_cmp}
 use Rattle.jc_classes.specs.declared.reference.ReferenceKind.{ReferenceKind}
 use Rattle.jc_classes.specs.declared.reference.ReferenceKind.TheVariants as kinds
 
--- a class, with an empty key, or a field or method with its class
+-- a class, whose key is empty, or a field or method: its class and, as its key, its name and descriptor
 pub record Row : Type 0 where
   pub class : Name
   pub kind : ReferenceKind
   pub key : Key
 
+-- the place of each kind in the order of rows
 abbrev pub kind_number : ReferenceKind → ℕ
 kind_number kinds.Class = 0
 kind_number kinds.Field = 1

@@ -11,7 +11,7 @@ pub record TreeErrors : Type 0 where
   -- the errors of each class, in the order of the classes
   pub inheritance : List InheritanceErrors
 
--- each class has its own errors
+-- the lists are equally long, and each class has the errors of inheritance that are at its place in the other list
 abbrev pub AreInheritances : World → List Class → List InheritanceErrors → Type 0
 AreInheritances m [] [] = Unit {0}
 AreInheritances m (c ∷ cs) (e ∷ es) = IsInheritance m (name_of c) e × AreInheritances m cs es

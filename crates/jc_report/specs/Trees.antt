@@ -1,4 +1,4 @@
--- The class files of a tree, as they are kept.
+-- What a tree keeps of its files.
 use Rattle.std.specs.Prelude.{◌≡◌, ℕ, Bool, true, false, List, map, Result}
 use Rattle.std.specs.FinMap as fin
 use Rattle.jc_base.specs.Bytes.{bytes_cmp}
@@ -17,13 +17,14 @@ Outcomes = fin.FinMap bytes_cmp (Result Name ParseError)
 
 pub record Tree : Type 0 where
   pub outcomes : Outcomes
-  -- the facts of each class, from the file with the least path that has it
+  -- the facts of each class, from its winner
   pub classes : Places
 
+-- the path of a file, with the name of its class or its refusal; the file is given as its path and its bytes
 abbrev pub outcome : List ℕ × List ℕ → List ℕ × Result Name ParseError
 outcome file = (file.0, class_named file.1)
 
--- the tree is that of these files
+-- the tree has the outcome of each of these files and no others, and the facts that these files give for each name
 pub record IsTree (f : Files) (t : Tree) : Type 0 where
   pub outcomes : fin.entries t.outcomes ≡ map outcome (fin.entries f)
   pub classes : (name : Name) → class_at t.classes name ≡ facts_at f name

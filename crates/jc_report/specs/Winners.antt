@@ -6,11 +6,11 @@ use Rattle.jc_base.specs.Bytes.{bytes_cmp}
 use Rattle.jc_view.specs.Outcome.{class_named}
 use Rattle.jc_report.specs.Files.{Files}
 
--- there is a file at the path, and its class has this name
+-- the file at the path names this class: there is a file, its bytes are readable, and its class has this name
 abbrev pub NamesAt : Files → List ℕ → List ℕ → Type 0
 NamesAt f path name = (bytes : List ℕ) × (map.get f path ≡ Some bytes) × (class_named bytes ≡ Ok name)
 
--- the file at the path has the class, and each other file that has it has a greater path
+-- the file at the path names the class, and each other file that names it has a greater path
 abbrev pub IsWinner : Files → List ℕ → List ℕ → Type 0
 IsWinner f name path =
     NamesAt f path name × ((other : List ℕ) → NamesAt f other name → other ≢ path → bytes_cmp path other ≡ Less)

@@ -1,4 +1,4 @@
--- The answers and the results of loading of the code, as those of the definitions.
+-- The answers and the ways of loading that calls return, as values of the definitions.
 use Rattle.jc_classes.specs.Loading.{Loading as How}
 use Rattle.jc_classes.specs.Loading.{Loading as how}
 use Rattle.jc_resolve.specs.declared.hierarchy.Loading.{Loading}

@@ -86,17 +86,22 @@ after_text text run = record { text = text ++ run.text; held = run.held; source 
 
 -- from these files, prefixes and answers of the source, a list of lines has this run
 pub data RunsTo : Contents → SourceAnswers → List (List ℕ) → Run → Type 0 where
+  -- no line is left
   at_eof : (h : Contents) (s : SourceAnswers) → RunsTo h s [] (record { text = []; held = h; source = s; ending = AtEof })
+  -- the first line has a text as its reply, and the other lines have a run from the state after it
   says : (h g : Contents) (s t : SourceAnswers) (line : List ℕ) (lines : List (List ℕ)) (text : List ℕ) (run : Run)
       → Replies h s (command_of line) (Says text g t) → RunsTo g t lines run → RunsTo h s (line ∷ lines) (after_text text run)
+  -- the reply to the first line is a listing, and the other lines have a run from the same state
   lists : (h : Contents) (s : SourceAnswers) (line : List ℕ) (lines : List (List ℕ)) (text : List ℕ) (run : Run)
       → Replies h s (command_of line) (Lists text) → RunsTo h s lines run → RunsTo h s (line ∷ lines) (after_text text run)
+  -- the first line is `end`, and no further line is answered
   ends : (h : Contents) (s : SourceAnswers) (line : List ℕ) (lines : List (List ℕ))
       → Replies h s (command_of line) Ends → RunsTo h s (line ∷ lines) (record { text = []; held = h; source = s; ending = AtEnd })
+  -- the source is out of memory for the first line, and no further line is answered
   lacks : (h : Contents) (s t : SourceAnswers) (line : List ℕ) (lines : List (List ℕ))
       → Replies h s (command_of line) (Lacks t)
       → RunsTo h s (line ∷ lines) (record { text = []; held = h; source = t; ending = WithoutMemory })
 
--- a list of lines has at most one run
+-- from the same files, prefixes and answers of the source, a list of lines has at most one run
 abbrev pub OneRun : Type 0
 OneRun = (h : Contents) (s : SourceAnswers) (lines : List (List ℕ)) (q r : Run) → RunsTo h s lines q → RunsTo h s lines r → q ≡ r

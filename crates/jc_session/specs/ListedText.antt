@@ -33,6 +33,6 @@ file_text bytes = text_by (class_read bytes)
 abbrev pub is_faulty_file : List ℕ → Bool
 is_faulty_file bytes = faulty_by (class_read bytes)
 
--- the listing of the winner of a class, or `none` if no file names the class
+-- the listing of the file that is the winner of a class, or `none` if no file names the class
 abbrev pub listed_text : Files → List ℕ → List ℕ
 listed_text f name = option_map_or file_text (option_and_then (map.get f) (winner f name)) (codes "none\n")

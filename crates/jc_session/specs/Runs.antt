@@ -19,7 +19,7 @@ use Rattle.jc_input.specs.Sources.{SourceAnswers, next_answer}
 use Rattle.jc_session.specs.Answers.{Reply, Says, Lists, Ends, Lacks, Replies, Run, RunsTo, Ending, AtEnd, AtEof}
 
 -- the state after a run: the files and prefixes, the source's answers to come, and the input's bytes to come. Also the
--- bytes that were written to the output, before the run and after it
+-- bytes that were written to the output, before the run and after it. `None` means that they are not known
 pub record Left : Type 0 where
   pub held : Contents
   pub source : Option SourceAnswers

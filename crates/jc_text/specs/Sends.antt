@@ -24,6 +24,7 @@ pub data Sent {W : Type 0} (written : W → Option (List ℕ)) (failures : W →
   Drops : old.failed ≡ true → new.failed ≡ true → Keeps (written old.out.now) (written new.out.now)
       → failures new.out.now ≡ failures old.out.now → Sent written failures old new text
 
+-- the text was passed to the writer as `Sent` says, and the writer still has the same output
 pub record Sends {W : Type 0} (written : W → Option (List ℕ)) (failures : W → ℕ) (old new : TextWriter W)
     (text : List ℕ) : Type 0 where
   pub same_reference : new.out.ghost_name ≡ old.out.ghost_name

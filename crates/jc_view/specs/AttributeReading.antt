@@ -13,7 +13,7 @@ use Rattle.jc_view.specs.Outcome.{AreBytes}
 use Rattle.jc_view.specs.Places.{PlacedAttribute, fields_in, methods_in, attributes_in, member_attributes}
 use Rattle.jc_view.specs.Attributes.{Bootstrap, Code, Handler, code_attributes, is_recognised}
 
--- the value that is read from these bytes, if it takes all of them
+-- the value that is read from these bytes, if nothing is left after it; `after_it` returns the bytes that are left
 abbrev pub whole : {X : Type 0} → (List ℕ → Option (List ℕ)) → (List ℕ → X) → List ℕ → Option X
 whole after_it value b = option_and_then (λ rest. if length rest == 0 then Some (value b) else None) (after_it b)
 
@@ -41,7 +41,8 @@ after_handlers xs = after_table (after 8) xs
 unfoldable pub after_code : List ℕ → Option (List ℕ)
 after_code xs = option_and_then (after_table after_attribute) (option_and_then after_handlers (after_instructions xs))
 
--- the bytes from the exception table on, and from the table of attributes on; both begin with their count
+-- of the bytes of a Code, those from the exception table on, and those from the table of attributes on. Both begin with
+-- the count of the table
 abbrev pub handlers_at : List ℕ → List ℕ
 handlers_at xs = drop (8 + code_length xs) xs
 
@@ -57,10 +58,11 @@ code_value xs = record {
   attributes = table_value after_attribute attribute_value (code_attributes_at xs);
 }
 
--- the well-formed Code that these bytes are, if they are one
+-- the well-formed Code that these bytes are, if they are one (JVMS 4.7.3)
 abbrev pub code_in : List ℕ → Option Code
 code_in b = whole after_code code_value b
 
+-- the table of indexes of an Exceptions attribute that these bytes are, if they are one (JVMS 4.7.5)
 abbrev pub exceptions_in : List ℕ → Option (List ConstantIndex)
 exceptions_in b = whole after_indexes (table_value (after 2) index_value) b
 
@@ -70,22 +72,23 @@ after_bootstrap xs = option_and_then after_indexes (after 2 xs)
 abbrev pub bootstrap_value : List ℕ → Bootstrap
 bootstrap_value xs = record { method = index_value xs; arguments = table_value (after 2) index_value (drop 2 xs) }
 
+-- the table of bootstrap methods that these bytes are, if they are one (JVMS 4.7.23)
 abbrev pub bootstraps_in : List ℕ → Option (List Bootstrap)
 bootstraps_in b = whole (after_table after_bootstrap) (table_value after_bootstrap bootstrap_value) b
 
--- a function reads from bytes the one content that a relation gives them, and nothing if there is none
+-- the function `read` returns a content of bytes if and only if the relation holds of the bytes and this content
 abbrev pub ReadsExactly : {X : Type 0} → (List ℕ → Option X) → (List ℕ → X → Type 0) → Type 0
 ReadsExactly {X = X} read IsContent = (b : List ℕ) (x : X) → AreBytes b → (read b ≡ Some x) ↔ IsContent b x
 
--- the well-formed Code that an attribute is, if it is the Code of a method
+-- the Code that an attribute contains, if it is recognised as the Code of a method and is well-formed
 abbrev pub code_of : ClassFile → PlacedAttribute → Option Code
 code_of c a = if is_recognised c kinds.Code a.holder a.attribute then code_in a.attribute.bytes else None
 
--- an attribute, followed by the attributes inside it
+-- an attribute, followed by the attributes of the Code that it contains, if it contains one
 abbrev pub with_inner : ClassFile → PlacedAttribute → List PlacedAttribute
 with_inner c a = a ∷ option_map_or (code_attributes a) (code_of c a) []
 
--- all attributes of a class file, in ascending order of their places
+-- all attributes of a class file, even those inside a Code, in ascending order of their places
 abbrev pub all_attributes : ClassFile → List PlacedAttribute
 all_attributes c =
     flat_map (with_inner c) (flat_map member_attributes (fields_in c))

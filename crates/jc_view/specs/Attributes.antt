@@ -44,6 +44,8 @@ abbrev pub is_method : Holder → Bool
 is_method holders.Method = true
 is_method holder = false
 
+-- the kind of attribute is defined for this holder (JVMS 4.7, table 4.7-C). An attribute in another holder is not
+-- recognised
 abbrev pub belongs_to : AttributeKind → Holder → Bool
 belongs_to kinds.ConstantValue holder = is_field holder
 belongs_to kinds.Code holder = is_method holder
@@ -55,7 +57,8 @@ belongs_to kinds.Signature holder = is_outer holder
 belongs_to kinds.Synthetic holder = is_outer holder
 belongs_to kinds.Deprecated holder = is_outer holder
 
--- an attribute of this holder is recognised as an attribute of this kind
+-- an attribute of this holder is recognised as one of this kind. The kind is defined for the holder, and the Utf8
+-- constant at attribute_name_index is the name of the kind
 abbrev pub is_recognised : ClassFile → AttributeKind → Holder → Attribute → Bool
 is_recognised c kind holder a = belongs_to kind holder && passes (λ name. same_bytes name (attribute_name kind)) (utf8_at c a.name)
 
@@ -63,22 +66,24 @@ is_recognised c kind holder a = belongs_to kind holder && passes (λ name. same_
 abbrev pub is_kind : AttributeKind → Option AttributeKind → Bool
 is_kind kind found = option_map_or (λ other. same_bytes (attribute_name other) (attribute_name kind)) found false
 
--- the attribute is recognised as an attribute of the kind that was found, and of no other kind
+-- the attribute is recognised as an attribute of the kind that was found, and of no other kind; of none at `None`
 abbrev pub IsRecognisedAs : ClassFile → Holder → Attribute → Option AttributeKind → Type 0
 IsRecognisedAs c holder a found = (kind : AttributeKind) → is_recognised c kind holder a ≡ is_kind kind found
 
--- the attributes of this kind
+-- those of the holder's attributes that are recognised as attributes of this kind
 abbrev pub of_kind : ClassFile → AttributeKind → Holder → List Attribute → List Attribute
 of_kind c kind holder attributes = filter (is_recognised c kind holder) attributes
 
 -- ---- Code (JVMS 4.7.3)
 
+-- an entry of the exception table
 pub record Handler : Type 0 where
   pub start_pc : ℕ
   pub end_pc : ℕ
   pub handler_pc : ℕ
   pub catch_type : ConstantIndex
 
+-- the contents of a Code attribute, without the counts, which follow from the lists
 pub record Code : Type 0 where
   pub max_stack : ℕ
   pub max_locals : ℕ
@@ -104,6 +109,8 @@ pub record FitsHandler (h : Handler) : Type 0 where
   pub handler_pc : h.handler_pc < 2 ^ 16
   pub catch_type : IsIndex h.catch_type
 
+-- all numbers and lengths fit the bytes that encode them, and there are 1 to 65,535 bytes of instructions
+-- (JVMS 4.7.3, 4.9.1)
 pub record FitsCode (k : Code) : Type 0 where
   pub max_stack : k.max_stack < 2 ^ 16
   pub max_locals : k.max_locals < 2 ^ 16
@@ -112,20 +119,21 @@ pub record FitsCode (k : Code) : Type 0 where
   pub handlers : FitsTable FitsHandler k.handlers
   pub attributes : FitsTable FitsAttribute k.attributes
 
--- the bytes are this well-formed Code
+-- the bytes are the contents of a Code attribute: those of this well-formed Code and no further bytes
 pub record IsCodeOf (b : List ℕ) (k : Code) : Type 0 where
   pub fits : FitsCode k
   pub bytes : code_bytes k ≡ b
 
 -- ---- Exceptions (JVMS 4.7.5)
 
--- the bytes are this table of indexes
+-- the bytes are the contents of an Exceptions attribute: this table of indexes and no further bytes
 pub record AreExceptionsOf (b : List ℕ) (exceptions : List ConstantIndex) : Type 0 where
   pub fits : FitsTable IsIndex exceptions
   pub bytes : counted index_bytes exceptions ≡ b
 
 -- ---- BootstrapMethods (JVMS 4.7.23)
 
+-- an entry of bootstrap_methods: its bootstrap_method_ref and its bootstrap_arguments
 pub record Bootstrap : Type 0 where
   pub method : ConstantIndex
   pub arguments : List ConstantIndex
@@ -137,7 +145,7 @@ pub record FitsBootstrap (m : Bootstrap) : Type 0 where
   pub method : IsIndex m.method
   pub arguments : FitsTable IsIndex m.arguments
 
--- the bytes are this table of bootstrap methods
+-- the bytes are the contents of a BootstrapMethods attribute: this table and no further bytes
 pub record AreBootstrapsOf (b : List ℕ) (methods : List Bootstrap) : Type 0 where
   pub fits : FitsTable FitsBootstrap methods
   pub bytes : counted bootstrap_bytes methods ≡ b
@@ -155,12 +163,15 @@ code_attributes a k = attributes_from holders.Code (a.place + 6 + length (code_f
 abbrev pub bootstrap_attributes : ClassFile → List Attribute
 bootstrap_attributes c = of_kind c kinds.BootstrapMethods holders.Class c.attributes
 
+-- the ConstantValue attributes of a field (JVMS 4.7.2)
 abbrev pub values_of : ClassFile → Member → List Attribute
 values_of c f = of_kind c kinds.ConstantValue holders.Field f.attributes
 
+-- the Code attributes of a method (JVMS 4.7.3)
 abbrev pub codes_of : ClassFile → Member → List Attribute
 codes_of c m = of_kind c kinds.Code holders.Method m.attributes
 
+-- the Exceptions attributes of a method (JVMS 4.7.5)
 abbrev pub exceptions_of : ClassFile → Member → List Attribute
 exceptions_of c m = of_kind c kinds.Exceptions holders.Method m.attributes
 

@@ -6,7 +6,7 @@ use Rattle.jc_view.specs.declared.constant_pool.ConstantIndex.{ConstantIndex}
 use Rattle.jc_view.specs.declared.constant_pool.ConstantKind.{ConstantKind}
 use Rattle.jc_view.specs.declared.constant_pool.ConstantKind.TheVariants as kinds
 
--- a constant as plain data
+-- a constant as plain data (JVMS 4.4.1 to 4.4.10). `bits` is the value of the bytes of a number, the highest byte first
 pub data Constant : Type 0 where
   Utf8 : (text : List ℕ) → Constant
   Integer : (bits : ℕ) → Constant
@@ -39,7 +39,7 @@ kind_of (MethodHandle kind reference) = kinds.MethodHandle
 kind_of (MethodType descriptor) = kinds.MethodType
 kind_of (InvokeDynamic bootstrap name_and_type) = kinds.InvokeDynamic
 
--- the tag of each kind
+-- the tag of each kind (JVMS 4.4)
 abbrev pub tag_of : ConstantKind → ℕ
 tag_of kinds.Utf8 = 1
 tag_of kinds.Integer = 3
@@ -79,15 +79,16 @@ all_kinds =
     ∷ kinds.Fieldref ∷ kinds.Methodref ∷ kinds.InterfaceMethodref ∷ kinds.NameAndType
     ∷ kinds.MethodHandle ∷ kinds.MethodType ∷ kinds.InvokeDynamic ∷ []
 
+-- the first of these kinds that has this tag
 abbrev pub with_tag : ℕ → List ConstantKind → Option ConstantKind
 with_tag tag [] = None
 with_tag tag (kind ∷ kinds) = if tag == tag_of kind then Some kind else with_tag tag kinds
 
--- the kind with this tag
+-- the kind with this tag, if there is one
 abbrev pub kind_of_tag : ℕ → Option ConstantKind
 kind_of_tag tag = with_tag tag all_kinds
 
--- a Long or a Double takes two indexes, the second of which is unusable
+-- a Long or a Double takes two indexes, the second of which is unusable (JVMS 4.4.5)
 abbrev pub is_wide : ConstantKind → Bool
 is_wide kinds.Long = true
 is_wide kinds.Double = true
@@ -96,7 +97,7 @@ is_wide _ = false
 abbrev pub index_bytes : ConstantIndex → List ℕ
 index_bytes index = big_bytes 2 index.0
 
--- the bytes after the tag
+-- the bytes after the tag (JVMS 4.4.1 to 4.4.10)
 abbrev pub body_bytes : Constant → List ℕ
 body_bytes (Utf8 text) = big_bytes 2 (length text) ++ text
 body_bytes (Integer bits) = big_bytes 4 bits
@@ -113,9 +114,11 @@ body_bytes (MethodHandle kind reference) = big_bytes 1 kind ++ index_bytes refer
 body_bytes (MethodType descriptor) = index_bytes descriptor
 body_bytes (InvokeDynamic bootstrap name_and_type) = big_bytes 2 bootstrap ++ index_bytes name_and_type
 
+-- the bytes of a constant: its tag, and the bytes after it (JVMS 4.4)
 unfoldable pub constant_bytes : Constant → List ℕ
 constant_bytes constant = tag_of (kind_of constant) ∷ body_bytes constant
 
+-- the index fits two bytes; there may be no constant at it
 abbrev pub IsIndex : ConstantIndex → Type 0
 IsIndex index = index.0 < 2 ^ 16
 
@@ -140,12 +143,12 @@ FitsConstant (MethodHandle kind reference) = (kind < 2 ^ 8) × IsIndex reference
 FitsConstant (MethodType descriptor) = IsIndex descriptor
 FitsConstant (InvokeDynamic bootstrap name_and_type) = (bootstrap < 2 ^ 16) × IsIndex name_and_type
 
--- the name_index of a Class constant
+-- the name_index of a Class constant (JVMS 4.4.1); other constants have none
 abbrev pub class_name_index : Constant → Option ConstantIndex
 class_name_index (Class name) = Some name
 class_name_index constant = None
 
--- the text of a Utf8 constant
+-- the bytes of a Utf8 constant (JVMS 4.4.7); other constants have none
 abbrev pub utf8_text : Constant → Option (List ℕ)
 utf8_text (Utf8 text) = Some text
 utf8_text constant = None

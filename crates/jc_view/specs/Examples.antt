@@ -3,7 +3,7 @@ use Rattle.std.specs.Prelude.{ℕ, List, [], ◌∷◌, ◌++◌, codes}
 use Rattle.jc_view.specs.ConstantPool as pool
 use Rattle.jc_view.specs.ClassFile.{ClassFile}
 
--- the bytes before the constants, with a count below 256
+-- the bytes before the constants: magic, version 52.0 and this constant_pool_count, which is below 256
 abbrev pub head : ℕ → List ℕ
 head count = 0xca ∷ 0xfe ∷ 0xba ∷ 0xbe ∷ 0 ∷ 0 ∷ 0 ∷ 0x34 ∷ 0 ∷ count ∷ []
 
@@ -15,7 +15,7 @@ constants = 7 ∷ 0 ∷ 2 ∷ 1 ∷ 0 ∷ 1 ∷ 65 ∷ 7 ∷ 0 ∷ 4 ∷ 1 ∷ 0
 abbrev pub tail : ℕ → List ℕ
 tail this_class = 0 ∷ 0x21 ∷ 0 ∷ this_class ∷ 0 ∷ 3 ∷ 0 ∷ 0 ∷ 0 ∷ 0 ∷ 0 ∷ 0 ∷ 0 ∷ 0 ∷ []
 
--- the bytes of the class A
+-- the bytes of the class A, which extends java/lang/Object
 abbrev pub class_a : List ℕ
 class_a = head 5 ++ constants ++ tail 1
 

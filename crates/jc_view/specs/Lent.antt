@@ -46,12 +46,14 @@ pub record LentCode : Type 0 where
 abbrev pub lent_code : LentAttribute → Code → LentCode
 lent_code lent code = record { class = lent.class; attribute = lent.attribute; code = code }
 
--- the names of the interfaces that are left
+-- the texts of the Class constants of the interfaces that are left; None for an index without such a text
 abbrev pub interface_names : InterfacesLeft → List (Option (List ℕ))
 interface_names interfaces = map (class_text_at interfaces.class) interfaces.left
 
 -- ---- one step of an iterator: it returns the first element that is left
 
+-- the iterator `old` returns its first member and becomes `new`, which has the others left; it returns None if it has
+-- none left
 abbrev pub GivesMember : MembersLeft → Option LentMember → MembersLeft → Type 0
 GivesMember old result new =
     (new.class ≡ old.class)
@@ -90,11 +92,11 @@ handler_of h = record { start_pc = h.start_pc; end_pc = h.end_pc; handler_pc = h
 
 -- ---- where in the file the texts, attributes and instructions are
 
--- the text of each Utf8 constant is the part of the file at the place of the constant
+-- the text of each Utf8 constant is the part of the file after the tag and the length of the constant
 abbrev pub TextsLieIn : ClassFile → Type 0
 TextsLieIn c = (index : ConstantIndex) (text : List ℕ) → utf8_at c index ≡ Some text → IsLent c index text
 
--- the text of each Class constant is the part of the file at the Utf8 constant that it names
+-- the text of each Class constant is the part of the file that is the text of the Utf8 constant at its name_index
 abbrev pub ClassTextsLieIn : ClassFile → Type 0
 ClassTextsLieIn c =
     (index : ConstantIndex) (text : List ℕ) → class_text_at c index ≡ Some text

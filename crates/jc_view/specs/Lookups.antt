@@ -14,23 +14,23 @@ utf8_at c index = option_and_then utf8_text (constant_at c index)
 abbrev pub is_kind : ConstantKind → Constant → Bool
 is_kind kind constant = tag_of (kind_of constant) == tag_of kind
 
--- the usable constant at the index is of this kind
+-- there is a constant at the index, and it is of this kind
 abbrev pub is_entry : ClassFile → ConstantKind → ConstantIndex → Bool
 is_entry c kind index = option_map_or (is_kind kind) (constant_at c index) false
 
--- the indexes of the name and of the descriptor in a NameAndType
+-- the name_index and the descriptor_index of a NameAndType (JVMS 4.4.6)
 abbrev pub name_and_type : Constant → Option (ConstantIndex × ConstantIndex)
 name_and_type (NameAndType name descriptor) = Some (name, descriptor)
 name_and_type constant = None
 
--- the class_index of a reference to a field or method
+-- the class_index of a reference to a field or method (JVMS 4.4.2)
 abbrev pub class_index : Constant → Option ConstantIndex
 class_index (Fieldref class entry) = Some class
 class_index (Methodref class entry) = Some class
 class_index (InterfaceMethodref class entry) = Some class
 class_index constant = None
 
--- the name_and_type_index of a reference to a field or method, or of an InvokeDynamic
+-- the name_and_type_index of a reference to a field or method, or of an InvokeDynamic (JVMS 4.4.2, 4.4.10)
 abbrev pub name_and_type_index : Constant → Option ConstantIndex
 name_and_type_index (Fieldref class entry) = Some entry
 name_and_type_index (Methodref class entry) = Some entry
@@ -49,7 +49,7 @@ member_name_at c entry = option_and_then (λ pair. utf8_at c pair.0) (name_and_t
 abbrev pub member_descriptor_at : ClassFile → ConstantIndex → Option (List ℕ)
 member_descriptor_at c entry = option_and_then (λ pair. utf8_at c pair.1) (name_and_type_at c entry)
 
--- the name of the field or method that a reference names
+-- the name in the NameAndType of a reference to a field or method, or of an InvokeDynamic
 abbrev pub name_of : ClassFile → Constant → Option (List ℕ)
 name_of c reference = option_and_then (member_name_at c) (name_and_type_index reference)
 

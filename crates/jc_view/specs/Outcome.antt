@@ -16,6 +16,7 @@ AreBytes b = (i : ℕ) → slice_index b i < 256
 abbrev pub NamesClass : List ℕ → List ℕ → Type 0
 NamesClass b name = (c : ClassFile) × IsLayoutOf c b × IsNamed c name
 
+-- the text, if it is the name of a class and not of an array (JVMS 4.2.1)
 abbrev pub class_text : List ℕ → Option (List ℕ)
 class_text name = if is_class_text name then Some name else None
 
@@ -23,13 +24,13 @@ class_text name = if is_class_text name then Some name else None
 unfoldable pub name_in : ClassFile → Option (List ℕ)
 name_in c = option_and_then class_text (class_text_at c c.this_class)
 
--- the name of the class, or the first refusal that applies; the law `outcomes_are_exact` says so
+-- the name of the class that the bytes are, or the first refusal that applies, as the law `outcomes_are_exact` says
 unfoldable pub class_named : List ℕ → Result (List ℕ) ParseError
 class_named b = do
   found ← parts_at (record { place = 0; rest = b })
   or_refusal (name_in (class_value b found.0.places found.0.tail)) errors.NoName
 
--- the class file that the bytes are, if it names a class, or the first refusal that applies
+-- the class file that the bytes are if they are readable, or else the first refusal that applies
 unfoldable pub class_read : List ℕ → Result ClassFile ParseError
 class_read b = do
   found ← parts_at (record { place = 0; rest = b })

@@ -19,7 +19,7 @@ pub record PlacedMember : Type 0 where
   pub place : ℕ
   pub member : Member
 
--- attributes that follow each other, the first at this place
+-- attributes of a holder with their places; they follow each other, and the first is at this place
 unfoldable pub attributes_from : Holder → ℕ → List Attribute → List PlacedAttribute
 attributes_from holder place [] = []
 attributes_from holder place (a ∷ attributes) =
@@ -61,7 +61,7 @@ member_attributes m = attributes_from m.holder (m.place + 8) m.member.attributes
 
 -- ---- constants
 
--- the indexes that a constant takes after its own: a Long or a Double takes one, which is unusable
+-- the indexes that a constant takes after its own: a Long or a Double takes one, which is unusable (JVMS 4.4.5)
 abbrev pub unusable_index : Bool → List (Option ℕ)
 unusable_index true = None ∷ []
 unusable_index false = []
@@ -72,6 +72,7 @@ places_of place [] = []
 places_of place (constant ∷ constants) =
     Some place ∷ (unusable_index (is_wide (kind_of constant)) ++ places_of (place + length (constant_bytes constant)) constants)
 
+-- the place at an index of such a list, if it has one there
 abbrev pub place_at : List (Option ℕ) → ConstantIndex → Option ℕ
 place_at places index = option_and_then (λ place. place) (slice_get places index.0)
 

@@ -16,7 +16,7 @@ use Rattle.jc_view.specs.ClassFile.{Attribute, Member, ClassFile, magic}
 
 -- ---- parts that can only be too short: the bytes that are left after one, and its value
 
--- the bytes that are left after n bytes
+-- the bytes that are left after n bytes; None if there are fewer
 abbrev pub after : ℕ → List ℕ → Option (List ℕ)
 after n xs = if nat_lt (length xs) n then None else Some (drop n xs)
 
@@ -76,7 +76,7 @@ after_tail xs =
     (option_and_then after_indexes
     (after 6 xs))))
 
--- the bytes from the fields, the methods and the attributes of the class on
+-- of the bytes after the constants, those from the table of fields on; below, from that of methods and of attributes on
 abbrev pub fields_at : List ℕ → List ℕ
 fields_at xs = unwrap_or (after_indexes (drop 6 xs)) []
 
@@ -88,7 +88,7 @@ attributes_at xs = unwrap_or (after_members (methods_at xs)) []
 
 -- ---- constants
 
--- the length of a body; that of a Utf8 depends on its text and is not listed here
+-- the number of bytes after the tag of a constant. That of a Utf8 depends on its text, and 0 is only a placeholder
 abbrev pub body_size : ConstantKind → ℕ
 body_size kinds.Utf8 = 0
 body_size kinds.Integer = 4
@@ -109,7 +109,7 @@ abbrev pub after_body : ConstantKind → List ℕ → Option (List ℕ)
 after_body kinds.Utf8 xs = after_sized 2 xs
 after_body kind xs = after (body_size kind) xs
 
--- the constant of this kind whose body is at the front of the bytes
+-- the constant of this kind whose bytes after the tag are at the front of these bytes
 abbrev pub body_value : ConstantKind → List ℕ → Constant
 body_value kinds.Utf8 xs = pool.Utf8 (sized_value 2 xs)
 body_value kinds.Integer xs = pool.Integer (big_number 4 xs)
@@ -126,7 +126,7 @@ body_value kinds.MethodHandle xs = pool.MethodHandle (big_number 1 xs) (index_va
 body_value kinds.MethodType xs = pool.MethodType (index_value xs)
 body_value kinds.InvokeDynamic xs = pool.InvokeDynamic (big_number 2 xs) (index_value (drop 2 xs))
 
--- the constant at the front of the bytes
+-- the constant at the front of the bytes; without a known tag, an empty Utf8 as a placeholder
 abbrev pub constant_value : List ℕ → Constant
 constant_value xs = option_map_or (λ kind. body_value kind (drop 1 xs)) (kind_of_tag (big_number 1 xs)) (pool.Utf8 [])
 
@@ -146,7 +146,7 @@ or_refusal (Some x) e = Ok x
 abbrev pub unless : Bool → ParseError → Result (Unit {0}) ParseError
 unless b e = if b then Err e else Ok tt
 
--- the kind of the constant at the front, and the reading after it; a Long or a Double must not have the last index
+-- the kind of the constant at the front, and the reading after it. A Long or a Double must not be at the last index
 unfoldable pub first_constant : Bool → Reading → Result (ConstantKind × Reading) ParseError
 first_constant is_last reading = do
   body ← or_refusal (after 1 reading.rest) errors.Short
@@ -187,7 +187,7 @@ pool_at count reading = with_front (None ∷ []) (entries_from (count - 1) false
 
 -- ---- the class file
 
--- the constants that begin at these places
+-- the constants that begin at these places of the bytes; None has no constant
 abbrev pub constants_at : List ℕ → List (Option ℕ) → List Constant
 constants_at bytes [] = []
 constants_at bytes (None ∷ places) = constants_at bytes places

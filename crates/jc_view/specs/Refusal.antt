@@ -12,7 +12,7 @@ use Rattle.jc_view.specs.ConstantPool as pool
 use Rattle.jc_view.specs.ConstantPool.{tag_of, constant_bytes, Constant, FitsConstant}
 use Rattle.jc_view.specs.ClassFile.{ClassFile, magic, layout, FitsClassFile, IsAcceptedVersion, all_slots, constant_at}
 
--- the bytes begin with the magic number, an accepted version and a count that is not 0
+-- the bytes begin with the magic number, an accepted version and a constant_pool_count that is not 0
 pub record HasHead (b : List ℕ) : Type 0 where
   pub long : 10 ≤ length b
   pub is_magic : big_number 4 b ≡ magic
@@ -21,7 +21,8 @@ pub record HasHead (b : List ℕ) : Type 0 where
 
 -- ---- refusals, by the contents of the bytes
 
--- these bytes, which begin at `place`, are whole constants, then a byte at `at` where another constant must begin
+-- these bytes, which begin at `place` of the file, are whole constants, then a byte at `at` of the file. There another
+-- constant must begin, since the constants before it fill fewer than `indexes` indexes
 pub record Owes (place : ℕ) (bytes : List ℕ) (indexes at : ℕ) : Type 0 where
   pub constants : List Constant
   pub whole : AllByRecursion FitsConstant constants
@@ -29,11 +30,12 @@ pub record Owes (place : ℕ) (bytes : List ℕ) (indexes at : ℕ) : Type 0 whe
   pub rest : List ℕ
   pub stand : bytes ≡ flat_map constant_bytes constants ++ tag ∷ rest
   pub here : at ≡ place + length (flat_map constant_bytes constants)
-  -- the number of indexes that are left
+  -- the number of indexes that these constants leave unfilled
   pub left : ℕ
   pub one_at_least : 0 < left
   pub filled : all_slots constants + left ≡ indexes
 
+-- no kind of constant has this tag
 abbrev pub IsNoTag : ℕ → Type 0
 IsNoTag tag = (kind : ConstantKind) → tag_of kind ≢ tag
 
@@ -41,7 +43,7 @@ IsNoTag tag = (kind : ConstantKind) → tag_of kind ≢ tag
 abbrev pub IsWideTag : ℕ → Type 0
 IsWideTag tag = (tag ≡ 5) ⊎ (tag ≡ 6)
 
--- the number of indexes that the constants must fill
+-- the number of indexes that the constants must fill: constant_pool_count - 1 (JVMS 4.1)
 abbrev pub pool_size : List ℕ → ℕ
 pool_size b = big_number 2 (drop 8 b) - 1
 
@@ -50,7 +52,8 @@ pub record IsLayoutOf (c : ClassFile) (b : List ℕ) : Type 0 where
   pub fits : FitsClassFile c
   pub bytes : layout c ≡ b
 
--- this_class is a Class constant whose text is the name of a class, and not of an array
+-- the constant at this_class is a Class constant whose text is this name, a name of a class and not of an array
+-- (JVMS 4.1, 4.2.1, 4.4.1)
 pub record IsNamed (c : ClassFile) (name : List ℕ) : Type 0 where
   pub entry : ConstantIndex
   pub class : constant_at c c.this_class ≡ Some (pool.Class entry)
@@ -60,10 +63,13 @@ pub record IsNamed (c : ClassFile) (name : List ℕ) : Type 0 where
 abbrev pub IsNameless : ClassFile → Type 0
 IsNameless c = (name : List ℕ) → ¬ IsNamed c name
 
+-- the bytes are the layout of a class file whose this_class names a class
 abbrev pub IsReadable : List ℕ → Type 0
 IsReadable b = (c : ClassFile) × IsLayoutOf c b × ((name : List ℕ) × IsNamed c name)
 
--- what the bytes contain if a refusal applies to them
+-- what the bytes contain if a refusal applies to them. At `Tag` and `Wide` a constant must begin at `at`, but no kind
+-- has its tag, or it needs two indexes and one is left. `Trailing` applies if a proper beginning of length `at` is the
+-- layout of a class file, and `Short` if no beginning is one
 abbrev pub Applies : ParseError → List ℕ → Type 0
 Applies errors.Magic b = (4 ≤ length b) × (big_number 4 b ≢ magic)
 Applies errors.Version b = (8 ≤ length b) × ¬ IsAcceptedVersion (big_number 2 (drop 6 b)) (big_number 2 (drop 4 b))
