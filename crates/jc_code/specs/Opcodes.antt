@@ -6,6 +6,7 @@ use Rattle.std.specs.Option.{option_map}
 use Rattle.jc_code.specs.declared.opcode.Operands.{Operands}
 use Rattle.jc_code.specs.declared.opcode.Operands.TheVariants as operands
 
+-- an opcode: its mnemonic, and the kind of its operands
 pub record Entry : Type 0 where
   pub mnemonic : List ℕ
   pub operands : Operands
@@ -111,7 +112,7 @@ entries group = map (λ mnemonic. record { mnemonic = mnemonic; operands = group
 unfoldable pub opcodes : List Entry
 opcodes = flat_map entries groups
 
--- the opcode of a number, if there is one
+-- the opcode of a number, if there is one; the reserved opcodes 202, 254 and 255 do not count (JVMS 6.2)
 abbrev pub opcode_at : ℕ → Option ℕ
 opcode_at number = if nat_lt number 202 then Some number else None
 
@@ -123,7 +124,7 @@ operands_of opcode = option_map (λ entry. entry.operands) (slice_get opcodes op
 
 -- ---- lengths
 
--- the number of bytes of operands, if it is always the same
+-- the number of bytes of operands of a kind, if HasSize says that it is always the same; else 0
 abbrev pub operand_size : Operands → ℕ
 operand_size operands.Empty = 0
 operand_size (operands.ImplicitLocal index slots) = 0
@@ -146,6 +147,7 @@ operand_size operands.NewArray = 1
 operand_size operands.MultiNewArray = 3
 operand_size operands.Wide = 0
 
+-- operands of this kind always have the same number of bytes, unlike those of switches and of `wide` (JVMS 6.5)
 abbrev pub HasSize : Operands → Type 0
 HasSize operands.TableSwitch = ⊥
 HasSize operands.LookupSwitch = ⊥

@@ -7,10 +7,11 @@ use Rattle.jc_report.specs.Reports.{IsReport, Report, world_of}
 use Rattle.jc_edits.specs.SessionState.{Contents}
 use Rattle.jc_edits.specs.Touched.{gives}
 
+-- the report of these files and outside prefixes
 abbrev pub IsReportOf : Contents → Report → Type 0
 IsReportOf h r = IsReport h.files h.prefixes r
 
--- n classes require the row at this place of the required rows
+-- n is the number of classes that require the row at this place of the required rows, and 0 if there is no such row
 abbrev pub CountsHoldersAt : Contents → (place n : ℕ) → Type 0
 CountsHoldersAt h place n = (r : Report) → IsReportOf h r → CountsHolders r.classes (slice_get r.required place) n
 

@@ -22,6 +22,7 @@ use Rattle.jc_edits.specs.SessionState.{Contents, SessionState, counts_in, conte
 abbrev pub gives : Files → Name → Bool
 gives f name = is_some (facts_at f name)
 
+-- there is a path, and it is this one
 abbrev pub is_path : Option (List ℕ) → List ℕ → Bool
 is_path None path = false
 is_path (Some p) path = same_bytes p path
@@ -30,36 +31,37 @@ is_path (Some p) path = same_bytes p path
 abbrev pub is_taken : (old new : Files) (path : List ℕ) → Name → Bool
 is_taken old new path name = is_path (winner old name) path || is_path (winner new name) path
 
--- the files have no class of this name, and the name becomes outside or inside
+-- the name has neither a class of the files nor the built-in one, and begins with a prefix of exactly one of the two
+-- lists
 abbrev pub switches : Files → (old new : List Name) → Name → Bool
 switches f old new name =
     not (is_some (or_built_in (facts_at f name) name)) && not (same_bool (is_covered old name) (is_covered new name))
 
--- the name has the same class before and after the edit, and does not become outside or inside
+-- the name has the same class before and after the edit, and does not become outside or stop being outside
 abbrev pub IsSameAt : (old new : Contents) → Name → Type 0
 IsSameAt old new name = (facts_at old.files name ≡ facts_at new.files name) × (switches new.files old.prefixes new.prefixes name ≡ false)
 
--- the test is true at the other names: those are the names that the edit touches
+-- the test is true of exactly the touched names: those that are not the same before and after the edit
 abbrev pub TellsTouched : (old new : Contents) → (touched : Name → Bool) → Type 0
 TellsTouched old new touched = (name : Name) → Decides (not (touched name)) (IsSameAt old new name)
 
 abbrev pub world_at : Contents → World
 world_at h = world_of h.files h.prefixes
 
--- A part was made for each class of the files after the edit whose reach has a touched name. Each name that these classes
--- reach was looked up once.
+-- A part was made for each class of the files after the edit whose reach has a touched name. Each name that these
+-- classes reach was looked up once.
 pub record IsCountedChange (old new : Contents) (before behind : Counts) : Type 0 where
   pub touched : Name → Bool
   pub tells : TellsTouched old new touched
   pub counted : IsCounted (gives new.files) (world_at new) touched before behind
 
--- the same, by the counts of a session
+-- an edit of a session from the state `old` to the state `new` was counted in this way
 abbrev pub IsCountedStep : (old new : SessionState) → Type 0
 IsCountedStep old new = IsCountedChange (contents_of old) (contents_of new) (counts_in old) (counts_in new)
 
 -- ---- laws
 
--- an edit changes nothing at names that it does not touch
+-- the worlds before and after an edit agree at all names that it does not touch
 abbrev pub EditsDiffer : Type 0
 EditsDiffer = (h : Contents) (e : EditChange) (touched : Name → Bool) → TellsTouched h (after_edit h e) touched → Differ touched (world_at h) (world_at (after_edit h e))
 

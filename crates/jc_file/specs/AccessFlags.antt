@@ -117,7 +117,7 @@ has_two_accesses bits = two_of (has bits public) (has bits private) (has bits pr
 
 -- ---- the flags that have a meaning, from the lowest bit to the highest
 
--- the flags of a class (JVMS 4.1, table 4.1-B)
+-- the flags of a class (JVMS 4.1)
 abbrev pub class_flags : List AccessFlag
 class_flags =
     flags.Public ∷ flags.Final ∷ flags.Super ∷ flags.Interface ∷ flags.Abstract

@@ -78,6 +78,7 @@ pub data About : Type 0 where
   OfRepeatedMethods : About
   OfAttributes : (PlacedAttribute → Bool) → About
 
+-- what each rule is about, with its test
 abbrev pub about : ClassFile → FormatRule → About
 about c rules.F1 = OfConstants (breaks_f1 c)
 about c rules.F2 = OfConstants (breaks_f2 c)

@@ -1,4 +1,5 @@
--- A test for each rule of the format: which constants, classes, fields, methods and attributes break it.
+-- A test for each rule of the format: which constants, classes, fields, methods and attributes break it. Violations
+-- says in the standard's terms, with its sections, what each test decides.
 use Rattle.std.specs.Prelude.{ℕ, Bool, true, false, not, ◌&&◌, ◌||◌, ◌==◌, nat_lt, nat_le, List, []}
 use Rattle.std.specs.Prelude.{◌∷◌, length, sum_by, Option, Some, None, is_some, is_none, if◌then◌else◌, codes}
 use Rattle.std.specs.List.{list_all, list_any}
@@ -86,7 +87,7 @@ breaks_f6 c (InterfaceMethodref class entry) = fails is_method_text (member_desc
 breaks_f6 c (InvokeDynamic bootstrap entry) = fails is_method_text (member_descriptor_at c entry)
 breaks_f6 c constant = false
 
--- the name of a method begins with `<`, but it is not `<init>` or the method returns a value
+-- the name of a method begins with `<`, and either it is not `<init>` or the method returns a value
 abbrev pub is_bad_special : Option (List ℕ) → List ℕ → Bool
 is_bad_special descriptor name = begins_with 60 name && (not (is_init name) || passes returns_value descriptor)
 
@@ -121,7 +122,7 @@ abbrev pub breaks_f10 : ClassFile → Constant → Bool
 breaks_f10 c (MethodType descriptor) = fails is_method_text (utf8_at c descriptor)
 breaks_f10 c constant = false
 
--- the number of bootstrap methods, from the first two bytes of the attribute
+-- num_bootstrap_methods, the first two bytes of the attribute, or 0 if it has fewer bytes (JVMS 4.7.23)
 abbrev pub declared_count : Attribute → ℕ
 declared_count a = if nat_lt (length a.bytes) 2 then 0 else big_number 2 a.bytes
 
@@ -173,10 +174,11 @@ is_argument constant =
     || is_kind kinds.Long constant || is_kind kinds.Float constant || is_kind kinds.Double constant
     || is_kind kinds.MethodHandle constant || is_kind kinds.MethodType constant
 
+-- the bootstrap method is a MethodHandle, and each of its arguments is such a constant
 abbrev pub is_bootstrap : ClassFile → Bootstrap → Bool
 is_bootstrap c m = is_entry c kinds.MethodHandle m.method && list_all (λ index. passes is_argument (constant_at c index)) m.arguments
 
--- the class has two BootstrapMethods attributes, or one that is not well-formed
+-- the class has more than one BootstrapMethods attribute, or one that is not exactly a table of such bootstrap methods
 abbrev pub breaks_f27 : ClassFile → Bool
 breaks_f27 c =
     nat_le 2 (length (bootstrap_attributes c))
@@ -233,7 +235,7 @@ breaks_f25 c f = has f.flags static && (nat_le 2 (length (values_of c f)) || has
 abbrev pub breaks_f19 : ClassFile → Member → Bool
 breaks_f19 c m = lacks is_method_name_text (utf8_at c m.name)
 
--- the parameters take at most 255 slots, with the receiver of an instance method
+-- the parameters and the receiver of an instance method take at most 255 slots together
 abbrev pub fits_slots : Member → descriptors.MethodType → Bool
 fits_slots m type = has m.flags static || nat_lt (sum_by slots_of type.params) 255
 
@@ -246,7 +248,7 @@ is_named_clinit c m = passes is_clinit (utf8_at c m.name)
 abbrev pub is_named_init : ClassFile → Member → Bool
 is_named_init c m = passes is_init (utf8_at c m.name)
 
--- an abstract method must not have one of these flags
+-- a flag is set that an abstract method must not have
 abbrev pub has_more_than_abstract : ℕ → Bool
 has_more_than_abstract flags =
     has flags private || has flags static || has flags final || has flags synchronized || has flags native || has flags strict
@@ -254,7 +256,7 @@ has_more_than_abstract flags =
 abbrev pub same_answer : Bool → Bool → Bool
 same_answer a b = if a then b else not b
 
--- a method of an interface must not have these flags; they depend on the version
+-- a method of an interface must not have these flags in a file of this version
 abbrev pub are_bad_interface_flags : ℕ → ℕ → Bool
 are_bad_interface_flags major flags =
     has flags protected || has flags final || has flags synchronized || has flags native
@@ -281,11 +283,11 @@ breaks_f23 c m =
 abbrev pub breaks_f24 : ClassFile → Member → Bool
 breaks_f24 c m = list_any (λ a. is_none (code_in a.bytes)) (codes_of c m)
 
--- the bytes are not a list of classes
+-- the bytes are not exactly a table of the indexes of Class constants
 abbrev pub lacks_classes : ClassFile → List ℕ → Bool
 lacks_classes c bytes = lacks (list_all (is_entry c kinds.Class)) (exceptions_in bytes)
 
--- the bytes of an Exceptions attribute of the method are not a list of classes
+-- an Exceptions attribute of the method is not such a table
 abbrev pub has_bad_exceptions : ClassFile → Member → Bool
 has_bad_exceptions c m = list_any (λ a. lacks_classes c a.bytes) (exceptions_of c m)
 
@@ -311,6 +313,7 @@ breaks_f29 c a =
     || is_missized c attributes.Signature 2 a || is_missized c attributes.EnclosingMethod 4 a
     || is_missized c attributes.Synthetic 0 a || is_missized c attributes.Deprecated 0 a
 
+-- the index is not 0, and does not name a NameAndType
 abbrev pub lacks_method : ClassFile → ConstantIndex → Bool
 lacks_method c index = not (index.0 == 0) && not (is_entry c kinds.NameAndType index)
 

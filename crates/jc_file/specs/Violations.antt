@@ -1,6 +1,6 @@
 -- When a rule of the format is broken at a place, in the terms of the standard. The law `faults_are_violations` says
--- that the tests of FormatRules decide this. A rule about a constant or a text that is missing is not broken, unless
--- the rule itself requires it.
+-- that the tests of FormatRules decide this. A rule about the contents of a constant is not broken if the constant is
+-- missing or of another kind, unless the rule itself requires it.
 use Rattle.std.specs.Prelude.{◌++◌, ◌≡◌, ◌≢◌, ◌↔◌, ◌⊎◌, ℕ, ◌<◌, ◌≤◌, List, []}
 use Rattle.std.specs.Prelude.{◌∷◌, length, sum_by, Some, None, slice_get, All, Contains, IsTrue, codes}
 use Rattle.std.specs.List.{flat_map}
@@ -29,29 +29,29 @@ use Rattle.jc_view.specs.Attributes.{values_of, codes_of, exceptions_of, first_i
 
 -- ---- the constants at an index
 
--- the usable constant at the index
+-- this constant is at the index; an index that is not usable has none (JVMS 4.1, 4.4.5)
 abbrev pub IsEntry : ClassFile → ConstantIndex → Constant → Type 0
 IsEntry c index entry = constant_at c index ≡ Some entry
 
--- the constant at the index is of this kind
+-- there is a constant at the index, and it is of this kind
 abbrev pub NamesKind : ClassFile → ConstantKind → ConstantIndex → Type 0
 NamesKind c kind index = (entry : Constant) × IsEntry c index entry × (kind_of entry ≡ kind)
 
--- the text of the Utf8 at the index has this property
+-- there is a Utf8 at the index, and its text has this property
 abbrev pub HasText : ClassFile → (List ℕ → Type 0) → ConstantIndex → Type 0
 HasText c Is index = (text : List ℕ) × IsEntry c index (Utf8 text) × Is text
 
--- the text of the Class at the index has this property
+-- there is a Class at the index, and the text that it names has this property
 abbrev pub HasClassText : ClassFile → (List ℕ → Type 0) → ConstantIndex → Type 0
 HasClassText c Is index = (name : ConstantIndex) × IsEntry c index (Class name) × HasText c Is name
 
--- the name in the NameAndType at the index has this property
+-- there is a NameAndType at the index, and its name has this property
 abbrev pub GivesName : ClassFile → (List ℕ → Type 0) → ConstantIndex → Type 0
 GivesName c Is entry =
     (name : ConstantIndex) × (descriptor : ConstantIndex) × IsEntry c entry (NameAndType name descriptor)
     × HasText c Is name
 
--- the descriptor in the NameAndType at the index has this property
+-- there is a NameAndType at the index, and its descriptor has this property
 abbrev pub GivesDescriptor : ClassFile → (List ℕ → Type 0) → ConstantIndex → Type 0
 GivesDescriptor c Is entry =
     (name : ConstantIndex) × (descriptor : ConstantIndex) × IsEntry c entry (NameAndType name descriptor)
@@ -86,8 +86,8 @@ IsObject text = text ≡ codes "java/lang/Object"
 abbrev pub LacksMemberEntries : ClassFile → ConstantIndex → ConstantIndex → Type 0
 LacksMemberEntries c class entry = ¬ NamesKind c kinds.Class class ⊎ ¬ NamesKind c kinds.NameAndType entry
 
--- an index in a constant, other than a MethodHandle, names no constant of the right kind (JVMS 4.4.1 to 4.4.3, 4.4.6,
--- 4.4.9, 4.4.10)
+-- an index in a constant names no constant of the right kind; the reference_index of a MethodHandle is left to F8
+-- (JVMS 4.4.1 to 4.4.3, 4.4.6, 4.4.9, 4.4.10)
 abbrev pub BreaksF1 : ClassFile → Constant → Type 0
 BreaksF1 c (Class name) = ¬ NamesKind c kinds.Utf8 name
 BreaksF1 c (String text) = ¬ NamesKind c kinds.Utf8 text
@@ -114,7 +114,7 @@ abbrev pub BreaksF4 : ClassFile → Constant → Type 0
 BreaksF4 c (NameAndType name descriptor) = HasText c (λ text. ¬ (IsFieldDescriptor text ⊎ IsMethodDescriptor text)) descriptor
 BreaksF4 c constant = ⊥
 
--- a name that does not fit the descriptor beside it
+-- the name does not fit the descriptor beside it: a field has an unqualified name, and a method has a method name
 abbrev pub MisfitsName : ClassFile → ConstantIndex → List ℕ → Type 0
 MisfitsName c name descriptor =
     IsFieldDescriptor descriptor × HasText c (λ text. ¬ IsUnqualifiedName text) name
@@ -125,8 +125,8 @@ abbrev pub BreaksF5 : ClassFile → Constant → Type 0
 BreaksF5 c (NameAndType name descriptor) = HasText c (MisfitsName c name) descriptor
 BreaksF5 c constant = ⊥
 
--- a Fieldref has a descriptor other than that of a field, or another reference has one other than that of a method
--- (JVMS 4.4.2, 4.4.10)
+-- the descriptor of a Fieldref is not a field descriptor, or that of a Methodref, InterfaceMethodref or InvokeDynamic
+-- is not a method descriptor (JVMS 4.4.2, 4.4.10)
 abbrev pub BreaksF6 : ClassFile → Constant → Type 0
 BreaksF6 c (Fieldref class entry) = GivesDescriptor c (λ text. ¬ IsFieldDescriptor text) entry
 BreaksF6 c (Methodref class entry) = GivesDescriptor c (λ text. ¬ IsMethodDescriptor text) entry
@@ -138,7 +138,8 @@ BreaksF6 c constant = ⊥
 abbrev pub IsBracketed : List ℕ → Type 0
 IsBracketed name = (rest : List ℕ) × (name ≡ 60 ∷ rest)
 
--- the name of a method begins with `<`, but it is not `<init>` or the method returns a value (JVMS 4.4.2)
+-- the name of the method of a Methodref begins with `<`, and either it is not `<init>` or the method returns a value
+-- (JVMS 4.4.2)
 abbrev pub BreaksF7 : ClassFile → Constant → Type 0
 BreaksF7 c (Methodref class entry) =
     GivesName c (λ name. IsBracketed name × (¬ IsInit name ⊎ GivesDescriptor c ReturnsValue entry)) entry
@@ -152,7 +153,7 @@ FitsHandle major kind entry =
     ⊎ (6 ≤ kind) × (kind ≤ 7) × (52 ≤ major) × (kind_of entry ≡ kinds.InterfaceMethodref)
     ⊎ (kind ≡ 9) × (kind_of entry ≡ kinds.InterfaceMethodref)
 
--- a handle does not refer to a constant that fits its kind (JVMS 4.4.8)
+-- the kind of a MethodHandle is not 1 to 9, or no constant that fits it is at the reference_index (JVMS 4.4.8)
 abbrev pub BreaksF8 : ClassFile → Constant → Type 0
 BreaksF8 c (MethodHandle kind reference) = ¬ ((entry : Constant) × IsEntry c reference entry × FitsHandle c.major kind entry)
 BreaksF8 c constant = ⊥
@@ -163,7 +164,7 @@ IsNameAmiss kind name =
     (kind ≡ 8) × ¬ IsInit name
     ⊎ ((5 ≤ kind) × (kind ≤ 7) ⊎ (kind ≡ 9)) × (IsInit name ⊎ IsClinit name)
 
--- a handle refers to a method whose name does not fit its kind (JVMS 4.4.8)
+-- a handle refers to a constant that fits its kind, but the name of the method does not (JVMS 4.4.8)
 abbrev pub BreaksF9 : ClassFile → Constant → Type 0
 BreaksF9 c (MethodHandle kind reference) =
     (entry : Constant) × IsEntry c reference entry × (FitsHandle c.major kind entry × RefersTo c (IsNameAmiss kind) entry)
@@ -174,15 +175,16 @@ abbrev pub BreaksF10 : ClassFile → Constant → Type 0
 BreaksF10 c (MethodTypeEntry descriptor) = HasText c (λ text. ¬ IsMethodDescriptor text) descriptor
 BreaksF10 c constant = ⊥
 
--- the number is below the count at the front of the attribute
+-- the attribute has the two bytes of num_bootstrap_methods, and the number is below their value (JVMS 4.7.23)
 abbrev pub Tells : Attribute → ℕ → Type 0
 Tells a number = (2 ≤ length a.bytes) × (number < big_number 2 a.bytes)
 
--- there is one BootstrapMethods attribute, and the number is below its count (JVMS 4.7.23)
+-- there is exactly one BootstrapMethods attribute, and the number is below its count (JVMS 4.7.23)
 abbrev pub IsBootstrapNumber : ClassFile → ℕ → Type 0
 IsBootstrapNumber c number = (a : Attribute) × (bootstrap_attributes c ≡ a ∷ []) × Tells a number
 
--- the number of the bootstrap method is not that of a method in the only BootstrapMethods attribute (JVMS 4.4.10)
+-- the bootstrap_method_attr_index of an InvokeDynamic is not below the count of the BootstrapMethods attribute, or the
+-- class does not have exactly one such attribute (JVMS 4.4.10, 4.7.23)
 abbrev pub BreaksF11 : ClassFile → Constant → Type 0
 BreaksF11 c (InvokeDynamic bootstrap entry) = ¬ IsBootstrapNumber c bootstrap
 BreaksF11 c constant = ⊥
@@ -203,8 +205,8 @@ BreaksF12 c =
     ⊎ Has c.flags annotation × ¬ IsInterface c
     ⊎ Has c.flags final × Has c.flags abstract
 
--- the superclass is not permitted: only `java/lang/Object` has none, and that of an interface is `java/lang/Object`
--- (JVMS 4.1)
+-- super_class is not permitted: it must be 0 exactly for the class `java/lang/Object`, and else name a class, which for
+-- an interface is `java/lang/Object` (JVMS 4.1)
 abbrev pub BreaksF13 : ClassFile → Type 0
 BreaksF13 c =
     (c.super_class.0 ≡ 0) × (¬ HasClassText c IsObject c.this_class ⊎ IsInterface c)
@@ -223,13 +225,16 @@ argument_kinds =
     kinds.String ∷ kinds.Class ∷ kinds.Integer ∷ kinds.Long ∷ kinds.Float ∷ kinds.Double
     ∷ kinds.MethodHandle ∷ kinds.MethodType ∷ []
 
+-- the constant at the index is of such a kind
 abbrev pub IsArgument : ClassFile → ConstantIndex → Type 0
 IsArgument c index = (entry : Constant) × IsEntry c index entry × Contains argument_kinds (kind_of entry)
 
+-- bootstrap_method_ref names a MethodHandle, and each argument is of such a kind (JVMS 4.7.23)
 abbrev pub IsBootstrap : ClassFile → Bootstrap → Type 0
 IsBootstrap c m = NamesKind c kinds.MethodHandle m.method × All (IsArgument c) m.arguments
 
--- the class has two BootstrapMethods attributes, or one that is not a table of bootstrap methods (JVMS 4.7.23)
+-- the class has more than one BootstrapMethods attribute, or one that is not exactly a table of such bootstrap methods
+-- (JVMS 4.7.23)
 abbrev pub BreaksF27 : ClassFile → Type 0
 BreaksF27 c =
     (2 ≤ length (bootstrap_attributes c))
@@ -238,7 +243,7 @@ BreaksF27 c =
 
 -- ---- members (JVMS 4.5, 4.6)
 
--- the member with this number has the name and the descriptor of an earlier member
+-- F18 and F22: the member with this number has the name and the descriptor of an earlier member (JVMS 4.5, 4.6)
 pub record IsRepeated (c : ClassFile) (members : List Member) (n : ℕ) : Type 0 where
   pub later : Member
   pub is_later : slice_get members n ≡ Some later
@@ -262,15 +267,15 @@ HasTwoAccesses flags =
 
 -- ---- fields (JVMS 4.5)
 
--- the name of a field is not an unqualified name (JVMS 4.5, 4.2.2)
+-- the name of a field is not a Utf8 with an unqualified name (JVMS 4.5, 4.2.2)
 abbrev pub BreaksF15 : ClassFile → Member → Type 0
 BreaksF15 c f = ¬ HasText c IsUnqualifiedName f.name
 
--- the descriptor of a field is not a field descriptor (JVMS 4.5, 4.3.2)
+-- the descriptor of a field is not a Utf8 with a field descriptor (JVMS 4.5, 4.3.2)
 abbrev pub BreaksF16 : ClassFile → Member → Type 0
 BreaksF16 c f = ¬ HasText c IsFieldDescriptor f.descriptor
 
--- a field of an interface may have these flags
+-- a field of an interface may have these flags (JVMS 4.5)
 pub record AreConstantFlags (flags : ℕ) : Type 0 where
   pub is_public : Has flags public
   pub is_static : Has flags static
@@ -296,15 +301,15 @@ initializers =
     ∷ (codes "F", kinds.Float) ∷ (codes "J", kinds.Long) ∷ (codes "D", kinds.Double)
     ∷ (codes "Ljava/lang/String;", kinds.String) ∷ []
 
--- no constant initializes a field with this descriptor, or the two bytes of the attribute name a constant of another
--- kind or none
+-- no kind of constant initializes a field with this descriptor, or the attribute has two bytes and its index names no
+-- constant of that kind
 abbrev pub Misfits : ClassFile → List ℕ → Attribute → Type 0
 Misfits c descriptor a =
     ((kind : ConstantKind) → ¬ Contains initializers (descriptor, kind))
     ⊎ (kind : ConstantKind) × Contains initializers (descriptor, kind)
     × ((length a.bytes ≡ 2) × ¬ NamesKind c kind (index_value a.bytes))
 
--- a static field has two ConstantValue attributes, or one that does not fit its type (JVMS 4.7.2)
+-- a static field has more than one ConstantValue attribute, or one that does not fit its type (JVMS 4.7.2)
 abbrev pub BreaksF25 : ClassFile → Member → Type 0
 BreaksF25 c f =
     Has f.flags static
@@ -313,19 +318,20 @@ BreaksF25 c f =
 
 -- ---- methods (JVMS 4.6)
 
--- the name of a method is not a method name (JVMS 4.6, 4.2.2)
+-- the name of a method is not a Utf8 with a method name (JVMS 4.6, 4.2.2)
 abbrev pub BreaksF19 : ClassFile → Member → Type 0
 BreaksF19 c m = ¬ HasText c IsMethodName m.name
 
--- the parameters take at most 255 slots, with the receiver of an instance method (JVMS 4.3.3)
+-- the parameters and the receiver of an instance method take at most 255 slots together; for a static method IsMethod
+-- has the bound (JVMS 4.3.3)
 abbrev pub FitsSlots : Member → MethodType → Type 0
 FitsSlots m type = Has m.flags static ⊎ (sum_by slots_of type.params < 255)
 
--- the descriptor of a method is not a method descriptor, or its parameters take too many slots (JVMS 4.6, 4.3.3)
+-- the descriptor of a method is not a Utf8 with a method descriptor, or takes too many slots (JVMS 4.6, 4.3.3)
 abbrev pub BreaksF20 : ClassFile → Member → Type 0
 BreaksF20 c m = ¬ HasText c (λ text. (type : MethodType) × IsMethod text type × FitsSlots m type) m.descriptor
 
--- an abstract method must not have one of these flags
+-- a flag is set that an abstract method must not have (JVMS 4.6)
 abbrev pub HasMoreThanAbstract : ℕ → Type 0
 HasMoreThanAbstract flags =
     Has flags private ⊎ Has flags static ⊎ Has flags final ⊎ Has flags synchronized
@@ -335,20 +341,20 @@ HasMoreThanAbstract flags =
 abbrev pub HasOneOf : ℕ → ℕ → ℕ → Type 0
 HasOneOf flags a b = (Has flags a ⊎ Has flags b) × ¬ (Has flags a × Has flags b)
 
--- a method of an interface must not have these flags; they depend on the version
+-- a method of an interface must not have these flags in a file of this version (JVMS 4.6)
 abbrev pub AreBadInterfaceFlags : ℕ → ℕ → Type 0
 AreBadInterfaceFlags major flags =
     Has flags protected ⊎ Has flags final ⊎ Has flags synchronized ⊎ Has flags native
     ⊎ (major < 52) × ¬ (Has flags public × Has flags abstract)
     ⊎ (52 ≤ major) × ¬ HasOneOf flags public private
 
--- a constructor must not have one of these flags
+-- a flag is set that a constructor must not have (JVMS 4.6)
 abbrev pub HasMoreThanConstructor : ℕ → Type 0
 HasMoreThanConstructor flags =
     Has flags static ⊎ Has flags final ⊎ Has flags synchronized ⊎ Has flags bridge
     ⊎ Has flags native ⊎ Has flags abstract
 
--- the flags of a method are not a permitted combination; those of `<clinit>` have no meaning (JVMS 4.6)
+-- the flags of a method other than `<clinit>`, whose flags are ignored, are not a permitted combination (JVMS 4.6)
 abbrev pub BreaksF21 : ClassFile → Member → Type 0
 BreaksF21 c m =
     ¬ HasText c IsClinit m.name
@@ -361,7 +367,7 @@ BreaksF21 c m =
 abbrev pub IsBodiless : ClassFile → Member → Type 0
 IsBodiless c m = (Has m.flags native ⊎ Has m.flags abstract) × ¬ HasText c IsClinit m.name
 
--- a method that must have one Code has none or several, or a method that must have none has one (JVMS 4.7.3)
+-- a bodiless method has a Code, or another method does not have exactly one (JVMS 4.7.3)
 abbrev pub BreaksF23 : ClassFile → Member → Type 0
 BreaksF23 c m = IsBodiless c m × (0 < length (codes_of c m)) ⊎ ¬ IsBodiless c m × (length (codes_of c m) ≢ 1)
 
@@ -369,7 +375,7 @@ BreaksF23 c m = IsBodiless c m × (0 < length (codes_of c m)) ⊎ ¬ IsBodiless 
 abbrev pub BreaksF24 : ClassFile → Member → Type 0
 BreaksF24 c m = (a : Attribute) × Contains (codes_of c m) a × ((k : Code) → ¬ IsCodeOf a.bytes k)
 
--- a method has two Exceptions attributes, or one that is not a list of classes (JVMS 4.7.5)
+-- a method has more than one Exceptions attribute, or one that is not exactly a table of Class indexes (JVMS 4.7.5)
 abbrev pub BreaksF26 : ClassFile → Member → Type 0
 BreaksF26 c m =
     (2 ≤ length (exceptions_of c m))
@@ -408,7 +414,8 @@ BreaksF29 c a =
 abbrev pub IsSized : ClassFile → AttributeKind → ℕ → PlacedAttribute → Type 0
 IsSized c kind len a = IsRecognised c kind a.holder a.attribute × (length a.attribute.bytes ≡ len)
 
--- an index in an attribute does not name a constant of the right kind (JVMS 4.7.7, 4.7.9, 4.7.10)
+-- an index in a SourceFile, a Signature or an EnclosingMethod of the fixed length names no constant of the right kind;
+-- method_index may be 0 (JVMS 4.7.7, 4.7.9, 4.7.10)
 abbrev pub BreaksF30 : ClassFile → PlacedAttribute → Type 0
 BreaksF30 c a =
     (IsSized c attributes.SourceFile 2 a ⊎ IsSized c attributes.Signature 2 a) × ¬ NamesKind c kinds.Utf8 (first_index a)
@@ -430,13 +437,13 @@ AtNumber {X} Breaks xs n = (x : X) × (slice_get xs n ≡ Some x) × Breaks x
 abbrev pub outer_attributes : ClassFile → List PlacedAttribute
 outer_attributes c = flat_map member_attributes (fields_in c) ++ flat_map member_attributes (methods_in c) ++ attributes_in c
 
--- the attribute is inside the Code that `outer` is
+-- `outer` is a well-formed Code of a method, and the attribute is in its table of attributes (JVMS 4.7.3)
 abbrev pub IsInside : ClassFile → PlacedAttribute → PlacedAttribute → Type 0
 IsInside c outer a =
     IsRecognised c attributes.Code outer.holder outer.attribute
     × (k : Code) × IsCodeOf outer.attribute.bytes k × Contains (code_attributes outer k) a
 
--- an attribute of the class file: one of the attributes above, or one inside a Code
+-- an attribute of a field, of a method or of the class, or one inside a well-formed Code
 abbrev pub IsAttributeOf : ClassFile → PlacedAttribute → Type 0
 IsAttributeOf c a =
     Contains (outer_attributes c) a
@@ -448,6 +455,8 @@ AtAttribute Breaks c place = (a : PlacedAttribute) × IsAttributeOf c a × (a.pl
 
 -- ---- the rules
 
+-- The rule is broken at this place. The place is the index of a constant, the number of a superinterface, field or
+-- method from 0, or the offset of an attribute in the file. A rule about the class has the place 0.
 abbrev pub Violates : FormatRule → ClassFile → ℕ → Type 0
 Violates rules.F1 c k = AtConstant (BreaksF1 c) c k
 Violates rules.F2 c k = AtConstant (BreaksF2 c) c k

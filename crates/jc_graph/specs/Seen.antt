@@ -11,7 +11,7 @@ flag_at flags v = slice_index_or flags v false
 abbrev pub node_at : List ℕ → ℕ → ℕ
 node_at nodes i = slice_index_or nodes i 0
 
--- each node whose flag is set is in the list
+-- the list has only nodes, and each node whose flag is set
 pub record IsListed (flags : List Bool) (list : List ℕ) : Type 0 where
   pub nodes : All (λ v. v < length flags) list
   pub listed : (v : ℕ) → flag_at flags v ≡ true → Contains list v

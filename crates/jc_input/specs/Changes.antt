@@ -18,10 +18,12 @@ pub data PrefixChange : Type 0 where
   AddsPrefix : (prefix : List ℕ) → PrefixChange
   DropsPrefix : (prefix : List ℕ) → PrefixChange
 
+-- an edit of a session
 pub data EditChange : Type 0 where
   OfFiles : Change → EditChange
   OfPrefixes : PrefixChange → EditChange
 
+-- an edit that owns its path, bytes or prefix, as data
 abbrev pub change_of : Edit → EditChange
 change_of (edits.Add path bytes) = OfFiles (Adds path.items bytes.items)
 change_of (edits.Replace path bytes) = OfFiles (Replaces path.items bytes.items)

@@ -6,18 +6,23 @@ use Rattle.jc_input.specs.Changes.{Change, Adds, Replaces, Removes}
 use Rattle.jc_input.specs.declared.edit.EditError.{EditError}
 use Rattle.jc_input.specs.declared.edit.EditError.TheVariants as errors
 
+-- a path that is empty or over 4,096 bytes is refused
 abbrev pub path_refusal : List ℕ → Option EditError
 path_refusal path = if length path == 0 || nat_lt 4096 (length path) then Some errors.BadPath else None
 
+-- a file over 16,777,216 bytes (16 MiB) is refused
 abbrev pub size_refusal : List ℕ → Option EditError
 size_refusal bytes = if nat_lt 16777216 (length bytes) then Some errors.TooLarge else None
 
+-- a file that is there cannot be added
 abbrev pub there_refusal : Files → List ℕ → Option EditError
 there_refusal f path = if map.contains_key f path then Some errors.AlreadyThere else None
 
+-- a file that is not there cannot be replaced or removed
 abbrev pub missing_fault : Files → List ℕ → Option EditError
 missing_fault f path = if map.contains_key f path then None else Some errors.NoSuchFile
 
+-- a file can be added only to fewer than 65,535
 abbrev pub room_beside : ℕ → Option EditError
 room_beside count = if nat_lt count 65535 then None else Some errors.TooMany
 

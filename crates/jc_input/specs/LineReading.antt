@@ -9,7 +9,7 @@ is_line_feed byte = byte == 10
 abbrev pub LacksFeed : List ℕ → Type 0
 LacksFeed xs = list_any is_line_feed xs ≡ false
 
--- the bytes of a line that are kept
+-- the bytes of a line that are kept: at most 8,193, since a line over 8,192 bytes is bad
 abbrev pub kept_of : List ℕ → List ℕ
 kept_of line = take 8193 line
 
@@ -17,14 +17,15 @@ kept_of line = take 8193 line
 abbrev pub bytes_left : List ℕ → Option (List ℕ) → Option (List ℕ)
 bytes_left held coming = prepend_known held coming
 
--- the first line was taken from the bytes that were left: up to an LF, or all of them if there is no LF
+-- the first line was taken from the bytes that were left, if known: a whole line up to its LF, or all bytes if there is
+-- no LF
 abbrev pub TakesLine : Option (List ℕ) → Bool → (kept : List ℕ) → Option (List ℕ) → Type 0
 TakesLine None is_whole kept new = ⊤
 TakesLine (Some old) is_whole kept None = ⊥
 TakesLine (Some old) true kept (Some new) = (line : List ℕ) × LacksFeed line × (old ≡ line ++ 10 ∷ new) × (kept ≡ kept_of line)
 TakesLine (Some old) false kept (Some new) = LacksFeed old × (new ≡ []) × (kept ≡ kept_of old)
 
--- the beginning of a line was taken
+-- bytes of the next line were taken, perhaps none, but not its LF
 abbrev pub LosesPart : Option (List ℕ) → Option (List ℕ) → Type 0
 LosesPart None new = ⊤
 LosesPart (Some old) None = ⊥

@@ -3,6 +3,7 @@ use Rattle.std.specs.Prelude.{ℕ, ◌==◌, nat_eq, nat_lt, List, [], ◌∷◌
 use Rattle.std.specs.List.{starts_with}
 use Rattle.jc_base.specs.Bytes.{same_bytes}
 
+-- a byte before the first line; without lines it is the only line
 abbrev pub onto_first : ℕ → List (List ℕ) → List (List ℕ)
 onto_first x [] = (x ∷ []) ∷ []
 onto_first x (line ∷ lines) = (x ∷ line) ∷ lines
@@ -17,6 +18,7 @@ abbrev pub onto_whole : ℕ → List (List ℕ) → List (List ℕ)
 onto_whole x [] = []
 onto_whole x (line ∷ lines) = (x ∷ line) ∷ lines
 
+-- the lines of an input that end with an LF, without it
 abbrev pub whole_lines : List ℕ → List (List ℕ)
 whole_lines [] = []
 whole_lines (x ∷ input) = if x == 10 then [] ∷ whole_lines input else onto_whole x (whole_lines input)
@@ -38,7 +40,8 @@ pub data Command : Type 0 where
 abbrev pub begins_with_word : List ℕ → List ℕ → Bool
 begins_with_word word line = starts_with nat_eq line word
 
--- The path, the prefix or the name is all that follows the command and a space. A line over 8,192 bytes is bad.
+-- The path, the prefix or the name is all that follows the command and a space. A line that is no command is bad, and
+-- so is a line over 8,192 bytes.
 abbrev pub command_of : List ℕ → Command
 command_of line =
     if nat_lt 8192 (length line) then Bad

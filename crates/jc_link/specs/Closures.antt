@@ -13,7 +13,8 @@ pub record Closure : Type 0 where
   pub names : List Name
   pub graph : ClassGraph
 
--- the closure is that of the class d in the world m
+-- the names are the reach of the class d in the world m, and the graph has only this class and says what its names are
+-- in m
 pub record IsClosure (m : World) (d : Name) (c : Closure) : Type 0 where
   pub names : Lists c.names (Reach m d)
   pub class : c.graph.classes ≡ d ∷ []

@@ -7,9 +7,9 @@ use Rattle.jc_classes.specs.Numbers.{IsOnce}
 use Rattle.jc_classes.specs.Parts.{Reach}
 use Rattle.jc_classes.specs.Worlds.{Stands, World}
 
--- some classes, distinct names, and what each name is
+-- some classes, some names, and what each of these names is
 pub record ClassGraph : Type 0 where
-  -- in the order in which they were given; each is one of the names
+  -- in the order in which they were given
   pub classes : List Name
   pub names : List Name
   pub stands : List Stands
@@ -22,8 +22,8 @@ IsIn m g = g.stands ≡ map m g.names
 abbrev pub IsReached : World → (classes : List Name) → Name → Type 0
 IsReached m classes x = (d : Name) × Contains classes d × Reach m d x
 
--- the graph is that of its classes in the world m: its names are those that its classes reach. Without a class it may
--- have other names
+-- the graph is that of its classes in the world m: its names are those that its classes reach, each once. Without a
+-- class it may have other names
 pub record IsAround (m : World) (g : ClassGraph) : Type 0 where
   pub stands : IsIn m g
   pub once : IsOnce g.names

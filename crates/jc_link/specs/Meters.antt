@@ -1,7 +1,7 @@
 -- The counts of a meter.
 use Rattle.std.specs.Prelude.{ℕ, ◌+◌, ◌-◌, ◌^◌, min}
 
--- a count after n more; it stops at its greatest value
+-- a count after n more; it stops at 2^64 - 1
 abbrev pub counted : ℕ → ℕ → ℕ
 counted old n = min (old + n) (2 ^ 64 - 1)
 

@@ -7,13 +7,15 @@ use Rattle.jc_classes.specs.Names.{Name, same_name}
 use Rattle.jc_link.specs.declared.outside.OutsideError.{OutsideError}
 use Rattle.jc_link.specs.declared.outside.OutsideError.TheVariants.{BadPrefix, NoMemory, TooManyPrefixes}
 
+-- the outside prefixes if the user gives none
 abbrev pub standard_prefixes : List (List ℕ)
 standard_prefixes = codes "java/" ∷ codes "javax/" ∷ []
 
+-- the prefix does not have 1 to 256 bytes
 abbrev pub is_bad_prefix : List ℕ → Bool
 is_bad_prefix prefix = length prefix == 0 || nat_lt 256 (length prefix)
 
--- the first error that applies to prefixes
+-- the first error that applies to prefixes: one of them is bad, or there are more than 64
 abbrev pub prefixes_fault : List (List ℕ) → Option OutsideError
 prefixes_fault prefixes =
     if list_any is_bad_prefix prefixes then Some BadPrefix
@@ -32,10 +34,11 @@ HasFault prefixes fault = prefixes_fault (map (λ p. p.now) prefixes) ≡ Some f
 abbrev pub holds : List Name → Name → Bool
 holds prefixes prefix = list_any (same_name prefix) prefixes
 
--- the prefixes without one of them, and the prefixes with one at the end
+-- the prefixes without this one
 abbrev pub without : List Name → Name → List Name
 without prefixes prefix = filter (λ p. not (same_name p prefix)) prefixes
 
+-- the prefixes with this one at the end, and at no other place
 abbrev pub with_one : List Name → Name → List Name
 with_one prefixes prefix = without prefixes prefix ++ prefix ∷ []
 

@@ -1,4 +1,4 @@
--- The laws of `laws.rt`.
+-- The laws of `laws.rt`: what a change of a table or of the outside prefixes does to the world.
 use Rattle.std.specs.Prelude.{◌≡◌, Bool, false, cond, List, Option, None}
 use Rattle.std.specs.FinMap as map
 use Rattle.jc_classes.specs.Facts.{Facts}

@@ -45,6 +45,6 @@ abbrev pub stands_by : Option Facts → Bool → Stands
 stands_by (Some facts) outside = stands.Class facts
 stands_by None outside = cond outside stands.Outside stands.Absent
 
--- what each name is: a class if it has facts, or else outside if it begins with a prefix
+-- what each name is: a class if it has facts, else outside if it begins with a prefix, else absent
 abbrev pub world : Places → List Name → World
 world places prefixes name = stands_by (class_found places name) (is_covered prefixes name)

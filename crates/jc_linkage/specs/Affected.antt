@@ -23,7 +23,7 @@ pub record Enumerates (names : List Name) (P : Name → Type 0) : Type 0 where
 abbrev pub IsAffected : (given : Name → Bool) → World → (touched : Name → Bool) → Name → Type 0
 IsAffected given m touched d = (given d ≡ true) × Hits touched m d
 
--- the reaches of these classes, in order
+-- the names of the reach of each class, in the order of the classes
 abbrev pub AreReaches : World → List Name → List (List Name) → Type 0
 AreReaches m [] [] = Unit {0}
 AreReaches m (d ∷ ds) (r ∷ rs) = Lists r (Reach m d) × AreReaches m ds rs

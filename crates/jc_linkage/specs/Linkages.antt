@@ -13,6 +13,7 @@ use Rattle.jc_report.specs.Rows.{AreRows, Row}
 use Rattle.jc_linkage.specs.Affected.{IsCounted, counts_of}
 use Rattle.jc_linkage.specs.Switches.{switches}
 
+-- the classes that files give, by name, and the outside prefixes
 pub record Linkage : Type 0 where
   pub classes : Places
   pub prefixes : List Name
@@ -29,19 +30,19 @@ pub record IsHeldClass (a : Linkage) (c : Class) : Type 0 where
   pub facts : class_at a.classes (name_of c) ≡ Some c.facts
   pub part : IsPart (world_held a) (name_of c) c.part
 
--- the classes that files give, sorted by name
+-- the classes that files give, with their parts, sorted by name
 pub record AreHeldClasses (a : Linkage) (classes : List Class) : Type 0 where
   pub rises : IsStrictlySortedBy name_cmp (map name_of classes)
   pub sound : All (IsHeldClass a) classes
   pub complete : (name : Name) (c : Facts) → class_at a.classes name ≡ Some c → Contains (map name_of classes) name
 
--- the rows of all classes by these rules, sorted
+-- the rows that `rows_by` has for the classes that files give, sorted, each once
 abbrev pub AreRowsHeld : (Facts → Part → List Row) → Linkage → List Row → Type 0
 AreRowsHeld rows_by a rows = (classes : List Class) → AreHeldClasses a classes → AreRows rows (GivesRow rows_by classes)
 
 -- ---- the cost of an edit
 
--- the name has the same class before and after, and does not become outside or inside
+-- the name has the same class before and after, and does not become outside or stop being outside
 abbrev pub IsSameAt : (old new : Linkage) → Name → Type 0
 IsSameAt old new n = (class_at old.classes n ≡ class_at new.classes n) × (switches new.classes old.prefixes new.prefixes n ≡ false)
 

@@ -13,6 +13,7 @@ abbrev pub step_name : Step → Name
 step_name (Put f) = f.name
 step_name (Remove name) = name.items
 
+-- the class of the name after the step, or None if the step removes it
 abbrev pub step_class : Step → Option Facts
 step_class (Put f) = Some f
 step_class (Remove name) = None
@@ -22,6 +23,7 @@ is_step s n = same_name n (step_name s)
 
 -- ---- a step, and a class that is put after it
 
+-- whether there is a class, and it has the name
 abbrev pub is_class : Option Facts → Name → Bool
 is_class None n = false
 is_class (Some f) n = same_name n f.name

@@ -36,7 +36,7 @@ signature_text kind text = if is_signature kind text then shown text else codes 
 abbrev pub is : ClassFile → AttributeKind → PlacedAttribute → Bool
 is c kind a = is_recognised c kind a.holder a.attribute
 
--- the entry of a SourceFile, a Signature or a ConstantValue
+-- the text that a SourceFile or a Signature refers to, or the index in a ConstantValue
 abbrev pub entry_text : ClassFile → PlacedAttribute → List ℕ
 entry_text c a =
     if is c kinds.SourceFile a then codes " " ++ shown_text (utf8_at c (first_index a))
@@ -45,6 +45,7 @@ entry_text c a =
     else if is c kinds.ConstantValue a then codes " " ++ index_text (first_index a)
     else []
 
+-- the name and the length of an attribute, and after them its entry if the length is 2
 abbrev pub attribute_line : ClassFile → List ℕ → PlacedAttribute → List ℕ
 attribute_line c indent a =
     indent ++ codes "attribute " ++ shown_text (utf8_at c a.attribute.name) ++ codes " " ++ decimal (length a.attribute.bytes)
@@ -61,6 +62,7 @@ code_line k =
 abbrev pub cut_line : Code → List ℕ
 cut_line k = if end_of k.code == length k.code then [] else codes "    cut " ++ decimal (end_of k.code) ++ codes "\n"
 
+-- the class that a handler catches, or `any` if it catches all exceptions (JVMS 4.7.3)
 abbrev pub catch_text : ClassFile → ConstantIndex → List ℕ
 catch_text c index = if index.0 == 0 then codes "any" else index_with_reference c index
 
@@ -76,5 +78,6 @@ code_lines c a k =
 
 -- ---- an attribute
 
+-- the lines of a well-formed Code of a method, or the line of another attribute
 abbrev pub attribute_lines : ClassFile → List ℕ → PlacedAttribute → List ℕ
 attribute_lines c indent a = option_map_or (code_lines c a) (code_of c a) (attribute_line c indent a)

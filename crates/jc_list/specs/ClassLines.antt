@@ -24,7 +24,7 @@ super_line c = codes "super " ++ super_text c ++ codes "\n"
 abbrev pub interface_line : ClassFile → ConstantIndex → List ℕ
 interface_line c index = codes "interface " ++ shown_text (class_text_at c index) ++ codes "\n"
 
--- the number of indexes of the constants
+-- the number of indexes that the constants take; a Long or a Double takes two (JVMS 4.4.5)
 abbrev pub count_line : ClassFile → List ℕ
 count_line c = codes "constants " ++ decimal (all_slots c.constants) ++ codes "\n"
 

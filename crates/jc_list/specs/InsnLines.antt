@@ -46,7 +46,7 @@ operands_text c (insns.Type opcode index) = codes " " ++ index_with_reference c 
 operands_text c (insns.NewArray element) = blank_decimal element
 operands_text c (insns.MultiNewArray index dimensions) = codes " " ++ index_text index ++ blank_decimal dimensions ++ reference_text c index
 
--- the text before the mnemonic
+-- the text before the mnemonic: `wide` if it modifies the instruction (JVMS 6.5)
 abbrev pub wide_text : Insn → List ℕ
 wide_text (insns.Local opcode index true) = codes "wide "
 wide_text (insns.Increment index amount true) = codes "wide "
@@ -60,7 +60,7 @@ switch_line value target = codes "      " ++ signed_decimal value ++ codes ": " 
 abbrev pub case_line : Case → List ℕ
 case_line case = switch_line case.value case.target
 
--- each value is one more than the value before it
+-- the lines of targets of a tableswitch, the first of which is for this value; each next value is one more
 abbrev pub target_lines : ℤ → List ℤ → List ℕ
 target_lines value [] = []
 target_lines value (target ∷ targets) = switch_line value target ++ target_lines (value +ℤ pos 1) targets

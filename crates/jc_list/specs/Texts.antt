@@ -25,7 +25,7 @@ index_text index = codes "#" ++ decimal index.0
 abbrev pub flag_text : ℕ → AccessFlag → List ℕ
 flag_text bits flag = if has bits (mask_of flag) then codes " " ++ flag_name flag else []
 
--- all bits, and the names of the flags that are set and have a meaning
+-- all bits in hexadecimal, and the names of the given flags that are set
 abbrev pub flags_text : List AccessFlag → ℕ → List ℕ
 flags_text flags bits = codes "0x" ++ hexadecimal (to_be_bytes w16 bits) ++ flat_map (flag_text bits) flags
 

@@ -18,7 +18,7 @@ use Rattle.jc_report.specs.Rows.{Row}
 
 -- ---- what a class provides
 
--- a member is PUBLIC or PROTECTED, so other packages have access to it (JVMS 5.4.4)
+-- a member is PUBLIC or PROTECTED, so classes of other packages may have access to it (JVMS 5.4.4)
 abbrev pub is_open : Member → Bool
 is_open m = has m.flags public || has m.flags protected
 
@@ -48,6 +48,7 @@ provided_rows f p = if is_loaded p.load && has f.flags public then open_rows f e
 
 -- ---- what a class requires
 
+-- look-up found no class, no field or no method (JVMS 5.4.3)
 abbrev pub is_missing : LinkageError → Bool
 is_missing errors.NoClass = true
 is_missing errors.Format = false
@@ -74,6 +75,6 @@ rows_required [] answers = []
 rows_required (r ∷ rs) [] = []
 rows_required (r ∷ rs) (a ∷ answers) = if is_required a then reference_row r ∷ rows_required rs answers else rows_required rs answers
 
--- a class that does not load requires nothing: its references are not resolved
+-- the rows of the required references; a class that does not load has none, because all its answers are NotLoaded
 abbrev pub required_rows : Facts → Part → List Row
 required_rows f p = rows_required f.references p.answers

@@ -160,7 +160,7 @@ answered_text f r u a =
 abbrev pub answer_error : (used_only : Bool) → Facts → Reference → User → Answer → List ℕ
 answer_error used_only f r u a = cond (is_listed used_only u a) (answered_text f r u a) []
 
--- the lines of references that do not resolve; the first of these references has this number
+-- the lines of the listed errors among the answers to these references, the first of which has this number
 abbrev pub answer_errors : (used_only : Bool) → Facts → ℕ → List Reference → List Answer → List ℕ
 answer_errors used_only f number [] answers = []
 answer_errors used_only f number (r ∷ rs) [] = []
@@ -207,12 +207,13 @@ abbrev pub has_listed_error : (used_only : Bool) → Facts → ℕ → List Answ
 has_listed_error used_only f number [] = false
 has_listed_error used_only f number (a ∷ answers) = is_listed used_only (user_at f number) a || has_listed_error used_only f (number + 1) answers
 
+-- the class has a fault, does not load, or has an instruction that does not link or an answer that is a listed error
 abbrev pub is_wrong_listed : (used_only : Bool) → Facts → Part → Bool
 is_wrong_listed used_only f p =
     not (length p.format_faults == 0) || not (length p.code_faults == 0) || is_load_error p.load
     || not (length p.links == 0) || has_listed_error used_only f 0 p.answers
 
--- the class is asked for, and has a fault or a listed error
+-- the class is asked for, and is wrong in one of these ways
 abbrev pub is_wrong_class : Asked → Class → Bool
 is_wrong_class asked c = is_asked asked (name_of c) && is_wrong_listed asked.used_only c.facts c.part
 
@@ -226,6 +227,6 @@ has_inheritance_error asked [] es = false
 has_inheritance_error asked (c ∷ cs) [] = false
 has_inheritance_error asked (c ∷ cs) (e ∷ es) = (is_asked asked (name_of c) && is_any e) || has_inheritance_error asked cs es
 
--- whether a file or a class that is asked for is wrong or has such an error
+-- whether a file or a class that is asked for is wrong, or such a class has an error of inheritance
 abbrev pub has_error_among : Asked → TreeErrors → Bool
 has_error_among asked e = is_wrong_among asked e.report || has_inheritance_error asked e.report.classes e.inheritance
