@@ -123,7 +123,7 @@ impl Facts {
         self.texts.as_ref().text(self.name as usize)
     }
 
-    /// Returns the access flags of the class (JVMS 4.1, table 4.1-B).
+    /// Returns the access flags of the class (JVMS 4.1).
     pub fn flags(&self) -> u16
         ensures { result ≡ self.now.flags }
     {

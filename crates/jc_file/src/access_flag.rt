@@ -1,4 +1,4 @@
-//! Access flags and their names (JVMS 4.1, table 4.1-B; 4.5, table 4.5-A; 4.6, table 4.6-A).
+//! Access flags and their names (JVMS 4.1; 4.5, table 4.5-A; 4.6, table 4.6-A).
 
 ghost use Rattle.std.specs.Prelude.{◌≡◌};
 ghost use Rattle.jc_file.specs.declared.access_flag.TheConstants.AccessFlag.{OF_CLASS, OF_FIELD, OF_METHOD};

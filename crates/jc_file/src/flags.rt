@@ -1,4 +1,4 @@
-//! The bits of access flags (JVMS 4.1, table 4.1-B; 4.5, table 4.5-A; 4.6, table 4.6-A).
+//! The bits of access flags (JVMS 4.1; 4.5, table 4.5-A; 4.6, table 4.6-A).
 
 ghost use Rattle.std.specs.Prelude.{◌≡◌};
 ghost use Rattle.jc_file.specs.AccessFlags.{has, has_two_accesses};

@@ -28,7 +28,7 @@ use jc_base::{Cursor, is_class_name};
 use std::alloc::Global;
 use std::marker::Model;
 
-/// The version of the format of a class file (JVMS 4.1, table 4.1-A).
+/// The version of the format of a class file (JVMS 4.1).
 #[derive(Clone, Copy)]
 pub struct Version {
     pub major: u16,
@@ -91,7 +91,7 @@ impl<'a> ClassView<'a> {
         self.name
     }
 
-    /// Returns the access flags of the class, including bits that have no meaning (JVMS 4.1, table 4.1-B).
+    /// Returns the access flags of the class, including bits that have no meaning (JVMS 4.1).
     pub fn flags(&self) -> u16
         ensures { result ≡ self.now.flags }
     {
