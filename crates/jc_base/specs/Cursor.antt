@@ -1,7 +1,7 @@
--- Bytes that are read from front to back.
+-- A place in bytes that are read from front to back.
 use Rattle.std.specs.Prelude.{ℕ, ◌+◌, ◌≤◌, List, length, drop}
 
--- the number of bytes that were read, and the bytes that are left
+-- the place of the next byte, and the bytes that are left
 pub record Reading : Type 0 where
   pub place : ℕ
   pub rest : List ℕ

@@ -26,7 +26,7 @@ is_class_type_text b =
 abbrev pub is_element_text : List ℕ → Bool
 is_element_text b = list_any (λ letter. same_bytes b (letter ∷ [])) base_types || is_class_type_text b
 
--- the type that a field descriptor denotes
+-- the type that a text denotes, if it is a field descriptor
 unfoldable pub field_type_of : List ℕ → Option FieldType
 field_type_of b =
     if nat_le (leading_dims b) 255 && is_element_text (drop (leading_dims b) b)
@@ -36,21 +36,22 @@ field_type_of b =
 abbrev pub is_field_text : List ℕ → Bool
 is_field_text b = is_some (field_type_of b)
 
--- the result type that a text denotes: `Some None` for `V`
+-- the result that a text denotes, if it is a return descriptor (JVMS 4.3.3): `Some None` for `V`
 abbrev pub result_of : List ℕ → Option (Option (List ℕ))
 result_of b = if same_bytes b (codes "V") then Some None else (if is_field_text b then Some (Some b) else None)
 
+-- the texts are field descriptors of parameters that take at most 255 slots
 abbrev pub are_params : List (List ℕ) → Bool
 are_params params = list_all is_field_text params && nat_le (sum_by slots_of params) 255
 
--- the method type with these parameters, if the text after them is `)` and a result
+-- the method type with these parameters, if they are valid and the text after them is `)` and a return descriptor
 abbrev pub type_with : List (List ℕ) → List ℕ → Option MethodType
 type_with params behind =
     if are_params params && begins_with 41 behind
     then option_map (λ result. record { params = params; result = result }) (result_of (drop 1 behind))
     else None
 
--- the type that a method descriptor denotes
+-- the type that a text denotes, if it is a method descriptor
 unfoldable pub method_type_of : List ℕ → Option MethodType
 method_type_of b =
     if begins_with 40 b

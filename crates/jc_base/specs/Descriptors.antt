@@ -54,7 +54,8 @@ abbrev pub result_text : Option (List ℕ) → List ℕ
 result_text (Some b) = b
 result_text None = codes "V"
 
--- the text is the descriptor of this method type (JVMS 4.3.3)
+-- the text is the descriptor of this method type (JVMS 4.3.3). The parameters take at most 255 slots, and the slot of
+-- `this` is not counted here
 pub record IsMethod (b : List ℕ) (type : MethodType) : Type 0 where
   pub params : All IsFieldDescriptor type.params
   pub result : IfSome type.result IsFieldDescriptor

@@ -1,5 +1,5 @@
--- The field descriptors at the front of some bytes, delimited by their `[`, letters and `;` (JVMS 4.3.2). Their names
--- are not tested here; `method_type_of` tests them.
+-- The field descriptors at the front of some bytes, delimited by their `[`, letters and `;` (JVMS 4.3.2). Names of
+-- classes are not tested here; `method_type_of` tests them.
 use Rattle.std.specs.Prelude.{ℕ, ◌+◌, ◌==◌, List, [], ◌∷◌, length, take, drop, position}
 use Rattle.std.specs.Prelude.{slice_index, zero, suc, Option, Some, None, if◌then◌else◌}
 use Rattle.std.specs.Option.{option_map, option_map_or}

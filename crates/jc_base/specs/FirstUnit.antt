@@ -7,7 +7,7 @@ infixl 10 ◌>>=◌
 abbrev ◌>>=◌ : {A B : Type 0} → Option A → (A → Option B) → Option B
 o >>= f = option_and_then f o
 
--- low, high and the numbers between them
+-- b is at least low and at most high
 abbrev pub is_between : ℕ → ℕ → ℕ → Bool
 is_between low high b = nat_le low b && nat_le b high
 
@@ -32,7 +32,7 @@ three_byte_unit first bytes = do
   let unit = (first % 16 * 64 + middle) * 64 + low
   if nat_le 0x800 unit then Some unit else None
 
--- the unit at the front, and the number of bytes that encode it
+-- the unit at the front, and the number of bytes that encode it, if a unit is encoded there
 unfoldable pub first_unit : List ℕ → Option (ℕ × ℕ)
 first_unit bytes =
     let first = slice_index bytes 0 in

@@ -11,7 +11,7 @@ pub record InputState : Type 0 where
 abbrev pub mem_allowance : InputState → ℕ
 mem_allowance input = min (length input.remaining) (2 ^ 63 - 1)
 
--- the input ends after its bytes, unless reads fail there
+-- no bytes are left, and reads do not fail
 abbrev pub has_ended : InputState → Bool
 has_ended input = length input.remaining == 0 && not input.fails
 

@@ -1,5 +1,5 @@
--- The names of classes, fields and methods (JVMS 4.2), in modified UTF-8. A character below 0x80 is encoded as its own
--- byte, and that byte occurs in no other encoding.
+-- The names of classes, fields and methods (JVMS 4.2), in modified UTF-8. A character from 0x01 to 0x7f is encoded
+-- as its own byte, and that byte occurs in no other encoding.
 use Rattle.std.specs.Prelude.{◌≡◌, ◌≢◌, ℕ, ◌⊎◌, List, [], All, Contains, codes}
 use Rattle.std.specs.List.{join_with_byte}
 use Rattle.jc_base.specs.ModifiedUtf8.{IsWellSpelled}

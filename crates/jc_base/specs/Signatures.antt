@@ -15,7 +15,7 @@ abbrev pub IsIdentifier : List ℕ → Type 0
 IsIdentifier b = IsWellSpelled b × (b ≢ []) × Lacks b identifier_stops
 
 -- The symbols of the grammar. `Mark` is a character that denotes itself. `Maybe` is [ ] and `Many` is { } in the
--- notation of the standard.
+-- notation of the standard. The names of the standard are longer: `Params` is TypeParameters, for example.
 pub data Symbol : Type 0 where
   Mark : ℕ → Symbol
   Identifier : Symbol
@@ -39,7 +39,8 @@ pub data Symbol : Type 0 where
   Param : Symbol
   Bound : Symbol
 
--- the productions of the grammar
+-- the productions of the grammar. Marks are ASCII codes: 40 is `(`, 41 `)`, 42 `*`, 43 `+`, 45 `-`, 46 `.` and 47 `/`.
+-- Further marks are 58 `:`, 59 `;`, 60 `<`, 62 `>`, 76 `L`, 84 `T`, 86 `V`, 91 `[` and 94 `^`
 pub data Produces : Symbol → List Symbol → Type 0 where
   absent : (s : Symbol) → Produces (Maybe s) []
   present : (s : Symbol) → Produces (Maybe s) (s ∷ [])

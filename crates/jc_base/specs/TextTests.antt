@@ -6,7 +6,7 @@ use Rattle.jc_base.specs.FirstUnit.{first_unit}
 use Rattle.jc_base.specs.Bytes.{same_bytes}
 use Rattle.jc_base.specs.Names.{name_stops, method_name_stops}
 
--- the units of a text, if it has at most n
+-- the code units that a text encodes, if it is modified UTF-8 and has at most n of them
 unfoldable pub units_within : ℕ → List ℕ → Option (List ℕ)
 units_within n [] = Some []
 units_within zero (x ∷ xs) = None
@@ -31,6 +31,6 @@ abbrev pub is_method_name_text : List ℕ → Bool
 is_method_name_text b =
     same_bytes b (codes "<init>") || same_bytes b (codes "<clinit>") || is_unqualified_text b && has_none_of method_name_stops b
 
--- each part between two `/` is an unqualified name
+-- each of the parts that `/` separates is an unqualified name
 abbrev pub is_class_text : List ℕ → Bool
 is_class_text b = list_all is_unqualified_text (slice_split (λ c. c == 47) b)

@@ -1,4 +1,4 @@
--- Access to classes and members (JVMS 5.4.4).
+-- Access to members (JVMS 5.4.4). Access to classes is in `Loading`.
 use Rattle.std.specs.Prelude.{◌≡◌, ◌⊎◌, ◌||◌, ◌&&◌, not, Bool, true, codes}
 use Rattle.jc_classes.specs.Facts.{Member, Named}
 use Rattle.jc_classes.specs.Names.{Name, same_name, object, package_of}
@@ -10,7 +10,7 @@ use Rattle.jc_classes.specs.Facts.Named.{Class, Array}
 abbrev pub IsWithin : World → Name → Name → Type 0
 IsWithin m d c = Extends m d c ⊎ (c ≡ object)
 
--- the method `clone` of java/lang/Object counts as PUBLIC if the reference names an array
+-- the method `clone` of java/lang/Object counts as PUBLIC if the reference names an array (JLS 10.7)
 abbrev pub is_array_clone : Bool → Found → Bool
 is_array_clone is_array f =
     is_array
@@ -25,7 +25,7 @@ abbrev pub IsRelated : World → Named → Name → Type 0
 IsRelated m (Class t) d = IsWithin m t d ⊎ IsWithin m d t
 IsRelated m (Array t e) d = d ≡ object
 
--- a class d may use a member that it refers to through t
+-- the member f is accessible to the class d, whose reference to it names t (5.4.4)
 pub data CanUse (m : World) (d : Name) (t : Named) (f : Found) : Type 0 where
   open_to_all : (has f.member.flags public || is_array_clone (is_array t) f) ≡ true → CanUse m d t f
   inherited : has f.member.flags protected ≡ true → IsWithin m d f.home

@@ -1,4 +1,5 @@
--- The built-in java/lang/Object, the class of this name if no file gives one. It has the PUBLIC and PROTECTED methods.
+-- The built-in java/lang/Object, which is the class of this name if no file gives one. It has the PUBLIC and PROTECTED
+-- methods of the standard library's class. No method is FINAL here.
 use Rattle.std.specs.Prelude.{ℕ, List, [], ◌∷◌, None, codes}
 use Rattle.jc_file.specs.AccessFlags.{public, protected}
 use Rattle.jc_classes.specs.Names.{object}

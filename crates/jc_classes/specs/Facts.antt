@@ -58,7 +58,7 @@ pub record Facts : Type 0 where
   pub methods : List Member
   -- in ascending order of index
   pub references : List Reference
-  -- by method, then by offset
+  -- how instructions use references, by method, then by offset
   pub uses : List MethodUse
   -- what uses each reference, in the order of the references
   pub users : List User

@@ -47,11 +47,11 @@ reference_of c index constant = None
 abbrev pub reference_at : ClassFile → ℕ → Option Reference
 reference_at c index = option_and_then (reference_of c index) (constant_at c (record { 0 = index }))
 
--- in ascending order of index
+-- the references of the class file, in ascending order of index
 unfoldable pub references_in : ClassFile → List Reference
 references_in c = flat_map (λ index. option_to_list (reference_at c index)) (range_with_len 1 (all_slots c.constants))
 
--- what uses each reference
+-- what uses each reference, in the order of the references
 unfoldable pub users_in : ClassFile → List User
 users_in c = map (λ (r : Reference). user_of c r.index) (references_in c)
 
@@ -79,6 +79,7 @@ class_name c = option_map_or (λ name. name) (class_text_at c c.this_class) []
 
 -- ---- facts
 
+-- the facts of a file without a format fault
 abbrev pub sound_facts : List ℕ → ClassFile → Facts
 sound_facts path c = record {
   path = path;

@@ -9,14 +9,14 @@ use Rattle.jc_classes.specs.Facts.{Member, Key}
 abbrev pub onward : Stands → List Name
 onward r = interfaces_of r ++ option_to_list (superclass_of r)
 
--- what look-up of a field finds in a class, and what it finds in several classes, of which the first with the field
--- decides
 mutual
+  -- what look-up of a field finds from a class: its own field, or else what is found from the names in `onward`
   pub data FindsField (m : World) (k : Key) : Name → Option Found → Type 0 where
     own : {c : Name} {x : Member} → member (fields_of (m c)) k ≡ Some x → FindsField m k c (Some (record { home = c; member = x }))
     inherited : {c : Name} {a : Option Found} → member (fields_of (m c)) k ≡ None → FindsFirst m k (onward (m c)) a
         → FindsField m k c a
 
+  -- what look-up of a field finds from several names, in their order; the first from which a field is found decides
   pub data FindsFirst (m : World) (k : Key) : List Name → Option Found → Type 0 where
     nowhere : FindsFirst m k [] None
     here : {s : Name} {more : List Name} {f : Found} → FindsField m k s (Some f) → FindsFirst m k (s ∷ more) (Some f)

@@ -31,7 +31,8 @@ pub data AreOverridden (m : World) (c : Name) : List Key → List Inherited → 
   passes : {k : Key} {ks : List Key} {more : List Inherited} → ((a : Name) → IsFinalAbove m k c a → ⊥)
       → AreOverridden m c ks more → AreOverridden m c (k ∷ ks) more
 
--- the errors of a class that loads; its methods are in the order of their names and descriptors
+-- the errors of a class that loads: whether its superclass is FINAL, and the FINAL methods that its methods override,
+-- in the order of names and descriptors
 pub record AreErrors (m : World) (c : Name) (e : InheritanceErrors) : Type 0 where
   pub extends_final : Decides e.extends_final (ExtendsFinal m c)
   pub order : List ℕ
@@ -44,5 +45,6 @@ AreErrorsOf m c loading.Loaded e = AreErrors m c e
 AreErrorsOf m c loading.Outside e = e ≡ no_errors
 AreErrorsOf m c (loading.Fails error fault) e = e ≡ no_errors
 
+-- the errors of inheritance of the class c
 abbrev pub IsInheritance : World → (c : Name) → InheritanceErrors → Type 0
 IsInheritance m c e = (l : Loading) → Load m c l → AreErrorsOf m c l e

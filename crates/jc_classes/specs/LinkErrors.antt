@@ -31,11 +31,13 @@ ErrorAt = LinkageError × Name
 abbrev pub line : Bool → LinkageError → Name → Option ErrorAt → Option ErrorAt
 line applies error class behind = if applies then Some (error, class) else behind
 
--- the member is STATIC where an instance member is required, or the reverse
+-- Incompatible if the condition applies: the member is STATIC where it must not be, or the reverse. For invokeinterface
+-- a PRIVATE method counts too
 abbrev pub static_error : Bool → Name → Option ErrorAt → Option ErrorAt
 static_error applies home behind = line applies errors.Incompatible home behind
 
--- a store into a FINAL field, outside the method that may initialize the field
+-- IllegalAccess for a store into a FINAL field, unless the class of the instruction declares the field and its method
+-- is named `initializer`
 abbrev pub final_error : Site → List ℕ → Name → Member → Option ErrorAt
 final_error s initializer home x =
     line (has x.flags final && not (same_name home s.class && same_name s.method initializer)) errors.IllegalAccess home None
@@ -78,6 +80,7 @@ pub record LinkError : Type 0 where
   pub method : ℕ
   pub place : ℕ
   pub error : LinkageError
+  -- the class at fault
   pub class : Name
 
 -- the reference of the constant at an index, and its answer
@@ -86,7 +89,8 @@ answered index [] answers = None
 answered index (r ∷ rs) [] = None
 answered index (r ∷ rs) (a ∷ answers) = if r.index == index then Some (r, a) else answered index rs answers
 
--- the name of the method of a number; without a format fault each method has one, so the numbers are those of the file
+-- the name of the method with this number. The facts of a class without a format fault have all its methods, so the
+-- number is that of the file
 abbrev pub method_name : Facts → ℕ → Name
 method_name f number = option_map_or (λ x. x.name) (slice_get f.methods number) []
 
@@ -108,7 +112,7 @@ link_of d f answers u = option_and_then (link_by d f u) (answered u.index f.refe
 abbrev pub links_in : Name → Facts → List Answer → List LinkError
 links_in d f answers = flat_map (λ u. option_to_list (link_of d f answers u)) f.uses
 
--- a class that does not load has none, because all its answers are NotLoaded
+-- the errors of the instructions of a class. A class that does not load has none, because all its answers are NotLoaded
 abbrev pub links_of : Name → Stands → List Answer → List LinkError
 links_of d (stands.Class f) answers = links_in d f answers
 links_of d stands.Outside answers = []

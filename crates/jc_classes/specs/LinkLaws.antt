@@ -1,4 +1,4 @@
--- The instructions of a class that do not link, as facts about its file, and their order.
+-- The instructions of a class that do not link, as a relation over its file, and the order of their errors.
 use Rattle.std.specs.Prelude.{◌≡◌, ◌↔◌, ℕ, List, [], Some, Contains, slice_get}
 use Rattle.std.specs.List.Sorted.{IsStrictlySortedBy}
 use Rattle.std.specs.Ordering.{nat_cmp, ordering_then}

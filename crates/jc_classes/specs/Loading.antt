@@ -1,4 +1,4 @@
--- How a name loads (JVMS 5.3.5).
+-- How a name loads (JVMS 5.3, 5.3.5), and which classes are accessible (JVMS 5.4.4).
 use Rattle.std.specs.Prelude.{◌≡◌, Bool, true, false, ◌||◌, not, cond, List, [], ◌∷◌, ◌++◌, map, Option, Some, None}
 use Rattle.std.specs.Option.{option_map_or}
 use Rattle.jc_classes.specs.Names.{Name, same_name, package_of}
@@ -17,6 +17,7 @@ can_see d c r = has (flags_of r) public || same_name (package_of d) (package_of 
 pub data Loading : Type 0 where
   Loaded : Loading
   Outside : Loading
+  -- the error, and the class at fault
   Fails : LinkageError → Name → Loading
 
 -- a supertype, and whether it is the superclass
@@ -24,6 +25,7 @@ pub record Supertype : Type 0 where
   pub is_class : Bool
   pub name : Name
 
+-- the superclass, and then the direct superinterfaces in file order
 abbrev pub direct_supertypes : Facts → List Supertype
 direct_supertypes r =
     option_map_or (λ s. record { is_class = true; name = s } ∷ []) r.superclass []
@@ -39,10 +41,13 @@ judged Loaded sees wrong s = cond sees (cond wrong (Some (Fails errors.Incompati
 judged Outside sees wrong s = None
 judged (Fails e x) sees wrong s = Some (Fails e x)
 
+-- the error that the supertype p of n causes, if p loads as a says. A superclass that is an interface is of the wrong
+-- kind, and so is a superinterface that is a class
 abbrev pub judged_supertype : World → Name → Supertype → Loading → Option Loading
 judged_supertype m n p a = judged a (can_see n p.name (m p.name)) (same_bool (is_interface (m p.name)) p.is_class) p.name
 
 mutual
+  -- how a name loads; a class is circular if it is one of its own transitive supertypes
   pub data Load (m : World) : Name → Loading → Type 0 where
     missing : {n : Name} → m n ≡ stands.Absent → Load m n (Fails errors.NoClass n)
     outside : {n : Name} → m n ≡ stands.Outside → Load m n Outside

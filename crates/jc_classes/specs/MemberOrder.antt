@@ -11,7 +11,7 @@ use Rattle.jc_classes.specs.Worlds.{key_of}
 abbrev pub key_cmp : Key → Key → Ordering
 key_cmp a b = ordering_then (name_cmp a.name b.name) (name_cmp a.descriptor b.descriptor)
 
--- the name and the descriptor of the member of a number
+-- the name and the descriptor of the member with this number
 abbrev pub key_at : List Member → ℕ → Key
 key_at members number = key_of (slice_index_or members number (record { name = []; descriptor = []; flags = 0 }))
 

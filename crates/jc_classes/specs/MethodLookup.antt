@@ -7,6 +7,7 @@ use Rattle.jc_classes.specs.Names.{Name, same_name, name_less, object, method_ha
 use Rattle.jc_file.specs.AccessFlags.{has, public, private, static, varargs, native, abstract}
 use Rattle.jc_classes.specs.Worlds.{Stands, World, superclass_of, methods_of, is_interface, Above, member, Found}
 
+-- the method has the descriptor and the flags of a signature polymorphic method (2.9)
 abbrev pub is_polymorphic : Member → Bool
 is_polymorphic x = same_name x.descriptor polymorphic_descriptor && (has x.flags varargs && has x.flags native)
 
@@ -26,7 +27,7 @@ first_named (x ∷ xs) name = cond (same_name x.name name) (Some x) (first_named
 abbrev pub sole_named : List Member → Name → Option Member
 sole_named methods name = cond (count_named methods name == 1) (first_named methods name) None
 
--- the signature polymorphic method with this name, which is the only method of its class with this name (2.9)
+-- the signature polymorphic method of the class c with this name, if c has no other method with it (2.9, 5.4.3.3)
 abbrev pub polymorphic : Name → List Member → Name → Option Member
 polymorphic c methods name = cond (same_name c method_handle) (if_polymorphic (sole_named methods name)) None
 
@@ -44,6 +45,7 @@ pub data FindsInClasses (m : World) (k : Key) : Name → Option Found → Type 0
 abbrev pub unless_private_or_static : Member → Option Member
 unless_private_or_static x = cond (has x.flags private || has x.flags static) None (Some x)
 
+-- the method, if there is one and it is neither PRIVATE nor STATIC
 abbrev pub only_inheritable : Option Member → Option Member
 only_inheritable None = None
 only_inheritable (Some x) = unless_private_or_static x
@@ -73,7 +75,8 @@ pub record IsLeast (m : World) (k : Key) (c : Name) (f : Found) : Type 0 where
   pub candidate : IsCandidate m k c f
   pub least : (g : Found) → IsCandidate m k c g → name_less g.home f.home ≡ false
 
--- what look-up in the superinterfaces finds
+-- what look-up in the superinterfaces finds: the method of IsOnly if there is one, or else that of IsLeast. In the
+-- second case the standard lets a virtual machine choose any candidate
 pub data FindsAbove (m : World) (k : Key) (c : Name) : Option Found → Type 0 where
   only : {f : Found} → IsOnly m k c f → FindsAbove m k c (Some f)
   least : {f : Found} → ((g : Found) → IsOnly m k c g → ⊥) → IsLeast m k c f → FindsAbove m k c (Some f)

@@ -8,7 +8,7 @@ use Rattle.jc_classes.specs.Names.{Name, name_cmp, same_name}
 abbrev pub has : List Name → Name → Bool
 has names n = list_any (same_name n) names
 
--- the same names in ascending order, each once
+-- the names in ascending order; both lists have each name once
 pub record IsRisingOf (rising names : List Name) : Type 0 where
   pub rises : IsStrictlySortedBy name_cmp rising
   pub same : (n : Name) → has rising n ≡ has names n

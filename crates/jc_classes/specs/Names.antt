@@ -1,4 +1,4 @@
--- The names of classes (JVMS 4.2.1), in the order of their bytes, and the packages that they are in.
+-- Names and descriptors as bytes (JVMS 4.2, 4.3), their order, and the packages of classes.
 use Rattle.std.specs.Prelude.{ℕ, zero, suc, ◌==◌, Bool, cond, List, [], codes, take, length, map, slice_index_or}
 use Rattle.std.specs.declared.vec.Vec.{Vec}
 use Rattle.std.specs.declared.alloc.Global.{Global}
@@ -28,12 +28,12 @@ method_handle = codes "java/lang/invoke/MethodHandle"
 abbrev pub polymorphic_descriptor : Name
 polymorphic_descriptor = codes "([Ljava/lang/Object;)Ljava/lang/Object;"
 
--- the part before the last `/` of the first k bytes
+-- the part before the last `/` among the first k bytes, or nothing without a `/`
 unfoldable pub package_to : Name → ℕ → Name
 package_to n zero = []
 package_to n (suc k) = cond (slice_index_or n k 0 == 47) (take k n) (package_to n k)
 
--- the package of a class: the part of its name before the last `/` (JVMS 5.3)
+-- the package of a class: the part of its name before the last `/`, or nothing without a `/` (JVMS 5.3)
 abbrev pub package_of : Name → Name
 package_of n = package_to n (length n)
 

@@ -1,4 +1,5 @@
--- Overriding of methods (JVMS 5.4.5). A virtual machine rejects a class that overrides a FINAL method (JVMS 4.10).
+-- Overriding of methods (JVMS 5.4.5). A virtual machine rejects a class that overrides a FINAL method or extends a
+-- FINAL class (JVMS 4.10).
 use Rattle.std.specs.Prelude.{◌≡◌, ◌⊎◌, ◌||◌, ◌&&◌, Bool, true, Option, Some}
 use Rattle.jc_file.specs.AccessFlags.{final, has, protected, public}
 use Rattle.jc_classes.specs.Access.{is_package_private}
@@ -15,12 +16,13 @@ IsSuperclass m c a = (s : Name) × (superclass_of (m c) ≡ Some s) × Extends m
 abbrev pub overridable : World → Key → Name → Option Member
 overridable m k c = only_inheritable (member (methods_of (m c)) k)
 
--- a class c may override the method x of a class a
+-- a subclass c of a can override the method x of a: it is PUBLIC or PROTECTED, or package-private and c is in the
+-- package of a (5.4.5)
 abbrev pub is_open_to : (c a : Name) → Member → Bool
 is_open_to c a x =
     (has x.flags public || has x.flags protected) || (is_package_private x && same_name (package_of c) (package_of a))
 
--- the method of c with this name and descriptor overrides that of a (5.4.5)
+-- the method of c with this name and descriptor overrides that of its superclass a (5.4.5)
 pub data Overrides (m : World) (k : Key) : (c a : Name) → Type 0 where
   directly : {c a : Name} {x y : Member} → IsSuperclass m c a
       → overridable m k c ≡ Some x → overridable m k a ≡ Some y → is_open_to c a y ≡ true → Overrides m k c a

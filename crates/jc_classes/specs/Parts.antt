@@ -16,7 +16,7 @@ use Rattle.jc_classes.specs.Loading.{Loading as loading}
 use Rattle.jc_classes.specs.Resolution.{Answer, ResolvesClass, ResolvesField, ResolvesMethod, ResolvesInterfaceMethod}
 use Rattle.jc_classes.specs.Resolution.Answer.{NotLoaded}
 
--- the name of the class that is named; for an array, of its innermost class
+-- the class that is named; for an array, its innermost class, which an array of a primitive type does not have
 abbrev pub class_of : Named → Option Name
 class_of (Class c) = Some c
 class_of (Array t e) = e
@@ -24,6 +24,7 @@ class_of (Array t e) = e
 abbrev pub class_in : Named → List Name
 class_in t = option_to_list (class_of t)
 
+-- the classes that references name, in the order of the references
 abbrev pub names_in : List Reference → List Name
 names_in [] = []
 names_in (r ∷ rs) = class_in r.named ++ names_in rs
@@ -36,13 +37,14 @@ pub data Reach (m : World) (d : Name) : Name → Type 0 where
   reference : {n : Name} → Contains (names_in (references_of (m d))) n → Reach m d n
   upward : {mid n : Name} → Reach m d mid → Contains (supertypes_of (m mid)) n → Reach m d n
 
+-- the answer to a reference of the class d, by its kind, if d loads (JVMS 5.4.3)
 abbrev pub ResolvesOf : World → Name → ReferenceKind → Reference → Answer → Type 0
 ResolvesOf m d kind.Class r a = ResolvesClass m d r.named a
 ResolvesOf m d kind.Field r a = ResolvesField m d r.named r.key a
 ResolvesOf m d kind.Method r a = ResolvesMethod m d r.named r.key a
 ResolvesOf m d kind.InterfaceMethod r a = ResolvesInterfaceMethod m d r.named r.key a
 
--- the answer to a reference of a class, by how the class loads
+-- the answer to a reference of the class d: what the reference resolves to if d loads, else NotLoaded
 abbrev pub IsAnswer : World → Name → Loading → Reference → Answer → Type 0
 IsAnswer m d loading.Loaded r a = ResolvesOf m d r.kind r a
 IsAnswer m d loading.Outside r a = a ≡ NotLoaded
@@ -57,6 +59,7 @@ AreAnswers m d l (r ∷ rs) [] = ⊥
 
 -- what jclink finds out about a class
 pub record Part : Type 0 where
+  -- whether the class is one of its own transitive supertypes
   pub circular : Bool
   pub load : Loading
   pub format_faults : List Fault

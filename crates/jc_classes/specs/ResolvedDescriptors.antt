@@ -16,7 +16,7 @@ use Rattle.jc_classes.specs.NamedTexts.{class_in_descriptor, without_dimensions}
 abbrev pub descriptor_in : ClassFile → (entry : ConstantIndex) → Option ConstantIndex
 descriptor_in c entry = option_map (λ pair. pair.1) (name_and_type_at c entry)
 
--- the class of the signature polymorphic methods (JVMS 2.9)
+-- the Class constant names the class of the signature polymorphic methods (JVMS 2.9)
 abbrev pub is_method_handle : ClassFile → (class : ConstantIndex) → Bool
 is_method_handle c class = option_map_or (same_name method_handle) (class_text_at c class) false
 

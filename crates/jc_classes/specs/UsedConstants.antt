@@ -1,6 +1,7 @@
--- The constants of a class file that are used. The code of a method, a method handle or a bootstrap method names them
--- (JVMS 4.4.8, 4.7.23). Also, their classes are resolved with a constant that is named (JVMS 5.4.3). No code resolves
--- the others.
+-- The constants of a class file that are used. A constant is named, and so used, if the code of a method or a method
+-- handle refers to it. The arguments of bootstrap methods are named too (JVMS 4.4.8, 4.7.23). A Class is also used if
+-- its class is resolved with a named constant: the class of a member, or a class in a descriptor (JVMS 5.4.3). No code
+-- resolves the others.
 use Rattle.std.specs.Prelude.{ℕ, ◌==◌, Bool, false, List, [], ◌++◌, Option, Some, None, option_and_then, if◌then◌else◌}
 use Rattle.std.specs.List.{flat_map, list_any, range_with_len}
 use Rattle.std.specs.Option.{option_map_or, option_to_list}
@@ -21,6 +22,7 @@ use Rattle.jc_classes.specs.ResolvedDescriptors.{classes_at, handle_descriptor, 
 abbrev pub named_by_methods : ClassFile → List ConstantIndex
 named_by_methods c = flat_map (named_by_method c) c.methods
 
+-- the constant that a method handle refers to (JVMS 4.4.8)
 abbrev pub named_by_handle : pool.Constant → Option ConstantIndex
 named_by_handle (pool.MethodHandle kind reference) = Some reference
 named_by_handle constant = None
@@ -35,6 +37,7 @@ by_constants f c =
     flat_map (λ index. option_to_list (option_and_then f (constant_at c (record { 0 = index }))))
     (range_with_len 1 (all_slots c.constants))
 
+-- the constants that code and method handles refer to, and the arguments of bootstrap methods
 unfoldable pub named : ClassFile → List ConstantIndex
 named c =
     named_by_methods c
@@ -66,6 +69,7 @@ class_that test c index =
     then Some (record { 0 = index })
     else None
 
+-- the indexes of the Class constants whose class passes the test
 abbrev pub classes_that : (Name → Bool) → ClassFile → List ConstantIndex
 classes_that test c = flat_map (λ index. option_to_list (class_that test c index)) (range_with_len 1 (all_slots c.constants))
 

@@ -9,7 +9,7 @@ use Rattle.jc_file.specs.AccessFlags.{has, interface}
 use Rattle.jc_classes.specs.Facts.{Facts, Member, Key, Named, Reference}
 use Rattle.jc_classes.specs.Facts.{Named as named}
 
--- what a name is in a world: a class, an outside name, of which nothing else is known, or nothing
+-- what a name is in a world: a class with its facts, outside, or nothing
 pub data Stands : Type 0 where
   Class : Facts → Stands
   Outside : Stands
@@ -82,7 +82,7 @@ key_of x = record { name = x.name; descriptor = x.descriptor }
 abbrev pub is_at : Key → Member → Bool
 is_at k x = same_name x.name k.name && same_name x.descriptor k.descriptor
 
--- the member with this name and descriptor
+-- the first member with this name and descriptor, if there is one
 abbrev pub member : List Member → Key → Option Member
 member [] k = None
 member (x ∷ xs) k = cond (is_at k x) (Some x) (member xs k)
@@ -92,6 +92,7 @@ pub record Found : Type 0 where
   pub home : Name
   pub member : Member
 
+-- the text of the Class constant: the name of a class, or the descriptor of an array (JVMS 4.4.1)
 abbrev pub text_of : Named → Name
 text_of (named.Class c) = c
 text_of (named.Array t e) = t

@@ -29,6 +29,7 @@ only [] = None
 only (x ∷ []) = Some x
 only (x ∷ y ∷ xs) = None
 
+-- the well-formed Code of a method, if it has exactly one
 abbrev pub code_of_member : ClassFile → Member → Option Code
 code_of_member c m = only (well_formed (codes_of c m))
 
@@ -85,7 +86,7 @@ fault_at rule place = record { rule = rule; place = place }
 abbrev pub places : Scope → List (ℕ × Insn) → List Handler → CodeRule → List ℕ
 places s items handlers rule = places_of (insn_breaks rule s) items ++ numbers_of (handler_breaks rule s) 0 handlers
 
--- the faults that break a rule
+-- a fault for each place where the rule is broken
 abbrev pub faults_against : Scope → List (ℕ × Insn) → List Handler → CodeRule → List CodeFault
 faults_against s items handlers rule = map (fault_at rule) (places s items handlers rule)
 
@@ -115,7 +116,7 @@ pub record AreFaultsOf (c : ClassFile) (k : Code) (found : List CodeFault) : Typ
   pub is_code : IsCode k.code items end
   pub listed : found ≡ faults_over c k items end
 
--- the same for a code that may be missing: without a code there is no fault
+-- a list has exactly the faults of a code that may be missing; without a code there is no fault
 abbrev pub AreFaultsIfAny : ClassFile → Option Code → List CodeFault → Type 0
 AreFaultsIfAny c code found = MatchOption code (found ≡ []) (λ k. AreFaultsOf c k found)
 

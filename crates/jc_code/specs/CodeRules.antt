@@ -33,32 +33,33 @@ pub record Scope : Type 0 where
 abbrev pub is_start : Scope → ℕ → Bool
 is_start s place = list_any (λ start. start == place) s.starts
 
--- a target may be outside the code
+-- the target is the start of an instruction; a target may be before the code
 abbrev pub is_target : Scope → ℤ → Bool
 is_target s (pos place) = is_start s place
 is_target s (negsuc n) = false
 
--- jsr and jsr_w are not allowed in files of these versions (JVMS 4.9.1)
+-- the instruction is jsr or jsr_w, which a file of version 51 or later must not have (JVMS 4.9.1)
 abbrev pub breaks_s2 : Scope → Insn → Bool
 breaks_s2 s (insns.Branch opcode target) = opcode == jsr || opcode == jsr_w
 breaks_s2 s insn = false
 
--- the target of a branch is not an instruction
+-- the target of a branch is not the start of an instruction
 abbrev pub breaks_s3 : Scope → Insn → Bool
 breaks_s3 s (insns.Branch opcode target) = not (is_target s target)
 breaks_s3 s insn = false
 
--- a target of a switch is not an instruction
+-- a target of a switch, or its default target, is not the start of an instruction
 abbrev pub breaks_s4 : Scope → Insn → Bool
 breaks_s4 s (insns.TableSwitch switch) = not (is_target s switch.default && list_all (is_target s) switch.targets.left)
 breaks_s4 s (insns.LookupSwitch switch) = not (is_target s switch.default && list_all (λ case. is_target s case.target) switch.cases.left)
 breaks_s4 s insn = false
 
--- the values are in strictly ascending order
+-- the values are in strictly ascending order, and the first is greater than `low`
 abbrev pub rise_from : ℤ → List ℤ → Bool
 rise_from low [] = true
 rise_from low (z ∷ zs) = int_lt low z && rise_from z zs
 
+-- the values are in strictly ascending order
 abbrev pub do_rise : List ℤ → Bool
 do_rise [] = true
 do_rise (z ∷ zs) = rise_from z zs
@@ -73,9 +74,11 @@ breaks_s5 s insn = false
 abbrev pub is_one_of : ClassFile → List ConstantKind → ConstantIndex → Bool
 is_one_of c kinds index = list_any (λ kind. is_entry c kind index) kinds
 
+-- the constants that ldc and ldc_w may load
 abbrev pub single_kinds : List ConstantKind
 single_kinds = kinds.Integer ∷ kinds.Float ∷ kinds.String ∷ kinds.Class ∷ kinds.MethodType ∷ kinds.MethodHandle ∷ []
 
+-- the constants that ldc2_w may load
 abbrev pub double_kinds : List ConstantKind
 double_kinds = kinds.Long ∷ kinds.Double ∷ []
 
@@ -147,7 +150,7 @@ abbrev pub breaks_s14 : Scope → Insn → Bool
 breaks_s14 s (insns.InvokeDynamic index last) = not (is_entry s.class kinds.InvokeDynamic index)
 breaks_s14 s insn = false
 
--- the last two bytes of invokedynamic are not 0
+-- the last two bytes of invokedynamic are not both 0
 abbrev pub breaks_s15 : Scope → Insn → Bool
 breaks_s15 s (insns.InvokeDynamic index last) = not (last == 0)
 breaks_s15 s insn = false

@@ -24,6 +24,7 @@ AtHandler rule s handlers n = (h : Handler) × (slice_get handlers n ≡ Some h)
 abbrev pub IsCut : CodeRule → Code → ℕ → ℕ → Type 0
 IsCut rule k end place = (rule ≡ rules.S1) × (end < length k.code) × (place ≡ end)
 
+-- a rule is broken at a place of the code. Rules other than S1 are broken only if the instructions fill the code
 abbrev pub ViolatesIn : CodeRule → ClassFile → Code → List (ℕ × Insn) → ℕ → ℕ → Type 0
 ViolatesIn rule c k items end place =
     IsCut rule k end place

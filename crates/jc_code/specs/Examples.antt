@@ -11,14 +11,14 @@ plain_code = 0x2a ∷ 0xb7 ∷ 0 ∷ 1 ∷ 0xb1 ∷ []
 abbrev pub plain_insns : List (ℕ × Insn)
 plain_insns = (0, insns.Plain 0x2a) ∷ (1, insns.Invoke 0xb7 (record { 0 = 1 })) ∷ (4, insns.Plain 0xb1) ∷ []
 
--- nop, and a number that is not an opcode
+-- nop, and the reserved opcode breakpoint, which a class file must not contain (JVMS 6.2)
 abbrev pub cut_code : List ℕ
 cut_code = 0 ∷ 0xca ∷ []
 
 abbrev pub cut_insns : List (ℕ × Insn)
 cut_insns = (0, insns.Plain 0) ∷ []
 
--- nop, and a tableswitch from 3 to 2
+-- nop, and a tableswitch whose lowest value 3 is above its highest value 2
 abbrev pub falling_code : List ℕ
 falling_code = 0 ∷ 0xaa ∷ 0 ∷ 0 ∷ 0 ∷ 0 ∷ 0 ∷ 0x10 ∷ 0 ∷ 0 ∷ 0 ∷ 3 ∷ 0 ∷ 0 ∷ 0 ∷ 2 ∷ []
 

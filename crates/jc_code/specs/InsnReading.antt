@@ -1,5 +1,5 @@
--- The instructions that are decoded from bytes, as functions that compute.
--- The law `codes_are_read` says that they are the instructions of `Insns`.
+-- The instructions that are decoded from bytes, as functions that compute. The law `codes_are_read` says that they are
+-- the instructions of `Insns`.
 use Rattle.std.specs.Prelude.{ℕ, zero, suc, ◌+◌, ◌-◌, ◌*◌, ◌%◌, ◌^◌, ℤ, pos}
 use Rattle.std.specs.Prelude.{◌+ℤ◌, ◌-ℤ◌, int_le, nat_abs, true, false, List, [], ◌∷◌}
 use Rattle.std.specs.Prelude.{length, drop, Option, Some, None, if◌then◌else◌, nat_lt, option_and_then}

@@ -78,6 +78,7 @@ jsr_w = 201
 abbrev pub ldc2_w : ℕ
 ldc2_w = 20
 
+-- the opcode of an instruction; for wide, that of the instruction that it modifies
 abbrev pub opcode_of : Insn → ℕ
 opcode_of (insns.Plain opcode) = opcode
 opcode_of (insns.Push opcode value) = opcode
@@ -112,7 +113,8 @@ invoke_use opcode =
     else if opcode == invokestatic then Some links.InvokeStatic
     else None
 
--- how an instruction uses the reference that it names, and the index of the reference
+-- how an instruction uses the reference that it names, and the index of the reference. Only instructions that may fail
+-- to link although the reference resolves have a use
 abbrev pub link_use : Insn → Option (LinkKind × ℕ)
 link_use (insns.Field opcode index) = option_map (λ kind. (kind, index.0)) (field_use opcode)
 link_use (insns.Invoke opcode index) = option_map (λ kind. (kind, index.0)) (invoke_use opcode)
@@ -140,13 +142,15 @@ offset_to at target = target -ℤ pos at
 abbrev pub Has : ℕ → Operands → Type 0
 Has opcode what = operands_of opcode ≡ Some what
 
--- the bytes between the opcode of a switch and its default target, which begins at a multiple of four from the start of the code
+-- the bytes between the opcode of a switch and its default target, which begins at a multiple of four from the start of
+-- the code
 abbrev pub IsPad : ℕ → List ℕ → Type 0
 IsPad at pad = (length pad < 4) × ((at + 1 + length pad) % 4 ≡ 0)
 
 abbrev pub target_bytes : ℕ → ℤ → List ℕ
 target_bytes at target = int_bytes (offset_to at target)
 
+-- the distance to the target fits in four bytes
 abbrev pub IsIntTarget : ℕ → ℤ → Type 0
 IsIntTarget at target = FitsSigned w32 (offset_to at target)
 
@@ -156,6 +160,7 @@ case_bytes at case = int_bytes case.value ++ target_bytes at case.target
 abbrev pub IsCase : ℕ → Case → Type 0
 IsCase at case = FitsSigned w32 case.value × IsIntTarget at case.target
 
+-- the bytes are those of a tableswitch at a place of the code; its pad may have any bytes (JVMS 6.5)
 pub record IsTableSwitch (at : ℕ) (switch : TableSwitch) (s : List ℕ) : Type 0 where
   pub pad : List ℕ
   pub is_pad : IsPad at pad
@@ -170,6 +175,7 @@ pub record IsTableSwitch (at : ℕ) (switch : TableSwitch) (s : List ℕ) : Type
       s ≡ tableswitch ∷ pad ++ target_bytes at switch.default ++ int_bytes switch.low ++ int_bytes switch.high
       ++ flat_map (target_bytes at) switch.targets.left
 
+-- the bytes are those of a lookupswitch at a place of the code; its cases may be in any order (JVMS 6.5)
 pub record IsLookupSwitch (at : ℕ) (switch : LookupSwitch) (s : List ℕ) : Type 0 where
   pub pad : List ℕ
   pub is_pad : IsPad at pad

@@ -1,4 +1,4 @@
--- The instructions of a class whose references, once resolved, may still not link.
+-- How the instructions of a class use references: the instructions that may fail to link although a reference resolves.
 use Rattle.std.specs.Prelude.{ℕ, ◌+◌, ◌==◌, List, [], ◌∷◌, ◌++◌, length, Option, option_map, if◌then◌else◌}
 use Rattle.std.specs.List.{flat_map}
 use Rattle.std.specs.Option.{option_map_or, option_to_list}

@@ -24,7 +24,7 @@ named_by_insn insn = None
 abbrev pub named_by_insns : List (ℕ × Insn) → List ConstantIndex
 named_by_insns items = flat_map (λ item. option_to_list (named_by_insn item.1)) items
 
--- the constants that a code names: its instructions, then its handlers
+-- the constants that a code names: its instructions, then its handlers. A catch_type of 0 is in the list and names none
 abbrev pub named_by_code : Code → List ConstantIndex
 named_by_code k = named_by_insns (insns_of k.code) ++ map (λ h. h.catch_type) k.handlers
 
