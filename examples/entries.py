@@ -47,7 +47,7 @@ class Folder:
     def __init__(self, shown):
         self.path, self.shown, self.name = shown, shown.rstrip("/") + "/", shown
         self.hidden = self.jars = 0
-        self.advice = f"; {self.shown}* means the jars of a folder"
+        self.advice = f"; to read them, write {self.shown}*"
 
     def class_files(self):
         return self.below("", ())
@@ -162,7 +162,8 @@ def open_entry(shown):
         return Jar(shown)
     if os.path.islink(shown):
         raise Failure(f"{shown}: a link that leads nowhere")
-    advice = f"; {os.path.dirname(shown)}/* means the jars of a folder" if shown.endswith(("*.jar", "*.JAR")) else ""
+    wildcard = os.path.join(os.path.dirname(shown), "*")
+    advice = f"; for all jars of a folder, write {wildcard}" if shown.endswith(("*.jar", "*.JAR")) else ""
     raise Failure(f"{shown}: there is no such file or folder{advice}")
 
 

@@ -271,6 +271,7 @@ def try_released(folder):
     (folder / "empty").mkdir()
     for status, words, told in (
         (0, ("check", "empty"), "empty has no class files"),
+        (0, ("check", "empty", "--errors", "--outside", "tree"), "empty has no class files"),
         (2, ("check", "--used", "tree"), "--used and --only need --errors\n" + HINT),
         (2, ("check", "--errors", "--unknown", "tree"), "usage\n" + HINT),
         (3, ("check", "tree/A.class"), "tree/A.class is a file"),

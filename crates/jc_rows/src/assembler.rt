@@ -291,27 +291,36 @@ impl Assembler {
     }
 
     fn take_lines(&mut self, alloc: Global, lines: &[&str]) -> Result<()> {
+        let mut in_code = false;
         for (place, line) in lines.iter().enumerate() {
             let (tokens, _) = tokens_of(alloc, line)?;
             let (_, next) = lines.split_at(place + 1);
-            self.take(alloc, &tokens, next)?;
+            in_code = self.take(alloc, &tokens, next, in_code)?;
         }
         Ok(())
     }
 
-    /// Reads the tokens of a line. The instructions of a method are on the next lines.
-    fn take(&mut self, alloc: Global, tokens: &[Token<'_>], next: &[&str]) -> Result<()> {
+    /// Reads the tokens of a line, and returns whether it is of a method with a `Code`. Then the next line may be an
+    /// instruction, which was read with the method. `in_code` says whether the line before was of such a method.
+    fn take(
+        &mut self,
+        alloc: Global,
+        tokens: &[Token<'_>],
+        next: &[&str],
+        in_code: bool,
+    ) -> Result<bool> {
         let [Token::Word(word), rest @ ..] = tokens else {
             bail!("no line of a class");
         };
         match *word {
-            "does" if self.methods.count > 0 => Ok(()),
-            "refers" => self.refer(rest),
-            "field" => self.fields.add_member(&mut self.pool, rest),
-            "method" => self.method(alloc, rest, next),
-            "implements" => self.implement(rest),
-            _ => self.head.set(&mut self.pool, word, rest),
+            "does" if in_code => return Ok(true),
+            "method" => return self.method(alloc, rest, next),
+            "refers" => self.refer(rest)?,
+            "field" => self.fields.add_member(&mut self.pool, rest)?,
+            "implements" => self.implement(rest)?,
+            _ => self.head.set(&mut self.pool, word, rest)?,
         }
+        Ok(false)
     }
 
     fn refer(&mut self, tokens: &[Token<'_>]) -> Result<()> {
@@ -327,7 +336,7 @@ impl Assembler {
         Ok(())
     }
 
-    fn method(&mut self, alloc: Global, tokens: &[Token<'_>], next: &[&str]) -> Result<()> {
+    fn method(&mut self, alloc: Global, tokens: &[Token<'_>], next: &[&str]) -> Result<bool> {
         take_method(alloc, &mut self.pool, &mut self.methods, tokens, next)
     }
 
@@ -350,24 +359,24 @@ impl Assembler {
     }
 }
 
-/// Adds a method. If it has a `Code`, its instructions are those of the next lines that begin with `does`, and then
-/// `return`.
+/// Adds a method, and returns whether it has a `Code`. Its instructions are those of the next lines that begin with
+/// `does`, and then `return`.
 fn take_method(
     alloc: Global,
     pool: &mut Pool,
     methods: &mut Table,
     tokens: &[Token<'_>],
     next: &[&str],
-) -> Result<()> {
+) -> Result<bool> {
     let method = member_of(pool, tokens)?;
     if method.flags & WITHOUT_CODE != 0 {
         methods.add(&[method.flags, method.name, method.descriptor, 0], &[]);
-        return Ok(());
+        return Ok(false);
     }
     let attribute = pool.utf8("Code");
     let code = code_of(alloc, pool, next)?;
     add_method(methods, method, attribute, &code);
-    Ok(())
+    Ok(true)
 }
 
 /// Returns the class file with this name that the lines describe.
