@@ -1,7 +1,7 @@
 //! The facts of a class file.
 
 ghost use Rattle.std.specs.Prelude.{◌≡◌, [], length, option_map, slice_get, IfOk};
-ghost use Rattle.std.specs.Option.{option_copied};
+ghost use Rattle.std.specs.Option.{option_copied, option_map_or};
 ghost use Rattle.jc_classes.specs.Facts.{is_faulty};
 ghost use Rattle.jc_classes.specs.FactsOrder.{AreByIndex, AreByPlace};
 ghost use Rattle.jc_classes.specs.Lent.{member_lent, reference_lent};
@@ -42,7 +42,8 @@ pub struct Facts {
     pub(crate) uses: Vec<MethodUse>,
     /// What uses each reference, in the order of the references.
     pub(crate) users: Vec<User>,
-    pub(crate) faults: Rc<Faults>,
+    /// The faults, if there are any.
+    pub(crate) faults: Option<Rc<Faults>>,
 }
 
 /// The faults of a class file.
@@ -75,16 +76,19 @@ pub(crate) struct ReferenceEntry {
 }
 
 impl Faults {
-    /// Puts faults into an `Rc`, so that they can be shared.
+    /// Puts faults into an `Rc`, so that they can be shared. Returns `None` if there are no faults.
     pub(crate) fn shared(
         alloc: Global,
         format: Vec<Fault>,
         code: Vec<(usize, CodeFault)>,
-    ) -> Result<Rc<Faults>, NoMemory>
-        ensures format { IfOk result (λ faults. faults.value.format ≡ format) }
-        ensures code { IfOk result (λ faults. faults.value.code ≡ code) }
+    ) -> Result<Option<Rc<Faults>>, NoMemory>
+        ensures format { IfOk result (λ faults. option_map_or (λ f. f.value.format.items) faults [] ≡ format.items) }
+        ensures code { IfOk result (λ faults. option_map_or (λ f. f.value.code.items) faults [] ≡ code.items) }
     {
-        Ok(Rc::new(alloc, Faults { format, code })?)
+        if format.is_empty() && code.is_empty() {
+            return Ok(None);
+        }
+        Ok(Some(Rc::new(alloc, Faults { format, code })?))
     }
 }
 
@@ -141,14 +145,20 @@ impl Facts {
     pub fn format_faults(&self) -> &[Fault]
         ensures { result.now ≡ self.now.format_faults }
     {
-        self.faults.as_ref().format.as_slice()
+        match &self.faults {
+            Some(faults) => faults.as_ref().format.as_slice(),
+            None => &[],
+        }
     }
 
     /// Returns the faults of the methods' code, each with the number of the method.
     pub fn code_faults(&self) -> &[(usize, CodeFault)]
         ensures { result.now ≡ self.now.code_faults }
     {
-        self.faults.as_ref().code.as_slice()
+        match &self.faults {
+            Some(faults) => faults.as_ref().code.as_slice(),
+            None => &[],
+        }
     }
 
     /// Returns the name of the superclass. `java/lang/Object` and a file with a format fault have none.
@@ -285,14 +295,17 @@ impl Facts {
         })
     }
 
-    /// Returns the faults, shared with the facts.
+    /// Returns the faults, shared with the facts, or `None` if there are none.
     ///
     /// Returns `NoMemory` only when the strong count of the `Rc` would overflow.
-    pub fn shared_faults(&self) -> Result<Rc<Faults>, NoMemory>
-        ensures format { IfOk result (λ faults. faults.value.format.items ≡ self.now.format_faults) }
-        ensures code { IfOk result (λ faults. faults.value.code.items ≡ self.now.code_faults) }
+    pub fn shared_faults(&self) -> Result<Option<Rc<Faults>>, NoMemory>
+        ensures format { IfOk result (λ faults. option_map_or (λ f. f.value.format.items) faults [] ≡ self.now.format_faults) }
+        ensures code { IfOk result (λ faults. option_map_or (λ f. f.value.code.items) faults [] ≡ self.now.code_faults) }
     {
-        Ok(self.faults.clone()?)
+        match &self.faults {
+            Some(faults) => Ok(Some(faults.clone()?)),
+            None => Ok(None),
+        }
     }
 }
 

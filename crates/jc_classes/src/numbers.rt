@@ -8,6 +8,7 @@ ghost use Rattle.jc_classes.specs.Numbers.{name_at, IsOnce, Grows, AddsNumbers};
 ghost use Rattle.jc_classes.specs.inside.Numbering.{AddsPlace, digest_of, place_at};
 
 use crate::names::same;
+use crate::text_list::TextList;
 use jc_base::{ByteMap, NoMemory};
 use std::alloc::Global;
 use std::collections::BTreeMap;
@@ -21,20 +22,19 @@ pub struct Numbers {
     places: BTreeMap<u64, usize>,
     /// The numbers of the names whose digest an earlier name has.
     others: ByteMap<usize>,
-    names: Vec<Vec<u8>>,
+    names: TextList,
 }
 
 impl Model for Numbers {
     ghost use Rattle.std.specs.Prelude.{List};
     ghost use Rattle.jc_classes.specs.Names.{Name};
-    ghost use Rattle.jc_classes.specs.Names.{names_of};
     ghost use Rattle.jc_classes.specs.inside.Numbering.{IsDigested, place_at};
 
     ghost Value = { List Name };
 
-    ghost view = { λ a. names_of a.names.items };
+    ghost view = { λ a. a.names };
 
-    ghost invariant = { λ a. IsDigested (place_at a.places) a.others (names_of a.names.items) };
+    ghost invariant = { λ a. IsDigested (place_at a.places) a.others a.names };
 }
 
 /// Returns a 64-bit hash of a name. Names with the same hash are distinguished by their bytes.
@@ -51,14 +51,15 @@ fn place(
     alloc: Global,
     places: &mut BTreeMap<u64, usize>,
     others: &mut ByteMap<usize>,
+    digest: u64,
     name: &[u8],
     node: usize,
 ) -> Result<(), NoMemory>
+    requires { digest ≡ digest_of name.now }
     ensures ok { OnOk result (AddsPlace (place_at places.old) (place_at places.new) others.old others.new name.now node) }
     ensures places_err { OnErr result ((d : ℕ) → place_at places.new d ≡ place_at places.old d) }
     ensures others_err { OnErr result (others.new ≡ others.old) }
 {
-    let digest = digest(name);
     if places.contains_key(&digest) {
         let key = Vec::from_slice(alloc, name)?;
         others.insert(key, node)?;
@@ -69,13 +70,13 @@ fn place(
 }
 
 /// Returns copies of distinct names, in ascending order.
-fn rising(alloc: Global, names: &[Vec<u8>]) -> Result<Vec<Vec<u8>>, NoMemory>
-    requires { IsOnce (names_of names.now) }
-    ensures { IfOk result (λ rising. IsRisingOf (names_of rising.items) (names_of names.now)) }
+fn rising(alloc: Global, names: &TextList) -> Result<Vec<Vec<u8>>, NoMemory>
+    requires { IsOnce names.now }
+    ensures { IfOk result (λ rising. IsRisingOf (names_of rising.items) names.now) }
 {
     let mut places = ByteMap::new(alloc);
     for number in 0..names.len() {
-        let name = Vec::from_slice(alloc, names[number].as_slice())?;
+        let name = Vec::from_slice(alloc, names.text(number))?;
         places.insert(name, number)?;
     }
     places.into_keys(alloc)
@@ -89,7 +90,7 @@ impl Numbers {
         Numbers {
             places: BTreeMap::new(alloc),
             others: ByteMap::new(alloc),
-            names: Vec::new(alloc),
+            names: TextList::new(alloc),
         }
     }
 
@@ -105,14 +106,7 @@ impl Numbers {
         requires { node < length self.now }
         ensures { result.now ≡ name_at self.now node }
     {
-        self.names[node].as_slice()
-    }
-
-    /// Returns the names in the order of their numbers.
-    pub fn names(&self) -> &[Vec<u8>]
-        ensures { names_of result.now ≡ self.now }
-    {
-        self.names.as_slice()
+        self.names.text(node)
     }
 
     /// Returns the number of a name, if it has one. Does not allocate.
@@ -120,9 +114,17 @@ impl Numbers {
         ensures some { IfSome result (λ i. (i < length self.now) × (name_at self.now i ≡ name.now)) }
         ensures none { result ≡ None → (i : ℕ) → i < length self.now → name_at self.now i ≡ name.now → ⊥ }
     {
-        let digest = digest(name);
+        self.find_digested(digest(name), name)
+    }
+
+    /// Returns the number of the name with this digest, if it has one.
+    fn find_digested(&self, digest: u64, name: &[u8]) -> Option<usize>
+        requires { digest ≡ digest_of name.now }
+        ensures some { IfSome result (λ i. (i < length self.now) × (name_at self.now i ≡ name.now)) }
+        ensures none { result ≡ None → (i : ℕ) → i < length self.now → name_at self.now i ≡ name.now → ⊥ }
+    {
         let node = *self.places.get(&digest)?;
-        if same(self.names[node].as_slice(), name) {
+        if same(self.names.text(node), name) {
             return Some(node);
         }
         match self.others.get(name) {
@@ -136,19 +138,20 @@ impl Numbers {
 
     /// Returns the number of a name. A name without a number gets the next one.
     ///
-    /// Returns `NoMemory` only when an allocation fails. Then the names do not change.
+    /// Returns `NoMemory` when an allocation fails, and when the names would have more than 4,294,967,295 bytes in total.
+    /// Then the names do not change.
     pub fn number(&mut self, alloc: Global, name: &[u8]) -> Result<usize, NoMemory>
         ensures node { IfOk result (λ i. (i < length self.new) × (name_at self.new i ≡ name.now)) }
         ensures grows { OnOk result (Grows self.old self.new (name.now ∷ [])) }
         ensures err { OnErr result (self.new ≡ self.old) }
     {
-        if let Some(node) = self.find(name) {
+        let digest = digest(name);
+        if let Some(node) = self.find_digested(digest, name) {
             return Ok(node);
         }
-        let copy = Vec::from_slice(alloc, name)?;
         let node = self.names.len();
-        self.names.push(copy)?;
-        if let Ok(()) = place(alloc, &mut self.places, &mut self.others, name, node) {
+        self.names.push(name)?;
+        if let Ok(()) = place(alloc, &mut self.places, &mut self.others, digest, name, node) {
             return Ok(node);
         }
         self.names.pop();
@@ -157,8 +160,8 @@ impl Numbers {
 
     /// Appends the number of a name to a list. A name without a number gets the next one.
     ///
-    /// Returns `NoMemory` only when an allocation fails. Then the list does not change, but the name may have been
-    /// added.
+    /// Returns `NoMemory` when an allocation fails, and when the names would have more than 4,294,967,295 bytes in total.
+    /// Then the list does not change, but the name may have been added.
     pub fn number_into(
         &mut self,
         alloc: Global,

@@ -2,7 +2,7 @@
 
 ghost use Rattle.std.specs.Prelude.{◌≡◌, ◌+◌, ◌<◌, ◌^◌, ◌++◌, [], map, option_map, IfOk, OnOk};
 ghost use Rattle.std.specs.List.{All, flat_map};
-ghost use Rattle.std.specs.Option.{option_to_list};
+ghost use Rattle.std.specs.Option.{option_map_or, option_to_list};
 ghost use Rattle.jc_view.specs.declared.attribute_kind.Holder.TheVariants as holders;
 ghost use Rattle.jc_view.specs.ClassFile.{all_slots, class_text_at};
 ghost use Rattle.jc_view.specs.Lookups.{utf8_at};
@@ -99,12 +99,12 @@ fn code_facts(
     alloc: Global,
     class: &ClassView,
     references: &[ReferenceEntry],
-) -> Result<(Vec<MethodUse>, Vec<User>, Rc<Faults>), NoMemory>
+) -> Result<(Vec<MethodUse>, Vec<User>, Option<Rc<Faults>>), NoMemory>
     requires { All (λ entry. entry.index < 1 + all_slots class.now.constants) references.now }
     ensures uses { IfOk result (λ code. code.0.items ≡ uses class.now) }
     ensures users { IfOk result (λ code. code.1.items ≡ map (λ entry. user_of class.now entry.index) references.now) }
-    ensures format { IfOk result (λ code. code.2.value.format.items ≡ []) }
-    ensures faults { IfOk result (λ code. code.2.value.code.items ≡ code_faults class.now) }
+    ensures format { IfOk result (λ code. option_map_or (λ f. f.value.format.items) code.2 [] ≡ []) }
+    ensures faults { IfOk result (λ code. option_map_or (λ f. f.value.code.items) code.2 [] ≡ code_faults class.now) }
 {
     let codes = read_codes(alloc, class)?;
     let users = users(alloc, class, codes.first, references)?;

@@ -6,7 +6,7 @@ ghost use Rattle.jc_classes.specs.Lent.{member_lent, reference_lent};
 ghost use Rattle.jc_classes.specs.inside.FactsShown.{member_shown, reference_shown, text_at};
 ghost use Rattle.jc_classes.specs.inside.SameFacts.{AreSameFaults, IsSameUse, same_head, same_member, same_option, same_texts};
 
-use crate::facts::{Facts, Faults, MemberEntry, ReferenceEntry};
+use crate::facts::{Facts, MemberEntry, ReferenceEntry};
 use crate::member::Member;
 use crate::names::same;
 use crate::reference::Reference;
@@ -43,7 +43,7 @@ impl Facts {
         if !is_same_use(self, other) {
             return false;
         }
-        are_same_faults(self.faults.as_ref(), other.faults.as_ref())
+        are_same_faults(self, other)
     }
 }
 
@@ -155,9 +155,8 @@ fn is_same_use(facts: &Facts, other: &Facts) -> bool
         && facts.users.as_slice() == other.users.as_slice()
 }
 
-fn are_same_faults(faults: &Faults, others: &Faults) -> bool
-    ensures { Decides result (AreSameFaults faults.now others.now) }
+fn are_same_faults(facts: &Facts, other: &Facts) -> bool
+    ensures { Decides result (AreSameFaults facts.now other.now) }
 {
-    faults.format.as_slice() == others.format.as_slice()
-        && faults.code.as_slice() == others.code.as_slice()
+    facts.format_faults() == other.format_faults() && facts.code_faults() == other.code_faults()
 }

@@ -69,6 +69,19 @@ impl TextList {
         }
     }
 
+    /// Removes the last text, if there is one. Does not allocate.
+    pub fn pop(&mut self)
+        ensures { self.new ≡ take (length self.old - 1) self.old }
+    {
+        let count = self.ends.len();
+        if count == 0 {
+            return;
+        }
+        let start = start(self.ends.as_slice(), count - 1);
+        self.ends.pop();
+        self.bytes.truncate(start);
+    }
+
     /// Returns the number of texts.
     pub fn len(&self) -> usize
         ensures { result ≡ length self.now }

@@ -10,6 +10,7 @@ use crate::claims::{Claims, claim, withdraw, withdraw_stale};
 use crate::file::File;
 use jc_base::{ByteMap, NoMemory};
 use std::alloc::Global;
+use std::mem;
 
 /// The files by path, and for each class the paths of the files that have it.
 #[derive(Drop)]
@@ -186,13 +187,11 @@ fn put(held: &mut ClaimedFiles, path: &[u8], file: File)
     ensures files { held.new.files ≡ map.insert held.old.files path.now file }
     ensures claims { AreClaims held.new.claims held.new.files }
 {
-    let Some(before) = held.files.get(path) else {
+    let Some(place) = held.files.get_mut(path) else {
         unreachable!();
     };
-    withdraw_stale(&mut held.claims, before, &file, path);
-    let Ok(_) = held.files.replace(path, file) else {
-        unreachable!();
-    };
+    withdraw_stale(&mut held.claims, place, &file, path);
+    drop(mem::replace(place, file));
 }
 
 /// Removes the file at the path, and its claim.

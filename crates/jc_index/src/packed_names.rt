@@ -114,9 +114,18 @@ impl PackedNames {
 fn pack(alloc: Global, names: &[&[u8]]) -> Result<TextList, NoMemory>
     ensures { IfOk result (λ texts. texts ≡ map (λ name. name.now) names.now) }
 {
-    let mut texts = TextList::with_room(alloc, names.len(), 0)?;
+    let mut texts = TextList::with_room(alloc, names.len(), byte_count(names))?;
     for name in names {
         texts.push(name)?;
     }
-    Ok(texts.fitted())
+    Ok(texts)
+}
+
+/// Returns the number of bytes of these names in total, or the greatest number if it is greater.
+fn byte_count(names: &[&[u8]]) -> usize {
+    let mut count: usize = 0;
+    for name in names {
+        count = count.saturating_add(name.len());
+    }
+    count
 }

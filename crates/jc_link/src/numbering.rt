@@ -37,7 +37,7 @@ fn number_supertypes_of(
     requires { IsOnce numbers.old }
     ensures { IfOk result (λ supertypes. AddsNumbers numbers.old [] numbers.new supertypes.items (supertypes_of (stands.Class facts.now))) }
 {
-    let mut supertypes = Vec::new(alloc);
+    let mut supertypes = Vec::with_capacity(alloc, facts.interface_count().saturating_add(1))?;
     number_some(alloc, numbers, &mut supertypes, facts.superclass())?;
     number_interfaces(alloc, numbers, &mut supertypes, facts)?;
     Ok(supertypes)

@@ -35,7 +35,7 @@ use std::rc::Rc;
 pub struct Part {
     circular: bool,
     load: Loading,
-    /// The faults of its facts, if the name has facts.
+    /// The faults of its facts, if the name has facts with faults.
     faults: Option<Rc<Faults>>,
     linked: Linked,
 }
@@ -157,7 +157,7 @@ fn share_faults(standing: Standing<'_>) -> Result<Option<Rc<Faults>>, NoMemory>
         ≡ code_faults_of (stands_of standing.entry)) }
 {
     match standing {
-        Standing::Class(facts) => Ok(Some(facts.shared_faults()?)),
+        Standing::Class(facts) => facts.shared_faults(),
         _ => Ok(None),
     }
 }

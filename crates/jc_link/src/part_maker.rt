@@ -55,7 +55,7 @@ impl<'g, 't> PartMaker<'g, 't> {
     {
         let hierarchy = Hierarchy::new(
             alloc,
-            graph.names.names(),
+            &graph.names,
             graph.standing.as_slice(),
             graph.supertypes.as_slice(),
             graph.object,

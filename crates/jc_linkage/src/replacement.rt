@@ -14,6 +14,7 @@ ghost use Rattle.jc_linkage.specs.inside.LinkSets.{links_but, links_held, links_
 use crate::class_entry::{ClassEntry, NewEntry};
 use crate::links::Links;
 use jc_base::{ByteMap, NoMemory};
+use std::mem;
 
 /// Adds the links of new entries that the old entries lack. If an allocation fails, some of these links may have been
 /// added.
@@ -101,29 +102,11 @@ fn put_one(kept: &mut ByteMap<ClassEntry>, links: &mut Links, one: NewEntry)
     ensures linked { TakesOut (links_lost one.name.items kept.old one.kept) links.old links.new }
 {
     let NewEntry { name, kept: now } = one;
-    let old = exchange(kept, &name, now);
-    take_out(kept, links, &name, &old);
-}
-
-/// Removes the links of the old entry of a class that its present entry lacks. Does not allocate.
-fn take_out(kept: &ByteMap<ClassEntry>, links: &mut Links, name: &[u8], old: &ClassEntry)
-    ensures { (now : ClassEntry) → map.get kept.now name.now ≡ Some now → TakesOut (links_but name.now old.now now) links.old links.new }
-{
-    if let Some(now) = kept.get(name) {
-        links.unlink_but(name, old, now);
-    }
-}
-
-/// Replaces the entry of a class, and returns the old one. Does not allocate.
-fn exchange(kept: &mut ByteMap<ClassEntry>, name: &[u8], now: ClassEntry) -> ClassEntry
-    requires { IsSome (map.get kept.old name.now) }
-    ensures old { map.get kept.old name.now ≡ Some result }
-    ensures new { kept.new ≡ map.insert kept.old name.now now }
-{
-    match kept.replace(name, now) {
-        Ok(old) => old,
-        Err(_) => unreachable!(),
-    }
+    let Some(place) = kept.get_mut(&name) else {
+        unreachable!();
+    };
+    links.unlink_but(&name, place, &now);
+    drop(mem::replace(place, now));
 }
 
 /// Removes the entry of a class, and its links. Does not allocate.

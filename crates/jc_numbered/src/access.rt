@@ -109,7 +109,7 @@ fn is_open(classes: &Classes, target: AccessTarget, hit: FoundMember) -> bool
     match target {
         AccessTarget::Class(_) => false,
         AccessTarget::Array => {
-            same(classes.names[hit.node].as_slice(), b"java/lang/Object") && hit.member.is_clone()
+            same(classes.names.name(hit.node), b"java/lang/Object") && hit.member.is_clone()
         }
     }
 }

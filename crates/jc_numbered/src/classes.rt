@@ -4,7 +4,7 @@ ghost use Rattle.std.specs.Prelude.{◌≡◌, ◌<◌, ◌++◌, length, map, O
 ghost use Rattle.std.specs.List.{All};
 ghost use Rattle.jc_classes.specs.Lent.{key_lent, member_lent, stands_of};
 ghost use Rattle.jc_classes.specs.MethodLookup.{of_object};
-ghost use Rattle.jc_classes.specs.Names.{names_of, object as java_lang_object, package_of};
+ghost use Rattle.jc_classes.specs.Names.{object as java_lang_object, package_of};
 ghost use Rattle.jc_classes.specs.Worlds.{member, fields_of, methods_of, flags_of};
 ghost use Rattle.jc_graph.specs.Graph.{successors_of};
 ghost use Rattle.jc_numbered.specs.inside.Indexed.{filled, indexed_name, standing_of, superclass_at, superclass_count, onward_nodes, IsGraph};
@@ -15,7 +15,7 @@ ghost use Rattle.jc_numbered.specs.inside.Outside.{lies_outside};
 
 use crate::polymorphic::declared;
 use jc_base::NoMemory;
-use jc_classes::{Key, Member, Standing, same};
+use jc_classes::{Key, Member, Numbers, Standing, same};
 use jc_file::AccessFlag;
 use jc_graph::{Seen, mark_above};
 
@@ -24,7 +24,7 @@ use jc_graph::{Seen, mark_above};
 #[derive(Drop)]
 pub struct Classes<'c, 't> {
     /// The name of each node.
-    pub names: &'c [Vec<u8>],
+    pub names: &'c Numbers,
     /// What each node is: a class, outside or nothing.
     pub standing: &'c [Standing<'t>],
     /// The supertypes of each node.
@@ -44,7 +44,7 @@ pub struct Classes<'c, 't> {
     pub ghost supertypes_size: { length supertypes.now ≡ length standing.now },
     pub ghost object_within: { object < length standing.now },
     pub ghost object_name: { indexed_name (filled names.now standing.now supertypes.now rank.items good.items) object ≡ java_lang_object },
-    pub ghost packages: { package_ends.items ≡ map package_end (names_of names.now) },
+    pub ghost packages: { package_ends.items ≡ map package_end names.now },
     pub ghost graph: { IsGraph (length standing.now) (filled names.now standing.now supertypes.now rank.items good.items) },
 }
 
@@ -82,9 +82,10 @@ impl<'c, 't> Classes<'c, 't> {
     pub fn name(&self, node: usize) -> &[u8]
         ensures { result.now ≡ indexed_name (indexed_of self.now) node }
     {
-        match self.names.get(node) {
-            Some(name) => name.as_slice(),
-            None => &[],
+        if node < self.names.len() {
+            self.names.name(node)
+        } else {
+            &[]
         }
     }
 
@@ -172,7 +173,7 @@ impl<'c, 't> Classes<'c, 't> {
         ensures { option_map member_lent result ≡ declared_at (indexed_of self.now) node (key_lent key.entry) }
     {
         match self.at(node) {
-            Standing::Class(facts) => declared(facts, self.names[node].as_slice(), key),
+            Standing::Class(facts) => declared(facts, self.names.name(node), key),
             _ => None,
         }
     }

@@ -1,19 +1,19 @@
 //! Packages of names.
 
 ghost use Rattle.std.specs.Prelude.{◌≡◌, map, IfOk};
-ghost use Rattle.jc_classes.specs.Names.{names_of};
 ghost use Rattle.jc_numbered.specs.inside.Packages.{package_end};
 
 use jc_base::NoMemory;
+use jc_classes::Numbers;
 use std::alloc::Global;
 
 /// Returns the length of the package of each name (JVMS 5.3).
-pub fn package_ends(alloc: Global, names: &[Vec<u8>]) -> Result<Vec<usize>, NoMemory>
-    ensures { IfOk result (λ ends. ends.items ≡ map package_end (names_of names.now)) }
+pub fn package_ends(alloc: Global, names: &Numbers) -> Result<Vec<usize>, NoMemory>
+    ensures { IfOk result (λ ends. ends.items ≡ map package_end names.now) }
 {
     let mut ends = Vec::with_capacity(alloc, names.len())?;
-    for name in names {
-        ends.push(package_end(name.as_slice()))?;
+    for node in 0..names.len() {
+        ends.push(package_end(names.name(node)))?;
     }
     Ok(ends)
 }

@@ -56,8 +56,8 @@ fn lesser(classes: &Classes, node: usize, other: usize) -> usize
     ensures { result ≡ lesser (indexed_of classes.now) node other }
 {
     if less(
-        classes.names[other].as_slice(),
-        classes.names[node].as_slice(),
+        classes.names.name(other),
+        classes.names.name(node),
     ) {
         other
     } else {

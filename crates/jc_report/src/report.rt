@@ -265,6 +265,7 @@ fn fill_files<'t>(
     ensures made { meter.new.made ≡ meter.old.made }
     ensures asks_rise { meter.old.asks ≤ meter.new.asks }
 {
+    files.reserve_exact(tree.len())?;
     for (path, outcome) in &tree.outcomes {
         let state = tree.state(path, outcome, meter);
         files.push(FileRow { path, state })?;
@@ -290,6 +291,7 @@ fn fill_classes<'t>(
     ensures made_rise { meter.old.made ≤ meter.new.made }
     ensures asks { meter.new.asks ≡ meter.old.asks }
 {
+    classes.reserve_exact(tree.len())?;
     push_classes(classes, alloc, &tree.table, maker, meter)
 }
 

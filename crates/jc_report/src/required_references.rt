@@ -20,7 +20,7 @@ pub fn required_numbers(
     ensures { IfOk result (λ numbers. rows_numbered references.now numbers.items ≡ rows_required references.now part.now.answers) }
 {
     let answers = part.answers();
-    let mut numbers = Vec::new(alloc);
+    let mut numbers = Vec::with_capacity(alloc, answers.len())?;
     for number in 0..answers.len() {
         if is_required(answers.kind(number)) {
             match references.at(number) {

@@ -8,6 +8,7 @@ ghost use Rattle.jc_base.proofs.maps.FiniteMaps.{bytes_cmp_total};
 ghost use Rattle.jc_base.specs.Bytes.{bytes_cmp};
 ghost use Rattle.jc_report.specs.RequiredRows.{row_numbered, row_required, spelled};
 ghost use Rattle.jc_report.specs.RowView.{row_lent};
+ghost use Rattle.jc_report.specs.inside.RowsOfClass.{cmp_in_class};
 
 use crate::class_rows::{class_row, reference_row};
 use crate::row::Row;
@@ -49,6 +50,14 @@ impl RequiredRow {
             Some(class) => class,
             None => &[],
         }
+    }
+
+    /// Compares two rows of one class. Most rows that are compared differ in their class, so this is no part of `cmp`.
+    #[inline(never)]
+    fn cmp_in_class(&self, other: &RequiredRow) -> Ordering
+        ensures { result ≡ cmp_in_class (row_required self.now) (row_required other.now) }
+    {
+        self.row().cmp_in_class(&other.row())
     }
 
     /// Returns the same row, as one more owner of the texts. Does not allocate.
@@ -97,11 +106,11 @@ impl Ord for RequiredRow {
 
     ghost matches_eq = { λ x y. refl };
 
-    // Most rows differ in their class, and then the other texts are not looked up.
+    // The other texts are looked up only if the classes are equal.
     fn cmp(&self, other: &RequiredRow) -> Ordering {
         match self.class().cmp(other.class()) {
             Ordering::Less => Ordering::Less,
-            Ordering::Equal => self.row().cmp_in_class(&other.row()),
+            Ordering::Equal => self.cmp_in_class(other),
             Ordering::Greater => Ordering::Greater,
         }
     }

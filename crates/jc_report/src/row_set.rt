@@ -50,6 +50,7 @@ impl<'t> RowSet<'t> {
         requires { map row_lent rows.old.items ≡ [] }
         ensures { OnOk result (AreRows (map row_lent rows.new.items) (Contains self.now)) }
     {
+        rows.reserve_exact(self.rows.len())?;
         for row in self.rows.iter() {
             rows.push(*row)?;
         }

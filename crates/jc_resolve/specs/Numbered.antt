@@ -6,7 +6,7 @@ use Rattle.std.specs.declared.alloc.Global.{Global}
 use Rattle.jc_classes.specs.Facts.{Reference}
 use Rattle.jc_classes.specs.LinkErrors.{LinkError, links_of}
 use Rattle.jc_classes.specs.Loading.{Load, Loading}
-use Rattle.jc_classes.specs.Names.{Name, names_of}
+use Rattle.jc_classes.specs.Names.{Name}
 use Rattle.jc_classes.specs.Numbers.{name_at, IsOnce}
 use Rattle.jc_classes.specs.Parts.{AreAnswers, class_of}
 use Rattle.jc_classes.specs.Resolution.{Answer}
@@ -32,9 +32,9 @@ abbrev pub supertypes_at : Numbered → ℕ → List ℕ
 supertypes_at h i = slice_index_or h.supertypes i []
 
 -- the data of these lists, as the code keeps them
-abbrev pub numbered : List (Vec ℕ Global) → List Standing → List (Vec ℕ Global) → Numbered
+abbrev pub numbered : List Name → List Standing → List (Vec ℕ Global) → Numbered
 numbered names standing supertypes = record {
-  names = names_of names;
+  names = names;
   standing = map stands_of standing;
   supertypes = map (λ (v : Vec ℕ Global). v.items) supertypes;
 }

@@ -93,7 +93,7 @@ fn is_own(own: Option<u32>, node: usize) -> bool
 }
 
 /// Returns a number as a `u32`, or `NoMemory` if it is above 4,294,967,295.
-fn small(number: usize) -> Result<u32, NoMemory>
+pub(crate) fn small(number: usize) -> Result<u32, NoMemory>
     ensures { IfOk result (λ kept. kept ≡ number) }
 {
     match u32::try_from(number) {

@@ -6,7 +6,7 @@ ghost use Rattle.std.specs.Bool.{Decides};
 ghost use Rattle.std.specs.List.{Contains};
 ghost use Rattle.jc_classes.specs.Inheritance.{IsInheritance};
 ghost use Rattle.jc_classes.specs.Loading.{Load as Loads};
-ghost use Rattle.jc_classes.specs.Names.{names_of, object as java_lang_object};
+ghost use Rattle.jc_classes.specs.Names.{object as java_lang_object};
 ghost use Rattle.jc_classes.specs.Numbers.{name_at};
 ghost use Rattle.jc_classes.specs.Worlds.{World, Above};
 ghost use Rattle.jc_resolve.specs.Answers.{loading_of};
@@ -21,7 +21,7 @@ use crate::linked::Linked;
 use crate::loaded::load_classes;
 use crate::workspace::Workspace;
 use jc_base::NoMemory;
-use jc_classes::{LinkageError, Standing};
+use jc_classes::{LinkageError, Numbers, Standing};
 use jc_numbered::{Classes, Load};
 use std::alloc::Global;
 use std::marker::Model;
@@ -83,14 +83,14 @@ impl<'c, 't> Hierarchy<'c, 't> {
     /// Returns `NoMemory` only when an allocation fails.
     pub fn new(
         alloc: Global,
-        names: &'c [Vec<u8>],
+        names: &'c Numbers,
         standing: &'c [Standing<'t>],
         supertypes: &'c [Vec<usize>],
         object: usize,
     ) -> Result<Hierarchy<'c, 't>, NoMemory>
         requires closed { IsClosed (numbered names.now standing.now supertypes.now) }
         requires object { object < length names.now }
-        requires object_name { name_at (names_of names.now) object ≡ java_lang_object }
+        requires object_name { name_at names.now object ≡ java_lang_object }
         ensures { IfOk result (λ h. h ≡ numbered names.now standing.now supertypes.now) }
     {
         let places = vec![in alloc; 0usize; names.len()]?;

@@ -212,7 +212,7 @@ fn entry_of(
     own: &[u8],
     facts: &Facts,
     answers: &Answers,
-    numbers: &[Option<usize>],
+    numbers: &[Option<u32>],
     one: MethodUse,
 ) -> Option<ErrorEntry>
     requires size { length answers.now ≡ length facts.now.references }

@@ -13,7 +13,7 @@ ghost use Rattle.jc_resolve.specs.inside.Loading.{is_good, TellsRank};
 
 use crate::all_loads::{good_all, load_all, most_above_all, rank_all};
 use jc_base::NoMemory;
-use jc_classes::Standing;
+use jc_classes::{Numbers, Standing};
 use jc_graph::{Sorted, sort_nodes};
 use jc_numbered::{Classes, Load, package_ends};
 use std::alloc::Global;
@@ -64,7 +64,7 @@ fn rate(
 /// Finds how each class loads, given the circular classes and an order of the others.
 fn load_sorted<'c, 't>(
     alloc: Global,
-    names: &'c [Vec<u8>],
+    names: &'c Numbers,
     standing: &'c [Standing<'t>],
     supertypes: &'c [Vec<usize>],
     object: usize,
@@ -111,7 +111,7 @@ fn load_sorted<'c, 't>(
 /// Finds how each class loads.
 pub(crate) fn load_classes<'c, 't>(
     alloc: Global,
-    names: &'c [Vec<u8>],
+    names: &'c Numbers,
     standing: &'c [Standing<'t>],
     supertypes: &'c [Vec<usize>],
     object: usize,

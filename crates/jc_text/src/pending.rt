@@ -5,7 +5,7 @@ ghost use Rattle.std.specs.Prelude.{◌≡◌, ◌++◌, [], true, false};
 use std::marker::Model;
 
 /// The size of the buffer in bytes.
-const ROOM: usize = 8192;
+const ROOM: usize = 4096;
 
 /// A buffer of bytes that are not written yet. Its model is the list of these bytes.
 #[derive(Drop)]
@@ -21,7 +21,7 @@ impl Model for Pending {
 
     ghost view = { λ a. take a.len a.buffer };
 
-    ghost invariant = { λ a. a.len ≤ 8192 };
+    ghost invariant = { λ a. a.len ≤ 4096 };
 }
 
 impl Pending {

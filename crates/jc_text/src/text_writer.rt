@@ -6,7 +6,7 @@ ghost use Rattle.jc_text.specs.Sends.{IsFresh, Sends};
 use crate::pending::Pending;
 use jc_base::{DeviceFault, Output, write_all};
 
-/// A writer of text with a buffer of 8 KiB before an output. Does not allocate. Text stays in the buffer until
+/// A writer of text with a buffer of 4 KiB before an output. Does not allocate. Text stays in the buffer until
 /// `finish`, or until there is no room for more. A writer that is dropped does not write it.
 ///
 /// After a write fails, nothing more is written, and later text is dropped. The output then has a prefix of the text,

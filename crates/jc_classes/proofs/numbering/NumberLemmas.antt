@@ -25,10 +25,6 @@ name_left xs ys i l = get_or_append_left xs ys [] i l
 pub name_last : (xs : List Name) (x : Name) (i : ℕ) → length xs ≡ i → name_at (xs ++ x ∷ []) i ≡ x
 name_last xs x i e = get_or_push xs x [] i e
 
-pub names_push : (xs : List (Vec ℕ Global)) (x : Vec ℕ Global) → names_of (xs ++ x ∷ []) ≡ names_of xs ++ x.items ∷ []
-names_push [] x = refl
-names_push (y ∷ xs) x = ap (λ z. y.items ∷ z) (names_push xs x)
-
 pub numbered_empty : IsNumbered fin.empty []
 numbered_empty = record {
   finds = record {

@@ -1,6 +1,6 @@
 -- A text behind others, and the text of a number.
 use Rattle.std.proofs.Common.{◌≡◌, ℕ, zero, suc, ◌+◌, ◌-◌, ◌<◌, ◌≤◌, List, [], ◌∷◌, ◌++◌, length, take, drop, slice_index_or, refl, sym, ap, subst, ◌∙◌, arith}
-use Rattle.std.proofs.lemmas.List.{drop-append-le, take-append-le, length-drop}
+use Rattle.std.proofs.lemmas.List.{drop-append-le, take-append-drop, take-append-le, length-drop, length-take-le}
 use Rattle.std.proofs.Math.Seq.{drop-append_seam, take-length}
 use Rattle.jc_classes.specs.inside.TextList.{texts_from, AreEnds, start_at}
 
@@ -73,3 +73,37 @@ pub length_texts : (bytes : List ℕ) (from : ℕ) (ends : List ℕ) → length 
 unfolding texts_from
 length_texts bytes from [] = refl
 length_texts bytes from (end ∷ ends) = ap suc (length_texts bytes end ends)
+
+-- ---- the texts before a number
+
+pub ends_cut : (size from : ℕ) (ends : List ℕ) (n : ℕ) → AreEnds size from ends → n < length ends → AreEnds (start_at from ends n) from (take n ends)
+ends_cut size from [] n h l = absurd (omega (arith, l))
+ends_cut size from (end ∷ ends) zero h l = refl
+ends_cut size from (end ∷ ends) (suc n) h l =
+    (h.0, subst (λ s. AreEnds s end (take n ends)) (later_start from end ends n) (ends_cut size end ends n h.1 (omega (arith, l))))
+
+-- a text that ends before a place stays where the buffer is cut at the place
+part_before : (bytes : List ℕ) (from end size : ℕ) → from ≤ end → end ≤ size → size ≤ length bytes
+    → take (end - from) (drop from (take size bytes)) ≡ take (end - from) (drop from bytes)
+part_before bytes from end size f e l =
+    sym (part_kept (take size bytes) (drop size bytes) from end f (subst (λ n. end ≤ n) (sym (length-take-le size bytes l)) e))
+    ∙ ap (λ b. take (end - from) (drop from b)) (take-append-drop size bytes)
+
+pub starts_within : (bytes : List ℕ) (from : ℕ) (ends : List ℕ) (n : ℕ) → AreEnds (length bytes) from ends → n < length ends → start_at from ends n ≤ length bytes
+starts_within bytes from ends n h l =
+    let p = part_is bytes from ends n h l in
+    omega (arith, p.rises, p.within)
+
+pub texts_cut : (bytes : List ℕ) (from : ℕ) (ends : List ℕ) (n : ℕ) → AreEnds (length bytes) from ends → n < length ends
+    → texts_from (take (start_at from ends n) bytes) from (take n ends) ≡ take n (texts_from bytes from ends)
+unfolding texts_from
+texts_cut bytes from [] n h l = absurd (omega (arith, l))
+texts_cut bytes from (end ∷ ends) zero h l = refl
+texts_cut bytes from (end ∷ ends) (suc n) h l =
+    let s = start_at end ends n in
+    let less : n < length ends = omega (arith, l) in
+    let near : end ≤ s = ends_within s end (take n ends) (ends_cut (length bytes) end ends n h.1 less) in
+    subst (λ size. take (end - from) (drop from (take size bytes)) ∷ texts_from (take size bytes) end (take n ends) ≡ take (end - from) (drop from bytes) ∷ take n (texts_from bytes end ends))
+    (later_start from end ends n)
+    (ap (λ x. x ∷ texts_from (take s bytes) end (take n ends)) (part_before bytes from end s h.0 near (starts_within bytes end ends n h.1 less))
+    ∙ ap (λ xs. take (end - from) (drop from bytes) ∷ xs) (texts_cut bytes end ends n h.1 less))

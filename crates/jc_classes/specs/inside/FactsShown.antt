@@ -1,5 +1,6 @@
 -- The facts whose texts are given by number.
 use Rattle.std.specs.Prelude.{ℕ, List, [], map, option_map, slice_index_or}
+use Rattle.std.specs.Option.{option_map_or}
 use Rattle.jc_classes.specs.Facts.{Facts, Member, Reference}
 use Rattle.jc_classes.specs.NamedTexts.{named_by}
 use Rattle.jc_classes.specs.declared.facts.Facts.TheInside.{Inside}
@@ -32,6 +33,6 @@ facts_shown a = record {
   references = map (reference_shown a.texts.value) a.references.value.items;
   uses = a.uses.items;
   users = a.users.items;
-  format_faults = a.faults.value.format.items;
-  code_faults = a.faults.value.code.items;
+  format_faults = option_map_or (λ f. f.value.format.items) a.faults [];
+  code_faults = option_map_or (λ f. f.value.code.items) a.faults [];
 }

@@ -3,7 +3,6 @@ use Rattle.std.specs.Prelude.{◌≡◌, Bool, true, false, ◌&&◌, Option, So
 use Rattle.jc_base.specs.Bytes.{same_bytes}
 use Rattle.jc_classes.specs.Facts.{Facts, Member}
 use Rattle.jc_classes.specs.Names.{Name, same_name}
-use Rattle.jc_classes.specs.declared.facts.Faults.{Faults}
 use Rattle.jc_classes.specs.declared.reference.Reference.{Reference as LentReference}
 
 -- the two names are the same, or both are absent
@@ -27,5 +26,5 @@ same_texts r s =
 abbrev pub IsSameUse : (f g : Facts) → Type 0
 IsSameUse f g = (f.uses ≡ g.uses) × (f.users ≡ g.users)
 
-abbrev pub AreSameFaults : (f g : Faults) → Type 0
-AreSameFaults f g = (f.format.items ≡ g.format.items) × (f.code.items ≡ g.code.items)
+abbrev pub AreSameFaults : (f g : Facts) → Type 0
+AreSameFaults f g = (f.format_faults ≡ g.format_faults) × (f.code_faults ≡ g.code_faults)

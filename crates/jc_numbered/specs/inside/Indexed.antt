@@ -4,7 +4,7 @@ use Rattle.std.specs.Prelude.{Option, Some, None, slice_index_or, cond, is_some}
 use Rattle.std.specs.List.{Contains}
 use Rattle.std.specs.declared.vec.Vec.{Vec}
 use Rattle.std.specs.declared.alloc.Global.{Global}
-use Rattle.jc_classes.specs.Names.{Name, names_of}
+use Rattle.jc_classes.specs.Names.{Name}
 use Rattle.jc_classes.specs.Numbers.{name_at}
 use Rattle.jc_classes.specs.Worlds.{Stands, World, superclass_of, supertypes_of}
 use Rattle.jc_classes.specs.Worlds.Stands.{Absent}
@@ -21,9 +21,9 @@ pub record Indexed : Type 0 where
   pub good : List Bool
 
 -- the data of borrowed slices
-abbrev pub filled : List (Vec ℕ Global) → List Standing → List (Vec ℕ Global) → List ℕ → List Bool → Indexed
+abbrev pub filled : List Name → List Standing → List (Vec ℕ Global) → List ℕ → List Bool → Indexed
 filled names standing supertypes rank good = record {
-  names = names_of names;
+  names = names;
   standing = map stands_of standing;
   supertypes = successors_of supertypes;
   rank = rank;

@@ -5,6 +5,7 @@ use Rattle.std.specs.List.{Contains}
 use Rattle.std.specs.declared.vec.Vec.{Vec}
 use Rattle.std.specs.declared.alloc.Global.{Global}
 use Rattle.jc_classes.specs.Lent.{stands_of}
+use Rattle.jc_classes.specs.Names.{Name}
 use Rattle.jc_classes.specs.Worlds.{World}
 use Rattle.jc_classes.specs.declared.standing.Standing.{Standing}
 use Rattle.jc_numbered.specs.inside.Indexed.{IsIndexed, filled}
@@ -16,7 +17,7 @@ supertypes_within [] a b c = absurd (let l = c.1 in omega arith)
 supertypes_within (r ∷ supertypes) zero b c = omega arith
 supertypes_within (r ∷ supertypes) (suc a) b c = let l = supertypes_within supertypes a b c in omega arith
 
-module _ (n : List (Vec ℕ Global)) (s : List Standing) (u : List (Vec ℕ Global)) where
+module _ (n : List Name) (s : List Standing) (u : List (Vec ℕ Global)) where
   pub net_closed : IsClosed (numbered n s u) → IsGathered (length s) (filled n s u [] [])
   net_closed h =
       let standing = length-map s stands_of in

@@ -121,7 +121,7 @@ graph_last count x y net graph flags order tells ordered loads size told net2 up
 
 -- ---- as the code has it
 
-module _ (n : List (Vec ℕ Global)) (s : List Standing) (u : List (Vec ℕ Global)) (r r2 : List ℕ) (g g2 : List Bool) where
+module _ (n : List Name) (s : List Standing) (u : List (Vec ℕ Global)) (r r2 : List ℕ) (g g2 : List Bool) where
   pub net_again : {count : ℕ} → IsGathered count (filled n s u r g) → IsGathered count (filled n s u r2 g2)
   net_again net = record { names = net.names; standing = net.standing; once = net.once; nodes = net.nodes; supertypes = net.supertypes }
 

@@ -1,6 +1,7 @@
 -- Numbered classes, before it is known how they load.
 use Rattle.std.specs.Prelude.{◌≡◌, ℕ, ◌<◌, [], List, map, length}
 use Rattle.std.specs.List.{Contains}
+use Rattle.jc_classes.specs.Names.{Name}
 use Rattle.jc_classes.specs.Worlds.{supertypes_of}
 use Rattle.jc_classes.specs.declared.standing.Standing.{Standing}
 use Rattle.jc_numbered.specs.inside.Indexed.{Indexed, filled, indexed_name, standing_of}
@@ -16,5 +17,5 @@ pub record IsGathered (count : ℕ) (x : Indexed) : Type 0 where
   pub supertypes : (i : ℕ) → i < length x.names → map (indexed_name x) (x.supertypes i) ≡ supertypes_of (standing_of x i)
 
 -- these classes, before it is known how they load
-abbrev pub bare : List (Vec ℕ Global) → List Standing → List (Vec ℕ Global) → Indexed
+abbrev pub bare : List Name → List Standing → List (Vec ℕ Global) → Indexed
 bare names standing supertypes = filled names standing supertypes [] []

@@ -1,10 +1,8 @@
-use Rattle.std.proofs.Common.{◌≡◌, ◌∙◌, ◌<◌, [], length, arith, ap, sym, subst}
-use Rattle.std.proofs.lemmas.List.{get_or-map, length-map}
+use Rattle.std.proofs.Common.{◌≡◌, ◌∙◌, ◌+◌, [], ℕ, arith, map, sym, subst, take}
 use Rattle.std.proofs.lemmas.Result.{IfOk-weaker}
 use Rattle.std.specs.FinMap as fin
 use Rattle.std.specs.declared.alloc.Global.{Global}
 use Rattle.std.specs.declared.vec.Vec.{Vec}
-use Rattle.std.proofs.Common.{ℕ, ◌+◌, map, take}
 use Rattle.jc_classes.specs.NameLists.{IsRisingOf}
 use Rattle.jc_classes.specs.Names.{names_of}
 use Rattle.jc_classes.specs.Numbers.{name_at}
@@ -20,17 +18,12 @@ pub loop-number-preserved : goal.loop-number-preserved
 loop-number-preserved c =
     let names = c.args.names.now in
     let i = c.loop-number.number in
-    let less : i < length names = c.loop-number-test.true in
-    let size = length-map names (λ (v : Vec ℕ Global). v.items) in
-    let name : name_at (names_of names) i ≡ c.in_ok-name.name.items =
-    get_or-map (λ (v : Vec ℕ Global). v.items) names i c.index-names-number.result [] less
-    ∙ ap (λ (v : Vec ℕ Global). v.items) (sym c.index-names-number.is) ∙ sym c.as_slice.ensures.value ∙ sym c.in_ok-name.ensures.items in
-    subst (λ p. IsNumbered p (take (i + 1) (names_of names))) (sym c.in_ok-insert.ensures.ok)
-    (numbered_next c.loop-number.places (names_of names) i c.in_ok-name.name.items c.requires (omega (arith, less, size)) name c.loop-number.invariant)
+    let name : name_at names i ≡ c.in_ok-name.name.items = sym c.text.ensures ∙ sym c.in_ok-name.ensures.items in
+    subst (λ p. IsNumbered p (take (i + 1) names)) (sym c.in_ok-insert.ensures.ok)
+    (numbered_next c.loop-number.places names i c.in_ok-name.name.items c.requires (omega (arith, c.loop-number-test.true, c.len-number-end.ensures)) name c.loop-number.invariant)
 
 pub returns : goal.returns
 returns c =
     let names = c.args.names.now in
-    let size = length-map names (λ (v : Vec ℕ Global). v.items) in
-    let past = c.loop-number-test.false in
-    IfOk-weaker c.into_keys.result (λ keys. map (λ (k : Vec ℕ Global). k.items) keys.items ≡ fin.keys c.loop-number.places) (λ rising. IsRisingOf (names_of rising.items) (names_of names)) (λ keys e. rising_names c.loop-number.places (names_of names) (names_of keys.items) c.loop-number.number (omega (arith, past, size)) c.loop-number.invariant e) c.into_keys.ensures
+    IfOk-weaker c.into_keys.result (λ keys. map (λ (k : Vec ℕ Global). k.items) keys.items ≡ fin.keys c.loop-number.places) (λ rising. IsRisingOf (names_of rising.items) names)
+    (λ keys e. rising_names c.loop-number.places names (names_of keys.items) c.loop-number.number (omega (arith, c.loop-number-test.false, c.len-number-end.ensures)) c.loop-number.invariant e) c.into_keys.ensures

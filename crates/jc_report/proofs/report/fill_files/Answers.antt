@@ -1,5 +1,6 @@
-use Rattle.std.proofs.Common.{refl, ap, ◌∙◌, arith}
+use Rattle.std.proofs.Common.{refl, ap, map as map_each, ◌∙◌, arith}
 use Rattle.std.specs.FinMap as map
+use Rattle.jc_report.specs.FileRowView as lent
 use Rattle.jc_report.specs.Trees.{Tree}
 use Rattle.jc_report.proofs.trees.RowsOfFiles.{none_made, one_made, all_made}
 use Rattle.jc_report.proofs.report.fill_files.Goals as goal
@@ -8,7 +9,7 @@ pub loop-path-init : goal.loop-path-init
 loop-path-init c = record {
   made = refl;
   asks = omega arith;
-  rows = λ f h. none_made f c.args.tree.now _ _ h c.requires (c.into_iter-path-iterator.ensures.into_iter_gives.0 ∙ ap (λ (t : Tree). map.entries t.outcomes) c.tree.view_is);
+  rows = λ f h. none_made f c.args.tree.now _ _ h (ap (map_each lent.row_lent) c.in_ok-reserve_exact.ensures.items ∙ c.requires) (c.into_iter-path-iterator.ensures.into_iter_gives.0 ∙ ap (λ (t : Tree). map.entries t.outcomes) c.tree.view_is);
 }
 
 pub loop-path-preserved : goal.loop-path-preserved

@@ -18,9 +18,8 @@ invariant_of-unloaded c =
     let rank = c.new.result.items in
     let good = c.in_ok-good.good.items in
     let names = c.requires.net.names in
-    let size : length n ≡ length s = sym (length-map n (λ (v : Vec ℕ Global). v.items)) ∙ names in
     record {
-      names_size = size;
+      names_size = names;
       supertypes_size = c.requires.size;
       object_within = c.requires.object;
       object_name = c.requires.object_name;
@@ -44,7 +43,6 @@ invariant_of-classes c =
     let net2 : IsGathered count y = net_again n s u [] rank [] good c.requires.net in
     let graph : IsGraph count x = graph_first count x net c.in_ok-good.ensures.size c.in_ok-good.ensures.none in
     let names = c.requires.net.names in
-    let size : length n ≡ count = sym (length-map n (λ (v : Vec ℕ Global). v.items)) ∙ names in
     let flags = c.args.sorted.now.circular.items in
     let order = c.args.sorted.now.order.items in
     let rings : TellsCircular x.supertypes count flags = c.requires.circular in
@@ -53,7 +51,7 @@ invariant_of-classes c =
     let ranked : TellsRank count order rank = subst (λ k. TellsRank k order rank) c.requires.size (subst (λ z. TellsRank (length u) z rank) c.as_slice.ensures.value c.in_ok-rated.ensures.rank) in
     let goods : good ≡ map is_good loads = c.in_ok-rated.ensures.good ∙ ap (map is_good) c.as_slice-2.ensures.value in
     record {
-      names_size = size;
+      names_size = names;
       supertypes_size = c.requires.size;
       object_within = c.requires.object;
       object_name = c.requires.object_name;

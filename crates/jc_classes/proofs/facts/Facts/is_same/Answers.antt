@@ -1,7 +1,6 @@
 use Rattle.std.proofs.Common.{◌≡◌, ◌∙◌, ap, map, sym}
 use Rattle.std.proofs.lemmas.Bool.Decides.{Decides-at}
 use Rattle.jc_classes.specs.Facts.{Facts}
-use Rattle.jc_classes.specs.declared.facts.Faults.{Faults}
 use Rattle.jc_classes.specs.inside.FactsShown.{member_shown, reference_shown, text_at}
 use Rattle.jc_classes.proofs.compared.SameClasses.{decides_head, head_of, refused, same_facts}
 use Rattle.jc_classes.proofs.facts.Facts.is_same.Goals as goal
@@ -34,17 +33,9 @@ returns c =
     let references : f.references ≡ g.references =
     sym ((λ i. map (reference_shown (c.as_ref-texts.ensures i)) (own i)) ∙ ap (λ (x : Facts). x.references) c.self.view_is)
     ∙ c.are_same_references.ensures.0 c.if-not-are_same_references.false
-    ∙ (λ i. map (reference_shown (c.as_ref-others.ensures i)) (theirs i)) ∙ ap (λ (x : Facts). x.references) c.other.view_is in
-    let format = ap (λ (x : Faults). x.format.items) c.as_ref-3.ensures ∙ ap (λ (x : Facts). x.format_faults) c.self.view_is in
-    let format_other = ap (λ (x : Faults). x.format.items) c.as_ref-4.ensures ∙ ap (λ (x : Facts). x.format_faults) c.other.view_is in
-    let code = ap (λ (x : Faults). x.code.items) c.as_ref-3.ensures ∙ ap (λ (x : Facts). x.code_faults) c.self.view_is in
-    let code_other = ap (λ (x : Faults). x.code.items) c.as_ref-4.ensures ∙ ap (λ (x : Facts). x.code_faults) c.other.view_is in (
+    ∙ (λ i. map (reference_shown (c.as_ref-others.ensures i)) (theirs i)) ∙ ap (λ (x : Facts). x.references) c.other.view_is in (
       λ t.
           let faults = c.are_same_faults.ensures.0 t in
-          same_facts f g head interfaces fields methods references (c.is_same_use.ensures.0 c.if-not-is_same_use.false)
-          (sym format ∙ faults.0 ∙ format_other) (sym code ∙ faults.1 ∙ code_other),
-      λ e. c.are_same_faults.ensures.1 (
-        format ∙ ap (λ (x : Facts). x.format_faults) e ∙ sym format_other,
-        code ∙ ap (λ (x : Facts). x.code_faults) e ∙ sym code_other,
-      ),
+          same_facts f g head interfaces fields methods references (c.is_same_use.ensures.0 c.if-not-is_same_use.false) faults.0 faults.1,
+      λ e. c.are_same_faults.ensures.1 (ap (λ (x : Facts). x.format_faults) e, ap (λ (x : Facts). x.code_faults) e),
     )

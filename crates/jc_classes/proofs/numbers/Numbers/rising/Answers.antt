@@ -6,5 +6,5 @@ use Rattle.jc_classes.proofs.numbers.Numbers.rising.Goals as goal
 
 pub returns : goal.returns
 returns c = IfOk-weaker c.rising.result _ _
-    (λ rising h. subst (IsRisingOf (names_of rising.items)) c.self.view_is (subst (λ z. IsRisingOf (names_of rising.items) (names_of z)) c.deref.ensures.value h))
+    (λ rising h. subst (IsRisingOf (names_of rising.items)) c.self.view_is h)
     c.rising.ensures

@@ -9,15 +9,13 @@ pub new-requires-clause-closed : goal.new-requires-clause-closed
 new-requires-clause-closed c =
     let a = c.graph.inside in
     let net = c.graph.invariant.graph.closed in
-    subst (λ z. IsClosed (record { names = z; standing = stands_in c.as_slice.result.now; supertypes = supertypes_in c.as_slice-2.result.now })) (sym c.names.ensures)
-    (subst (λ z. IsClosed (record { names = a.names; standing = stands_in z; supertypes = supertypes_in c.as_slice-2.result.now })) (sym c.as_slice.ensures.value)
-    (subst (λ z. IsClosed (record { names = a.names; standing = stands_in a.standing.items; supertypes = supertypes_in z })) (sym c.as_slice-2.ensures.value) net))
+    subst (λ z. IsClosed (record { names = a.names; standing = stands_in z; supertypes = supertypes_in c.as_slice-2.result.now })) (sym c.as_slice.ensures.value)
+    (subst (λ z. IsClosed (record { names = a.names; standing = stands_in a.standing.items; supertypes = supertypes_in z })) (sym c.as_slice-2.ensures.value) net)
 
 pub invariant_of-result : goal.invariant_of-result
 invariant_of-result c =
     let a = c.graph.inside in
     let is : c.in_ok-hierarchy.hierarchy ≡ record { names = a.names; standing = stands_in a.standing.items; supertypes = supertypes_in c.as_slice-2.result.now } =
     c.in_ok-hierarchy.ensures
-    ∙ ap (λ z. record { names = z; standing = stands_in c.as_slice.result.now; supertypes = supertypes_in c.as_slice-2.result.now }) c.names.ensures
     ∙ ap (λ z. record { names = a.names; standing = stands_in z; supertypes = supertypes_in c.as_slice-2.result.now }) c.as_slice.ensures.value in
     (subst (λ (n : ClassGraph). IsHierarchyOf n c.in_ok-hierarchy.hierarchy) c.graph.view_is (record { supertypes = supertypes_in c.as_slice-2.result.now; is = is }), tt)

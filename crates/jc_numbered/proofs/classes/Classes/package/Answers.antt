@@ -1,7 +1,7 @@
 use Rattle.std.proofs.Common.{◌≡◌, ◌<◌, ◌≤◌, ◌∙◌, ap, arith, length, slice_index, sym, take}
 use Rattle.std.proofs.lemmas.List.{length-take-le}
 use Rattle.std.proofs.lemmas.Option.{gets}
-use Rattle.jc_classes.specs.Names.{names_of, package_of}
+use Rattle.jc_classes.specs.Names.{package_of}
 use Rattle.jc_numbered.specs.inside.Indexed.{indexed_name}
 use Rattle.jc_numbered.specs.inside.Shown.{indexed_of}
 use Rattle.jc_numbered.proofs.lookups.PackageLemmas.{end_at, no_end, package_front, package_short}
@@ -12,7 +12,7 @@ end_is c =
     let ends = c.deref.result.now in
     let within : c.args.node < length ends = grind (arith, gets, c.in-Some.ensures.lookup) in
     let here : slice_index ends c.args.node ≡ c.in-Some.end.now = grind (arith, gets, c.in-Some.ensures.lookup) in
-    end_at (names_of c.args.self.now.names.now) ends (c.deref.ensures.value ∙ c.args.self.now.packages) c.args.node c.in-Some.end.now within here
+    end_at c.args.self.now.names.now ends (c.deref.ensures.value ∙ c.args.self.now.packages) c.args.node c.in-Some.end.now within here
 
 pub slice_bounds-result-end : goal.slice_bounds-result-end
 slice_bounds-result-end c =
@@ -28,4 +28,4 @@ pub returns-in-None : goal.returns-in-None
 returns-in-None c =
     let ends = c.deref.result.now in
     let past : length ends ≤ c.args.node = grind (arith, gets, c.in-None.ensures.lookup) in
-    no_end (names_of c.args.self.now.names.now) ends (c.deref.ensures.value ∙ c.args.self.now.packages) c.args.node past
+    no_end c.args.self.now.names.now ends (c.deref.ensures.value ∙ c.args.self.now.packages) c.args.node past

@@ -28,7 +28,6 @@ returns-in-Equal c =
     let one = row_required c.args.self.now in
     let two = row_required c.args.other.now in
     c.cmp_in_class.ensures
-    ∙ (λ i. cmp_in_class (c.row.ensures i) (c.row-in-Equal.ensures i))
     ∙ equal one two (sym (λ i. name_cmp (c.class.ensures i) (c.class-2.ensures i)) ∙ sym c.in-Equal.ensures)
     ∙ sym (key_order one two)
 
