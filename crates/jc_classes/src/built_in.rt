@@ -33,69 +33,28 @@ const TEXTS: [&[u8]; 19] = [
     b"()Ljava/lang/Object;",
 ];
 
+/// Expands rows of the numbers of a name and of a descriptor, and flags, to an array of members.
+macro_rules! members {
+    ($([$name:literal, $descriptor:literal, $flags:literal])*) => {
+        [$(MemberEntry { name: $name, descriptor: $descriptor, flags: $flags }),*]
+    };
+}
+
 /// The methods of the class: PUBLIC ones, and two that are PROTECTED.
-const METHODS: [MemberEntry; 12] = [
-    MemberEntry {
-        name: 1,
-        descriptor: 11,
-        flags: 0x0001,
-    },
-    MemberEntry {
-        name: 2,
-        descriptor: 12,
-        flags: 0x0001,
-    },
-    MemberEntry {
-        name: 3,
-        descriptor: 13,
-        flags: 0x0001,
-    },
-    MemberEntry {
-        name: 4,
-        descriptor: 14,
-        flags: 0x0001,
-    },
-    MemberEntry {
-        name: 5,
-        descriptor: 15,
-        flags: 0x0001,
-    },
-    MemberEntry {
-        name: 6,
-        descriptor: 11,
-        flags: 0x0001,
-    },
-    MemberEntry {
-        name: 7,
-        descriptor: 11,
-        flags: 0x0001,
-    },
-    MemberEntry {
-        name: 8,
-        descriptor: 11,
-        flags: 0x0001,
-    },
-    MemberEntry {
-        name: 8,
-        descriptor: 16,
-        flags: 0x0001,
-    },
-    MemberEntry {
-        name: 8,
-        descriptor: 17,
-        flags: 0x0001,
-    },
-    MemberEntry {
-        name: 9,
-        descriptor: 18,
-        flags: 0x0004,
-    },
-    MemberEntry {
-        name: 10,
-        descriptor: 11,
-        flags: 0x0004,
-    },
-];
+const METHODS: [MemberEntry; 12] = members! {
+    [1, 11, 0x0001]
+    [2, 12, 0x0001]
+    [3, 13, 0x0001]
+    [4, 14, 0x0001]
+    [5, 15, 0x0001]
+    [6, 11, 0x0001]
+    [7, 11, 0x0001]
+    [8, 11, 0x0001]
+    [8, 16, 0x0001]
+    [8, 17, 0x0001]
+    [9, 18, 0x0004]
+    [10, 11, 0x0004]
+};
 
 impl Facts {
     /// Returns the facts of the built-in `java/lang/Object`.

@@ -151,7 +151,14 @@ impl Numbers {
         }
         let node = self.names.len();
         self.names.push(name)?;
-        if let Ok(()) = place(alloc, &mut self.places, &mut self.others, digest, name, node) {
+        if let Ok(()) = place(
+            alloc,
+            &mut self.places,
+            &mut self.others,
+            digest,
+            name,
+            node,
+        ) {
             return Ok(node);
         }
         self.names.pop();

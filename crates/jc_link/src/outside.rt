@@ -1,16 +1,16 @@
 //! Outside names: classes of which only the existence is known.
 
-ghost use Rattle.std.specs.Prelude.{◌≡◌, ◌↔◌, ◌++◌, ◌∷◌, [], IfOk, IsErrOf, OnOk, length, map};
+ghost use Rattle.std.specs.Prelude.{◌≡◌, ◌↔◌, ◌++◌, ◌<◌, ◌∷◌, [], IfOk, IsErrOf, OnOk, length, map};
 ghost use Rattle.std.specs.List.{Contains, list_any};
-ghost use Rattle.jc_classes.specs.Names.{Name, names_of, same_name};
-ghost use Rattle.jc_link.specs.inside.HeldPrefixes.{with_prefix, IsHeldOf};
-ghost use Rattle.jc_classes.specs.Numbers.{IsOnce};
+ghost use Rattle.jc_classes.specs.Names.{Name};
+ghost use Rattle.jc_classes.specs.Numbers.{IsOnce, name_at};
+ghost use Rattle.jc_link.specs.inside.HeldPrefixes.{prefixes_held};
 ghost use Rattle.jc_link.specs.Prefixes.{HasFault, holds, is_bad_prefix, is_covered, prefixes_fault};
 ghost use Rattle.jc_link.specs.Prefixes.{standard_prefixes, with_one, without};
 ghost use Rattle.jc_link.specs.declared.outside.OutsideError.TheVariants as errors;
 
 use jc_base::NoMemory;
-use jc_classes::same;
+use jc_classes::{TextList, same};
 use std::alloc::Global;
 use std::marker::Model;
 
@@ -36,11 +36,15 @@ pub struct Outside {
     prefixes: Prefixes,
 }
 
+/// Prefixes by place. The standard ones need no memory.
 #[derive(Drop)]
 enum Prefixes {
     Standard,
-    Given(Vec<Vec<u8>>),
+    Given(TextList),
 }
+
+/// The prefixes if the user gives none.
+const STANDARD: [&[u8]; 2] = [b"java/", b"javax/"];
 
 /// Why prefixes are refused. If several errors apply, it is the first in the order of the variants.
 #[derive(Clone, Copy, Debug, PartialEq, Eq)]
@@ -101,10 +105,13 @@ impl Outside {
         if let Some(fault) = find_fault(prefixes) {
             return Err(fault);
         }
-        let held = hold_each(alloc, prefixes)?;
-        Ok(Outside {
-            prefixes: Prefixes::Given(held),
-        })
+        let mut outside = Outside {
+            prefixes: Prefixes::Given(TextList::new(alloc)),
+        };
+        for prefix in prefixes {
+            outside = outside.plus(alloc, prefix)?;
+        }
+        Ok(outside)
     }
 
     /// Returns the prefixes `java/` and `javax/`. Does not allocate.
@@ -122,30 +129,31 @@ impl Outside {
         ensures covered { result ≡ is_covered self.now name.now }
         ensures once { IsOnce self.now }
     {
-        match &self.prefixes {
-            Prefixes::Standard => name.starts_with(b"java/") || name.starts_with(b"javax/"),
-            Prefixes::Given(prefixes) => covers_one(prefixes.as_slice(), name),
+        for place in 0..self.prefixes.len() {
+            if name.starts_with(self.prefixes.at(place)) {
+                return true;
+            }
         }
+        false
     }
 
     /// Returns whether a prefix is one of these. Does not allocate.
     pub fn has(&self, prefix: &[u8]) -> bool
         ensures { result ≡ holds self.now prefix.now }
     {
-        match &self.prefixes {
-            Prefixes::Standard => same(prefix, b"java/") || same(prefix, b"javax/"),
-            Prefixes::Given(prefixes) => is_held(prefixes.as_slice(), prefix),
+        for place in 0..self.prefixes.len() {
+            if same(prefix, self.prefixes.at(place)) {
+                return true;
+            }
         }
+        false
     }
 
     /// Returns the number of prefixes. Does not allocate.
     pub fn len(&self) -> usize
         ensures { result ≡ length self.now }
     {
-        match &self.prefixes {
-            Prefixes::Standard => 2,
-            Prefixes::Given(prefixes) => prefixes.len(),
-        }
+        self.prefixes.len()
     }
 
     /// Returns these prefixes with `prefix` at the end. If it is one of them already, it moves to the end. Its length
@@ -156,7 +164,7 @@ impl Outside {
         ensures { IfOk result (λ o. o ≡ with_one self.now prefix.now) }
     {
         let mut held = self.copy_without(alloc, prefix)?;
-        held.push(Vec::from_slice(alloc, prefix)?)?;
+        held.push(prefix)?;
         Ok(Outside {
             prefixes: Prefixes::Given(held),
         })
@@ -175,54 +183,47 @@ impl Outside {
     }
 
     /// Returns copies of the prefixes, without one of them.
-    fn copy_without(&self, alloc: Global, prefix: &[u8]) -> Result<Vec<Vec<u8>>, NoMemory>
-        ensures held { IfOk result (λ held. names_of held.items ≡ without self.now prefix.now) }
+    fn copy_without(&self, alloc: Global, prefix: &[u8]) -> Result<TextList, NoMemory>
+        ensures held { IfOk result (λ held. held ≡ without self.now prefix.now) }
         ensures once { IsOnce self.now }
     {
-        match &self.prefixes {
-            Prefixes::Standard => copy_others(alloc, &[b"java/", b"javax/"], prefix),
-            Prefixes::Given(prefixes) => copy_others_of(alloc, prefixes.as_slice(), prefix),
+        let mut held = TextList::new(alloc);
+        for place in 0..self.prefixes.len() {
+            push_other(&mut held, self.prefixes.at(place), prefix)?;
+        }
+        Ok(held)
+    }
+}
+
+impl Prefixes {
+    /// Returns the number of prefixes.
+    fn len(&self) -> usize
+        ensures { result ≡ length (prefixes_held self.now) }
+    {
+        match self {
+            Prefixes::Standard => STANDARD.len(),
+            Prefixes::Given(prefixes) => prefixes.len(),
+        }
+    }
+
+    /// Returns the prefix at a place, counted from 0.
+    fn at(&self, place: usize) -> &[u8]
+        requires { place < length (prefixes_held self.now) }
+        ensures { result.now ≡ name_at (prefixes_held self.now) place }
+    {
+        match self {
+            Prefixes::Standard => STANDARD[place],
+            Prefixes::Given(prefixes) => prefixes.text(place),
         }
     }
 }
 
-/// Returns copies of prefixes, without one of them.
-fn copy_others(alloc: Global, prefixes: &[&[u8]], prefix: &[u8]) -> Result<Vec<Vec<u8>>, NoMemory>
-    ensures { IfOk result (λ held. names_of held.items ≡ without (map (λ p. p.now) prefixes.now) prefix.now) }
-{
-    let mut held = Vec::new(alloc);
-    for other in prefixes {
-        copy_other(alloc, &mut held, other, prefix)?;
-    }
-    Ok(held)
-}
-
-/// Returns copies of prefixes in vectors, without one of them.
-fn copy_others_of(
-    alloc: Global,
-    prefixes: &[Vec<u8>],
-    prefix: &[u8],
-) -> Result<Vec<Vec<u8>>, NoMemory>
-    ensures { IfOk result (λ held. names_of held.items ≡ without (names_of prefixes.now) prefix.now) }
-{
-    let mut held = Vec::new(alloc);
-    for other in prefixes {
-        copy_other(alloc, &mut held, other, prefix)?;
-    }
-    Ok(held)
-}
-
 /// Appends a copy of a prefix, unless it is the one to leave out.
-fn copy_other(
-    alloc: Global,
-    held: &mut Vec<Vec<u8>>,
-    other: &[u8],
-    prefix: &[u8],
-) -> Result<(), NoMemory>
-    ensures { OnOk result (names_of held.new.items ≡ names_of held.old.items ++ without (other.now ∷ []) prefix.now) }
+fn push_other(held: &mut TextList, other: &[u8], prefix: &[u8]) -> Result<(), NoMemory>
+    ensures { OnOk result (held.new ≡ held.old ++ without (other.now ∷ []) prefix.now) }
 {
     if !same(other, prefix) {
-        held.push(Vec::from_slice(alloc, other)?)?;
+        held.push(other)?;
     }
     Ok(())
 }
@@ -255,49 +256,4 @@ pub fn is_bad_prefix(prefix: &[u8]) -> bool
     ensures { result ≡ is_bad_prefix prefix.now }
 {
     prefix.is_empty() || prefix.len() > LONGEST_PREFIX
-}
-
-/// Returns copies of the prefixes, each once.
-fn hold_each(alloc: Global, prefixes: &[&[u8]]) -> Result<Vec<Vec<u8>>, NoMemory>
-    ensures { IfOk result (λ o. IsHeldOf (names_of o.items) (map (λ p. p.now) prefixes.now)) }
-{
-    let mut held = Vec::new(alloc);
-    for prefix in prefixes {
-        hold(alloc, &mut held, prefix)?;
-    }
-    Ok(held)
-}
-
-/// Appends a copy of a prefix, unless it is one of these already.
-fn hold(alloc: Global, held: &mut Vec<Vec<u8>>, prefix: &[u8]) -> Result<(), NoMemory>
-    ensures { OnOk result (names_of held.new.items ≡ with_prefix (names_of held.old.items) prefix.now) }
-{
-    if is_held(held.as_slice(), prefix) {
-        return Ok(());
-    }
-    let copy = Vec::from_slice(alloc, prefix)?;
-    held.push(copy)?;
-    Ok(())
-}
-
-fn is_held(held: &[Vec<u8>], prefix: &[u8]) -> bool
-    ensures { result ≡ list_any (same_name prefix.now) (names_of held.now) }
-{
-    for other in held {
-        if same(prefix, other.as_slice()) {
-            return true;
-        }
-    }
-    false
-}
-
-fn covers_one(prefixes: &[Vec<u8>], name: &[u8]) -> bool
-    ensures { result ≡ is_covered (names_of prefixes.now) name.now }
-{
-    for prefix in prefixes {
-        if name.starts_with(prefix.as_slice()) {
-            return true;
-        }
-    }
-    false
 }

@@ -11,16 +11,10 @@ use Rattle.jc_classes.proofs.worlds.NameTests.{same_is, same_self}
 use Rattle.jc_classes.specs.Names.{Name, same_name}
 use Rattle.jc_classes.specs.Numbers.{name_at, IsOnce}
 use Rattle.jc_link.specs.Prefixes.{standard_prefixes, with_one, without}
-use Rattle.jc_link.specs.inside.HeldPrefixes.{with_prefix, IsHeldOf}
+use Rattle.jc_link.specs.inside.HeldPrefixes.{IsHeldOf}
 
 pub one_is : (x y : Name) → Contains (x ∷ []) y → x ≡ y
 one_is x y c = let e : c.0 ≡ 0 = omega (arith, c.1) in sym (get_or_push [] x y c.0 (sym e)) ∙ c.2
-
-is_in : (held : List Name) (x : Name) → list_any (same_name x) held ≡ true → Contains held x
-is_in held x e = Contains-from_any same_is x held e
-
-is_not_in : (held : List Name) (x : Name) → list_any (same_name x) held ≡ false → Contains held x → ⊥
-is_not_in held x e c = false≢true (sym e ∙ list_any-from_Contains (eq_by_cmp_equiv bytes_cmp_total) x held c)
 
 -- behind the others a name that isn't one of them
 once_push : (held : List Name) (x : Name) → IsOnce held → (Contains held x → ⊥) → IsOnce (held ++ x ∷ [])
@@ -56,26 +50,6 @@ standard_once = once_push (codes "java/" ∷ []) (codes "javax/") (once_push [] 
 
 pub held_none : IsHeldOf [] []
 held_none = record { same = λ p. ((λ c. c), (λ c. c)); once = λ i j a b e. absurd (omega arith) }
-
--- one more is handed in
-pub held_more : (held given : List Name) (x : Name) → IsHeldOf held given → IsHeldOf (with_prefix held x) (given ++ x ∷ [])
-held_more held given x h = by (list_any (same_name x) held) refl
-  where
-    by : (b : Bool) → list_any (same_name x) held ≡ b → IsHeldOf (if b then held else held ++ x ∷ []) (given ++ x ∷ [])
-    by true e = record {
-      same = λ p. (
-        (λ c. Contains-append_left given (x ∷ []) p ((h.same p).0 c)),
-        (λ c. ⊎_elim (h.same p).1 (λ q. subst (Contains held) (one_is x p q) (is_in held x e)) (Contains-append_cases given (x ∷ []) p c)),
-      );
-      once = h.once;
-    }
-    by false e = record {
-      same = λ p. (
-        (λ c. ⊎_elim (λ q. Contains-append_left given (x ∷ []) p ((h.same p).0 q)) (λ q. Contains-append_right given (x ∷ []) p q) (Contains-append_cases held (x ∷ []) p c)),
-        (λ c. ⊎_elim (λ q. Contains-append_left held (x ∷ []) p ((h.same p).1 q)) (λ q. Contains-append_right held (x ∷ []) p q) (Contains-append_cases given (x ∷ []) p c)),
-      );
-      once = once_push held x h.once (is_not_in held x e);
-    }
 
 -- ---- without one, and with one behind the others
 
@@ -125,3 +99,28 @@ once_without held x once = once_kept (λ p. not (same_name p x)) held once
 
 pub once_with_one : (held : List Name) (x : Name) → IsOnce held → IsOnce (with_one held x)
 once_with_one held x once = once_push (without held x) x (once_without held x once) (left_out x held)
+
+-- the others stay
+others_stay : (x : Name) (xs : List Name) (y : Name) → Contains xs y → (x ≡ y) ⊎ Contains (without xs x) y
+others_stay x [] y c = inr c
+others_stay x (z ∷ zs) y c = by (same_name z x) refl (Contains-append_cases (z ∷ []) zs y c) (others_stay x zs y)
+  where
+    by : (b : Bool) → same_name z x ≡ b → Contains (z ∷ []) y ⊎ Contains zs y → (Contains zs y → (x ≡ y) ⊎ Contains (without zs x) y)
+        → (x ≡ y) ⊎ Contains (cond (not b) (z ∷ without zs x) (without zs x)) y
+    by true e (inl c) later = inl (sym (same_is z x e) ∙ one_is z y c)
+    by true e (inr c) later = later c
+    by false e (inl c) later = inr (Contains-append_left (z ∷ []) (without zs x) y c)
+    by false e (inr c) later = ⊎_elim inl (λ q. inr (Contains-append_right (z ∷ []) (without zs x) y q)) (later c)
+
+-- one more is given
+pub held_more : (held given : List Name) (x : Name) → IsHeldOf held given → IsHeldOf (with_one held x) (given ++ x ∷ [])
+held_more held given x h = record {
+  same = λ p. (
+    (λ c. ⊎_elim (λ q. Contains-append_left given (x ∷ []) p ((h.same p).0 (kept_in (λ n. not (same_name n x)) held p q))) (λ q. Contains-append_right given (x ∷ []) p q) (Contains-append_cases (without held x) (x ∷ []) p c)),
+    (λ c. ⊎_elim
+        (λ q. ⊎_elim (λ e. Contains-append_right (without held x) (x ∷ []) p (0, (omega arith), e)) (λ r. Contains-append_left (without held x) (x ∷ []) p r) (others_stay x held p ((h.same p).1 q)))
+        (λ q. Contains-append_right (without held x) (x ∷ []) p q)
+        (Contains-append_cases given (x ∷ []) p c)),
+  );
+  once = once_with_one held x h.once;
+}

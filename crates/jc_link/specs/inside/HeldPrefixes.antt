@@ -1,7 +1,7 @@
 -- The outside prefixes, as the code keeps them.
-use Rattle.std.specs.Prelude.{ℕ, List, ◌++◌, ◌∷◌, [], ◌↔◌, if◌then◌else◌}
-use Rattle.std.specs.List.{Contains, list_any}
-use Rattle.jc_classes.specs.Names.{Name, names_of, same_name}
+use Rattle.std.specs.Prelude.{ℕ, List, ◌↔◌}
+use Rattle.std.specs.List.{Contains}
+use Rattle.jc_classes.specs.Names.{Name}
 use Rattle.jc_classes.specs.Numbers.{IsOnce}
 use Rattle.jc_link.specs.Prefixes.{standard_prefixes}
 use Rattle.jc_link.specs.declared.outside.Prefixes.{Prefixes}
@@ -9,11 +9,7 @@ use Rattle.jc_link.specs.declared.outside.Prefixes.TheVariants.{Standard, Given}
 
 abbrev pub prefixes_held : Prefixes → List (List ℕ)
 prefixes_held Standard = standard_prefixes
-prefixes_held (Given prefixes) = names_of prefixes.items
-
--- the prefixes with one at the end, unless it is one of them
-abbrev pub with_prefix : List Name → Name → List Name
-with_prefix held prefix = if list_any (same_name prefix) held then held else held ++ prefix ∷ []
+prefixes_held (Given prefixes) = prefixes
 
 -- the prefixes are the given ones, each once
 pub record IsHeldOf (held given : List Name) : Type 0 where
