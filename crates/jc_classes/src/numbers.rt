@@ -12,6 +12,7 @@ use crate::text_list::TextList;
 use jc_base::{ByteMap, NoMemory};
 use std::alloc::Global;
 use std::collections::BTreeMap;
+use std::collections::btree_map::Entry;
 use std::hash::{FoldHasher, Hasher};
 use std::marker::Model;
 
@@ -60,12 +61,15 @@ fn place(
     ensures places_err { OnErr result ((d : ℕ) → place_at places.new d ≡ place_at places.old d) }
     ensures others_err { OnErr result (others.new ≡ others.old) }
 {
-    if places.contains_key(&digest) {
-        let key = Vec::from_slice(alloc, name)?;
-        others.insert(key, node)?;
-        return Ok(());
+    match places.entry(digest)? {
+        Entry::Vacant(place) => {
+            place.insert(node);
+        }
+        Entry::Occupied(_) => {
+            let key = Vec::from_slice(alloc, name)?;
+            others.insert(key, node)?;
+        }
     }
-    places.insert(digest, node)?;
     Ok(())
 }
 
