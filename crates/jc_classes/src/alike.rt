@@ -29,7 +29,7 @@ impl Facts {
     pub fn are_alike(&self, one: usize, other: usize) -> bool
         ensures { IsTrue result → AreAlike self.now.references one other }
     {
-        let entries = self.references.as_ref().as_slice();
+        let entries = self.inside.references.as_ref().as_slice();
         match (entries.get(one), entries.get(other)) {
             (Some(one), Some(other)) => ask_alike(one, other),
             _ => false,
@@ -43,7 +43,7 @@ impl Facts {
     pub fn alike_references(&self, alloc: Global) -> Result<Vec<usize>, NoMemory>
         ensures { IfOk result (λ numbers. AreNumbers (length self.now.references) numbers.items) }
     {
-        let entries = self.references.as_ref().as_slice();
+        let entries = self.inside.references.as_ref().as_slice();
         if entries.len() < FEW {
             return in_turn(alloc, entries.len());
         }

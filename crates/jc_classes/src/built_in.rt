@@ -3,7 +3,7 @@
 ghost use Rattle.std.specs.Prelude.{◌≡◌, map, IfOk};
 ghost use Rattle.jc_classes.specs.BuiltIn.{object_facts};
 
-use crate::facts::{Facts, Faults, MemberEntry, no_references};
+use crate::facts::{Facts, FactsInside, Faults, MemberEntry, no_references};
 use crate::member_order::order_members;
 use crate::text_list::TextList;
 use jc_base::NoMemory;
@@ -68,22 +68,25 @@ impl Facts {
         let method_order = order_members(alloc, &texts, &methods)?;
         let texts_shared = Rc::new(alloc, texts)?;
         let references = no_references(alloc)?;
-        Ok(Facts {
-            path: Vec::new(alloc),
-            texts: texts_shared,
-            name: 0,
-            flags: 0x0001,
-            superclass: None,
-            interfaces: Vec::new(alloc),
-            fields: Vec::new(alloc),
-            methods,
-            field_order: Vec::new(alloc),
-            method_order,
-            references,
-            uses: Vec::new(alloc),
-            users: Vec::new(alloc),
-            faults: Faults::shared(alloc, Vec::new(alloc), Vec::new(alloc))?,
-        })
+        Facts::boxed(
+            alloc,
+            FactsInside {
+                path: Vec::new(alloc),
+                texts: texts_shared,
+                name: 0,
+                flags: 0x0001,
+                superclass: None,
+                interfaces: Vec::new(alloc),
+                fields: Vec::new(alloc),
+                methods,
+                field_order: Vec::new(alloc),
+                method_order,
+                references,
+                uses: Vec::new(alloc),
+                users: Vec::new(alloc),
+                faults: Faults::shared(alloc, Vec::new(alloc), Vec::new(alloc))?,
+            },
+        )
     }
 }
 

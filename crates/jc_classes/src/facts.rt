@@ -6,7 +6,8 @@ ghost use Rattle.jc_classes.specs.Facts.{is_faulty};
 ghost use Rattle.jc_classes.specs.FactsOrder.{AreByIndex, AreByPlace};
 ghost use Rattle.jc_classes.specs.Lent.{member_lent, reference_lent};
 ghost use Rattle.jc_classes.specs.MemberOrder.{IsOrder};
-ghost use Rattle.jc_classes.specs.inside.FactsShown.{reference_shown};
+ghost use Rattle.jc_classes.specs.inside.FactsShown.{facts_shown, reference_shown};
+ghost use Rattle.jc_classes.specs.inside.Ordered.{AreOrdered};
 
 use crate::member::{Key, Member};
 use crate::reference::{Reference, ReferenceKind};
@@ -25,6 +26,12 @@ use std::rc::Rc;
 /// path, name, flags and format faults.
 #[derive(Drop)]
 pub struct Facts {
+    pub(crate) inside: Box<FactsInside>,
+}
+
+/// The fields of `Facts`. They are on the heap, so that facts are moved as one pointer.
+#[derive(Drop)]
+pub(crate) struct FactsInside {
     pub(crate) path: Vec<u8>,
     /// Names and descriptors, shared with `References`. The fields below refer to them by number.
     pub(crate) texts: Rc<TextList>,
@@ -107,31 +114,41 @@ impl Model for Facts {
     ghost use Rattle.jc_classes.specs.inside.FactsShown.{facts_shown};
     ghost use Rattle.jc_classes.specs.inside.Ordered.{AreOrdered};
 
-    ghost view = { facts_shown };
+    ghost view = { λ a. facts_shown a.inside.value };
 
-    ghost invariant = { AreOrdered };
+    ghost invariant = { λ a. AreOrdered a.inside.value };
 }
 
 impl Facts {
+    /// Returns facts with these fields.
+    pub(crate) fn boxed(alloc: Global, inside: FactsInside) -> Result<Facts, NoMemory>
+        requires { AreOrdered inside }
+        ensures { IfOk result (λ facts. facts ≡ facts_shown inside) }
+    {
+        Ok(Facts {
+            inside: Box::new(alloc, inside)?,
+        })
+    }
+
     /// Returns the path of the file; it is empty for the built-in `java/lang/Object`.
     pub fn path(&self) -> &[u8]
         ensures { result.now ≡ self.now.path }
     {
-        self.path.as_slice()
+        self.inside.path.as_slice()
     }
 
     /// Returns the name of the class.
     pub fn name(&self) -> &[u8]
         ensures { result.now ≡ self.now.name }
     {
-        self.texts.as_ref().text(self.name as usize)
+        self.inside.texts.as_ref().text(self.inside.name as usize)
     }
 
     /// Returns the access flags of the class (JVMS 4.1).
     pub fn flags(&self) -> u16
         ensures { result ≡ self.now.flags }
     {
-        self.flags
+        self.inside.flags
     }
 
     /// Returns whether the file has a format fault.
@@ -145,7 +162,7 @@ impl Facts {
     pub fn format_faults(&self) -> &[Fault]
         ensures { result.now ≡ self.now.format_faults }
     {
-        match &self.faults {
+        match &self.inside.faults {
             Some(faults) => faults.as_ref().format.as_slice(),
             None => &[],
         }
@@ -155,7 +172,7 @@ impl Facts {
     pub fn code_faults(&self) -> &[(usize, CodeFault)]
         ensures { result.now ≡ self.now.code_faults }
     {
-        match &self.faults {
+        match &self.inside.faults {
             Some(faults) => faults.as_ref().code.as_slice(),
             None => &[],
         }
@@ -165,8 +182,8 @@ impl Facts {
     pub fn superclass(&self) -> Option<&[u8]>
         ensures { option_copied result ≡ self.now.superclass }
     {
-        match self.superclass {
-            Some(name) => Some(self.texts.as_ref().text(name as usize)),
+        match self.inside.superclass {
+            Some(name) => Some(self.inside.texts.as_ref().text(name as usize)),
             None => None,
         }
     }
@@ -175,8 +192,8 @@ impl Facts {
     pub fn interface(&self, number: usize) -> Option<&[u8]>
         ensures { option_copied result ≡ slice_get self.now.interfaces number }
     {
-        match self.interfaces.get(number) {
-            Some(name) => Some(self.texts.as_ref().text(*name as usize)),
+        match self.inside.interfaces.get(number) {
+            Some(name) => Some(self.inside.texts.as_ref().text(*name as usize)),
             None => None,
         }
     }
@@ -185,15 +202,15 @@ impl Facts {
     pub fn interface_count(&self) -> usize
         ensures { result ≡ length self.now.interfaces }
     {
-        self.interfaces.len()
+        self.inside.interfaces.len()
     }
 
     /// Returns the field at `number`, from 0 in file order.
     pub fn own_field(&self, number: usize) -> Option<Member<'_>>
         ensures { option_map member_lent result ≡ slice_get self.now.fields number }
     {
-        match self.fields.get(number) {
-            Some(entry) => Some(entry.lend(self.texts.as_ref())),
+        match self.inside.fields.get(number) {
+            Some(entry) => Some(entry.lend(self.inside.texts.as_ref())),
             None => None,
         }
     }
@@ -202,22 +219,22 @@ impl Facts {
     pub fn field_count(&self) -> usize
         ensures { result ≡ length self.now.fields }
     {
-        self.fields.len()
+        self.inside.fields.len()
     }
 
     /// Returns the numbers of the fields, sorted by name and then by descriptor. Ties keep file order.
     pub fn field_order(&self) -> &[u16]
         ensures { IsOrder self.now.fields result.now }
     {
-        self.field_order.as_slice()
+        self.inside.field_order.as_slice()
     }
 
     /// Returns the method at `number`, from 0 in file order.
     pub fn own_method(&self, number: usize) -> Option<Member<'_>>
         ensures { option_map member_lent result ≡ slice_get self.now.methods number }
     {
-        match self.methods.get(number) {
-            Some(entry) => Some(entry.lend(self.texts.as_ref())),
+        match self.inside.methods.get(number) {
+            Some(entry) => Some(entry.lend(self.inside.texts.as_ref())),
             None => None,
         }
     }
@@ -226,14 +243,14 @@ impl Facts {
     pub fn method_count(&self) -> usize
         ensures { result ≡ length self.now.methods }
     {
-        self.methods.len()
+        self.inside.methods.len()
     }
 
     /// Returns the numbers of the methods, sorted by name and then by descriptor. Ties keep file order.
     pub fn method_order(&self) -> &[u16]
         ensures { IsOrder self.now.methods result.now }
     {
-        self.method_order.as_slice()
+        self.inside.method_order.as_slice()
     }
 
     /// Returns the reference at `number`. References are numbered from 0, in ascending order of the indexes of their
@@ -241,8 +258,8 @@ impl Facts {
     pub fn reference(&self, number: usize) -> Option<Reference<'_>>
         ensures { option_map reference_lent result ≡ slice_get self.now.references number }
     {
-        match self.references.as_ref().get(number) {
-            Some(entry) => Some(entry.lend(self.texts.as_ref())),
+        match self.inside.references.as_ref().get(number) {
+            Some(entry) => Some(entry.lend(self.inside.texts.as_ref())),
             None => None,
         }
     }
@@ -251,7 +268,7 @@ impl Facts {
     pub fn reference_count(&self) -> usize
         ensures { result ≡ length self.now.references }
     {
-        self.references.as_ref().len()
+        self.inside.references.as_ref().len()
     }
 
     /// Returns the instructions that may fail to link although their references resolve (JVMS 6.5), sorted by method
@@ -259,7 +276,7 @@ impl Facts {
     pub fn uses(&self) -> &[MethodUse]
         ensures { result.now ≡ self.now.uses }
     {
-        self.uses.as_slice()
+        self.inside.uses.as_slice()
     }
 
     /// Returns what uses the reference at `number`: the first method whose code uses it, something else, or nothing.
@@ -271,7 +288,7 @@ impl Facts {
     pub fn user(&self, number: usize) -> Option<User>
         ensures { result ≡ slice_get self.now.users number }
     {
-        self.users.get(number).copied()
+        self.inside.users.get(number).copied()
     }
 
     /// States in its contract that references are sorted by index, and uses by method and then by offset. Has no
@@ -280,7 +297,7 @@ impl Facts {
         ensures references { AreByIndex self.now.references }
         ensures uses { AreByPlace self.now.uses }
     {
-        let _uses = self.uses.as_slice();
+        let _uses = self.inside.uses.as_slice();
     }
 
     /// Returns the references. They share their texts with the facts, and may outlive them.
@@ -290,8 +307,8 @@ impl Facts {
         ensures { IfOk result (λ references. references ≡ self.now.references) }
     {
         Ok(References {
-            texts: self.texts.clone()?,
-            entries: self.references.clone()?,
+            texts: self.inside.texts.clone()?,
+            entries: self.inside.references.clone()?,
         })
     }
 
@@ -302,7 +319,7 @@ impl Facts {
         ensures format { IfOk result (λ faults. option_map_or (λ f. f.value.format.items) faults [] ≡ self.now.format_faults) }
         ensures code { IfOk result (λ faults. option_map_or (λ f. f.value.code.items) faults [] ≡ self.now.code_faults) }
     {
-        match &self.faults {
+        match &self.inside.faults {
             Some(faults) => Ok(Some(faults.clone()?)),
             None => Ok(None),
         }

@@ -28,9 +28,9 @@ impl Facts {
         ensures { option_map member_lent result ≡ member self.now.fields (key_lent key.entry) }
     {
         let fields = OrderedMembers {
-            texts: self.texts.as_ref(),
-            members: self.fields.as_slice(),
-            order: self.field_order.as_slice(),
+            texts: self.inside.texts.as_ref(),
+            members: self.inside.fields.as_slice(),
+            order: self.inside.field_order.as_slice(),
         };
         fields.find(key)
     }
@@ -57,9 +57,9 @@ impl Facts {
         ensures order { IsOrder self.now.methods result.order.now }
     {
         OrderedMembers {
-            texts: self.texts.as_ref(),
-            members: self.methods.as_slice(),
-            order: self.method_order.as_slice(),
+            texts: self.inside.texts.as_ref(),
+            members: self.inside.methods.as_slice(),
+            order: self.inside.method_order.as_slice(),
         }
     }
 
@@ -68,7 +68,7 @@ impl Facts {
     pub fn given(&self, key: Key) -> Option<Member<'_>>
         ensures { option_map member_lent result ≡ given_by (stands.Class self.now) (key_lent key.entry) }
     {
-        if !AccessFlag::Interface.is_in(self.flags) {
+        if !AccessFlag::Interface.is_in(self.inside.flags) {
             return None;
         }
         match self.method(key) {

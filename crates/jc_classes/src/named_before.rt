@@ -20,8 +20,8 @@ impl Facts {
     {
         before_each(
             alloc,
-            self.references.as_ref().as_slice(),
-            self.texts.as_ref().len(),
+            self.inside.references.as_ref().as_slice(),
+            self.inside.texts.as_ref().len(),
         )
     }
 }

@@ -22,7 +22,7 @@ ghost use Rattle.jc_classes.specs.inside.FactsShown.{member_shown, reference_sho
 ghost use Rattle.jc_classes.specs.inside.ConstantTexts.{is_reference, key_at, key_shown, texts_of};
 
 use crate::class_texts::ClassTexts;
-use crate::facts::{Facts, Faults, MemberEntry, ReferenceEntry, no_references};
+use crate::facts::{Facts, FactsInside, Faults, MemberEntry, ReferenceEntry, no_references};
 use crate::first_users::FirstUsers;
 use crate::reference::ReferenceKind;
 use crate::text_list::TextList;
@@ -75,22 +75,25 @@ fn sound_facts(alloc: Global, class: &ClassView, path: &[u8]) -> Result<Facts, N
     let (uses, users, faults) = code_facts(alloc, class, &entries.references)?;
     let texts_shared = Rc::new(alloc, texts.into_list())?;
     let references = Rc::new(alloc, entries.references)?;
-    Ok(Facts {
-        path,
-        texts: texts_shared,
-        name: entries.name,
-        flags: class.flags(),
-        superclass: entries.superclass,
-        interfaces: entries.interfaces,
-        fields: entries.fields,
-        methods: entries.methods,
-        field_order: entries.field_order,
-        method_order: entries.method_order,
-        references,
-        uses,
-        users,
-        faults,
-    })
+    Facts::boxed(
+        alloc,
+        FactsInside {
+            path,
+            texts: texts_shared,
+            name: entries.name,
+            flags: class.flags(),
+            superclass: entries.superclass,
+            interfaces: entries.interfaces,
+            fields: entries.fields,
+            methods: entries.methods,
+            field_order: entries.field_order,
+            method_order: entries.method_order,
+            references,
+            uses,
+            users,
+            faults,
+        },
+    )
 }
 
 /// Reads the code of a class file without a format fault. Returns its uses of references, what uses each of these
@@ -153,22 +156,25 @@ fn faulty_facts(
     texts.push(class.name())?;
     let texts_shared = Rc::new(alloc, texts)?;
     let references = no_references(alloc)?;
-    Ok(Facts {
-        path,
-        texts: texts_shared,
-        name: 0,
-        flags: class.flags(),
-        superclass: None,
-        interfaces: Vec::new(alloc),
-        fields: Vec::new(alloc),
-        methods: Vec::new(alloc),
-        field_order: Vec::new(alloc),
-        method_order: Vec::new(alloc),
-        references,
-        uses: Vec::new(alloc),
-        users: Vec::new(alloc),
-        faults: Faults::shared(alloc, format_faults, Vec::new(alloc))?,
-    })
+    Facts::boxed(
+        alloc,
+        FactsInside {
+            path,
+            texts: texts_shared,
+            name: 0,
+            flags: class.flags(),
+            superclass: None,
+            interfaces: Vec::new(alloc),
+            fields: Vec::new(alloc),
+            methods: Vec::new(alloc),
+            field_order: Vec::new(alloc),
+            method_order: Vec::new(alloc),
+            references,
+            uses: Vec::new(alloc),
+            users: Vec::new(alloc),
+            faults: Faults::shared(alloc, format_faults, Vec::new(alloc))?,
+        },
+    )
 }
 
 /// Appends an entry, if there is one.

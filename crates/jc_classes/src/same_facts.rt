@@ -6,7 +6,7 @@ ghost use Rattle.jc_classes.specs.Lent.{member_lent, reference_lent};
 ghost use Rattle.jc_classes.specs.inside.FactsShown.{member_shown, reference_shown, text_at};
 ghost use Rattle.jc_classes.specs.inside.SameFacts.{AreSameFaults, IsSameUse, same_head, same_member, same_option, same_texts};
 
-use crate::facts::{Facts, MemberEntry, ReferenceEntry};
+use crate::facts::{Facts, FactsInside, MemberEntry, ReferenceEntry};
 use crate::member::Member;
 use crate::names::same;
 use crate::reference::Reference;
@@ -18,25 +18,27 @@ impl Facts {
     pub fn is_same(&self, other: &Facts) -> bool
         ensures { Decides result (self.now ≡ other.now) }
     {
-        let texts = self.texts.as_ref();
-        let others = other.texts.as_ref();
+        let own: &FactsInside = &self.inside;
+        let theirs: &FactsInside = &other.inside;
+        let texts = own.texts.as_ref();
+        let others = theirs.texts.as_ref();
         if !is_same_head(self, other) {
             return false;
         }
-        if !are_same_names(texts, &self.interfaces, others, &other.interfaces) {
+        if !are_same_names(texts, &own.interfaces, others, &theirs.interfaces) {
             return false;
         }
-        if !are_same_members(texts, &self.fields, others, &other.fields) {
+        if !are_same_members(texts, &own.fields, others, &theirs.fields) {
             return false;
         }
-        if !are_same_members(texts, &self.methods, others, &other.methods) {
+        if !are_same_members(texts, &own.methods, others, &theirs.methods) {
             return false;
         }
         if !are_same_references(
             texts,
-            self.references.as_ref(),
+            own.references.as_ref(),
             others,
-            other.references.as_ref(),
+            theirs.references.as_ref(),
         ) {
             return false;
         }
@@ -151,8 +153,7 @@ fn has_same_texts(reference: Reference, other: Reference) -> bool
 fn is_same_use(facts: &Facts, other: &Facts) -> bool
     ensures { Decides result (IsSameUse facts.now other.now) }
 {
-    facts.uses.as_slice() == other.uses.as_slice()
-        && facts.users.as_slice() == other.users.as_slice()
+    facts.uses() == other.uses() && facts.inside.users.as_slice() == other.inside.users.as_slice()
 }
 
 fn are_same_faults(facts: &Facts, other: &Facts) -> bool

@@ -3,7 +3,7 @@ use Rattle.std.specs.Prelude.{ℕ, List, [], map, option_map, slice_index_or}
 use Rattle.std.specs.Option.{option_map_or}
 use Rattle.jc_classes.specs.Facts.{Facts, Member, Reference}
 use Rattle.jc_classes.specs.NamedTexts.{named_by}
-use Rattle.jc_classes.specs.declared.facts.Facts.TheInside.{Inside}
+use Rattle.jc_classes.specs.declared.facts.FactsInside.{FactsInside}
 use Rattle.jc_classes.specs.declared.facts.MemberEntry.{MemberEntry}
 use Rattle.jc_classes.specs.declared.facts.ReferenceEntry.{ReferenceEntry}
 
@@ -21,7 +21,7 @@ reference_shown texts entry = record {
   key = record { name = text_at texts entry.name; descriptor = text_at texts entry.descriptor };
 }
 
-abbrev pub facts_shown : Inside → Facts
+abbrev pub facts_shown : FactsInside → Facts
 facts_shown a = record {
   path = a.path.items;
   name = text_at a.texts.value a.name;

@@ -7,10 +7,10 @@ use Rattle.jc_classes.specs.Facts.{Key, Member}
 use Rattle.jc_classes.specs.FactsOrder.{AreByIndex, AreByPlace}
 use Rattle.jc_classes.specs.Names.{Name, same_name}
 use Rattle.jc_classes.specs.MemberOrder.{IsOrder, key_at, key_cmp}
-use Rattle.jc_classes.specs.declared.facts.Facts.TheInside.{Inside}
+use Rattle.jc_classes.specs.declared.facts.FactsInside.{FactsInside}
 use Rattle.jc_classes.specs.inside.FactsShown.{member_shown, reference_shown}
 
-pub record AreOrdered (a : Inside) : Type 0 where
+pub record AreOrdered (a : FactsInside) : Type 0 where
   pub fields : IsOrder (map (member_shown a.texts.value) a.fields.items) a.field_order.items
   pub methods : IsOrder (map (member_shown a.texts.value) a.methods.items) a.method_order.items
   pub references : AreByIndex (map (reference_shown a.texts.value) a.references.value.items)

@@ -1,4 +1,5 @@
 use Rattle.std.proofs.Common.{◌+◌, ◌<◌, map, ap, subst, sym, ◌∙◌}
+use Rattle.std.proofs.lemmas.Result.{IfOk-weaker}
 use Rattle.std.specs.List.{All}
 use Rattle.jc_view.specs.ClassFile.{all_slots}
 use Rattle.jc_classes.specs.MemberOrder.{IsOrder}
@@ -23,7 +24,7 @@ returns c =
     let t = c.in_ok-texts_shared.ensures.ok ∙ c.into_list.ensures in
     let r = c.in_ok-references.ensures.ok in
     let code = c.in_ok-uses.ensures in
-    facts_eta _ (sound_facts c.args.path.now class)
+    IfOk-weaker c.boxed.result _ _ (λ facts boxed. boxed ∙ facts_eta _ (sound_facts c.args.path.now class)
     c.in_ok-path.ensures.items
     (ap (λ ts. text_at ts e.name) t ∙ h.name)
     c.flags.ensures
@@ -35,7 +36,7 @@ returns c =
     code.uses
     (code.users ∙ ap (map (entry_user class)) c.deref.ensures.value ∙ users_shown class _ e.references.items h.references)
     code.format
-    code.faults
+    code.faults) c.boxed.ensures
 
 pub code_facts-requires : goal.code_facts-requires
 code_facts-requires c =
@@ -45,8 +46,8 @@ code_facts-requires c =
     subst (All (λ (entry : ReferenceEntry). entry.index < 1 + all_slots class.constants)) (sym c.deref.ensures.value)
     (all_shown (reference_shown _) (λ (r : Reference). r.index < 1 + all_slots class.constants) e.references.items (references_in class) h.references (references_below class))
 
-pub invariant_of-result : goal.invariant_of-result
-invariant_of-result c =
+pub boxed-requires : goal.boxed-requires
+boxed-requires c =
     let class = c.args.class.now in
     let e = c.in_ok-entries.entries in
     let h = c.in_ok-entries.ensures.holds _ (begins_whole _) in

@@ -5,8 +5,8 @@ use Rattle.jc_classes.proofs.members.Ordering.{no_members}
 use Rattle.jc_classes.proofs.texts.ReferenceIndexes.{no_references, no_uses}
 use Rattle.jc_classes.proofs.facts.Facts.built_in_object.Goals as goal
 
-pub invariant_of-result : goal.invariant_of-result
-invariant_of-result c =
+pub boxed-requires : goal.boxed-requires
+boxed-requires c =
     let texts = c.in_ok-texts.texts in
     let order = c.in_ok-method_order.method_order.items in
     record {

@@ -7,12 +7,12 @@ use Rattle.jc_classes.proofs.facts.Facts.interface.Goals as goal
 
 pub returns-in-Some : goal.returns-in-Some
 returns-in-Some c =
-    let a = c.self.inside in
-    let at : slice_get a.interfaces.items c.args.number ≡ Some c.in-Some.name.now = grind (arith, gets, c.in-Some.ensures.lookup, c.deref.ensures.value) in
-    ap Some (c.text.ensures ∙ ap (λ t. text_at t c.in-Some.name.now) c.as_ref.ensures) ∙ sym (ap (λ (z : Facts). slice_get z.interfaces c.args.number) (sym c.self.view_is) ∙ slice_get-map (text_at a.texts.value) a.interfaces.items c.args.number ∙ ap (option_map (text_at a.texts.value)) at)
+    let a = c.self.inside.inside.value in
+    let at : slice_get a.interfaces.items c.args.number ≡ Some c.in-Some.name.now = grind (arith, gets, c.in-Some.ensures.lookup, c.deref-2.ensures.value, ap (λ x. x.interfaces.items) c.deref.ensures) in
+    ap Some (c.text.ensures ∙ ap (λ t. text_at t c.in-Some.name.now) (c.as_ref.ensures ∙ ap (λ x. x.texts.value) c.deref-in-Some.ensures)) ∙ sym (ap (λ (z : Facts). slice_get z.interfaces c.args.number) (sym c.self.view_is) ∙ slice_get-map (text_at a.texts.value) a.interfaces.items c.args.number ∙ ap (option_map (text_at a.texts.value)) at)
 
 pub returns-in-None : goal.returns-in-None
 returns-in-None c =
-    let a = c.self.inside in
-    let at : slice_get a.interfaces.items c.args.number ≡ None = grind (arith, gets, c.in-None.ensures.lookup, c.deref.ensures.value) in
+    let a = c.self.inside.inside.value in
+    let at : slice_get a.interfaces.items c.args.number ≡ None = grind (arith, gets, c.in-None.ensures.lookup, c.deref-2.ensures.value, ap (λ x. x.interfaces.items) c.deref.ensures) in
     sym (ap (λ (z : Facts). slice_get z.interfaces c.args.number) (sym c.self.view_is) ∙ slice_get-map (text_at a.texts.value) a.interfaces.items c.args.number ∙ ap (option_map (text_at a.texts.value)) at)

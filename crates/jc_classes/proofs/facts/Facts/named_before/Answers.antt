@@ -9,9 +9,9 @@ use Rattle.jc_classes.proofs.facts.Facts.named_before.Goals as goal
 
 pub returns-clause-named : goal.returns-clause-named
 returns-clause-named c =
-    let a = c.self.inside in
+    let a = c.self.inside.inside.value in
     let entries = a.references.value.items in
-    let same : c.as_slice.result.now ≡ entries = c.as_slice.ensures.value ∙ ap (λ v. v.items) c.as_ref.ensures in
+    let same : c.as_slice.result.now ≡ entries = c.as_slice.ensures.value ∙ ap (λ v. v.items) c.as_ref.ensures ∙ ap (λ x. x.references.value.items) c.deref.ensures in
     let shown : map (reference_shown a.texts.value) entries ≡ c.args.self.now.references = ap (λ (f : Facts). f.references) c.self.view_is in
     IfOk-weaker c.before_each.result _ _ (λ before named. λ number k at.
     let one = subst (λ (es : List ReferenceEntry). IsOfOneClass es number k) same (named number k at) in
