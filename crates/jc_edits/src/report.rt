@@ -21,8 +21,8 @@ use crate::rows::Rows;
 use jc_base::NoMemory;
 use jc_input::{LentEdit, PrefixEdit};
 use jc_link::{Meter, Outside};
-use jc_linkage::{Circular, HeldClasses, Linkage, Provided, Required};
-use jc_report::{Asked, LentClass, is_any_wrong};
+use jc_linkage::{HeldClasses, Linkage, Required};
+use jc_report::{Asked, Circular, LentClass, Provided, is_any_wrong};
 use std::alloc::Global;
 use std::marker::Model;
 
@@ -163,14 +163,14 @@ impl Report {
     }
 
     /// Returns the names of the circular classes, sorted. Does not allocate.
-    pub fn circular(&self) -> Circular<'_>
+    pub fn circular(&self) -> Circular<'_, HeldClasses<'_>>
         ensures { (r : reports.Report) → IsReportOf self.now r → result ≡ r.circular }
     {
         self.linkage.circular()
     }
 
     /// Returns the rows that the classes provide, sorted, each once. Does not allocate.
-    pub fn provided(&self) -> Provided<'_>
+    pub fn provided(&self) -> Provided<'_, HeldClasses<'_>>
         ensures { (r : reports.Report) → IsReportOf self.now r → result ≡ r.provided }
     {
         self.linkage.provided()

@@ -6,7 +6,7 @@ ghost use Rattle.jc_report.specs.ClassLent.{class_lent};
 use crate::class_entry::ClassEntry;
 use jc_base::byte_map;
 use jc_link::TableClasses;
-use jc_report::LentClass;
+use jc_report::{ClassIterator, ClassesLeft, LentClass};
 use std::marker::Model;
 
 /// An iterator over the classes of a [`crate::Linkage`], sorted by name. The model is the list of the classes that are
@@ -41,5 +41,15 @@ impl<'a> Iterator for HeldClasses<'a> {
             facts,
             part: &kept.part,
         })
+    }
+}
+
+impl<'a> ClassesLeft for HeldClasses<'a> {
+    ghost left = { λ left. left };
+}
+
+impl<'a> ClassIterator<'a> for HeldClasses<'a> {
+    fn next_class(&mut self) -> Option<LentClass<'a>> {
+        self.next()
     }
 }

@@ -1,7 +1,7 @@
 //! The classes of a session with their parts, and their update by edits.
 //!
 //! `Linkage` has the classes that files give, each with its part, its reach and its required rows. `Step` is an edit of
-//! one class. `HeldClasses`, `Circular`, `Provided` and `Required` are iterators over a linkage.
+//! one class. `HeldClasses` and `Required` are iterators over a linkage.
 //!
 //! The contracts say that after each edit each part is that of its class in the world of all classes and the outside
 //! prefixes. An edit recomputes only the parts of affected classes, and looks up each name that they reach once. If an
@@ -9,7 +9,6 @@
 #![tactic(auto)]
 
 mod affected;
-mod circular;
 mod class_entry;
 mod classes;
 mod edit;
@@ -22,13 +21,10 @@ mod replacement;
 mod row_index;
 mod row_list;
 mod row_map;
-mod rows;
 mod step;
 
-pub use circular::Circular;
 pub use classes::HeldClasses;
 pub use laws::counts_are_bounded;
 pub use linkage::Linkage;
 pub use row_index::Required;
-pub use rows::Provided;
 pub use step::Step;

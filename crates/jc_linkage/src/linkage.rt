@@ -12,19 +12,17 @@ ghost use Rattle.jc_report.specs.ClassRows.{provided_rows, required_rows};
 ghost use Rattle.jc_report.specs.Reports.{Class, circular_names};
 ghost use Rattle.jc_linkage.specs.Steps.{changed};
 
-use crate::circular::Circular;
 use crate::class_entry::ClassEntry;
 use crate::classes::HeldClasses;
 use crate::edit::{change_classes, counting, putting};
 use crate::links::Links;
 use crate::prefixes::remake_switched;
 use crate::row_index::Required;
-use crate::rows::Provided;
 use crate::step::Step;
 use jc_base::{ByteMap, NoMemory};
 use jc_classes::Facts;
 use jc_link::{Meter, Outside, Part, Table};
-use jc_report::LentClass;
+use jc_report::{Circular, LentClass, Provided};
 use std::alloc::Global;
 use std::marker::Model;
 
@@ -178,22 +176,17 @@ impl Linkage {
     }
 
     /// Returns the names of the circular classes, sorted. Does not allocate.
-    pub fn circular(&self) -> Circular<'_>
+    pub fn circular(&self) -> Circular<'_, HeldClasses<'_>>
         ensures { (classes : List Class) × AreHeldClasses self.now classes × (result ≡ circular_names classes) }
     {
-        Circular {
-            classes: self.classes(),
-        }
+        Circular::of(self.classes())
     }
 
     /// Returns the rows that the classes provide, sorted. Does not allocate.
-    pub fn provided(&self) -> Provided<'_>
+    pub fn provided(&self) -> Provided<'_, HeldClasses<'_>>
         ensures { AreRowsHeld provided_rows self.now result }
     {
-        Provided {
-            classes: self.classes(),
-            rows: None,
-        }
+        Provided::of(self.classes())
     }
 
     /// Returns the rows that the classes require, sorted. Does not allocate.

@@ -11,6 +11,7 @@ ghost use Rattle.jc_report.specs.ClassLent.{class_lent};
 ghost use Rattle.jc_report.specs.ClassRows.{provided_rows, required_rows};
 ghost use Rattle.jc_report.specs.Rows.{AreRows};
 
+use crate::class_iterator::{ClassIterator, ClassesLeft};
 use crate::provided_rows::{ProvidedRows, provided_in_order};
 use crate::reference_place::place_of;
 use crate::report::Class;
@@ -98,5 +99,15 @@ impl<'a, 't> Iterator for LentClasses<'a, 't> {
     fn next(&mut self) -> Option<LentClass<'a>> {
         let class = self.classes.next()?;
         Some(class.lent())
+    }
+}
+
+impl<'a, 't> ClassesLeft for LentClasses<'a, 't> {
+    ghost left = { λ left. left };
+}
+
+impl<'a, 't> ClassIterator<'a> for LentClasses<'a, 't> {
+    fn next_class(&mut self) -> Option<LentClass<'a>> {
+        self.next()
     }
 }

@@ -10,6 +10,8 @@
 #![tactic(auto)]
 
 mod asked;
+mod circular;
+mod class_iterator;
 mod class_rows;
 mod errors_text;
 mod file_row;
@@ -20,6 +22,7 @@ mod member_rows;
 mod method_errors;
 mod outcome;
 mod part_text;
+mod provided;
 mod provided_rows;
 mod reference_errors;
 mod reference_place;
@@ -31,12 +34,12 @@ mod required_rows;
 mod row;
 mod row_set;
 mod tree;
-mod tree_circular;
 mod tree_errors;
-mod tree_provided;
 mod use_place;
 
 pub use asked::Asked;
+pub use circular::Circular;
+pub use class_iterator::{ClassIterator, ClassesLeft};
 pub use errors_text::write_errors;
 pub use file_row::{FileRow, FileState, write_refusal};
 pub use laws::{
@@ -44,6 +47,7 @@ pub use laws::{
 };
 pub use lent_class::{LentClass, LentClasses};
 pub use part_text::write_part;
+pub use provided::Provided;
 pub use provided_rows::{ProvidedRows, provided_in_order};
 pub use report::{TreeReport, is_any_wrong};
 pub use report_text::{ReportLists, write_lists, write_name, write_report};
@@ -52,6 +56,4 @@ pub use required_row::RequiredRow;
 pub use required_rows::RequiredRows;
 pub use row::Row;
 pub use tree::{AddError, Tree};
-pub use tree_circular::TreeCircular;
 pub use tree_errors::TreeErrors;
-pub use tree_provided::TreeProvided;

@@ -26,15 +26,15 @@ ghost use Rattle.jc_report.specs.inside.ProvidedInOrder.{provided_in};
 ghost use Rattle.jc_report.specs.inside.ReportShown.{AreByName, AreClasses};
 
 use crate::asked::{Asked, is_asked, is_listed, user_at};
+use crate::circular::Circular;
 use crate::class_rows::push_required;
 use crate::errors_text::is_unreadable;
 use crate::file_row::FileRow;
 use crate::lent_class::{LentClass, LentClasses};
+use crate::provided::Provided;
 use crate::row::Row;
 use crate::row_set::RowSet;
 use crate::tree::Tree;
-use crate::tree_circular::TreeCircular;
-use crate::tree_provided::TreeProvided;
 use jc_base::NoMemory;
 use jc_classes::Facts;
 use jc_link::{ClassGraph, Meter, Outside, Part, PartMaker, Table};
@@ -224,20 +224,18 @@ impl<'t> TreeReport<'t> {
     }
 
     /// Returns an iterator over the names of the circular classes, sorted. Does not allocate.
-    pub fn circular(&self) -> TreeCircular<'_, 't>
+    pub fn circular(&self) -> Circular<'_, LentClasses<'_, 't>>
         ensures { result ≡ self.now.circular }
     {
-        TreeCircular {
-            classes: self.lent_classes(),
-        }
+        Circular::of(self.lent_classes())
     }
 
     /// Returns an iterator over the rows that the classes provide, sorted. These are the rows of the PUBLIC classes
     /// that load, and of their PUBLIC and PROTECTED members except `<clinit>`. Does not allocate.
-    pub fn provided(&self) -> TreeProvided<'_, 't>
+    pub fn provided(&self) -> Provided<'_, LentClasses<'_, 't>>
         ensures { result ≡ self.now.provided }
     {
-        TreeProvided {
+        Provided {
             classes: LentClasses {
                 classes: self.classes.iter(),
             },

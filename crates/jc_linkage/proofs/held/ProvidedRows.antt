@@ -1,4 +1,4 @@
--- The rows that each held class provides in their order are those that the classes provide.
+-- The rows that some held classes provide are those that any held classes provide.
 use Rattle.std.proofs.Common.{sym, subst}
 use Rattle.std.proofs.lemmas.List.Elements.{All-contains}
 use Rattle.std.specs.Prelude.{List}
@@ -6,8 +6,6 @@ use Rattle.std.specs.List.{Contains}
 use Rattle.jc_report.specs.ClassRows.{provided_rows}
 use Rattle.jc_report.specs.Reports.{Class, GivesRow, name_of}
 use Rattle.jc_report.specs.Rows.{AreRows, Row}
-use Rattle.jc_report.specs.inside.ProvidedInOrder.{provided_in}
-use Rattle.jc_report.proofs.reports.ProvidedByClass.{rows_of_classes}
 use Rattle.jc_linkage.specs.Linkages.{AreHeldClasses, IsHeldClass, Linkage}
 use Rattle.jc_linkage.proofs.held.Rows.{class_of}
 
@@ -17,11 +15,9 @@ same_giver a these those h k row g =
     let c = class_of a those k (name_of g.class) g.class.facts g.class.part is.facts is.part in
     record { class = c.0; among = c.1; gives = subst (λ rs. Contains rs row) (λ i. provided_rows (sym c.3 i) (sym c.4 i)) g.gives }
 
-pub rows_provided : (a : Linkage) (these those : List Class) → AreHeldClasses a these → AreHeldClasses a those → AreRows (provided_in these) (GivesRow provided_rows those)
-rows_provided a these those h k =
-    let are = rows_of_classes these h.rises in
-    record {
-      rises = are.rises;
-      sound = λ row there. same_giver a these those h k row (are.sound row there);
-      complete = λ row g. are.complete row (same_giver a those these k h row g);
-    }
+pub rows_provided : (a : Linkage) (rows : List Row) (these those : List Class) → AreHeldClasses a these → AreHeldClasses a those → AreRows rows (GivesRow provided_rows these) → AreRows rows (GivesRow provided_rows those)
+rows_provided a rows these those h k are = record {
+  rises = are.rises;
+  sound = λ row there. same_giver a these those h k row (are.sound row there);
+  complete = λ row g. are.complete row (same_giver a those these k h row g);
+}
