@@ -100,9 +100,12 @@ impl Report {
     fn is_unchanged(&self, edit: &LentEdit<'_>) -> bool
         ensures { IsTrue result → after self.now.files (change_lent edit.now) ≡ self.now.files }
     {
-        match (edit.bytes(), self.file(edit.path())) {
-            (Some(bytes), Some(there)) => bytes == there,
-            _ => false,
+        let LentEdit::Replace(path, bytes) = edit else {
+            return false;
+        };
+        match self.file(path) {
+            Some(there) => there == bytes.as_slice(),
+            None => false,
         }
     }
 
