@@ -23,7 +23,7 @@ DEFINITION = re.compile(r"^(?:abbrev pub|unfoldable pub|pub record|pub data|abbr
 WORD = re.compile(r"(?<![\w'.-])([^\W\d][\w'-]*)(?:\.([^\W\d][\w'-]*))?|(◌[^◌\s]+◌)")
 # Each inner crate with the only crate that uses it, which re-exports none of its items: their clauses are not public.
 INNER = {"jc_numbered": "jc_resolve"}
-SEEN_BY_CALLERS = ("Value", "next_gives", "remaining", "from_gives", "answers", "asked", "failures", "written", "bound", "ended")
+SEEN_BY_CALLERS = ("Value", "next_gives", "remaining", "from_gives", "answers", "asked", "failures", "written", "bound", "ended", "left")
 PUBLIC_USE = re.compile(r"^\s*pub (?:use|extern crate) ([^;]*);", re.M)
 ANY_USE = re.compile(r"^\s*(?:pub(?:\([^)]*\))? )?(?:use|extern crate) ([^;]*);", re.M)
 

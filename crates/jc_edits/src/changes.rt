@@ -8,7 +8,7 @@ ghost use Rattle.jc_report.specs.Files.{Files};
 ghost use Rattle.jc_report.specs.Reports.{facts_at, facts_there};
 ghost use Rattle.jc_edits.specs.inside.Changing as changing;
 ghost use Rattle.jc_view.specs.Outcome.{class_named};
-ghost use Rattle.jc_edits.specs.inside.Changing.{AreChanges, IsWon, Uncovers, before, won_as};
+ghost use Rattle.jc_edits.specs.inside.Changing.{AreChanges, IsWon, Uncovers, won_as};
 ghost use Rattle.jc_edits.specs.inside.Claims.{AreClaims};
 ghost use Rattle.jc_edits.specs.inside.HeldFile.{bytes_held, class_held};
 
@@ -16,8 +16,9 @@ use crate::claimed_files::ClaimedFiles;
 use crate::claims::Claims;
 use crate::file::File;
 use jc_base::NoMemory;
-use jc_classes::{Facts, less};
+use jc_classes::Facts;
 use jc_linkage::Step;
+use jc_report::wins;
 use jc_view::{ClassView, ParseError, outcomes_are_exact, parse};
 use std::alloc::Global;
 
@@ -113,19 +114,10 @@ fn won(
 ) -> Result<Option<Facts>, NoMemory>
     ensures { (f : Files) → AreClaims claims.now f → IfOk result (λ facts. facts ≡ won_as (map.remove f path.now) path.now name.now view.now) }
 {
-    if is_before(path, claims.other(name, path)) {
+    if wins(path, claims.other(name, path)) {
         Ok(Some(Facts::of(alloc, view, path)?))
     } else {
         Ok(None)
-    }
-}
-
-fn is_before(path: &[u8], other: Option<&[u8]>) -> bool
-    ensures { result ≡ before path.now (option_copied other.entry) }
-{
-    match other {
-        Some(other) => less(path, other),
-        None => true,
     }
 }
 

@@ -53,6 +53,7 @@ impl<'a, C: ClassIterator<'a> + Drop> Iterator for Circular<'a, C> {
         None
     }
 
+    // The default, written out: a check does not cover the inherited method of a struct with a `PhantomData`.
     fn size_hint(&self) -> (usize, Option<usize>) {
         (0, None)
     }

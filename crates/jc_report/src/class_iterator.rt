@@ -1,4 +1,4 @@
-//! Iterators over classes with their parts, as the iterators over rows and names use them.
+//! Iterators over classes with their parts.
 
 ghost use Rattle.std.specs.Prelude.{List};
 ghost use Rattle.std.specs.Iterator.{YieldsFirstBy};
@@ -7,7 +7,8 @@ ghost use Rattle.jc_report.specs.Reports as reports;
 
 use crate::lent_class::LentClass;
 
-/// The classes that are left in a [`ClassIterator`]. This trait has no lifetime, so that it can be the bound of a struct.
+/// The classes that are left in a [`ClassIterator`]. This is a trait of its own because the bound of a struct may name no
+/// lifetime if its trait has ghost members.
 pub trait ClassesLeft {
     /// The classes that are left, in the order of their names.
     ghost left: { Self → List reports.Class };

@@ -5,6 +5,9 @@
 //! classes, and the rows that the tree provides and requires. [`TreeErrors`] adds the errors of inheritance, which a report
 //! does not have. `write_report` and `write_errors` print them.
 //!
+//! `Circular` and `Provided` are the iterators over the names of the circular classes and over the provided rows, of a tree
+//! or of a session. A [`ClassIterator`] gives them the classes.
+//!
 //! By the contracts, the report is the one that `specs/` defines for the files and the outside prefixes, and what is
 //! written is its text.
 #![tactic(auto)]
@@ -36,6 +39,7 @@ mod row_set;
 mod tree;
 mod tree_errors;
 mod use_place;
+mod winner;
 
 pub use asked::Asked;
 pub use circular::Circular;
@@ -57,3 +61,4 @@ pub use required_rows::RequiredRows;
 pub use row::Row;
 pub use tree::{AddError, Tree};
 pub use tree_errors::TreeErrors;
+pub use winner::wins;

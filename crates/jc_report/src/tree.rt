@@ -16,8 +16,9 @@ ghost use Rattle.jc_report.specs.inside.Kept.{kept, kept_read, path_kept, put_ba
 
 use crate::file_row::FileState;
 use crate::outcome::FileOutcome;
+use crate::winner::wins;
 use jc_base::{ByteMap, NoMemory};
-use jc_classes::{Facts, less};
+use jc_classes::Facts;
 use jc_file::{ClassView, ParseError, parse};
 use jc_link::{Meter, Table};
 use jc_view::outcomes_are_exact;
@@ -151,17 +152,17 @@ impl Tree {
     {
         let facts = Facts::of(self.alloc, view, path)?;
         if let Some(before) = self.put(facts)? {
-            self.put_lesser(before, path)?;
+            self.put_winner(before, path)?;
         }
         FileOutcome::named(self.alloc, view.name())
     }
 
-    /// Puts a class back that the class from this path replaced, if its own path is less.
-    fn put_lesser(&mut self, before: Facts, path: &[u8]) -> Result<(), NoMemory>
+    /// Puts a class back that the class from this path replaced, if its file wins.
+    fn put_winner(&mut self, before: Facts, path: &[u8]) -> Result<(), NoMemory>
         ensures outcomes { self.new.outcomes ≡ self.old.outcomes }
         ensures classes { OnOk result (self.new.classes ≡ put_back (Some before) path.now self.old.classes) }
     {
-        if less(before.path(), path) {
+        if wins(before.path(), Some(path)) {
             self.put(before).and(Ok(()))
         } else {
             Ok(())

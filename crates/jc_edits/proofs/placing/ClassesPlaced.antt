@@ -18,13 +18,14 @@ use Rattle.jc_linkage.specs.Steps.{is_class}
 use Rattle.jc_report.specs.Files.{Files}
 use Rattle.jc_report.specs.FileRows.{names, names_by, winner}
 use Rattle.jc_report.specs.Reports.{facts_at}
+use Rattle.jc_report.specs.Winners.{wins}
 use Rattle.jc_report.specs.inside.Kept.{stays}
 use Rattle.jc_report.proofs.winners.OneMoreFile.{other_less, winner_apart, winner_unnamed, winner_first, winner_stays, winner_new}
 use Rattle.jc_report.proofs.trees.NamedClasses.{class_of_name, class_of_refusal, facts_name}
 use Rattle.jc_report.proofs.trees.FactsOfNames.{winner_facts, no_facts}
 use Rattle.jc_report.proofs.trees.OneMoreFile.{facts_unnamed, facts_more}
 use Rattle.jc_edits.specs.Touched.{is_path}
-use Rattle.jc_edits.specs.inside.Changing.{before, lost, lost_by, won, won_by}
+use Rattle.jc_edits.specs.inside.Changing.{lost, lost_by, won, won_by}
 
 -- ---- tests
 
@@ -97,7 +98,7 @@ module _ (g : Files) (path n : List ℕ) (absent : fin.get g path ≡ None) wher
       new = facts_of path c
 
       abbrev goes_first : Bool
-      goes_first = before path (winner g (class_name c))
+      goes_first = wins path (winner g (class_name c))
 
       won_is : won g path (Some bytes) ≡ won_if goes_first new
       won_is = ap (won_by g path) is_read
@@ -112,7 +113,7 @@ module _ (g : Files) (path n : List ℕ) (absent : fin.get g path ≡ None) wher
       pub named_by : names bytes n ≡ true → n ≡ class_name c → (w : Option (List ℕ)) → winner g n ≡ w → Placed g path (Some bytes) more n
       named_by has is None none =
           let here : same_name n (class_name c) ≡ true = ap (same_name n) (sym is) ∙ same_here n in
-          let first : goes_first ≡ true = ap (λ x. before path (winner g x)) (sym is) ∙ ap (before path) none in
+          let first : goes_first ≡ true = ap (λ x. wins path (winner g x)) (sym is) ∙ ap (wins path) none in
           let both : (goes_first && true) ≡ true = ap (λ b. b && true) first in
           record {
             class = facts_more g path bytes n absent c is_read has ∙ ap (λ o. Some (stays path new o)) (no_facts g n none)
@@ -125,7 +126,7 @@ module _ (g : Files) (path n : List ℕ) (absent : fin.get g path ≡ None) wher
           let old = facts_of q given.class in
           let apart = others_apart q there in
           let first : (b : Bool) → name_less q path ≡ b → goes_first ≡ not b =
-          λ b less. ap (λ x. before path (winner g x)) (sym is) ∙ ap (before path) there ∙ one_less path q b apart less in
+          λ b less. ap (λ x. wins path (winner g x)) (sym is) ∙ ap (wins path) there ∙ one_less path q b apart less in
           let stay : (b : Bool) → name_less q path ≡ b → Some (stays path new (facts_at g n)) ≡ Some (cond b old new) =
           λ b less. ap (λ o. Some (stays path new o)) given.gives ∙ ap (λ t. Some (cond t old new)) (ap (λ x. name_less x path) given.is_path ∙ less) in
           ⊎_elim
@@ -163,7 +164,7 @@ module _ (g : Files) (path n : List ℕ) (absent : fin.get g path ≡ None) wher
         (λ differs.
         let lacks : names bytes n ≡ false = ap (λ o. names_by o n) is ∙ same_bytes_equiv.symm k n ∙ differs in
         let elsewhere : same_name n (class_name c) ≡ false = ap (same_name n) agrees.is_name ∙ eq_by_cmp-bytes_cmp n k ∙ differs in
-        unnamed lacks (won_here c agrees.is_read false elsewhere ∙ and_no (before path (winner g (class_name c)))))
+        unnamed lacks (won_here c agrees.is_read false elsewhere ∙ and_no (wins path (winner g (class_name c)))))
         (cases_Bool (same_bytes n k))
     placed_by (Err refusal) is =
         unnamed (ap (λ o. names_by o n) is) (ap (λ r. is_class (won_by g path r) n) (class_of_refusal bytes refusal is))
@@ -203,7 +204,7 @@ module _ (f : Files) (path : List ℕ) where
       let there : Placed others path (Some bytes) f k =
       subst (λ h. Placed others path (Some bytes) h k) (others_with f path (Some bytes) is) (placed_at others path (Some bytes) k (get-remove_same f path)) in
       let at_k : same_name k (class_name c) ≡ true = ap (same_name k) agrees.is_name ∙ same_here k in
-      let first = before path (winner others (class_name c)) in
+      let first = wins path (winner others (class_name c)) in
       let taken : is_path (winner f k) path ≡ (first && true) = there.taken ∙ won_here others path k (get-remove_same f path) bytes c agrees.is_read true at_k in
       ap (λ b. if b then Some k else None) (taken ∙ and_yes first)
       ∙ named_new first (facts_of path c) k (facts_name path c ∙ agrees.is_name)

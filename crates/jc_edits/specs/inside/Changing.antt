@@ -1,5 +1,5 @@
 -- The classes that an edit of a file changes.
-use Rattle.std.specs.Prelude.{◌≡◌, ℕ, Bool, true, List, Option, Some, None, option_map, option_and_then}
+use Rattle.std.specs.Prelude.{◌≡◌, ℕ, List, Option, Some, None, option_map, option_and_then}
 use Rattle.std.specs.Prelude.{Result, Ok, Err, if◌then◌else◌}
 use Rattle.std.specs.FinMap as map
 use Rattle.jc_view.specs.ClassFile.{ClassFile}
@@ -7,21 +7,18 @@ use Rattle.jc_view.specs.declared.parse_error.ParseError.{ParseError}
 use Rattle.jc_view.specs.Outcome.{class_named, class_read}
 use Rattle.jc_classes.specs.Facts.{Facts}
 use Rattle.jc_classes.specs.FactsOf.{class_name, facts_of}
-use Rattle.jc_classes.specs.Names.{Name, name_less}
+use Rattle.jc_classes.specs.Names.{Name}
 use Rattle.jc_linkage.specs.Steps.{class_by, step_name}
 use Rattle.jc_linkage.specs.declared.step.Step.{Step}
 use Rattle.jc_report.specs.Files.{Files}
 use Rattle.jc_report.specs.FileRows.{winner}
 use Rattle.jc_report.specs.Reports.{facts_at}
+use Rattle.jc_report.specs.Winners.{wins}
 use Rattle.jc_edits.specs.Touched.{is_path}
-
-abbrev pub before : List ℕ → Option (List ℕ) → Bool
-before path None = true
-before path (Some other) = name_less path other
 
 -- the facts of the class of this name in the file at a path, if the class is taken from there
 abbrev pub won_as : Files → (path name : List ℕ) → ClassFile → Option Facts
-won_as others path name c = if before path (winner others name) then Some (facts_of path c) else None
+won_as others path name c = if wins path (winner others name) then Some (facts_of path c) else None
 
 abbrev pub won_by : Files → List ℕ → Result ClassFile ParseError → Option Facts
 won_by others path (Ok c) = won_as others path (class_name c) c
