@@ -43,7 +43,7 @@ impl<'t> Model for Closure<'t> {
 /// Finds the reach of a name: the name itself, `java/lang/Object`, the classes that its references name, and all their
 /// supertypes. It looks up each of these names once in the table, also names without a class.
 ///
-/// Returns `NoMemory` when an allocation fails, and when there are more than 4,294,967,295 names.
+/// Returns `NoMemory` when an allocation fails, and when the names have more than 4,294,967,295 bytes in total.
 pub fn gather<'t>(
     alloc: Global,
     table: &'t Table,

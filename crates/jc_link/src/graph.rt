@@ -57,8 +57,7 @@ impl<'t> Model for ClassGraph<'t> {
 impl<'t> ClassGraph<'t> {
     /// Builds the graph of all classes of a table, in the order of their names. It looks up each name once.
     ///
-    /// Returns `NoMemory` when an allocation fails, and when the number of a class that a reference names is greater
-    /// than 4,294,967,295.
+    /// Returns `NoMemory` when an allocation fails, and when the names have more than 4,294,967,295 bytes in total.
     pub fn of(
         alloc: Global,
         table: &'t Table,
@@ -79,8 +78,7 @@ impl<'t> ClassGraph<'t> {
 
     /// Builds the graph of the classes of some names, and of one more if it is given. It looks up each name once.
     ///
-    /// Returns `NoMemory` when an allocation fails, and when the number of a class that a reference names is greater
-    /// than 4,294,967,295.
+    /// Returns `NoMemory` when an allocation fails, and when the names have more than 4,294,967,295 bytes in total.
     pub fn around(
         alloc: Global,
         table: &'t Table,

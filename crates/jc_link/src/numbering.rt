@@ -129,7 +129,7 @@ fn number_references_of(
 }
 
 /// Returns the number of the class that a reference names; for an array, of its innermost class, if there is one.
-/// Returns `NoMemory` when an allocation fails, and when there are more than 4,294,967,295 names.
+/// Returns `NoMemory` when an allocation fails, and when the names have more than 4,294,967,295 bytes in total.
 fn number_reference(
     alloc: Global,
     numbers: &mut Numbers,
