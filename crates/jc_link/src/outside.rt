@@ -36,7 +36,7 @@ pub struct Outside {
     prefixes: Prefixes,
 }
 
-/// Prefixes by place. The standard ones need no memory.
+/// Prefixes by place. Creating the standard ones does not allocate.
 #[derive(Drop)]
 enum Prefixes {
     Standard,
