@@ -55,10 +55,7 @@ fn lesser(classes: &Classes, node: usize, other: usize) -> usize
     requires other { other < length classes.now.names.now }
     ensures { result ≡ lesser (indexed_of classes.now) node other }
 {
-    if less(
-        classes.names.name(other),
-        classes.names.name(node),
-    ) {
+    if less(classes.names.name(other), classes.names.name(node)) {
         other
     } else {
         node
