@@ -12,7 +12,6 @@ use crate::no_memory::NoMemory;
 use std::alloc::{AllocFailed, Global};
 use std::collections::{BTreeMap, btree_map};
 use std::marker::Model;
-use std::mem;
 
 /// A map from byte strings to values, in the order of the bytes of its keys. Look-up, insertion and removal compare a
 /// logarithmic number of keys.
@@ -104,21 +103,6 @@ impl<V> ByteMap<V> {
             (map.insert self.entry.now key.now) self.entry.now) }
     {
         self.entries.get_mut(key)
-    }
-
-    /// Replaces the value at a key that the map has, and returns the previous value. If the map does not have the key,
-    /// returns the new value. Does not allocate.
-    pub fn replace(&mut self, key: &[u8], value: V) -> Result<V, V>
-        ensures before { IfOk result (λ before. map.get self.old key.now ≡ Some before) }
-        ensures ok { OnOk result (self.new ≡ map.insert self.old key.now value) }
-        ensures absent { OnErr result (map.get self.old key.now ≡ None) }
-        ensures value_returned { IfErr result (λ refused. refused ≡ value) }
-        ensures err { OnErr result (self.new ≡ self.old) }
-    {
-        match self.get_mut(key) {
-            Some(place) => Ok(mem::replace(place, value)),
-            None => Err(value),
-        }
     }
 
     /// Returns an iterator over the entries, in the order of their keys.

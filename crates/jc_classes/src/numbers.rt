@@ -113,15 +113,7 @@ impl Numbers {
         self.names.text(node)
     }
 
-    /// Returns the number of a name, if it has one. Does not allocate.
-    pub fn find(&self, name: &[u8]) -> Option<usize>
-        ensures some { IfSome result (λ i. (i < length self.now) × (name_at self.now i ≡ name.now)) }
-        ensures none { result ≡ None → (i : ℕ) → i < length self.now → name_at self.now i ≡ name.now → ⊥ }
-    {
-        self.find_digested(digest(name), name)
-    }
-
-    /// Returns the number of the name with this digest, if it has one.
+    /// Returns the number of the name with this digest, if it has one. Does not allocate.
     fn find_digested(&self, digest: u64, name: &[u8]) -> Option<usize>
         requires { digest ≡ digest_of name.now }
         ensures some { IfSome result (λ i. (i < length self.now) × (name_at self.now i ≡ name.now)) }

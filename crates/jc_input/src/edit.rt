@@ -1,9 +1,8 @@
 //! Edits of files and of outside prefixes, and their refusals.
 
 ghost use Rattle.std.specs.Prelude.{◌≡◌};
-ghost use Rattle.std.specs.Option.{option_copied};
 ghost use Rattle.jc_input.specs.declared.edit.EditError.TheVariants.{NoMemory};
-ghost use Rattle.jc_input.specs.Changes.{path_of, change_lent, bytes_of};
+ghost use Rattle.jc_input.specs.Changes.{path_of, change_lent};
 
 use jc_base::NoMemory;
 use std::alloc::{AllocError, AllocFailed};
@@ -51,16 +50,6 @@ impl LentEdit<'_> {
     {
         match self {
             LentEdit::Add(path, _) | LentEdit::Replace(path, _) | LentEdit::Remove(path) => path,
-        }
-    }
-
-    /// Returns the new bytes of the file, or `None` if it is removed.
-    pub fn bytes(&self) -> Option<&[u8]>
-        ensures { option_copied result ≡ bytes_of (change_lent self.now) }
-    {
-        match self {
-            LentEdit::Add(_, bytes) | LentEdit::Replace(_, bytes) => Some(bytes),
-            LentEdit::Remove(_) => None,
         }
     }
 }
