@@ -1,6 +1,6 @@
 //! The classes that an edit of a file changes.
 
-ghost use Rattle.std.specs.Prelude.{◌≡◌, IfOk, Ok, Some, option_map};
+ghost use Rattle.std.specs.Prelude.{◌≡◌, true, IfOk, None, Ok, Some, option_map};
 ghost use Rattle.std.specs.FinMap as map;
 ghost use Rattle.std.specs.Option.{option_copied};
 ghost use Rattle.jc_linkage.specs.Steps.{step_class, step_name};
@@ -42,18 +42,25 @@ struct Outcome {
     put: Option<Facts>,
 }
 
-/// Returns what changes if the file at a path gets these bytes, or is removed. The bytes are parsed once.
+/// Returns what changes if the file at a path gets these bytes, or is removed. `is_new` may be set if no file is there.
+/// The bytes are parsed once.
 pub(crate) fn changes_of(
     alloc: Global,
     held: &ClaimedFiles,
     path: &[u8],
     bytes: Option<Vec<u8>>,
+    is_new: bool,
 ) -> Result<Changes, NoMemory>
-    requires { AreClaims held.now.claims held.now.files }
+    requires claims { AreClaims held.now.claims held.now.files }
+    requires new { is_new ≡ true → map.get held.now.files path.now ≡ None }
     ensures file { IfOk result (λ changes. changes.file ≡ bytes_held bytes) }
     ensures changes { IfOk result (λ changes. AreChanges held.now.files path.now (bytes_held bytes) changes.first changes.put) }
 {
-    let first = lost_step(alloc, held, path)?;
+    let first = if is_new {
+        None
+    } else {
+        lost_step(alloc, held, path)?
+    };
     let Some(bytes) = bytes else {
         return Ok(Changes {
             file: None,

@@ -43,14 +43,18 @@ impl ClaimedFiles {
     }
 }
 
-/// Allocates what an edit needs that puts this file at the path, or removes the file there.
+/// Allocates what an edit needs that puts this file at the path, or removes the file there. `is_new` says whether the
+/// path of the file is new.
 pub(crate) fn grow<'a>(
     held: &mut ClaimedFiles,
     alloc: Global,
     path: &'a [u8],
     file: Option<File>,
+    is_new: bool,
 ) -> Result<Grown<'a>, NoMemory>
-    requires { AreClaims held.old.claims held.old.files }
+    requires claims { AreClaims held.old.claims held.old.files }
+    requires new { is_new ≡ true → map.get held.old.files path.now ≡ None }
+    requires there { is_new ≡ false → HasPlace held.old.files path.now file }
     ensures grown { IfOk result (λ grown. IsGrown held.new.claims held.new.files grown) }
     ensures place { IfOk result (λ grown. HasPlace held.new.files grown.path.now grown.file) }
     ensures commits { IfOk result (λ grown. committed held.new.files grown ≡ put_at held.old.files path.now file) }
@@ -65,10 +69,10 @@ pub(crate) fn grow<'a>(
             is_new: false,
         });
     };
-    if held.files.contains_key(path) {
-        grow_file(held, path, file)
-    } else {
+    if is_new {
         grow_new(held, alloc, path, file)
+    } else {
+        grow_file(held, path, file)
     }
 }
 

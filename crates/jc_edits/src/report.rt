@@ -12,6 +12,7 @@ ghost use Rattle.jc_input.specs.FileEdits.{after, judge};
 ghost use Rattle.jc_edits.specs.Edits.{after_prefix};
 ghost use Rattle.jc_edits.specs.Reported.{CountsHoldersAt, IsReportOf};
 ghost use Rattle.jc_edits.specs.Touched.{gives};
+ghost use Rattle.jc_edits.specs.inside.Changing.{is_add};
 ghost use Rattle.jc_edits.specs.inside.HeldFile.{bytes_held};
 ghost use Rattle.jc_edits.specs.inside.Metered.{MetersChange};
 
@@ -80,9 +81,10 @@ impl Report {
         if self.is_unchanged(&edit) {
             return Ok(());
         }
+        let is_new = is_add(&edit);
         let (path, bytes) = parts_of(edit);
-        let Changes { file, first, put } = changes_of(alloc, &self.held, path, bytes)?;
-        let grown = grow(&mut self.held, alloc, path, file)?;
+        let Changes { file, first, put } = changes_of(alloc, &self.held, path, bytes, is_new)?;
+        let grown = grow(&mut self.held, alloc, path, file, is_new)?;
         match self.linkage.change(first, put, meter) {
             Ok(()) => {
                 commit(&mut self.held, grown);
@@ -211,6 +213,13 @@ impl Report {
 }
 
 /// Returns the path of an edit, and the new bytes of the file there.
+/// Returns whether an edit adds a file.
+fn is_add(edit: &LentEdit<'_>) -> bool
+    ensures { result ≡ is_add (change_lent edit.now) }
+{
+    matches!(edit, LentEdit::Add(..))
+}
+
 fn parts_of<'a>(edit: LentEdit<'a>) -> (&'a [u8], Option<Vec<u8>>)
     ensures path { result.0.now ≡ path_of (change_lent edit.entry) }
     ensures bytes { bytes_held result.1 ≡ bytes_of (change_lent edit.entry) }

@@ -8,7 +8,7 @@ ghost use Rattle.jc_classes.specs.Names.{names_of};
 ghost use Rattle.jc_session.specs.AnswerText.{names_text, refused_text, unread_text};
 ghost use Rattle.jc_session.specs.inside.EditText.{edit_text};
 
-use jc_base::{DeviceFault, Output};
+use jc_base::{DeviceFault, Output, write_all};
 use jc_edits::{Done, EditError};
 use jc_report::write_name;
 use jc_text::TextWriter;
@@ -22,18 +22,20 @@ pub(crate) fn write_edit_answer<W: Output>(
     ensures front { OnErr result (WritesFront (W.written out.old) (W.written out.new) (edit_text answer)) }
     ensures failures { CountsFault result (W.failures out.old) (W.failures out.new) }
 {
-    let mut text = TextWriter::new(out);
-    write_edit(&mut text, answer);
-    text.finish()
+    match answer {
+        Ok(_) => write_all(out, b"ok\n"),
+        Err(error) => write_refusal(out, error),
+    }
 }
 
-fn write_edit<W: Output>(text: &mut TextWriter<'_, W>, answer: Result<Done, EditError>)
-    ensures { Sends W.written W.failures text.old text.new (edit_text answer) }
+fn write_refusal<W: Output>(out: &mut W, error: EditError) -> Result<(), DeviceFault>
+    ensures ok { OnOk result (Appends (W.written out.old) (W.written out.new) (refused_text error)) }
+    ensures front { OnErr result (WritesFront (W.written out.old) (W.written out.new) (refused_text error)) }
+    ensures failures { CountsFault result (W.failures out.old) (W.failures out.new) }
 {
-    match answer {
-        Ok(_) => text.text(b"ok\n"),
-        Err(error) => write_edit_error(text, error),
-    }
+    let mut text = TextWriter::new(out);
+    write_edit_error(&mut text, error);
+    text.finish()
 }
 
 fn write_edit_error<W: Output>(text: &mut TextWriter<'_, W>, error: EditError)
@@ -65,9 +67,7 @@ pub(crate) fn write_bad_line<W: Output>(out: &mut W) -> Result<(), DeviceFault>
     ensures front { OnErr result (WritesFront (W.written out.old) (W.written out.new) (codes "bad line\n")) }
     ensures failures { CountsFault result (W.failures out.old) (W.failures out.new) }
 {
-    let mut text = TextWriter::new(out);
-    text.text(b"bad line\n");
-    text.finish()
+    write_all(out, b"bad line\n")
 }
 
 /// Writes each name on a line of its own, or `none` if there is no name.

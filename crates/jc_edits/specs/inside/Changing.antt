@@ -1,7 +1,8 @@
 -- The classes that an edit of a file changes.
-use Rattle.std.specs.Prelude.{◌≡◌, ℕ, List, Option, Some, None, option_map, option_and_then}
+use Rattle.std.specs.Prelude.{◌≡◌, ℕ, Bool, true, false, List, Option, Some, None, option_map, option_and_then}
 use Rattle.std.specs.Prelude.{Result, Ok, Err, if◌then◌else◌}
 use Rattle.std.specs.FinMap as map
+use Rattle.jc_input.specs.Changes.{Adds, Change, Removes, Replaces}
 use Rattle.jc_view.specs.ClassFile.{ClassFile}
 use Rattle.jc_view.specs.declared.parse_error.ParseError.{ParseError}
 use Rattle.jc_view.specs.Outcome.{class_named, class_read}
@@ -15,6 +16,12 @@ use Rattle.jc_report.specs.FileRows.{winner}
 use Rattle.jc_report.specs.Reports.{facts_at}
 use Rattle.jc_report.specs.Winners.{wins}
 use Rattle.jc_edits.specs.Touched.{is_path}
+
+-- the edit adds a file
+abbrev pub is_add : Change → Bool
+is_add (Adds path bytes) = true
+is_add (Replaces path bytes) = false
+is_add (Removes path) = false
 
 -- the facts of the class of this name in the file at a path, if the class is taken from there
 abbrev pub won_as : Files → (path name : List ℕ) → ClassFile → Option Facts
