@@ -1,12 +1,9 @@
 -- Prefixes that are held, each once.
-use Rattle.std.proofs.Common.{◌≡◌, ℕ, zero, suc, ◌<◌, ◌≤◌, Bool, true, false, not, cond, List, [], ◌∷◌, ◌++◌, length, codes, refl, sym, ap, subst, ◌∙◌, arith, ◌⊎◌, inl, inr, ⊎_elim, if◌then◌else◌, length-append}
+use Rattle.std.proofs.Common.{◌≡◌, ℕ, zero, suc, ◌<◌, ◌≤◌, Bool, true, false, not, cond, List, [], ◌∷◌, ◌++◌, length, codes, refl, sym, ap, subst, ◌∙◌, arith, ◌⊎◌, inl, inr, ⊎_elim, length-append}
 use Rattle.std.proofs.lemmas.List.Elements.{Contains-append_left, Contains-append_right, Contains-append_cases}
-use Rattle.std.proofs.lemmas.Map.Views.{list_any-from_Contains, Contains-from_any}
 use Rattle.std.proofs.lemmas.List.{get_or_push, get_or_append_left, get_or_default}
 use Rattle.std.proofs.lemmas.Bool.{false≢true}
-use Rattle.std.specs.Cmp.{eq_by_cmp_equiv}
-use Rattle.std.specs.List.{Contains, filter, list_any}
-use Rattle.jc_base.proofs.maps.FiniteMaps.{bytes_cmp_total}
+use Rattle.std.specs.List.{Contains, filter}
 use Rattle.jc_classes.proofs.worlds.NameTests.{same_is, same_self}
 use Rattle.jc_classes.specs.Names.{Name, same_name}
 use Rattle.jc_classes.specs.Numbers.{name_at, IsOnce}

@@ -1,8 +1,5 @@
-use Rattle.std.proofs.Common.{◌≡◌, ◌∙◌, ◌<◌, [], ℕ, true, false, length, Some, arith, ap, sym, subst}
-use Rattle.std.proofs.lemmas.List.{get_or-map, length-map}
-use Rattle.std.specs.declared.alloc.Global.{Global}
-use Rattle.std.specs.declared.vec.Vec.{Vec}
-use Rattle.jc_classes.specs.Names.{names_of, same_name}
+use Rattle.std.proofs.Common.{◌≡◌, ◌∙◌, ◌<◌, true, false, length, Some, ap, sym, subst}
+use Rattle.jc_classes.specs.Names.{same_name}
 use Rattle.jc_classes.specs.Numbers.{name_at}
 use Rattle.jc_classes.specs.inside.Numbering.{digest_of, number_in, place_at}
 use Rattle.jc_classes.proofs.numbering.Digests.{looked_up}

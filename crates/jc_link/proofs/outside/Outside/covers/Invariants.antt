@@ -1,6 +1,5 @@
 use Rattle.std.proofs.Common.{◌≡◌, drop}
 use Rattle.jc_link.specs.Prefixes.{is_covered}
-use Rattle.jc_link.specs.inside.HeldPrefixes.{prefixes_held}
 use Rattle.jc_link.proofs.outside.Outside.covers.Given as goal
 
 abbrev pub invariant-loop-place : goal.invariant-loop-place

@@ -1,4 +1,4 @@
-use Rattle.std.proofs.Common.{◌+◌, ◌↔◌, [], map, take, sym, subst, ap, arith}
+use Rattle.std.proofs.Common.{◌+◌, ◌↔◌, [], map, take, sym, subst, arith}
 use Rattle.std.proofs.lemmas.List.{map_more, take_all}
 use Rattle.std.specs.List.{Contains}
 use Rattle.jc_classes.specs.Names.{Name}
