@@ -48,3 +48,10 @@ AreErrorsOf m c (loading.Fails error fault) e = e ≡ no_errors
 -- the errors of inheritance of the class c
 abbrev pub IsInheritance : World → (c : Name) → InheritanceErrors → Type 0
 IsInheritance m c e = (l : Loading) → Load m c l → AreErrorsOf m c l e
+
+-- each of these classes has its own errors of inheritance
+abbrev pub AreInherited : World → List Name → List InheritanceErrors → Type 0
+AreInherited m [] [] = Unit {0}
+AreInherited m (n ∷ ns) (e ∷ es) = IsInheritance m n e × AreInherited m ns es
+AreInherited m [] (e ∷ es) = ⊥
+AreInherited m (n ∷ ns) [] = ⊥

@@ -3,7 +3,7 @@
 ghost use Rattle.std.specs.Prelude.{◌≡◌, ◌<◌, ◌≤◌, ◌++◌, IfOk, OnErr, OnOk, length, map};
 ghost use Rattle.std.specs.List.{All, flat_map};
 ghost use Rattle.std.specs.Option.{option_copied, option_to_list};
-ghost use Rattle.jc_classes.specs.Inheritance.{IsInheritance};
+ghost use Rattle.jc_classes.specs.Inheritance.{AreInherited};
 ghost use Rattle.jc_classes.specs.NameLists.{Lists};
 ghost use Rattle.jc_classes.specs.Numbers.{name_at};
 ghost use Rattle.jc_classes.specs.Parts.{IsPart, Reach};
@@ -90,18 +90,13 @@ impl<'g, 't> PartMaker<'g, 't> {
         self.graph.record(place)
     }
 
-    /// Finds the errors of inheritance of the class at a place (JVMS 4.10).
+    /// Finds the errors of inheritance of the classes of the graph, in their order (JVMS 4.10).
     ///
     /// Returns `NoMemory` only when an allocation fails.
-    pub fn inheritance_errors(
-        &self,
-        alloc: Global,
-        place: usize,
-    ) -> Result<InheritanceErrors, NoMemory>
-        requires { place < length self.now.classes }
-        ensures { (m : World) → IsIn m self.now → IfOk result (IsInheritance m (name_at self.now.classes place)) }
+    pub fn inheritance_errors(&self, alloc: Global) -> Result<Vec<InheritanceErrors>, NoMemory>
+        ensures { (m : World) → IsIn m self.now → IfOk result (λ es. AreInherited m self.now.classes es.items) }
     {
-        inheritance_at(alloc, self.graph, &self.hierarchy, place)
+        inheritance_in(alloc, self.graph, &self.hierarchy)
     }
 
     /// Returns the names that the class at a place reaches, in ascending order.
@@ -148,18 +143,16 @@ fn part_at(
     Ok(part)
 }
 
-/// Finds the errors of inheritance of the class at a place, over the hierarchy of its graph.
-fn inheritance_at(
+/// Finds the errors of inheritance of the classes of a graph, over its hierarchy.
+fn inheritance_in(
     alloc: Global,
     graph: &ClassGraph,
     hierarchy: &Hierarchy,
-    place: usize,
-) -> Result<InheritanceErrors, NoMemory>
-    requires hierarchy { IsHierarchyOf graph.now hierarchy.now }
-    requires place { place < length graph.now.classes }
-    ensures { (m : World) → IsIn m graph.now → IfOk result (IsInheritance m (name_at graph.now.classes place)) }
+) -> Result<Vec<InheritanceErrors>, NoMemory>
+    requires { IsHierarchyOf graph.now hierarchy.now }
+    ensures { (m : World) → IsIn m graph.now → IfOk result (λ es. AreInherited m graph.now.classes es.items) }
 {
-    hierarchy.inheritance_errors(alloc, graph.classes[place])
+    hierarchy.inheritance_errors(alloc, graph.classes.as_slice())
 }
 
 /// Returns the working memory that was kept, or allocates it.

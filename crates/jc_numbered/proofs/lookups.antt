@@ -2,6 +2,9 @@ pub mod Bridge
 pub mod OutsideLemmas
 pub mod CanUses
 pub mod Chain
+pub mod FinalSearchLemmas
 pub mod OverridingLemmas
+pub mod SlotLemmas
+pub mod SubclassLemmas
 pub mod PackageLemmas
 pub mod PickLemmas

@@ -1,6 +1,7 @@
 pub mod Above
 pub mod Access
 pub mod Chain
+pub mod FinalSearches
 pub mod Indexed
 pub mod Loading
 pub mod Members
@@ -9,3 +10,5 @@ pub mod Overriding
 pub mod Packages
 pub mod Picks
 pub mod Shown
+pub mod Slots
+pub mod Subclasses

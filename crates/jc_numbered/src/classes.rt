@@ -7,7 +7,7 @@ ghost use Rattle.jc_classes.specs.MethodLookup.{of_object};
 ghost use Rattle.jc_classes.specs.Names.{object as java_lang_object, package_of};
 ghost use Rattle.jc_classes.specs.Worlds.{member, fields_of, methods_of, flags_of};
 ghost use Rattle.jc_graph.specs.Graph.{successors_of};
-ghost use Rattle.jc_numbered.specs.inside.Indexed.{filled, indexed_name, standing_of, superclass_at, superclass_count, onward_nodes, IsGraph};
+ghost use Rattle.jc_numbered.specs.inside.Indexed.{filled, indexed_name, standing_of, superclass_at, superclass_count, onward_nodes, rank_at, IsGraph};
 ghost use Rattle.jc_numbered.specs.inside.Members.{declared_at};
 ghost use Rattle.jc_numbered.specs.inside.Packages.{package_end, same_package};
 ghost use Rattle.jc_numbered.specs.inside.Picks.{gives, is_interface_at};
@@ -97,6 +97,16 @@ impl<'c, 't> Classes<'c, 't> {
         match self.most_above.get(node) {
             Some(most) => *most,
             None => 1,
+        }
+    }
+
+    /// Returns the place of a node in the order of loading. The supertypes of a node that loads are before it.
+    pub(crate) fn rank(&self, node: usize) -> usize
+        ensures { result ≡ rank_at (indexed_of self.now) node }
+    {
+        match self.rank.get(node) {
+            Some(rank) => *rank,
+            None => 0,
         }
     }
 

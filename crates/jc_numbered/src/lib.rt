@@ -17,11 +17,13 @@ mod overriding;
 mod packages;
 mod picks;
 mod polymorphic;
+mod subclasses;
 
 pub use above::Above;
 pub use access::{AccessTarget, can_use};
 pub use classes::{Classes, FoundMember};
 pub use loads::{Load, can_see, judge_each};
-pub use overriding::find_final;
+pub use overriding::FinalSearch;
 pub use packages::package_ends;
 pub use picks::{candidates, is_pick, lowest};
+pub use subclasses::depth_first;

@@ -1,15 +1,12 @@
 //! The errors of a tree of class files.
 
 ghost use Rattle.std.specs.Prelude.{◌≡◌, ◌≤◌, ◌&&◌, length, IfOk};
-ghost use Rattle.jc_classes.specs.Worlds.{World};
-ghost use Rattle.jc_link.specs.Graphs.{IsIn};
 ghost use Rattle.jc_link.specs.Meters.{counted};
 ghost use Rattle.jc_report.specs.ErrorsText.{asked_lent, has_error_among, has_inheritance_error, is_asked};
 ghost use Rattle.jc_report.specs.Files.{Files};
 ghost use Rattle.jc_report.specs.Reports.{name_of};
 ghost use Rattle.jc_report.specs.TreeErrors.{IsTreeErrors, is_any};
 ghost use Rattle.jc_report.specs.Trees.{IsTree};
-ghost use Rattle.jc_report.specs.inside.Made.{AreInherited};
 
 use crate::asked::{Asked, is_asked};
 use crate::report::{Class, TreeReport};
@@ -56,7 +53,7 @@ impl<'t> TreeErrors<'t> {
         let graph = ClassGraph::of(alloc, &tree.table, outside, meter)?;
         let mut maker = PartMaker::new(alloc, &graph)?;
         let report = TreeReport::over(alloc, tree, &mut maker, meter)?;
-        let inheritance = find_inheritance(alloc, &maker, report.classes().len())?;
+        let inheritance = maker.inheritance_errors(alloc)?;
         Ok(TreeErrors {
             report,
             inheritance,
@@ -84,23 +81,6 @@ impl<'t> TreeErrors<'t> {
         self.report.wrong_among(asked)
             || has_inheritance_error(self.report.classes(), self.inheritance(), asked)
     }
-}
-
-/// Finds the errors of inheritance of the classes of a graph.
-fn find_inheritance(
-    alloc: Global,
-    maker: &PartMaker,
-    count: usize,
-) -> Result<Vec<InheritanceErrors>, NoMemory>
-    requires { count ≡ length maker.now.classes }
-    ensures { (m : World) → IsIn m maker.now → IfOk result (λ found. AreInherited m maker.now.classes found.items) }
-{
-    let mut found = Vec::with_capacity(alloc, count)?;
-    for place in 0..count {
-        let errors = maker.inheritance_errors(alloc, place)?;
-        found.push(errors)?;
-    }
-    Ok(found)
 }
 
 /// Returns whether a class that is asked for has an error of inheritance.

@@ -1,10 +1,10 @@
 //! The numbered classes of a class graph, with how each loads (JVMS 5.3.5), and the answers to their references (JVMS
 //! 5.4.3).
 
-ghost use Rattle.std.specs.Prelude.{◌≡◌, ◌<◌, ℕ, length, Some, IfOk};
+ghost use Rattle.std.specs.Prelude.{◌≡◌, ◌<◌, ℕ, length, map, Some, IfOk};
 ghost use Rattle.std.specs.Bool.{Decides};
-ghost use Rattle.std.specs.List.{Contains};
-ghost use Rattle.jc_classes.specs.Inheritance.{IsInheritance};
+ghost use Rattle.std.specs.List.{All, Contains};
+ghost use Rattle.jc_classes.specs.Inheritance.{AreInherited};
 ghost use Rattle.jc_classes.specs.Loading.{Load as Loads};
 ghost use Rattle.jc_classes.specs.Names.{object as java_lang_object};
 ghost use Rattle.jc_classes.specs.Numbers.{name_at};
@@ -16,6 +16,7 @@ ghost use Rattle.jc_resolve.specs.Numbered.{Agrees, IsClosed, NumberReferences, 
 ghost use Rattle.jc_resolve.specs.inside.Resolved.{loading_of as loading_at};
 
 use crate::all_answers::linked;
+use crate::all_inheritance::inheritance_of_all;
 use crate::inheritance::InheritanceErrors;
 use crate::linked::Linked;
 use crate::loaded::load_classes;
@@ -152,21 +153,19 @@ impl<'c, 't> Hierarchy<'c, 't> {
         )
     }
 
-    /// Finds the errors of inheritance of a class (JVMS 4.10). It looks up each method of the class at most once in
-    /// each superclass.
+    /// Finds the errors of inheritance of some classes, in the order of their numbers in `nodes` (JVMS 4.10). Takes time
+    /// linear in the number of all classes and their methods, apart from look-up in maps.
     ///
     /// Returns `NoMemory` only when an allocation fails.
     pub fn inheritance_errors(
         &self,
         alloc: Global,
-        class: usize,
-    ) -> Result<InheritanceErrors, NoMemory>
-        requires { class < length self.now.names }
-        ensures { IfOk result (λ e. (m : World) → Agrees m self.now → IsInheritance m (node_name self.now class) e) }
+        nodes: &[usize],
+    ) -> Result<Vec<InheritanceErrors>, NoMemory>
+        requires { All (λ v. v < length self.now.names) nodes.now }
+        ensures { IfOk result (λ es. (m : World) → Agrees m self.now
+            → AreInherited m (map (node_name self.now) nodes.now) es.items) }
     {
-        match self.loads[class] {
-            Load::Loaded => InheritanceErrors::of(alloc, &self.classes, class),
-            _ => Ok(InheritanceErrors::none(alloc)),
-        }
+        inheritance_of_all(alloc, &self.classes, self.loads.as_slice(), nodes)
     }
 }

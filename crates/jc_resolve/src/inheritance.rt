@@ -7,14 +7,15 @@ ghost use Rattle.jc_classes.specs.Lent.{key_lent};
 ghost use Rattle.jc_classes.specs.MemberOrder.{key_at};
 ghost use Rattle.jc_classes.specs.Overriding.{ExtendsFinal};
 ghost use Rattle.jc_classes.specs.Worlds.{World, methods_of};
-ghost use Rattle.jc_numbered.specs.inside.Indexed.{IsIndexed, good_at, indexed_name, standing_of};
+ghost use Rattle.jc_numbered.specs.inside.FinalSearches.{IsSearch, last_of};
+ghost use Rattle.jc_numbered.specs.inside.Indexed.{IsIndexed, good_at, indexed_name, standing_of, superclass_at};
 ghost use Rattle.jc_numbered.specs.inside.Shown.{indexed_of};
 ghost use Rattle.jc_resolve.specs.inside.Inheritance.{AddsOverridden, TellsErrors, TellsOverridden};
 
 use jc_base::NoMemory;
 use jc_classes::{Facts, Key, Standing};
 use jc_file::AccessFlag;
-use jc_numbered::{Classes, find_final};
+use jc_numbered::{Classes, FinalSearch};
 use std::alloc::Global;
 use std::marker::Model;
 
@@ -94,15 +95,19 @@ impl InheritanceErrors {
     pub(crate) fn of(
         alloc: Global,
         classes: &Classes,
+        search: &mut FinalSearch,
         class: usize,
     ) -> Result<InheritanceErrors, NoMemory>
         requires class { class < length classes.now.standing.now }
         requires good { good_at (indexed_of classes.now) class ≡ true }
-        ensures { IfOk result (TellsErrors (indexed_of classes.now) class) }
+        requires search { IsSearch (length classes.now.standing.now) (indexed_of classes.now) search.old }
+        ensures errors { IfOk result (TellsErrors (indexed_of classes.now) class) }
+        ensures search { OnOk result (IsSearch (length classes.now.standing.now) (indexed_of classes.now) search.new) }
     {
+        search.visit(alloc, classes, class)?;
         Ok(InheritanceErrors {
             extends_final: extends_final(classes, class),
-            overridden: overridden(alloc, classes, class)?,
+            overridden: overridden(alloc, classes, search, class)?,
         })
     }
 
@@ -134,51 +139,68 @@ fn extends_final(classes: &Classes, class: usize) -> bool
     }
 }
 
-/// Returns the FINAL methods that the methods of a class override.
-fn overridden(alloc: Global, classes: &Classes, class: usize) -> Result<Vec<Inherited>, NoMemory>
+/// Returns the FINAL methods that the methods of the visited class override.
+fn overridden(
+    alloc: Global,
+    classes: &Classes,
+    search: &mut FinalSearch,
+    class: usize,
+) -> Result<Vec<Inherited>, NoMemory>
     requires class { class < length classes.now.standing.now }
     requires good { good_at (indexed_of classes.now) class ≡ true }
-    ensures { IfOk result (λ found. TellsOverridden (indexed_of classes.now) class found.items) }
+    requires search { IsSearch (length classes.now.standing.now) (indexed_of classes.now) search.old }
+    requires ends { last_of search.old.chain.items ≡ superclass_at (indexed_of classes.now) class }
+    ensures told { IfOk result (λ found. TellsOverridden (indexed_of classes.now) class found.items) }
+    ensures search { OnOk result (IsSearch (length classes.now.standing.now) (indexed_of classes.now) search.new) }
 {
     match classes.at(class) {
-        Standing::Class(facts) => overridden_by(alloc, classes, class, facts),
+        Standing::Class(facts) => overridden_by(alloc, classes, search, class, facts),
         _ => Ok(Vec::new(alloc)),
     }
 }
 
-/// Returns the FINAL methods that the methods of a class override, given the facts of the class.
+/// Returns the FINAL methods that the methods of the visited class override, given the facts of the class.
 fn overridden_by(
     alloc: Global,
     classes: &Classes,
+    search: &mut FinalSearch,
     class: usize,
     facts: &Facts,
 ) -> Result<Vec<Inherited>, NoMemory>
     requires class { class < length classes.now.standing.now }
     requires good { good_at (indexed_of classes.now) class ≡ true }
     requires facts { methods_of (standing_of (indexed_of classes.now) class) ≡ facts.now.methods }
-    ensures { IfOk result (λ found. TellsOverridden (indexed_of classes.now) class found.items) }
+    requires search { IsSearch (length classes.now.standing.now) (indexed_of classes.now) search.old }
+    requires ends { last_of search.old.chain.items ≡ superclass_at (indexed_of classes.now) class }
+    ensures told { IfOk result (λ found. TellsOverridden (indexed_of classes.now) class found.items) }
+    ensures search { OnOk result (IsSearch (length classes.now.standing.now) (indexed_of classes.now) search.new) }
 {
     let mut found = Vec::new(alloc);
     for number in facts.method_order() {
         let key = method_key(facts, *number as usize);
-        push_overridden(alloc, &mut found, classes, class, key)?;
+        push_overridden(alloc, &mut found, classes, search, class, key)?;
     }
     Ok(found)
 }
 
-/// Adds the nearest FINAL method that a method of a class overrides, if there is one.
+/// Adds the nearest FINAL method that a method of the visited class overrides, if there is one.
 fn push_overridden(
     alloc: Global,
     found: &mut Vec<Inherited>,
     classes: &Classes,
+    search: &mut FinalSearch,
     class: usize,
     key: Key,
 ) -> Result<(), NoMemory>
     requires class { class < length classes.now.standing.now }
     requires good { good_at (indexed_of classes.now) class ≡ true }
-    ensures { OnOk result (AddsOverridden (indexed_of classes.now) class (key_lent key.entry) found.old.items found.new.items) }
+    requires search { IsSearch (length classes.now.standing.now) (indexed_of classes.now) search.old }
+    requires ends { last_of search.old.chain.items ≡ superclass_at (indexed_of classes.now) class }
+    ensures added { OnOk result (AddsOverridden (indexed_of classes.now) class (key_lent key.entry) found.old.items found.new.items) }
+    ensures search { OnOk result (IsSearch (length classes.now.standing.now) (indexed_of classes.now) search.new) }
+    ensures chain { search.new.chain.items ≡ search.old.chain.items }
 {
-    if let Some(above) = find_final(alloc, classes, class, key)? {
+    if let Some(above) = search.find(alloc, classes, class, key)? {
         found.push(Inherited::of(alloc, classes.name(above), key)?)?;
     }
     Ok(())

@@ -8,6 +8,7 @@
 #![tactic(auto)]
 
 mod all_answers;
+mod all_inheritance;
 mod all_loads;
 mod answer_list;
 mod answers;

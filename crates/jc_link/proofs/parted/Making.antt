@@ -7,7 +7,7 @@ use Rattle.jc_code.specs.declared.code_fault.CodeFault.{CodeFault}
 use Rattle.jc_file.specs.declared.fault.Fault.{Fault}
 use Rattle.jc_classes.specs.Names.{Name}
 use Rattle.jc_classes.specs.Numbers.{name_at}
-use Rattle.jc_classes.specs.Inheritance.{InheritanceErrors, IsInheritance}
+use Rattle.jc_classes.specs.Inheritance.{AreInherited, InheritanceErrors}
 use Rattle.jc_classes.specs.LinkErrors.{LinkError, links_of}
 use Rattle.jc_classes.specs.Loading.{Load, Loading}
 use Rattle.jc_classes.specs.Parts.{AreAnswers, IsPart}
@@ -53,11 +53,10 @@ part_made m d ns st supertypes h class ring how found errors faults wrong own_st
       links = links ∙ ap (λ n. links_of n (standing_at h class) found) name ∙ ap (λ s. links_of d s found) here;
     }
 
--- what is told of the errors of inheritance of a class by numbers
-pub inheritance_made : (m : World) (d : Name) (ns : List Name) (st : List Stands) (supertypes : List (List ℕ)) (h : Numbered) (class : ℕ) (e : InheritanceErrors)
-    → st ≡ map m ns → name_at ns class ≡ d → h ≡ record { names = ns; standing = st; supertypes = supertypes }
-    → ((k : World) → Agrees k h → IsInheritance k (name_at h.names class) e) → IsInheritance m d e
-inheritance_made m d ns st supertypes h class e all first is tells =
-    let agree : Agrees m h = subst (Agrees m) (sym is) (agrees m ns st all supertypes) in
-    let name : name_at h.names class ≡ d = ap (λ (z : Numbered). name_at z.names class) is ∙ first in
-    subst (λ n. IsInheritance m n e) name (tells m agree)
+-- what is told of the errors of inheritance of some classes by numbers
+pub inheritance_made : (m : World) (ns : List Name) (st : List Stands) (supertypes : List (List ℕ)) (h : Numbered) (classes : List ℕ)
+    (es : List InheritanceErrors) → st ≡ map m ns → h ≡ record { names = ns; standing = st; supertypes = supertypes }
+    → ((k : World) → Agrees k h → AreInherited k (map (name_at h.names) classes) es) → AreInherited m (map (name_at ns) classes) es
+inheritance_made m ns st supertypes h classes es all is tells =
+    subst (λ (z : Numbered). AreInherited m (map (name_at z.names) classes) es) is
+    (tells m (subst (Agrees m) (sym is) (agrees m ns st all supertypes)))

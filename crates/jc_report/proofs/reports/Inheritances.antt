@@ -3,7 +3,7 @@ use Rattle.std.proofs.Common.{◌≡◌, ◌∙◌, ◌||◌, ◌&&◌, ◌+◌,
 use Rattle.std.specs.Prelude.{slice_get}
 use Rattle.std.proofs.lemmas.List.{drop_more}
 use Rattle.std.proofs.lemmas.Option.{get_or_from_slice_get, slice_get_within}
-use Rattle.jc_classes.specs.Inheritance.{InheritanceErrors, IsInheritance}
+use Rattle.jc_classes.specs.Inheritance.{AreInherited, InheritanceErrors}
 use Rattle.jc_classes.specs.Names.{Name}
 use Rattle.jc_classes.specs.Worlds.{World}
 use Rattle.jc_link.specs.Tables.{world}
@@ -12,15 +12,7 @@ use Rattle.jc_report.specs.Files.{Files}
 use Rattle.jc_report.specs.Reports.{Class, name_of, world_of}
 use Rattle.jc_report.specs.TreeErrors.{AreInheritances, is_any}
 use Rattle.jc_report.specs.Trees.{IsTree, Tree}
-use Rattle.jc_report.specs.inside.Made.{AreInherited}
 use Rattle.jc_report.proofs.trees.FactsOfNames.{worlds_meet}
-
-pub one_inherited : {m : World} (ns : List Name) (es : List InheritanceErrors) (n : Name) (e : InheritanceErrors) → AreInherited m ns es → IsInheritance m n e
-    → AreInherited m (ns ++ n ∷ []) (es ++ e ∷ [])
-one_inherited [] [] n e are is = (is, tt)
-one_inherited (x ∷ ns) (y ∷ es) n e are is = (are.0, one_inherited ns es n e are.1 is)
-one_inherited [] (y ∷ es) n e are is = absurd are
-one_inherited (x ∷ ns) [] n e are is = absurd are
 
 of_classes : (m : World) (cs : List Class) (es : List InheritanceErrors) → AreInherited m (map name_of cs) es → AreInheritances m cs es
 of_classes m [] [] are = tt

@@ -2,10 +2,8 @@
 use Rattle.std.specs.Prelude.{◌≡◌, List, [], ◌∷◌, ◌++◌, map}
 use Rattle.std.specs.List.{Contains}
 use Rattle.jc_classes.specs.Facts.{Facts}
-use Rattle.jc_classes.specs.Inheritance.{InheritanceErrors, IsInheritance}
 use Rattle.jc_classes.specs.Names.{Name}
 use Rattle.jc_classes.specs.Parts.{IsPart}
-use Rattle.jc_classes.specs.Worlds.{World}
 use Rattle.jc_link.specs.Tables.{Places, classes_of, world}
 use Rattle.jc_report.specs.Reports.{Class, name_of}
 
@@ -20,10 +18,3 @@ HaveParts places prefixes made = (c : Class) → Contains made c → IsPart (wor
 -- all classes of the table are made
 abbrev pub AreMadeOf : Places → List Name → List Class → Type 0
 AreMadeOf places prefixes made = IsSplit places made [] × HaveParts places prefixes made
-
--- each of these classes has its own errors of inheritance
-abbrev pub AreInherited : World → List Name → List InheritanceErrors → Type 0
-AreInherited m [] [] = Unit {0}
-AreInherited m (n ∷ ns) (e ∷ es) = IsInheritance m n e × AreInherited m ns es
-AreInherited m [] (e ∷ es) = ⊥
-AreInherited m (n ∷ ns) [] = ⊥

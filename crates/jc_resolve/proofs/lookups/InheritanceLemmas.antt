@@ -4,10 +4,13 @@ use Rattle.std.specs.Bool.{Decides}
 use Rattle.std.specs.Prelude.{slice_get, unwrap_or}
 use Rattle.std.proofs.lemmas.Option.{unwrap_or-slice_get}
 use Rattle.std.specs.Borrow.{Bor}
+use Rattle.std.specs.List.{All}
+use Rattle.std.proofs.lemmas.List.Elements.{All-head, All-tail}
+use Rattle.jc_classes.proofs.worlds.One.{load_one}
 use Rattle.std.specs.List.Sorted.{IsStrictlySortedBy}
 use Rattle.jc_file.specs.AccessFlags.{final, has}
 use Rattle.jc_classes.specs.Facts.{Facts, Key, Member}
-use Rattle.jc_classes.specs.Inheritance.{AreErrors, AreErrorsOf, AreOverridden, Inherited, InheritanceErrors, no_errors}
+use Rattle.jc_classes.specs.Inheritance.{AreErrors, AreErrorsOf, AreInherited, AreOverridden, Inherited, InheritanceErrors}
 use Rattle.jc_classes.specs.Inheritance.AreOverridden.{none, passes, some}
 use Rattle.jc_classes.specs.Lent.{stands_of}
 use Rattle.jc_classes.specs.MemberOrder.{IsOrder, key_at}
@@ -18,9 +21,10 @@ use Rattle.jc_classes.specs.declared.standing.Standing.{Standing}
 use Rattle.jc_classes.specs.declared.standing.Standing.TheVariants as standing
 use Rattle.jc_numbered.specs.inside.Indexed.{Indexed, IsGraph, IsIndexed, indexed_name, standing_of, superclass_at}
 use Rattle.jc_numbered.specs.declared.loads.Load.{Load}
-use Rattle.jc_resolve.specs.inside.Resolved.{loading_of}
+use Rattle.jc_numbered.specs.inside.Loading.{load_at}
+use Rattle.jc_resolve.specs.inside.Resolved.{AreLoads, loading_of}
 use Rattle.jc_numbered.proofs.lookups.Chain.{super_is, super_node}
-use Rattle.jc_resolve.specs.inside.Inheritance.{AddsOverridden, TellsOverridden}
+use Rattle.jc_resolve.specs.inside.Inheritance.{AddsOverridden, TellErrors, TellsErrorsOf, TellsOverridden}
 
 some_is : {X : Type 0} {a b : X} → Some a ≡ Some b → a ≡ b
 some_is e = cc
@@ -97,9 +101,31 @@ are_errors x c m index l e extends tells = record {
   overridden = subst (λ r. AreOverridden m (indexed_name x c) (map (key_at (methods_of r)) tells.order) e.overridden) (sym (index.standing c l)) (tells.are m index);
 }
 
--- a class that does not load has no errors
-pub none_unless_loaded : (x : Indexed) (load : Load) (m : World) (c : Name) (e : InheritanceErrors) → (load ≡ Load.Loaded → ⊥) → e ≡ no_errors
-    → AreErrorsOf m c (loading_of x load) e
-none_unless_loaded x Load.Loaded m c e n h = absurd (n refl)
-none_unless_loaded x Load.Outside m c e n h = h
-none_unless_loaded x (Load.Fails error node) m c e n h = h
+-- ---- many classes
+
+-- the errors of one more node
+pub one_told : (x : Indexed) (loads : List Load) (vs : List ℕ) (es : List InheritanceErrors) (v : ℕ) (e : InheritanceErrors) → TellErrors x loads vs es
+    → TellsErrorsOf x (load_at loads v) v e → TellErrors x loads (vs ++ v ∷ []) (es ++ e ∷ [])
+one_told x loads [] [] v e are is = (is, tt)
+one_told x loads (w ∷ vs) (f ∷ es) v e are is = (are.0, one_told x loads vs es v e are.1 is)
+one_told x loads [] (f ∷ es) v e are is = absurd are
+one_told x loads (w ∷ vs) [] v e are is = absurd are
+
+-- by how the class loads
+errors_by_load : (x : Indexed) (m : World) → IsIndexed m x → (load : Load) (c : ℕ) (e : InheritanceErrors) → TellsErrorsOf x load c e
+    → AreErrorsOf m (indexed_name x c) (loading_of x load) e
+errors_by_load x m index Load.Loaded c e t = t.loaded refl m index
+errors_by_load x m index Load.Outside c e t = t.others (λ h. absurd cc)
+errors_by_load x m index (Load.Fails error node) c e t = t.others (λ h. absurd cc)
+
+pub are_inherited : (count : ℕ) (x : Indexed) (loads : List Load) (m : World) → IsIndexed m x → AreLoads count x loads
+    → (vs : List ℕ) (es : List InheritanceErrors) → All (λ v. v < count) vs → TellErrors x loads vs es → AreInherited m (map (indexed_name x) vs) es
+are_inherited count x loads m index told [] [] within are = tt
+are_inherited count x loads m index told (v ∷ vs) (e ∷ es) within are = (
+  (λ how load.
+      let same = load_one (told m index v (All-head (λ z. z < count) v vs within)) load in
+      subst (λ z. AreErrorsOf m (indexed_name x v) z e) same (errors_by_load x m index (load_at loads v) v e are.0)),
+  are_inherited count x loads m index told vs es (All-tail (λ z. z < count) v vs within) are.1,
+)
+are_inherited count x loads m index told [] (e ∷ es) within are = absurd are
+are_inherited count x loads m index told (v ∷ vs) [] within are = absurd are
