@@ -7,7 +7,7 @@ import itertools
 import struct
 
 OBJECT = b"java/lang/Object"
-PUBLIC, SUPER, INTERFACE, ABSTRACT, NATIVE, VARARGS = 1, 0x20, 0x200, 0x400, 0x100, 0x80
+PUBLIC, FINAL, SUPER, INTERFACE, ABSTRACT, NATIVE, VARARGS = 1, 0x10, 0x20, 0x200, 0x400, 0x100, 0x80
 # The greatest length of a text, and the greatest number of constants, members or interfaces.
 LONGEST, MOST = 65535, 65534
 # The longest code of a method, and how many such methods fit into a file.
@@ -235,6 +235,32 @@ def few_references_each_below_a_chain():
     return files
 
 
+def with_methods(name, parent, count, flags=PUBLIC | NATIVE):
+    """Returns a class that declares methods m0, m1, .. without code."""
+    pool = Pool()
+    descriptor = pool.text(b"()V")
+    return class_file(pool, name, parent=parent, methods=[(flags, pool.text(b"m%d" % at), descriptor, []) for at in range(count)])
+
+
+def methods_of_a_chain():
+    """A chain of classes whose methods override those of all their superclasses."""
+    return {f"{number}.class": with_methods(b"C%d" % number, b"C%d" % (number - 1) if number else OBJECT, 250) for number in range(2000)}
+
+
+def methods_below_a_chain():
+    """Classes with one method each, below a chain of superclasses without methods."""
+    files = {f"{number}.class": plain(b"C%d" % number, parent=b"C%d" % (number - 1) if number else OBJECT) for number in range(30000)}
+    return files | {f"L{number}.class": with_methods(b"L%d" % number, b"C29999", 1) for number in range(30000)}
+
+
+def below_one_final_class():
+    """Subclasses of a FINAL class, which override its FINAL methods."""
+    pool = Pool()
+    name, descriptor = pool.text(b"m0"), pool.text(b"()V")
+    top = class_file(pool, b"A", flags=PUBLIC | SUPER | FINAL, methods=[(PUBLIC | FINAL | NATIVE, name, descriptor, [])])
+    return {"A.class": top} | {f"{number}.class": with_methods(b"C%d" % number, b"A", 1) for number in range(60000)}
+
+
 def references_below_interfaces():
     """References that are searched in all of many superinterfaces and found nowhere."""
     many = Pool()
@@ -450,7 +476,7 @@ def format_faults():
 KINDS = [methods_of_one_name, few_methods_of_one_name, fields_and_references, references_to_one_member, constants_of_one_missing_class, calls_of_method_handles,
          provided_by_a_long_name, an_interface_many_times, an_interface_by_many_constants, references_below_a_chain,
          references_below_a_shorter_chain, references_to_the_first_of_a_chain, members_below_a_chain,
-         few_references_each_below_a_chain, references_below_interfaces,
+         few_references_each_below_a_chain, methods_of_a_chain, methods_below_a_chain, below_one_final_class, references_below_interfaces,
          interfaces_that_give_one_method, packages_of_long_names, members_of_a_long_missing_name, one_signature, one_descriptor, one_array_type,
          one_array_type_and_a_fault, one_interface_method, method_types_of_one_descriptor, call_sites_of_one_descriptor,
          calls_of_method_handles_of_one_descriptor, handles_of_one_descriptor, arrays_of_a_class_in_a_descriptor,

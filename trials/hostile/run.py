@@ -3,7 +3,8 @@
 
     run.py [KIND ..] [--seconds N]
 
-A KIND is a function of classes.py; without one, all kinds run. `jclink check` checks the files of each kind. Then
+A KIND is a function of classes.py; without one, all kinds run. `jclink check` checks the files of each kind, and
+`jclink check --errors` those of the kinds that concern errors of inheritance. Then
 `jclink session` adds them one by one and prints its report.
 
 The trial does not measure how texts are written, which may be long: one has 364 gigabytes. So `check` writes to a device
@@ -33,7 +34,10 @@ READ = 1 << 30
 # The greatest memory of a run, so that the machine does not end other processes.
 ROOM = 12 << 30
 # A session stores the reach of each class. In a chain, that is half the square of its length. Shorter chains have own kinds.
-NO_SESSION = {"references_below_a_chain", "references_to_the_first_of_a_chain", "members_below_a_chain"}
+NO_SESSION = {"references_below_a_chain", "references_to_the_first_of_a_chain", "members_below_a_chain", "methods_of_a_chain",
+              "methods_below_a_chain"}
+# The kinds that the search for errors of inheritance is for. Only `check --errors` makes it.
+INHERITANCE = {"methods_of_a_chain", "methods_below_a_chain", "below_one_final_class"}
 
 
 def read_from(pipe):
@@ -67,7 +71,7 @@ def told(name, files, size, words, lines, wanted, folder, most):
     limit = BASE + EACH * size
     right = status in wanted and seconds <= SECONDS and room <= limit
     how = "" if right else f" status {status}," if status not in wanted else ""
-    print(f"| {name} | `{words[0]}` | {files:,} | {size:,} | {seconds:.2f} | {room / 1e6:.0f} | {limit / 1e6:.0f} |{how}{'' if right else ' over'}", flush=True)
+    print(f"| {name} | `{' '.join(words[:-1] or words)}` | {files:,} | {size:,} | {seconds:.2f} | {room / 1e6:.0f} | {limit / 1e6:.0f} |{how}{'' if right else ' over'}", flush=True)
     return right
 
 
@@ -79,6 +83,8 @@ def tried(kind, most):
             pathlib.Path(room, path).write_bytes(data)
         lines = b"".join(b"add %s\n" % path.encode() for path in sorted(files)) + b"report\nend\n"
         right = told(kind.__name__, len(files), size, ["check", "."], b"", (3,), room, most)
+        if kind.__name__ in INHERITANCE:
+            right &= told(kind.__name__, len(files), size, ["check", "--errors", "."], b"", (0, 3), room, most)
         if kind.__name__ not in NO_SESSION:
             right &= told(kind.__name__, len(files), size, ["session"], lines, (0, 1), room, most)
     return right

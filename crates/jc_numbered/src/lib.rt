@@ -1,9 +1,8 @@
 //! The steps of look-up among the numbered classes of a class graph.
 //!
 //! `Classes` has the names, classes and supertypes by number. `Above` has the transitive supertypes of a class. The
-//! functions find how a class loads by its supertypes (JVMS 5.3.5), access (JVMS 5.4.4), and overridden FINAL methods
-//! (JVMS 4.10, 5.4.5). They also find where look-up continues, and choose among superinterfaces (JVMS 5.4.3.2 to
-//! 5.4.3.4).
+//! functions find how a class loads by its supertypes (JVMS 5.3.5), access (JVMS 5.4.4), and where look-up continues. They
+//! choose among superinterfaces (JVMS 5.4.3.2 to 5.4.3.4). `FinalSearch` finds overridden FINAL methods (JVMS 4.10, 5.4.5).
 //!
 //! The contracts hold in every world that has these classes. Only `jc_resolve` uses this crate.
 #![tactic(auto)]

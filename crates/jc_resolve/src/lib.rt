@@ -2,7 +2,7 @@
 //!
 //! `Hierarchy` has the classes of a graph, with how each loads (JVMS 5.3.5). It finds the answers to the references of
 //! a class and its instructions that do not link, which are a `Linked` (JVMS 5.4.3, 6.5). It also finds the
-//! `InheritanceErrors` of a class (JVMS 4.10).
+//! `InheritanceErrors` of classes (JVMS 4.10).
 //!
 //! The contracts say that these results are right in every world that has the classes of the graph.
 #![tactic(auto)]
