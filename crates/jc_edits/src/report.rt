@@ -7,12 +7,12 @@ ghost use Rattle.jc_classes.specs.Parts.{IsPart};
 ghost use Rattle.jc_report.specs.FileRows.{rows, winner};
 ghost use Rattle.jc_report.specs.Reports as reports;
 ghost use Rattle.jc_report.specs.Reports.{facts_at, is_wrong, world_of};
-ghost use Rattle.jc_input.specs.Changes.{bytes_of, change_lent, path_of, prefix_change};
+ghost use Rattle.jc_input.specs.Changes.{change_lent, path_of, prefix_change};
 ghost use Rattle.jc_input.specs.FileEdits.{after, judge};
 ghost use Rattle.jc_edits.specs.Edits.{after_prefix};
 ghost use Rattle.jc_edits.specs.Reported.{CountsHoldersAt, IsReportOf};
 ghost use Rattle.jc_edits.specs.Touched.{gives};
-ghost use Rattle.jc_edits.specs.inside.Changing.{is_add};
+ghost use Rattle.jc_edits.specs.inside.Changing.{bytes_of, is_add};
 ghost use Rattle.jc_edits.specs.inside.HeldFile.{bytes_held};
 ghost use Rattle.jc_edits.specs.inside.Metered.{MetersChange};
 

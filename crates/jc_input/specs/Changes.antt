@@ -1,5 +1,5 @@
 -- Edits of files and of outside prefixes, as data.
-use Rattle.std.specs.Prelude.{ℕ, List, Option, Some, None}
+use Rattle.std.specs.Prelude.{ℕ, List}
 use Rattle.jc_input.specs.declared.edit.Edit.{Edit}
 use Rattle.jc_input.specs.declared.edit.Edit.TheVariants as edits
 use Rattle.jc_input.specs.declared.edit.LentEdit.{LentEdit}
@@ -46,9 +46,3 @@ abbrev pub path_of : Change → List ℕ
 path_of (Adds path bytes) = path
 path_of (Replaces path bytes) = path
 path_of (Removes path) = path
-
--- the new bytes of the file, or none if it is removed
-abbrev pub bytes_of : Change → Option (List ℕ)
-bytes_of (Adds path bytes) = Some bytes
-bytes_of (Replaces path bytes) = Some bytes
-bytes_of (Removes path) = None

@@ -8,9 +8,9 @@ use Rattle.jc_linkage.specs.Steps.{Classes, changed, class_by, is_class, step_cl
 use Rattle.jc_linkage.specs.declared.step.Step.{Step}
 use Rattle.jc_report.specs.Files.{Files}
 use Rattle.jc_report.specs.Reports.{facts_at}
-use Rattle.jc_input.specs.Changes.{Change, Adds, Replaces, Removes, path_of, bytes_of}
+use Rattle.jc_input.specs.Changes.{Change, Adds, Replaces, Removes, path_of}
 use Rattle.jc_input.specs.FileEdits as edits
-use Rattle.jc_edits.specs.inside.Changing.{AreChanges, won}
+use Rattle.jc_edits.specs.inside.Changing.{AreChanges, bytes_of, won}
 use Rattle.jc_edits.specs.inside.Growth.{put_at}
 use Rattle.jc_edits.proofs.placing.ClassesPlaced.{Placed, exact, lost_name, others_with, placed_at, with_at}
 

@@ -10,7 +10,7 @@ use Rattle.jc_classes.specs.Names.{Name}
 use Rattle.jc_classes.proofs.worlds.Parts.{hits_either}
 use Rattle.jc_link.specs.Prefixes.{is_covered}
 use Rattle.jc_link.specs.Tables.{or_built_in, stands_by}
-use Rattle.jc_input.specs.Changes.{bytes_of, path_of}
+use Rattle.jc_input.specs.Changes.{path_of}
 use Rattle.jc_report.specs.Files.{Files}
 use Rattle.jc_report.specs.FileRows.{winner}
 use Rattle.jc_report.specs.Reports.{facts_at}
@@ -18,7 +18,7 @@ use Rattle.jc_input.specs.FileEdits as edits
 use Rattle.jc_edits.specs.Edits.{after_edit}
 use Rattle.jc_edits.specs.Touched.{AffectedEitherWay, EditsDiffer, TellsTouched, TouchedAreTaken, is_path, is_taken, switches, world_at}
 use Rattle.jc_edits.specs.SessionState.{Contents}
-use Rattle.jc_edits.specs.inside.Changing.{won}
+use Rattle.jc_edits.specs.inside.Changing.{bytes_of, won}
 use Rattle.jc_edits.specs.inside.Growth.{put_at}
 use Rattle.jc_edits.proofs.placing.ClassesPlaced.{Placed, others_with, placed_at}
 use Rattle.jc_edits.proofs.placing.EditPlaced.{put_after, put_with}

@@ -17,6 +17,12 @@ use Rattle.jc_report.specs.Reports.{facts_at}
 use Rattle.jc_report.specs.Winners.{wins}
 use Rattle.jc_edits.specs.Touched.{is_path}
 
+-- the new bytes of the file, or none if it is removed
+abbrev pub bytes_of : Change → Option (List ℕ)
+bytes_of (Adds path bytes) = Some bytes
+bytes_of (Replaces path bytes) = Some bytes
+bytes_of (Removes path) = None
+
 -- the edit adds a file
 abbrev pub is_add : Change → Bool
 is_add (Adds path bytes) = true

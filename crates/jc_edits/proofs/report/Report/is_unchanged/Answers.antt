@@ -2,7 +2,8 @@ use Rattle.std.proofs.Common.{◌≡◌, ◌∙◌, ℕ, List, Some, option_map,
 use Rattle.std.specs.Borrow.{Bor}
 use Rattle.std.specs.Cmp.Lexicographic.{bytes_decides}
 use Rattle.std.specs.FinMap as map
-use Rattle.jc_input.specs.Changes.{bytes_of, change_lent, path_of}
+use Rattle.jc_input.specs.Changes.{change_lent, path_of}
+use Rattle.jc_edits.specs.inside.Changing.{bytes_of}
 use Rattle.jc_input.specs.declared.edit.LentEdit.{LentEdit}
 use Rattle.jc_edits.proofs.placing.EditPlaced.{unchanged}
 use Rattle.jc_edits.proofs.report.Report.is_unchanged.Goals as goal

@@ -1,9 +1,9 @@
 use Rattle.std.proofs.Common.{◌≡◌, arith, subst, sym, ◌∙◌}
 use Rattle.std.proofs.lemmas.Grind.{common_steps}
 use Rattle.jc_link.specs.Tables.{class_at}
-use Rattle.jc_input.specs.Changes.{change_lent, path_of, bytes_of}
+use Rattle.jc_input.specs.Changes.{change_lent, path_of}
 use Rattle.jc_edits.specs.SessionState.{Contents}
-use Rattle.jc_edits.specs.inside.Changing.{AreChanges}
+use Rattle.jc_edits.specs.inside.Changing.{AreChanges, bytes_of}
 use Rattle.jc_edits.specs.inside.Growth.{put_at}
 use Rattle.jc_edits.specs.inside.Metered.{MetersChange}
 use Rattle.jc_edits.proofs.placing.EditPlaced.{held_after}
