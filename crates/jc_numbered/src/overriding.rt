@@ -1,6 +1,6 @@
 //! FINAL methods that the methods of a class override (JVMS 5.4.5).
 
-ghost use Rattle.std.specs.Prelude.{◌≡◌, ℕ, ◌<◌, ◌++◌, ◌∷◌, [], List, false, is_some, length, option_and_then, option_map, take, true, None, Some, IfOk, OnOk};
+ghost use Rattle.std.specs.Prelude.{◌≡◌, ◌⊎◌, ℕ, ◌<◌, ◌++◌, ◌∷◌, [], List, false, is_some, length, option_and_then, option_map, take, true, None, Some, IfOk, OnOk};
 ghost use Rattle.std.specs.Bool.{Decides};
 ghost use Rattle.std.specs.Option.{option_copied};
 ghost use Rattle.jc_classes.specs.Facts.{Key as KeyValue};
@@ -69,10 +69,13 @@ impl FinalSearch {
             self.chain.clear();
             return Ok(());
         };
-        if self.leave(above) {
-            Ok(())
-        } else {
+        if self.leave(above, classes.superclass(above)) {
+            return Ok(());
+        }
+        if self.chain.is_empty() {
             self.enter_all(alloc, classes, above)
+        } else {
+            self.enter(alloc, classes, above)
         }
     }
 
@@ -139,17 +142,21 @@ impl FinalSearch {
         entries.last()?.nearest
     }
 
-    /// Removes classes from the end of the chain until this class is the last one. Returns whether it is in the chain;
-    /// otherwise the chain is empty.
-    fn leave(&mut self, class: usize) -> bool
+    /// Removes classes from the end of the chain until this class is the last one, or its superclass is. Returns whether
+    /// it is this class. If neither is in the chain, the chain is empty then.
+    fn leave(&mut self, class: usize, above: Option<usize>) -> bool
         ensures slots { self.new.slots ≡ self.old.slots }
         ensures chain { (n : ℕ) × (self.new.chain.items ≡ take n self.old.chain.items) }
         ensures ends { result ≡ true → last_of self.new.chain.items ≡ Some class }
-        ensures empty { result ≡ false → self.new.chain.items ≡ [] }
+        ensures below { result ≡ false → (self.new.chain.items ≡ []) ⊎ (last_of self.new.chain.items ≡ above) }
     {
         while let Some(last) = self.chain.last() {
-            if *last == class {
+            let last = *last;
+            if last == class {
                 return true;
+            }
+            if above == Some(last) {
+                return false;
             }
             self.chain.pop();
         }

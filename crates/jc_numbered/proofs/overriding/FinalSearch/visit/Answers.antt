@@ -27,3 +27,15 @@ enter_all-requires-clause-search c = left (length c.args.classes.now.standing.no
 pub returns-then-leave-clause-search : goal.returns-then-leave-clause-search
 returns-then-leave-clause-search c = left (length c.args.classes.now.standing.now) (indexed_of c.args.classes.now) c.args.self.now c.leave.new.self
     c.requires.search c.leave.ensures.slots c.leave.ensures.chain
+
+pub superclass-requires-2 : goal.superclass-requires-2
+superclass-requires-2 c =
+    super_node (length c.args.classes.now.standing.now) (indexed_of c.args.classes.now) c.args.classes.now.graph c.args.class c.in-Some.above (sym c.in-Some.ensures)
+
+pub enter-requires-clause-node : goal.enter-requires-clause-node
+enter-requires-clause-node c =
+    super_node (length c.args.classes.now.standing.now) (indexed_of c.args.classes.now) c.args.classes.now.graph c.args.class c.in-Some.above (sym c.in-Some.ensures)
+
+pub enter-requires-clause-search : goal.enter-requires-clause-search
+enter-requires-clause-search c = left (length c.args.classes.now.standing.now) (indexed_of c.args.classes.now) c.args.self.now c.leave.new.self
+    c.requires.search c.leave.ensures.slots c.leave.ensures.chain
