@@ -8,7 +8,7 @@ ghost use Rattle.jc_classes.specs.Names.{name_cmp, names_of};
 ghost use Rattle.jc_linkage.specs.Affected.{NoRepeat};
 ghost use Rattle.jc_linkage.specs.inside.Users.{AddsWanted, HasUsers, has_list, is_name, users_at, wanted};
 
-use crate::links::Links;
+use crate::dependants::Dependants;
 use jc_base::NoMemory;
 use jc_classes::same;
 use jc_index::NameList;
@@ -17,26 +17,26 @@ use std::alloc::Global;
 /// Returns the classes whose reach has one of two names, each once, without the removed class.
 pub(crate) fn users_of(
     alloc: Global,
-    links: &Links,
+    dependants: &Dependants,
     first: Option<&[u8]>,
     second: Option<&[u8]>,
     gone: Option<&[u8]>,
 ) -> Result<Vec<Vec<u8>>, NoMemory>
-    ensures has { IfOk result (λ users. HasUsers (names_of users.items) links.now.reach first.entry second.entry gone.entry) }
+    ensures has { IfOk result (λ users. HasUsers (names_of users.items) dependants.now.reach first.entry second.entry gone.entry) }
     ensures once { IfOk result (λ users. NoRepeat (names_of users.items)) }
 {
-    let one = list_at(links, first);
+    let one = list_at(dependants, first);
     let mut users = Vec::new(alloc);
     add_users(alloc, &mut users, one, None, gone)?;
-    add_users(alloc, &mut users, list_at(links, second), one, gone)?;
+    add_users(alloc, &mut users, list_at(dependants, second), one, gone)?;
     Ok(users)
 }
 
 /// Returns the classes whose reach has a name.
-fn list_at<'a>(links: &'a Links, name: Option<&[u8]>) -> Option<&'a NameList>
-    ensures { has_list result ≡ users_at links.now.reach (option_copied name.entry) }
+fn list_at<'a>(dependants: &'a Dependants, name: Option<&[u8]>) -> Option<&'a NameList>
+    ensures { has_list result ≡ users_at dependants.now.reach (option_copied name.entry) }
 {
-    links.reach.list(name?)
+    dependants.reach.list(name?)
 }
 
 /// Appends the names of a list that `others` lacks, without the removed class.

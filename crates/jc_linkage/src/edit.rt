@@ -18,9 +18,9 @@ ghost use Rattle.jc_linkage.specs.inside.Stepping.{AreTaken, Fills, MayVacate, N
 
 use crate::affected::users_of;
 use crate::class_entry::{ClassEntry, NewEntry};
-use crate::links::Links;
+use crate::dependants::Dependants;
 use crate::new_parts::prepare;
-use crate::replacement::{commit, let_go};
+use crate::replacement::{commit, remove_entry};
 use crate::step::{Step, make_step, take_back};
 use jc_base::{ByteMap, NoMemory};
 use jc_classes::{Facts, same};
@@ -98,29 +98,29 @@ pub(crate) fn change_classes(
     outside: &Outside,
     table: &mut Table,
     kept: &mut ByteMap<ClassEntry>,
-    links: &mut Links,
+    dependants: &mut Dependants,
     first: Option<Step>,
     second: Option<Step>,
     meter: &mut Meter,
 ) -> Result<(), NoMemory>
-    requires held { IsHeld table.old outside.now kept.old links.old }
+    requires held { IsHeld table.old outside.now kept.old dependants.old }
     requires named { AreNamed table.old }
     requires first { CountsStep (class_at table.old) first second }
     requires second { PutsClass second }
     requires taken { NoneVacant table.old }
     ensures ok { OnOk result ((n : Name) → class_at table.new n ≡ stepped_by second (stepped_by first (class_at table.old)) n) }
     ensures err { OnErr result ((n : Name) → class_at table.new n ≡ class_at table.old n) }
-    ensures held { IsHeld table.new outside.now kept.new links.new }
+    ensures held { IsHeld table.new outside.now kept.new dependants.new }
     ensures counted { OnOk result (IsCountedOver table.new outside.now (at_either first second) meter.old meter.new) }
     ensures asks_rise { meter.old.asks ≤ meter.new.asks }
     ensures made_rise { meter.old.made ≤ meter.new.made }
     ensures taken { NoneVacant table.new }
 {
-    let leaves = takes_out(&first);
+    let leaves = is_removal(&first);
     let (first, second) = make_both(alloc, table, first, second)?;
-    let gone = leaver(leaves, &first);
+    let gone = removed_name(leaves, &first);
     match remake(
-        alloc, outside, table, kept, links, &first, &second, gone, meter,
+        alloc, outside, table, kept, dependants, &first, &second, gone, meter,
     ) {
         Ok(()) => Ok(()),
         Err(_) => {
@@ -137,29 +137,31 @@ fn remake(
     outside: &Outside,
     table: &mut Table,
     kept: &mut ByteMap<ClassEntry>,
-    links: &mut Links,
+    dependants: &mut Dependants,
     first: &Option<Step>,
     second: &Option<Step>,
     gone: Option<&[u8]>,
     meter: &mut Meter,
 ) -> Result<(), NoMemory>
-    requires linked { AreLinked kept.old links.old }
+    requires linked { AreLinked kept.old dependants.old }
     requires gone { (n : Name) → is_name (option_copied gone) n ≡ (at_step first.now n && not (given_in table.old n)) }
     requires second { (n : Name) → at_step second.now n ≡ true → given_in table.old n ≡ true }
     ensures err { OnErr result (table.new ≡ table.old) }
     ensures kept_err { OnErr result (kept.new ≡ kept.old) }
-    ensures linked_err { OnErr result (AreLinked kept.old links.new) }
+    ensures linked_err { OnErr result (AreLinked kept.old dependants.new) }
     ensures ok { OnOk result ((n : Name) → class_at table.new n ≡ class_at table.old n) }
     ensures held { Holds result first.now second.now outside.now table.old table.new
-        kept.old kept.new links.old links.new meter.old meter.new }
+        kept.old kept.new dependants.old dependants.new meter.old meter.new }
     ensures asks_rise { meter.old.asks ≤ meter.new.asks }
     ensures made_rise { meter.old.made ≤ meter.new.made }
     ensures taken { OnOk result (AreTaken (at_either first.now second.now) table.old → NoneVacant table.new) }
 {
-    let names = users_of(alloc, links, name_of(first), name_of(second), gone)?;
-    let comes = comer(kept, second);
-    let fresh = prepare(alloc, table, outside, kept, links, &names, comes, meter)?;
-    finish(table, kept, links, gone, fresh);
+    let names = users_of(alloc, dependants, name_of(first), name_of(second), gone)?;
+    let comes = new_name(kept, second);
+    let fresh = prepare(
+        alloc, table, outside, kept, dependants, &names, comes, meter,
+    )?;
+    finish(table, kept, dependants, gone, fresh);
     Ok(())
 }
 
@@ -232,8 +234,8 @@ fn unmake(table: &mut Table, back: Option<Step>)
 }
 
 /// Returns whether a step removes a class.
-fn takes_out(step: &Option<Step>) -> bool
-    ensures { result ≡ is_some (holding.leaver step.now) }
+fn is_removal(step: &Option<Step>) -> bool
+    ensures { result ≡ is_some (holding.removed_name step.now) }
 {
     match step {
         Some(Step::Remove(_)) => true,
@@ -242,7 +244,7 @@ fn takes_out(step: &Option<Step>) -> bool
 }
 
 /// Returns the name of the class that a step removed.
-fn leaver(leaves: bool, back: &Option<Step>) -> Option<&[u8]>
+fn removed_name(leaves: bool, back: &Option<Step>) -> Option<&[u8]>
     ensures { option_copied result ≡ cond leaves (holding.name_of back.now) None }
 {
     if leaves { name_of(back) } else { None }
@@ -258,8 +260,8 @@ fn name_of(step: &Option<Step>) -> Option<&[u8]>
 }
 
 /// Returns the name of a step, if it has no entry: then its class is new.
-fn comer<'a>(kept: &ByteMap<ClassEntry>, step: &'a Option<Step>) -> Option<&'a [u8]>
-    ensures { option_copied result ≡ holding.comer kept.now step.now }
+fn new_name<'a>(kept: &ByteMap<ClassEntry>, step: &'a Option<Step>) -> Option<&'a [u8]>
+    ensures { option_copied result ≡ holding.new_name kept.now step.now }
 {
     let name = name_of(step)?;
     if kept.contains_key(name) {
@@ -273,39 +275,39 @@ fn comer<'a>(kept: &ByteMap<ClassEntry>, step: &'a Option<Step>) -> Option<&'a [
 fn finish(
     table: &mut Table,
     kept: &mut ByteMap<ClassEntry>,
-    links: &mut Links,
+    dependants: &mut Dependants,
     gone: Option<&[u8]>,
     fresh: Vec<NewEntry>,
 )
     requires there { AreKeptBut (option_copied gone) kept.old (fresh_names fresh.items) }
     requires once { NoRepeat (fresh_names fresh.items) }
-    requires linked { AreLinks (held_and_fresh kept.old fresh.items) links.old }
+    requires linked { AreLinks (held_and_fresh kept.old fresh.items) dependants.old }
     requires vacant { (n : Name) → is_name (option_copied gone) n ≡ true → class_at table.old n ≡ None }
     ensures classes { (n : Name) → class_at table.new n ≡ class_at table.old n }
     ensures kept { (d : Name) → map.get kept.new d ≡ fresh_at fresh.items d (kept_but (option_copied gone.entry) kept.old d) }
-    ensures linked { AreLinked kept.new links.new }
+    ensures linked { AreLinked kept.new dependants.new }
     ensures taken { AreTaken (is_name (option_copied gone.entry)) table.old → NoneVacant table.new }
 {
-    give_up(table, kept, links, gone);
-    commit(kept, links, fresh);
+    remove_class(table, kept, dependants, gone);
+    commit(kept, dependants, fresh);
 }
 
 /// Removes a class that no file gives, with its entry and its place. Does not allocate.
-fn give_up(
+fn remove_class(
     table: &mut Table,
     kept: &mut ByteMap<ClassEntry>,
-    links: &mut Links,
+    dependants: &mut Dependants,
     gone: Option<&[u8]>,
 )
     requires { (n : Name) → is_name (option_copied gone) n ≡ true → class_at table.old n ≡ None }
     ensures classes { (n : Name) → class_at table.new n ≡ class_at table.old n }
     ensures kept { (d : Name) → map.get kept.new d ≡ kept_but (option_copied gone.entry) kept.old d }
-    ensures linked { TakesOut (links_gone (option_copied gone.entry) kept.old) links.old links.new }
+    ensures linked { TakesOut (links_gone (option_copied gone.entry) kept.old) dependants.old dependants.new }
     ensures taken { AreTaken (is_name (option_copied gone.entry)) table.old → NoneVacant table.new }
 {
     let Some(name) = gone else {
         return;
     };
-    let_go(kept, links, name);
+    remove_entry(kept, dependants, name);
     table.remove(name);
 }

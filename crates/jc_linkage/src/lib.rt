@@ -11,10 +11,10 @@
 mod affected;
 mod class_entry;
 mod classes;
+mod dependants;
 mod edit;
 mod laws;
 mod linkage;
-mod links;
 mod new_parts;
 mod prefixes;
 mod replacement;

@@ -14,8 +14,8 @@ ghost use Rattle.jc_linkage.specs.Steps.{changed};
 
 use crate::class_entry::ClassEntry;
 use crate::classes::HeldClasses;
+use crate::dependants::Dependants;
 use crate::edit::{change_classes, counting, putting};
-use crate::links::Links;
 use crate::prefixes::remake_switched;
 use crate::row_index::Required;
 use crate::step::Step;
@@ -34,7 +34,7 @@ pub struct Linkage {
     outside: Outside,
     table: Table,
     kept: ByteMap<ClassEntry>,
-    links: Links,
+    dependants: Dependants,
 }
 
 impl Model for Linkage {
@@ -50,7 +50,7 @@ impl Model for Linkage {
 
     ghost view = { λ a. record { classes = a.table; prefixes = a.outside } };
 
-    ghost invariant = { λ a. IsHeld a.table a.outside a.kept a.links × AreNamed a.table × NoneVacant a.table };
+    ghost invariant = { λ a. IsHeld a.table a.outside a.kept a.dependants × AreNamed a.table × NoneVacant a.table };
 }
 
 impl Linkage {
@@ -68,7 +68,7 @@ impl Linkage {
             outside,
             table,
             kept: ByteMap::new(alloc),
-            links: Links::new(alloc),
+            dependants: Dependants::new(alloc),
         };
         Ok((linkage, meter))
     }
@@ -98,7 +98,7 @@ impl Linkage {
             &self.outside,
             &mut self.table,
             &mut self.kept,
-            &mut self.links,
+            &mut self.dependants,
             first,
             second,
             meter,
@@ -123,7 +123,7 @@ impl Linkage {
             &self.outside,
             &outside,
             &mut self.kept,
-            &mut self.links,
+            &mut self.dependants,
             meter,
         )?;
         self.outside = outside;
@@ -142,7 +142,7 @@ impl Linkage {
     pub fn dependants(&self, name: &[u8]) -> &[Vec<u8>]
         ensures { Lists (names_of result.now) (λ d. (given self.now d ≡ true) × Reach (world_held self.now) d name.now) }
     {
-        self.links.reach.users(name)
+        self.dependants.reach.users(name)
     }
 
     /// Returns the part of a class, if files give the class. Does not allocate.
@@ -193,8 +193,8 @@ impl Linkage {
     pub fn required(&self) -> Required<'_>
         ensures { AreRowsHeld required_rows self.now result }
     {
-        self.links.required.rows_have_users();
-        self.links.required.rows()
+        self.dependants.required.rows_have_users();
+        self.dependants.required.rows()
     }
 
     /// Returns the number of classes that require the row at `place` in [`Linkage::required`], counted from 0. Returns
@@ -202,8 +202,8 @@ impl Linkage {
     pub fn holders(&self, place: usize) -> usize
         ensures { CountsHoldersAt self.now place result }
     {
-        self.links.required.rows_have_users();
-        match self.links.required.nth(place) {
+        self.dependants.required.rows_have_users();
+        match self.dependants.required.nth(place) {
             Some(holders) => holders.names().len(),
             None => 0,
         }

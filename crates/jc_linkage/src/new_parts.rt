@@ -12,7 +12,7 @@ ghost use Rattle.jc_linkage.specs.inside.LinkSets.{AreLinks, held_and_fresh, lin
 ghost use Rattle.jc_linkage.specs.inside.Prepared.{IsPrepared, Prepares};
 
 use crate::class_entry::{ClassEntry, NewEntry, make_fresh, make_one};
-use crate::links::Links;
+use crate::dependants::Dependants;
 use crate::replacement::{link_fresh, undo_fresh, undo_links};
 use jc_base::{ByteMap, NoMemory};
 use jc_link::{ClassGraph, Meter, Outside, PartMaker, Table};
@@ -25,17 +25,17 @@ pub(crate) fn prepare(
     table: &Table,
     outside: &Outside,
     kept: &mut ByteMap<ClassEntry>,
-    links: &mut Links,
+    dependants: &mut Dependants,
     names: &[Vec<u8>],
     comes: Option<&[u8]>,
     meter: &mut Meter,
 ) -> Result<Vec<NewEntry>, NoMemory>
-    requires linked { AreLinked kept.old links.old }
+    requires linked { AreLinked kept.old dependants.old }
     requires absent { (n : Name) → option_copied comes ≡ Some n → map.get kept.old n ≡ None }
     ensures kept_err { OnErr result (kept.new ≡ kept.old) }
-    ensures linked_err { OnErr result (AreLinked kept.old links.new) }
+    ensures linked_err { OnErr result (AreLinked kept.old dependants.new) }
     ensures ready { Prepares result table.now outside.now names.now comes.entry kept.old kept.new meter.old meter.new }
-    ensures linked { IfOk result (λ fresh. AreLinks (held_and_fresh kept.new fresh.items) links.new) }
+    ensures linked { IfOk result (λ fresh. AreLinks (held_and_fresh kept.new fresh.items) dependants.new) }
     ensures asks_rise { meter.old.asks ≤ meter.new.asks }
     ensures made_rise { meter.old.made ≤ meter.new.made }
 {
@@ -44,7 +44,7 @@ pub(crate) fn prepare(
     }
     let graph = ClassGraph::around(alloc, table, outside, names, comes, meter)?;
     let mut maker = PartMaker::new(alloc, &graph)?;
-    let fresh = prepare_all(alloc, &mut maker, kept, links, names, comes, meter)?;
+    let fresh = prepare_all(alloc, &mut maker, kept, dependants, names, comes, meter)?;
     Ok(fresh)
 }
 
@@ -53,25 +53,25 @@ fn prepare_all(
     alloc: Global,
     maker: &mut PartMaker,
     kept: &mut ByteMap<ClassEntry>,
-    links: &mut Links,
+    dependants: &mut Dependants,
     names: &[Vec<u8>],
     comes: Option<&[u8]>,
     meter: &mut Meter,
 ) -> Result<Vec<NewEntry>, NoMemory>
     requires classes { maker.old.classes ≡ names_of names.now ++ option_to_list (option_copied comes) }
-    requires linked { AreLinked kept.old links.old }
+    requires linked { AreLinked kept.old dependants.old }
     requires absent { (n : Name) → option_copied comes ≡ Some n → map.get kept.old n ≡ None }
     ensures kept_err { OnErr result (kept.new ≡ kept.old) }
-    ensures linked_err { OnErr result (AreLinked kept.old links.new) }
+    ensures linked_err { OnErr result (AreLinked kept.old dependants.new) }
     ensures ready { (m : World) → IsIn m maker.old
         → IfOk result (λ fresh. IsPrepared m (names_of names.now) (option_copied comes.entry) kept.old kept.new fresh.items meter.old meter.new) }
-    ensures linked { IfOk result (λ fresh. AreLinks (held_and_fresh kept.new fresh.items) links.new) }
+    ensures linked { IfOk result (λ fresh. AreLinks (held_and_fresh kept.new fresh.items) dependants.new) }
     ensures asks { meter.new.asks ≡ meter.old.asks }
     ensures made_rise { meter.old.made ≤ meter.new.made }
 {
     let fresh = make_fresh(alloc, maker, kept, names, meter)?;
     let newcomer = make_newcomer(alloc, maker, names.len(), comes, meter)?;
-    link_all(kept, links, &fresh, newcomer)?;
+    link_all(kept, dependants, &fresh, newcomer)?;
     Ok(fresh)
 }
 
@@ -101,21 +101,21 @@ fn make_newcomer(
 /// and the map stay as they were.
 fn link_all(
     kept: &mut ByteMap<ClassEntry>,
-    links: &mut Links,
+    dependants: &mut Dependants,
     fresh: &[NewEntry],
     newcomer: Option<NewEntry>,
 ) -> Result<(), NoMemory>
-    requires linked { AreLinked kept.old links.old }
+    requires linked { AreLinked kept.old dependants.old }
     requires absent { IfSome newcomer (λ x. map.get kept.old x.name.items ≡ None) }
     ensures kept_err { OnErr result (kept.new ≡ kept.old) }
-    ensures linked_err { OnErr result (AreLinked kept.old links.new) }
+    ensures linked_err { OnErr result (AreLinked kept.old dependants.new) }
     ensures kept_ok { OnOk result ((d : Name) → map.get kept.new d ≡ fresh_at (option_to_list newcomer) d (map.get kept.old d)) }
-    ensures linked { OnOk result (AreLinks (held_and_fresh kept.new fresh.now) links.new) }
+    ensures linked { OnOk result (AreLinks (held_and_fresh kept.new fresh.now) dependants.new) }
 {
     let Some(newcomer) = newcomer else {
-        return link_others(kept, links, fresh);
+        return link_others(kept, dependants, fresh);
     };
-    match link_and_keep(kept, links, fresh, newcomer) {
+    match link_and_keep(kept, dependants, fresh, newcomer) {
         Ok(()) => Ok(()),
         Err(newcomer) => {
             drop(newcomer);
@@ -128,26 +128,26 @@ fn link_all(
 /// entry is returned, and the links and the map stay as they were.
 fn link_and_keep(
     kept: &mut ByteMap<ClassEntry>,
-    links: &mut Links,
+    dependants: &mut Dependants,
     fresh: &[NewEntry],
     newcomer: NewEntry,
 ) -> Result<(), NewEntry>
-    requires linked { AreLinked kept.old links.old }
+    requires linked { AreLinked kept.old dependants.old }
     requires absent { map.get kept.old newcomer.name.items ≡ None }
     ensures kept_err { OnErr result (kept.new ≡ kept.old) }
-    ensures linked_err { OnErr result (AreLinked kept.old links.new) }
+    ensures linked_err { OnErr result (AreLinked kept.old dependants.new) }
     ensures back { IfErr result (λ back. back ≡ newcomer) }
     ensures kept_ok { OnOk result (kept.new ≡ map.insert kept.old newcomer.name.items newcomer.kept) }
-    ensures linked { OnOk result (AreLinks (held_and_fresh kept.new fresh.now) links.new) }
+    ensures linked { OnOk result (AreLinks (held_and_fresh kept.new fresh.now) dependants.new) }
 {
-    match link_with(links, kept, fresh, &newcomer.name, &newcomer.kept) {
+    match link_with(dependants, kept, fresh, &newcomer.name, &newcomer.kept) {
         Ok(()) => {}
         Err(_) => return Err(newcomer),
     }
     match keep(kept, newcomer) {
         Ok(()) => Ok(()),
         Err(newcomer) => {
-            undo_links(links, kept, fresh, &newcomer.name, &newcomer.kept);
+            undo_links(dependants, kept, fresh, &newcomer.name, &newcomer.kept);
             Err(newcomer)
         }
     }
@@ -172,28 +172,28 @@ fn keep(kept: &mut ByteMap<ClassEntry>, newcomer: NewEntry) -> Result<(), NewEnt
 
 /// Adds the links of new entries and of an added class. If an allocation fails, the links stay as they were.
 fn link_with(
-    links: &mut Links,
+    dependants: &mut Dependants,
     kept: &ByteMap<ClassEntry>,
     fresh: &[NewEntry],
     name: &[u8],
     newcomer: &ClassEntry,
 ) -> Result<(), NoMemory>
-    requires linked { AreLinked kept.now links.old }
+    requires linked { AreLinked kept.now dependants.old }
     requires absent { map.get kept.now name.now ≡ None }
-    ensures ok { OnOk result (AreLinks (together (held_and_fresh kept.now fresh.now) (links_of name.now newcomer.now)) links.new) }
-    ensures err { OnErr result (AreLinked kept.now links.new) }
+    ensures ok { OnOk result (AreLinks (together (held_and_fresh kept.now fresh.now) (links_of name.now newcomer.now)) dependants.new) }
+    ensures err { OnErr result (AreLinked kept.now dependants.new) }
 {
-    match link_fresh(links, kept, fresh) {
+    match link_fresh(dependants, kept, fresh) {
         Ok(()) => {}
         Err(_) => {
-            undo_links(links, kept, fresh, name, newcomer);
+            undo_links(dependants, kept, fresh, name, newcomer);
             return Err(NoMemory);
         }
     }
-    match links.link(name, newcomer) {
+    match dependants.link(name, newcomer) {
         Ok(()) => Ok(()),
         Err(_) => {
-            undo_links(links, kept, fresh, name, newcomer);
+            undo_links(dependants, kept, fresh, name, newcomer);
             Err(NoMemory)
         }
     }
@@ -202,17 +202,17 @@ fn link_with(
 /// Adds the links of new entries, if there is no added class. If an allocation fails, the links stay as they were.
 fn link_others(
     kept: &ByteMap<ClassEntry>,
-    links: &mut Links,
+    dependants: &mut Dependants,
     fresh: &[NewEntry],
 ) -> Result<(), NoMemory>
-    requires { AreLinked kept.now links.old }
-    ensures ok { OnOk result (AreLinks (held_and_fresh kept.now fresh.now) links.new) }
-    ensures err { OnErr result (AreLinked kept.now links.new) }
+    requires { AreLinked kept.now dependants.old }
+    ensures ok { OnOk result (AreLinks (held_and_fresh kept.now fresh.now) dependants.new) }
+    ensures err { OnErr result (AreLinked kept.now dependants.new) }
 {
-    match link_fresh(links, kept, fresh) {
+    match link_fresh(dependants, kept, fresh) {
         Ok(()) => Ok(()),
         Err(_) => {
-            undo_fresh(links, kept, fresh);
+            undo_fresh(dependants, kept, fresh);
             Err(NoMemory)
         }
     }

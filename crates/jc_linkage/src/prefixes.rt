@@ -10,7 +10,7 @@ ghost use Rattle.jc_linkage.specs.inside.Holding.{IsCountedOver, IsHeld};
 ghost use Rattle.jc_linkage.specs.inside.SwitchedNames.{HasEachUser, HasOnlyUsers, switches_by};
 
 use crate::class_entry::ClassEntry;
-use crate::links::Links;
+use crate::dependants::Dependants;
 use crate::new_parts::prepare;
 use crate::replacement::commit;
 use jc_base::{ByteMap, NoMemory};
@@ -26,19 +26,19 @@ pub(crate) fn remake_switched(
     old: &Outside,
     new: &Outside,
     kept: &mut ByteMap<ClassEntry>,
-    links: &mut Links,
+    dependants: &mut Dependants,
     meter: &mut Meter,
 ) -> Result<(), NoMemory>
-    requires { IsHeld table.now old.now kept.old links.old }
-    ensures ok { OnOk result (IsHeld table.now new.now kept.new links.new) }
-    ensures err { OnErr result (IsHeld table.now old.now kept.new links.new) }
+    requires { IsHeld table.now old.now kept.old dependants.old }
+    ensures ok { OnOk result (IsHeld table.now new.now kept.new dependants.new) }
+    ensures err { OnErr result (IsHeld table.now old.now kept.new dependants.new) }
     ensures counted { OnOk result (IsCountedOver table.now new.now (switches table.now old.now new.now) meter.old meter.new) }
     ensures asks_rise { meter.old.asks ≤ meter.new.asks }
     ensures made_rise { meter.old.made ≤ meter.new.made }
 {
-    let names = users_of_switched(alloc, kept, links, old, new)?;
-    let fresh = prepare(alloc, table, new, kept, links, &names, None, meter)?;
-    commit(kept, links, fresh);
+    let names = users_of_switched(alloc, kept, dependants, old, new)?;
+    let fresh = prepare(alloc, table, new, kept, dependants, &names, None, meter)?;
+    commit(kept, dependants, fresh);
     Ok(())
 }
 
@@ -46,18 +46,18 @@ pub(crate) fn remake_switched(
 fn users_of_switched(
     alloc: Global,
     kept: &ByteMap<ClassEntry>,
-    links: &Links,
+    dependants: &Dependants,
     old: &Outside,
     new: &Outside,
 ) -> Result<Vec<Vec<u8>>, NoMemory>
-    ensures sound { IfOk result (λ users. HasOnlyUsers (switches_by kept.now old.now new.now) links.now.reach (names_of users.items)) }
-    ensures complete { IfOk result (λ users. HasEachUser (switches_by kept.now old.now new.now) links.now.reach (names_of users.items)) }
+    ensures sound { IfOk result (λ users. HasOnlyUsers (switches_by kept.now old.now new.now) dependants.now.reach (names_of users.items)) }
+    ensures complete { IfOk result (λ users. HasEachUser (switches_by kept.now old.now new.now) dependants.now.reach (names_of users.items)) }
     ensures once { IfOk result (λ users. NoRepeat (names_of users.items)) }
 {
     let mut found = ByteMap::new(alloc);
-    for name in links.reach.keys() {
+    for name in dependants.reach.keys() {
         if switches(kept, old, new, name) {
-            add_all(alloc, &mut found, links.reach.users(name))?;
+            add_all(alloc, &mut found, dependants.reach.users(name))?;
         }
     }
     found.into_keys(alloc)

@@ -17,7 +17,7 @@ use Rattle.jc_linkage.specs.Affected.{IsAffected, IsCounted, NoRepeat, counts_of
 use Rattle.jc_linkage.specs.Switches.{switches}
 use Rattle.jc_linkage.specs.declared.class_entry.NewEntry.{NewEntry}
 use Rattle.jc_linkage.specs.declared.class_entry.ClassEntry.{ClassEntry}
-use Rattle.jc_linkage.specs.declared.links.Links.{Links}
+use Rattle.jc_linkage.specs.declared.dependants.Dependants.{Dependants}
 use Rattle.jc_linkage.specs.inside.Holding.{IsHeld, given_in}
 use Rattle.jc_linkage.specs.inside.Kept.{AllFresh, AreLinked, KeptHits, KeptMap, fresh_at, fresh_names}
 use Rattle.jc_linkage.specs.inside.Kept.Relation.{Reaches}
@@ -53,7 +53,7 @@ no_fresh : (xs : List NewEntry) → fresh_names xs ≡ [] → xs ≡ []
 no_fresh [] e = refl
 no_fresh (x ∷ xs) e = absurd cc
 
-module _ (places : Places) (old new : List Name) (kept : KeptMap) (links : Links) (held : IsHeld places old kept links) where
+module _ (places : Places) (old new : List Name) (kept : KeptMap) (dependants : Dependants) (held : IsHeld places old kept dependants) where
   given : Name → Bool
   given = given_in places
 
@@ -84,14 +84,14 @@ module _ (places : Places) (old new : List Name) (kept : KeptMap) (links : Links
       by true e = refl
       by false e = absurd (false≢true (sym e))
 
-  user_hits : (d : Name) → IsUser (switches_by kept old new) links.reach d → KeptHits (switches places old new) kept d
+  user_hits : (d : Name) → IsUser (switches_by kept old new) dependants.reach d → KeptHits (switches places old new) kept d
   user_hits d u = (u.0, sym (switches_is u.0) ∙ u.1, sym (held.linked Reaches u.0 d) ∙ u.2)
 
-  hits_user : (d : Name) → KeptHits (switches places old new) kept d → IsUser (switches_by kept old new) links.reach d
+  hits_user : (d : Name) → KeptHits (switches places old new) kept d → IsUser (switches_by kept old new) dependants.reach d
   hits_user d h = (h.0, switches_is h.0 ∙ h.1, held.linked Reaches h.0 d ∙ h.2)
 
-  module _ (names : List Name) (sound : (d : Name) → has names d ≡ true → IsUser (switches_by kept old new) links.reach d)
-      (complete : (d : Name) → IsUser (switches_by kept old new) links.reach d → has names d ≡ true) where
+  module _ (names : List Name) (sound : (d : Name) → has names d ≡ true → IsUser (switches_by kept old new) dependants.reach d)
+      (complete : (d : Name) → IsUser (switches_by kept old new) dependants.reach d → has names d ≡ true) where
     none_moves : (h g : Bool) → h ≡ ((h && not (g && not g)) || (not g && g))
     none_moves true true = refl
     none_moves true false = refl
@@ -136,7 +136,7 @@ module _ (places : Places) (old new : List Name) (kept : KeptMap) (links : Links
           by (Some k) true e = refl
           by (Some k) false e = absurd (false≢true (sym e))
 
-      pub held_switched : (after : KeptMap) (joined : Links) → AreLinked after joined → ((d : Name) → fin.get after d ≡ fresh_at fresh d (fin.get mid d)) → IsHeld places new after joined
+      pub held_switched : (after : KeptMap) (joined : Dependants) → AreLinked after joined → ((d : Name) → fin.get after d ≡ fresh_at fresh d (fin.get mid d)) → IsHeld places new after joined
       held_switched after joined linked at = record {
         parts = holds_after (switches places old new) (given_in places) (given_in places) (world places old) (world places new) kept differ (λ n t. refl) held.parts after fresh all sound_fresh complete_fresh
             (λ d. at d ∙ ap (fresh_at fresh d) (stays_kept d ∙ given_only d));

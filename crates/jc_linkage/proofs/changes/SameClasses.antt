@@ -6,7 +6,7 @@ use Rattle.jc_link.specs.Meters.{Counts}
 use Rattle.jc_link.specs.Prefixes.{is_covered}
 use Rattle.jc_link.specs.Tables.{Places, class_at, or_built_in, stands_by, world}
 use Rattle.jc_linkage.specs.Affected.{IsCounted}
-use Rattle.jc_linkage.specs.declared.links.Links.{Links}
+use Rattle.jc_linkage.specs.declared.dependants.Dependants.{Dependants}
 use Rattle.jc_linkage.specs.inside.Holding.{IsHeld, given_in}
 use Rattle.jc_linkage.specs.inside.Kept.{IsKept, KeptMap}
 
@@ -16,8 +16,8 @@ same_given a b h = λ i n. is_some (sym (h n) i)
 same_world : (a b : Places) (prefixes : List Name) → ((n : Name) → class_at b n ≡ class_at a n) → world a prefixes ≡ world b prefixes
 same_world a b prefixes h = λ i n. stands_by (or_built_in (sym (h n) i) n) (is_covered prefixes n)
 
-pub held_same : (a b : Places) (prefixes : List Name) (kept : KeptMap) (links : Links) → ((n : Name) → class_at b n ≡ class_at a n) → IsHeld a prefixes kept links → IsHeld b prefixes kept links
-held_same a b prefixes kept links h held = record {
+pub held_same : (a b : Places) (prefixes : List Name) (kept : KeptMap) (dependants : Dependants) → ((n : Name) → class_at b n ≡ class_at a n) → IsHeld a prefixes kept dependants → IsHeld b prefixes kept dependants
+held_same a b prefixes kept dependants h held = record {
   parts = subst (λ g. IsKept g (world b prefixes) kept) (same_given a b h) (subst (λ w. IsKept (given_in a) w kept) (same_world a b prefixes h) held.parts);
   linked = held.linked;
 }

@@ -7,15 +7,15 @@ use Rattle.jc_classes.specs.Names.{Name, name_cmp}
 use Rattle.jc_classes.specs.Parts.{Reach}
 use Rattle.jc_index.specs.Indexes.{users_of}
 use Rattle.jc_linkage.specs.Linkages.{Linkage, given, world_held}
-use Rattle.jc_linkage.specs.declared.links.Links.{Links}
+use Rattle.jc_linkage.specs.declared.dependants.Dependants.{Dependants}
 use Rattle.jc_linkage.specs.inside.Holding.{IsHeld}
 use Rattle.jc_linkage.specs.inside.Kept.{KeptMap, names_kept}
 use Rattle.jc_linkage.specs.inside.Kept.Relation.{Reaches}
 use Rattle.jc_linkage.proofs.held.Places.{kept_by, some_by}
 
-pub dependants : (a : Linkage) (kept : KeptMap) (links : Links) → IsHeld a.classes a.prefixes kept links → (n : Name) (users : List Name)
-    → users ≡ users_of links.reach n → IsStrictlySortedBy name_cmp (users_of links.reach n) → Lists users (λ d. (given a d ≡ true) × Reach (world_held a) d n)
-dependants a kept links held n users is rises = record {
+pub dependants : (a : Linkage) (kept : KeptMap) (dependants : Dependants) → IsHeld a.classes a.prefixes kept dependants → (n : Name) (users : List Name)
+    → users ≡ users_of dependants.reach n → IsStrictlySortedBy name_cmp (users_of dependants.reach n) → Lists users (λ d. (given a d ≡ true) × Reach (world_held a) d n)
+dependants a kept dependants held n users is rises = record {
   rises = subst (IsStrictlySortedBy name_cmp) (sym is) rises;
   sound = λ d e.
       let found = kept_by Reaches (fin.get kept d) n (sym (held.linked Reaches n d) ∙ ap (λ xs. has xs d) (sym is) ∙ e) in

@@ -6,14 +6,14 @@ use Rattle.jc_classes.specs.NameLists.{has}
 use Rattle.jc_classes.specs.Names.{Name, name_cmp}
 use Rattle.jc_link.specs.Tables.{Places, class_at, placed}
 use Rattle.jc_linkage.specs.Linkages.{Linkage}
-use Rattle.jc_linkage.specs.declared.links.Links.{Links}
+use Rattle.jc_linkage.specs.declared.dependants.Dependants.{Dependants}
 use Rattle.jc_linkage.specs.inside.Holding.{AreNamed, IsHeld}
 use Rattle.jc_linkage.specs.inside.Kept.{KeptMap, Relation, linked, names_kept}
 use Rattle.jc_linkage.specs.inside.Stepping.{NoneVacant}
 
 module _ (a : Linkage) (places : Places) (prefixes : List Name) (is : record { classes = places; prefixes = prefixes } ≡ a) where
-  pub held_of : (kept : KeptMap) (links : Links) → IsHeld places prefixes kept links → IsHeld a.classes a.prefixes kept links
-  held_of kept links h = subst (λ (b : Linkage). IsHeld b.classes b.prefixes kept links) is h
+  pub held_of : (kept : KeptMap) (dependants : Dependants) → IsHeld places prefixes kept dependants → IsHeld a.classes a.prefixes kept dependants
+  held_of kept dependants h = subst (λ (b : Linkage). IsHeld b.classes b.prefixes kept dependants) is h
 
   pub named_of : AreNamed places → AreNamed a.classes
   named_of h = subst (λ (b : Linkage). AreNamed b.classes) is h
@@ -23,14 +23,14 @@ module _ (a : Linkage) (places : Places) (prefixes : List Name) (is : record { c
 none_some : {X A : Type 0} {x : X} → None ≡ Some x → A
 none_some e = absurd cc
 
-module _ (places : Places) (prefixes : List Name) (kept : KeptMap) (links : Links) (no_place : places ≡ fin.empty) (none_kept : kept ≡ fin.empty) where
+module _ (places : Places) (prefixes : List Name) (kept : KeptMap) (dependants : Dependants) (no_place : places ≡ fin.empty) (none_kept : kept ≡ fin.empty) where
   no_class : (d : Name) → class_at places d ≡ None
   no_class d = ap (λ m. class_at m d) no_place ∙ ap placed (fin.get-empty name_cmp d)
 
   nothing_kept : (d : Name) → fin.get kept d ≡ None
   nothing_kept d = ap (λ m. fin.get m d) none_kept ∙ fin.get-empty name_cmp d
 
-  pub nothing_held : ((r : Relation) (n d : Name) → linked r links n d ≡ false) → IsHeld places prefixes kept links
+  pub nothing_held : ((r : Relation) (n d : Name) → linked r dependants n d ≡ false) → IsHeld places prefixes kept dependants
   nothing_held no_link = record {
     parts = record {
       only = λ d k e. none_some (sym (nothing_kept d) ∙ e);

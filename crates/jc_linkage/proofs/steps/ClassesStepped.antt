@@ -10,7 +10,7 @@ use Rattle.jc_linkage.specs.Steps.{Classes, at_step, class_by, step_class, step_
 use Rattle.jc_linkage.specs.declared.class_entry.ClassEntry.{ClassEntry}
 use Rattle.jc_linkage.specs.declared.step.Step.{Step}
 use Rattle.jc_linkage.specs.declared.step.Step.TheVariants.{Put, Remove}
-use Rattle.jc_linkage.specs.inside.Holding.{AreBack, AreNamed, AreThere, CountsStep, PutsClass, comer, given_in, leaver, name_of, stepped_by}
+use Rattle.jc_linkage.specs.inside.Holding.{AreBack, AreNamed, AreThere, CountsStep, PutsClass, new_name, given_in, removed_name, name_of, stepped_by}
 use Rattle.jc_linkage.specs.inside.Kept.{KeptMap}
 use Rattle.jc_linkage.specs.inside.Users.{is_name}
 use Rattle.jc_linkage.specs.inside.Stepping.{AreTaken}
@@ -39,9 +39,9 @@ pub puts_by : (s : Option Step) (n : Name) → PutsClass s → at_step s n ≡ t
 puts_by None n h e = absurd (false≢true e)
 puts_by (Some s) n h e = h
 
-leaver_there : (s : Option Step) (n : Name) → at_step s n ≡ true → is_some (leaver s) ≡ not (is_some (class_by s))
-leaver_there None n e = absurd (false≢true e)
-leaver_there (Some s) n e = by (is_some (step_class s))
+removed_there : (s : Option Step) (n : Name) → at_step s n ≡ true → is_some (removed_name s) ≡ not (is_some (class_by s))
+removed_there None n e = absurd (false≢true e)
+removed_there (Some s) n e = by (is_some (step_class s))
   where
     by : (b : Bool) → is_some (cond b None (Some (step_name s))) ≡ not b
     by true = refl
@@ -52,9 +52,9 @@ name_if true None n = refl
 name_if true (Some s) n = sym (and_yes (same_name n (step_name s)))
 name_if false s n = sym (and_no (at_step s n))
 
-pub comer_is : (kept : KeptMap) (s : Option Step) (d : Name) → is_name (comer kept s) d ≡ (at_step s d && not (is_some (map.get kept d)))
-comer_is kept None d = refl
-comer_is kept (Some s) d =
+pub new_name_is : (kept : KeptMap) (s : Option Step) (d : Name) → is_name (new_name kept s) d ≡ (at_step s d && not (is_some (map.get kept d)))
+new_name_is kept None d = refl
+new_name_is kept (Some s) d =
     ⊎_elim
     (λ e. here (is_some (map.get kept (step_name s))) ∙ ap (λ j. same_name d (step_name s) && not (is_some (map.get kept j))) (sym (same_is d (step_name s) e)))
     (λ e. other (is_some (map.get kept (step_name s))) e ∙ ap (λ b. b && not (is_some (map.get kept d))) (sym e))
@@ -82,9 +82,9 @@ named_after (Some s) old new h now = λ n f e. ⊎_elim
     (cases_Bool (same_name n (step_name s)))
 
 -- of the one that comes nothing is kept
-pub comer_absent : (kept : KeptMap) (s : Option Step) (n : Name) → comer kept s ≡ Some n → map.get kept n ≡ None
-comer_absent kept None n h = absurd (none_some h)
-comer_absent kept (Some s) n h = by (map.get kept (step_name s)) refl h
+pub new_name_absent : (kept : KeptMap) (s : Option Step) (n : Name) → new_name kept s ≡ Some n → map.get kept n ≡ None
+new_name_absent kept None n h = absurd (none_some h)
+new_name_absent kept (Some s) n h = by (map.get kept (step_name s)) refl h
   where
     by : (o : Option ClassEntry) → map.get kept (step_name s) ≡ o → cond (is_some o) None (Some (step_name s)) ≡ Some n → map.get kept n ≡ None
     by None e h = ap (map.get kept) (sym (some_one h)) ∙ e
@@ -193,10 +193,10 @@ module _ {first second first_back second_back : Option Step} {m k : Classes} (bo
       let p = or_no (at_step first n) (at_step second n) (sym (backs_touch n) ∙ t) in
       both.made n ∙ stepped_not second (stepped_by first m) n p.1 ∙ stepped_not first m n p.0
 
-  pub gone_then : (n : Name) → is_name (cond (is_some (leaver first)) (name_of first_back) None) n ≡ (at_step first_back n && not (is_some (k n)))
-  gone_then n = name_if (is_some (leaver first)) first_back n ∙ ⊎_elim
-      (λ e. ap (λ b. at_step first_back n && b) (leaver_there first n (sym (back_at first_back first m n both.back_first) ∙ e) ∙ ap (λ o. not (is_some o)) (sym (behind_first n e))))
-      (λ e. ap (λ b. b && is_some (leaver first)) e ∙ sym (ap (λ b. b && not (is_some (k n))) e))
+  pub gone_then : (n : Name) → is_name (cond (is_some (removed_name first)) (name_of first_back) None) n ≡ (at_step first_back n && not (is_some (k n)))
+  gone_then n = name_if (is_some (removed_name first)) first_back n ∙ ⊎_elim
+      (λ e. ap (λ b. at_step first_back n && b) (removed_there first n (sym (back_at first_back first m n both.back_first) ∙ e) ∙ ap (λ o. not (is_some o)) (sym (behind_first n e))))
+      (λ e. ap (λ b. b && is_some (removed_name first)) e ∙ sym (ap (λ b. b && not (is_some (k n))) e))
       (cases_Bool (at_step first_back n))
 
   pub both_undone : (after : Places) → ((n : Name) → class_at after n ≡ k n) → (n : Name) → stepped_by first_back (stepped_by second_back (class_at after)) n ≡ m n

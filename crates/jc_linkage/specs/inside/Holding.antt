@@ -10,7 +10,7 @@ use Rattle.jc_link.specs.declared.meter.Meter.{Meter}
 use Rattle.jc_linkage.specs.Affected.{IsCounted, counts_of}
 use Rattle.jc_linkage.specs.Linkages.{Linkage}
 use Rattle.jc_linkage.specs.Steps.{Classes, at_step, is_class, step_class, step_name}
-use Rattle.jc_linkage.specs.declared.links.Links.{Links}
+use Rattle.jc_linkage.specs.declared.dependants.Dependants.{Dependants}
 use Rattle.jc_linkage.specs.declared.step.Step.{Step}
 use Rattle.jc_linkage.specs.declared.step.Step.TheVariants.{Put}
 use Rattle.jc_linkage.specs.inside.Kept.{AreLinked, IsKept, KeptMap}
@@ -19,10 +19,10 @@ use Rattle.jc_linkage.specs.inside.Stepping.{IsBack, IsThere, stepped}
 abbrev pub given_in : Places → Name → Bool
 given_in places n = is_some (class_at places n)
 
--- `kept` has the part and the reach of each class in the world of all classes, and `links` is its inverse
-pub record IsHeld (places : Places) (prefixes : List Name) (kept : KeptMap) (links : Links) : Type 0 where
+-- `kept` has the part and the reach of each class in the world of all classes, and `dependants` is its inverse
+pub record IsHeld (places : Places) (prefixes : List Name) (kept : KeptMap) (dependants : Dependants) : Type 0 where
   pub parts : IsKept (given_in places) (world places prefixes) kept
-  pub linked : AreLinked kept links
+  pub linked : AreLinked kept dependants
 
 -- the meter counted the parts and the look-ups of an edit that touched these names
 abbrev pub IsCountedOver : Places → (prefixes : List Name) → (touched : Name → Bool) → (old new : Meter) → Type 0
@@ -52,14 +52,14 @@ stepped_by None m n = m n
 stepped_by (Some s) m n = stepped s m n
 
 -- the name of the class that the step removes
-abbrev pub leaver : Option Step → Option Name
-leaver None = None
-leaver (Some s) = if is_some (step_class s) then None else Some (step_name s)
+abbrev pub removed_name : Option Step → Option Name
+removed_name None = None
+removed_name (Some s) = if is_some (step_class s) then None else Some (step_name s)
 
 -- the name of the step, if it has no entry
-abbrev pub comer : KeptMap → Option Step → Option Name
-comer kept None = None
-comer kept (Some s) = if is_some (fin.get kept (step_name s)) then None else Some (step_name s)
+abbrev pub new_name : KeptMap → Option Step → Option Name
+new_name kept None = None
+new_name kept (Some s) = if is_some (fin.get kept (step_name s)) then None else Some (step_name s)
 
 -- the step changes nothing: its name has no class, or is that of the put class, or has the step's class already
 abbrev pub IsIdle : Classes → Option Facts → Step → Type 0
@@ -95,12 +95,12 @@ AreThere None places = Unit {0}
 AreThere (Some s) places = IsThere s places
 
 -- if the call succeeds, it has updated the entries and links after two steps. `old` are any classes before the steps,
--- and the first step is at the name of one of them. If `kept` and `links` are right for `old`, then `kept_now` and
--- `links_now` are right for `now`. The meter counted the parts and the look-ups
+-- and the first step is at the name of one of them. If `kept` and `dependants` are right for `old`, then `kept_now` and
+-- `dependants_now` are right for `now`. The meter counted the parts and the look-ups
 abbrev pub Holds : {T E : Type 0} → Result T E → (first second : Option Step) → (prefixes : List Name) → (stepped now : Places)
-    → (kept kept_now : KeptMap) → (links links_now : Links) → (before behind : Meter) → Type 0
-Holds result first second prefixes stepped now kept kept_now links links_now before behind = OnOk result (
-    (old : Places) → IsHeld old prefixes kept links
+    → (kept kept_now : KeptMap) → (dependants dependants_now : Dependants) → (before behind : Meter) → Type 0
+Holds result first second prefixes stepped now kept kept_now dependants dependants_now before behind = OnOk result (
+    (old : Places) → IsHeld old prefixes kept dependants
     → ((n : Name) → at_step first n ≡ true → given_in old n ≡ true)
     → ((n : Name) → at_either first second n ≡ false → class_at stepped n ≡ class_at old n)
-    → IsHeld now prefixes kept_now links_now × IsCountedOver now prefixes (at_either first second) before behind)
+    → IsHeld now prefixes kept_now dependants_now × IsCountedOver now prefixes (at_either first second) before behind)

@@ -17,7 +17,7 @@ use Rattle.jc_report.specs.RowKeys.{row_key}
 use Rattle.jc_report.specs.Rows.{Row}
 use Rattle.jc_linkage.specs.declared.class_entry.ClassEntry.{ClassEntry}
 use Rattle.jc_linkage.specs.declared.class_entry.NewEntry.{NewEntry}
-use Rattle.jc_linkage.specs.declared.links.Links.{Links}
+use Rattle.jc_linkage.specs.declared.dependants.Dependants.{Dependants}
 
 -- ---- entries
 
@@ -74,17 +74,17 @@ held_in r kept d n = has (names_kept r (fin.get kept d)) n
 abbrev pub KeptHits : (touched : Name → Bool) → KeptMap → Name → Type 0
 KeptHits touched kept d = (n : Name) × (touched n ≡ true) × (held_in Reaches kept d n ≡ true)
 
-abbrev pub lists_by : Relation → Links → UserLists
-lists_by Reaches links = links.reach
-lists_by Requires links = links.required
+abbrev pub lists_by : Relation → Dependants → UserLists
+lists_by Reaches dependants = dependants.reach
+lists_by Requires dependants = dependants.required
 
 -- whether the class is linked to the name
-abbrev pub linked : Relation → Links → (name class : Name) → Bool
-linked r links n d = has (users_of (lists_by r links) n) d
+abbrev pub linked : Relation → Dependants → (name class : Name) → Bool
+linked r dependants n d = has (users_of (lists_by r dependants) n) d
 
 -- the links are the inverse of the entries
-abbrev pub AreLinked : KeptMap → Links → Type 0
-AreLinked kept links = (r : Relation) (n d : Name) → linked r links n d ≡ held_in r kept d n
+abbrev pub AreLinked : KeptMap → Dependants → Type 0
+AreLinked kept dependants = (r : Relation) (n d : Name) → linked r dependants n d ≡ held_in r kept d n
 
 -- ---- new entries
 

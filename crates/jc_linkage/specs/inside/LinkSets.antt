@@ -5,7 +5,7 @@ use Rattle.jc_classes.specs.Names.{Name, same_name}
 use Rattle.jc_index.specs.Indexes.{Between}
 use Rattle.jc_linkage.specs.declared.class_entry.NewEntry.{NewEntry}
 use Rattle.jc_linkage.specs.declared.class_entry.ClassEntry.{ClassEntry}
-use Rattle.jc_linkage.specs.declared.links.Links.{Links}
+use Rattle.jc_linkage.specs.declared.dependants.Dependants.{Dependants}
 use Rattle.jc_linkage.specs.inside.Kept.{KeptMap, Relation, fresh_has, held_in, linked, names_by}
 use Rattle.jc_linkage.specs.inside.Users.{is_name}
 
@@ -55,21 +55,21 @@ without these those r n d = these r n d && not (those r n d)
 
 -- ---- the links
 
-abbrev pub AreLinks : LinkSet → Links → Type 0
-AreLinks these links = (r : Relation) (n d : Name) → linked r links n d ≡ these r n d
+abbrev pub AreLinks : LinkSet → Dependants → Type 0
+AreLinks these dependants = (r : Relation) (n d : Name) → linked r dependants n d ≡ these r n d
 
 -- the links are those of the entries in the map, and perhaps some of `these`
-abbrev pub AreLinkedAndSome : KeptMap → LinkSet → Links → Type 0
-AreLinkedAndSome kept these links = (r : Relation) (n d : Name) → Between (held_in r kept d n) (these r n d) (linked r links n d)
+abbrev pub AreLinkedAndSome : KeptMap → LinkSet → Dependants → Type 0
+AreLinkedAndSome kept these dependants = (r : Relation) (n d : Name) → Between (held_in r kept d n) (these r n d) (linked r dependants n d)
 
 -- `these` links are added, and nothing else changes
-abbrev pub Adds : LinkSet → (old new : Links) → Type 0
+abbrev pub Adds : LinkSet → (old new : Dependants) → Type 0
 Adds these old new = (r : Relation) (n d : Name) → linked r new n d ≡ (linked r old n d || these r n d)
 
 -- some of `these` links are added, and nothing else changes
-abbrev pub AddsSome : LinkSet → (old new : Links) → Type 0
+abbrev pub AddsSome : LinkSet → (old new : Dependants) → Type 0
 AddsSome these old new = (r : Relation) (n d : Name) → Between (linked r old n d) (these r n d) (linked r new n d)
 
 -- `these` links are removed, and nothing else changes
-abbrev pub TakesOut : LinkSet → (old new : Links) → Type 0
+abbrev pub TakesOut : LinkSet → (old new : Dependants) → Type 0
 TakesOut these old new = (r : Relation) (n d : Name) → linked r new n d ≡ (linked r old n d && not (these r n d))

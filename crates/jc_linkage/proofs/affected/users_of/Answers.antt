@@ -17,7 +17,7 @@ returns-clause-has c = λ d.
     ap (λ z. has z d) (c.in_ok-add_users-2.ensures.added ∙ ap (λ z. z ++ filter (is_wanted gone one) two) first)
     ∙ wanted_has gone one two d
     ∙ ap (λ z. (has z d || has two d) && not (is_name gone d)) c.list_at-one.ensures
-    ∙ ap (λ z. (has (users_at c.args.links.now.reach (option_copied c.args.first)) d || has z d) && not (is_name gone d)) c.list_at.ensures
+    ∙ ap (λ z. (has (users_at c.args.dependants.now.reach (option_copied c.args.first)) d || has z d) && not (is_name gone d)) c.list_at.ensures
 
 pub returns-clause-once : goal.returns-clause-once
 returns-clause-once c =

@@ -12,7 +12,7 @@ use Rattle.jc_linkage.specs.Affected.{counts_of}
 
 pub returns-in_err-first-clause-held : goal.returns-in_err-first-clause-held
 returns-in_err-first-clause-held c =
-    held_same c.args.table.now c.make_both.new.table c.args.outside.now c.args.kept.now c.args.links.now c.in_err-first.ensures.err c.requires.held
+    held_same c.args.table.now c.make_both.new.table c.args.outside.now c.args.kept.now c.args.dependants.now c.in_err-first.ensures.err c.requires.held
 
 -- what is asked of the steps that take back
 
@@ -20,7 +20,7 @@ pub remake-requires-clause-gone : goal.remake-requires-clause-gone
 remake-requires-clause-gone c = λ n.
     let both = both_of c.args.first c.args.second c.in_ok-first.first c.in_ok-first.second c.args.table.now c.make_both.new.table
     c.requires.first c.requires.second c.in_ok-first.ensures.ok c.in_ok-first.ensures.first c.in_ok-first.ensures.second in
-    ap (λ o. is_name o n) (c.leaver-gone.ensures ∙ ap (λ b. cond b (name_of c.in_ok-first.first) None) c.takes_out-leaves.ensures) ∙ gone_then both n
+    ap (λ o. is_name o n) (c.removed_name-gone.ensures ∙ ap (λ b. cond b (name_of c.in_ok-first.first) None) c.is_removal-leaves.ensures) ∙ gone_then both n
 
 pub remake-requires-clause-second : goal.remake-requires-clause-second
 remake-requires-clause-second c =
@@ -46,9 +46,9 @@ pub returns-in-Err-clause-held : goal.returns-in-Err-clause-held
 returns-in-Err-clause-held c =
     let both = both_of c.args.first c.args.second c.in_ok-first.first c.in_ok-first.second c.args.table.now c.make_both.new.table
     c.requires.first c.requires.second c.in_ok-first.ensures.ok c.in_ok-first.ensures.first c.in_ok-first.ensures.second in
-    held_same c.args.table.now c.unmake_both.new.table c.args.outside.now c.remake.new.kept c.remake.new.links
+    held_same c.args.table.now c.unmake_both.new.table c.args.outside.now c.remake.new.kept c.remake.new.dependants
     (λ n. c.unmake_both.ensures.classes n ∙ both_undone both (c.remake.new.table) (λ k. ap (λ t. class_at t k) c.in-Err.ensures.err) n)
-    (subst (λ k. IsHeld c.args.table.now c.args.outside.now k c.remake.new.links) (sym c.in-Err.ensures.kept_err)
+    (subst (λ k. IsHeld c.args.table.now c.args.outside.now k c.remake.new.dependants) (sym c.in-Err.ensures.kept_err)
     (record { parts = c.requires.held.parts; linked = c.in-Err.ensures.linked_err }))
 
 -- the edit

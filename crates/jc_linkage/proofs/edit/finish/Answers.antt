@@ -9,9 +9,9 @@ pub commit-requires-clause-linked : goal.commit-requires-clause-linked
 commit-requires-clause-linked c = λ r n d.
     let gone = is_name (option_copied c.args.gone) in
     let fresh = c.args.fresh.items in
-    c.give_up.ensures.linked r n d
+    c.remove_class.ensures.linked r n d
     ∙ ap (λ b. b && not (gone d && held_in r c.args.kept.now d n)) (c.requires.linked r n d)
-    ∙ links_left gone c.args.kept.now c.give_up.new.kept fresh c.give_up.ensures.kept (λ d h. (c.requires.there d h).0) r n d
+    ∙ links_left gone c.args.kept.now c.remove_class.new.kept fresh c.remove_class.ensures.kept (λ d h. (c.requires.there d h).0) r n d
 
 pub commit-requires-clause-apart : goal.commit-requires-clause-apart
 commit-requires-clause-apart c = search rules

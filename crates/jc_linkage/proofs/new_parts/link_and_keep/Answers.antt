@@ -18,7 +18,7 @@ undo_links-requires-clause-between c = λ r n d.
     ∙ ap (λ (k : NewEntry). same_name d k.name.items && has (names_by r k.kept) n) (sym c.in-Err-keep.ensures.back)
     ∙ ap (λ name. same_name d name && has (names_by r back.kept) n) (sym c.deref-in-Err-keep.ensures.value) in
     let mid = held_in r kept d n || f in
-    between_last (linked r c.link_with.new.links n d) mid (held_in r kept d n) f f x
+    between_last (linked r c.link_with.new.dependants n d) mid (held_in r kept d n) f f x
     (c.in-Ok.ensures.ok r n d ∙ ap (λ z. (held_in r z d n || f) || (same_name d c.deref.result.now && has (names_by r c.args.newcomer.kept) n)) (sym c.in-Err-keep.ensures.err) ∙ ap (λ b. mid || b) same)
     refl refl
 

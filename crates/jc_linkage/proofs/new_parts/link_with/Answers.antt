@@ -11,13 +11,13 @@ pub undo_links-requires-clause-between : goal.undo_links-requires-clause-between
 undo_links-requires-clause-between c = λ r n d.
     let x = same_name d c.args.name.now && has (names_by r c.args.newcomer.now) n in
     let f = fresh_has r c.args.fresh.now d n in
-    between_first (linked r c.args.links.now n d) (held_in r c.args.kept.now d n) f f x (linked r c.link_fresh.new.links n d) (c.requires.linked r n d) refl (c.in-Err.ensures.err r n d)
+    between_first (linked r c.args.dependants.now n d) (held_in r c.args.kept.now d n) f f x (linked r c.link_fresh.new.dependants n d) (c.requires.linked r n d) refl (c.in-Err.ensures.err r n d)
 
 pub undo_links-requires-in-Err-link-clause-between : goal.undo_links-requires-in-Err-link-clause-between
 undo_links-requires-in-Err-link-clause-between c = λ r n d.
     let x = same_name d c.args.name.now && has (names_by r c.args.newcomer.now) n in
     let f = fresh_has r c.args.fresh.now d n in
-    between_next (linked r c.link_fresh.new.links n d) (held_in r c.args.kept.now d n) f f x (linked r c.link.new.self n d)
+    between_next (linked r c.link_fresh.new.dependants n d) (held_in r c.args.kept.now d n) f f x (linked r c.link.new.self n d)
     (c.in-Ok.ensures.ok r n d ∙ ap (λ b. b || f) (c.requires.linked r n d)) refl (c.in-Err-link.ensures.err r n d)
 
 pub returns-in-Ok-link-clause-ok : goal.returns-in-Ok-link-clause-ok

@@ -13,7 +13,7 @@ use Rattle.jc_linkage.proofs.prefixes.users_of_switched.Goals as goal
 pub loop-name-init : goal.loop-name-init
 loop-name-init c =
     let test = switches_by c.args.kept.now c.args.old.now c.args.new.now in
-    let lists = c.args.links.now.reach in
+    let lists = c.args.dependants.now.reach in
     let keys = c.keys-name-items.result in
     subst (λ z. AreUsers test lists z c.new-found.result) (sym c.into_iter-name-iterator.ensures.into_iter_gives)
     (subst (AreUsers test lists keys) (sym c.new-found.ensures) (users_none test lists keys c.keys-name-items.ensures.complete))
@@ -21,7 +21,7 @@ loop-name-init c =
 pub loop-name-preserved-in-Continue-1 : goal.loop-name-preserved-in-Continue-1
 loop-name-preserved-in-Continue-1 c =
     let test = switches_by c.args.kept.now c.args.old.now c.args.new.now in
-    let lists = c.args.links.now.reach in
+    let lists = c.args.dependants.now.reach in
     let x = c.in-Some.name.now in
     users_next test lists x c.next.new.self c.loop-name.found c.add_all.new.found (subst (λ z. AreUsers test lists z c.loop-name.found) c.in-Some.ensures.steps c.loop-name.invariant)
     (sym c.switches.ensures ∙ c.if-switches.true)
@@ -30,7 +30,7 @@ loop-name-preserved-in-Continue-1 c =
 pub loop-name-preserved : goal.loop-name-preserved
 loop-name-preserved c =
     let test = switches_by c.args.kept.now c.args.old.now c.args.new.now in
-    let lists = c.args.links.now.reach in
+    let lists = c.args.dependants.now.reach in
     users_passed test lists c.in-Some.name.now c.next.new.self c.loop-name.found (subst (λ z. AreUsers test lists z c.loop-name.found) c.in-Some.ensures.steps c.loop-name.invariant)
     (sym c.switches.ensures ∙ c.if-switches.false)
 
@@ -41,7 +41,7 @@ returns-clause-sound c =
 pub returns-clause-complete : goal.returns-clause-complete
 returns-clause-complete c =
     let test = switches_by c.args.kept.now c.args.old.now c.args.new.now in
-    let lists = c.args.links.now.reach in
+    let lists = c.args.dependants.now.reach in
     let all = subst (λ z. AreUsers test lists z c.loop-name.found) c.in-None.ensures.steps.0 c.loop-name.invariant in
     IfOk-weaker c.into_keys.result _ _ (λ users is. λ d u. has_key c.loop-name.found (names_of users.items) is d ∙ users_all test lists c.loop-name.found all d u) c.into_keys.ensures
 

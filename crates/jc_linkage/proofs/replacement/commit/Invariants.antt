@@ -10,7 +10,7 @@ abbrev pub invariant-loop-one : goal.invariant-loop-one
 invariant-loop-one l = record {
   there : (d : Name) → has (fresh_names l.fresh.items) d ≡ true → IsSome (map.get l.kept d);
   apart : NoRepeat (fresh_names l.fresh.items);
-  linked : (r : Relation) (n d : Name) → linked r l.links n d ≡ (held_in r l.kept d n || fresh_has r l.fresh.items d n);
+  linked : (r : Relation) (n d : Name) → linked r l.dependants n d ≡ (held_in r l.kept d n || fresh_has r l.fresh.items d n);
   same : (d : Name) → fresh_at l.fresh.items d (map.get l.kept d) ≡ fresh_at l.fn.fresh.items d (map.get l.fn.kept d);
 }
 

@@ -16,7 +16,7 @@ pub loop-one-preserved : goal.loop-one-preserved
 loop-one-preserved c =
     let x = c.one-item.result in
     λ r n d.
-    let old = linked r c.args.links.now n d in
+    let old = linked r c.args.dependants.now n d in
     let h = has (names_by r x.kept) n in
     c.in_ok-link_one.ensures.ok r n d
     ∙ ap (λ b. b || (same_name d x.name.items && h)) (c.loop-one.invariant r n d)
@@ -28,8 +28,8 @@ returns-in_err-link_one-clause-err c =
     let x = c.one-item.result in
     let xs = c.args.fresh.now in
     let i = c.loop-one.one-index in
-    let some : (r : Relation) (n d : Name) → Between (linked r c.args.links.now n d) (fresh_has r xs d n) (linked r c.link_one.new.links n d) =
-    λ r n d. between_then (linked r c.args.links.now n d) (fresh_has r (take i xs) d n) (same_name d x.name.items && has (names_by r x.kept) n) _ _ _
+    let some : (r : Relation) (n d : Name) → Between (linked r c.args.dependants.now n d) (fresh_has r xs d n) (linked r c.link_one.new.dependants n d) =
+    λ r n d. between_then (linked r c.args.dependants.now n d) (fresh_has r (take i xs) d n) (same_name d x.name.items && has (names_by r x.kept) n) _ _ _
     (c.loop-one.invariant r n d)
     (fresh_take r xs i d n)
     (λ e. fresh_take r xs (i + 1) d n

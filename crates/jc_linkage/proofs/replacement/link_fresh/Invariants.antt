@@ -4,4 +4,4 @@ use Rattle.jc_linkage.specs.inside.Kept.{Relation, fresh_has, linked}
 use Rattle.jc_linkage.proofs.replacement.link_fresh.Given as goal
 
 abbrev pub invariant-loop-one : goal.invariant-loop-one
-invariant-loop-one l = (r : Relation) (n d : Name) → linked r l.links n d ≡ (linked r l.fn.links n d || fresh_has r (take l.one-index l.fresh) d n)
+invariant-loop-one l = (r : Relation) (n d : Name) → linked r l.dependants n d ≡ (linked r l.fn.dependants n d || fresh_has r (take l.one-index l.fresh) d n)

@@ -17,5 +17,5 @@ returns-clause-linked c =
     λ r n d.
     let o = has (names_by r old) n in
     c.unlink_but.ensures r n d
-    ∙ ap (λ z. linked r c.args.links.now n d && not (same_name d z && (o && not (has (names_by r new) n)))) c.deref-2.ensures.value
+    ∙ ap (λ z. linked r c.args.dependants.now n d && not (same_name d z && (o && not (has (names_by r new) n)))) c.deref-2.ensures.value
     ∙ changed_out _ (same_name d name) (held_in r kept d n) o _ (held_at r kept name (Some old) d n was)

@@ -14,5 +14,5 @@ loop-one-preserved c =
     let k = held_in r c.args.kept.now d n in
     c.undo_one.ensures r n d
     ∙ ap (λ b. b && not (h && not k)) (c.loop-one.invariant r n d)
-    ∙ more_undone (linked r c.args.links.now n d) _ h k
-    ∙ ap (λ b. linked r c.args.links.now n d && not (b && not k)) (sym (fresh_more r c.args.fresh.now c.loop-one.one-index x d n c.loop-one-test.true c.one-item.is))
+    ∙ more_undone (linked r c.args.dependants.now n d) _ h k
+    ∙ ap (λ b. linked r c.args.dependants.now n d && not (b && not k)) (sym (fresh_more r c.args.fresh.now c.loop-one.one-index x d n c.loop-one-test.true c.one-item.is))

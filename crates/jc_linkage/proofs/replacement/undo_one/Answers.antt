@@ -17,7 +17,7 @@ returns-in-Some c =
     λ r n d.
     let h = has (names_by r c.args.one.now.kept) n in
     c.unlink_but.ensures r n d
-    ∙ ap (λ z. linked r c.args.links.now n d && not (same_name d z && (h && not (has (names_by r now) n)))) c.deref-in-Some.ensures.value
+    ∙ ap (λ z. linked r c.args.dependants.now n d && not (same_name d z && (h && not (has (names_by r now) n)))) c.deref-in-Some.ensures.value
     ∙ taken_out _ (same_name d name) h _ _ (held_at r kept name (Some now) d n was)
 
 pub returns-in-None : goal.returns-in-None
@@ -29,5 +29,5 @@ returns-in-None c =
     λ r n d.
     let h = has (names_by r c.args.one.now.kept) n in
     c.unlink.ensures r n d
-    ∙ ap (λ z. linked r c.args.links.now n d && not (same_name d z && h)) c.deref-in-None.ensures.value
+    ∙ ap (λ z. linked r c.args.dependants.now n d && not (same_name d z && h)) c.deref-in-None.ensures.value
     ∙ all_out _ (same_name d name) h _ (held_at r kept name None d n was)

@@ -7,5 +7,5 @@ pub returns : goal.returns
 returns c =
     let a = c.args.self.now in
     let inside = c.self.inside in
-    let held = held_of a inside.table inside.outside c.self.view_is inside.kept inside.links c.self.invariant.0 in
-    dependants a inside.kept inside.links held c.args.name.now (names_of c.users.result.now) c.users.ensures.users c.users.ensures.rises
+    let held = held_of a inside.table inside.outside c.self.view_is inside.kept inside.dependants c.self.invariant.0 in
+    dependants a inside.kept inside.dependants held c.args.name.now (names_of c.users.result.now) c.users.ensures.users c.users.ensures.rises

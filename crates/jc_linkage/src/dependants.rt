@@ -13,17 +13,17 @@ use std::alloc::Global;
 
 /// For each name the classes whose reach has it, and for each row the classes that require it.
 #[derive(Drop)]
-pub(crate) struct Links {
+pub(crate) struct Dependants {
     pub(crate) reach: Index,
     pub(crate) required: RowIndex,
 }
 
-impl Links {
+impl Dependants {
     /// Returns an empty set of links. Does not allocate.
-    pub(crate) fn new(alloc: Global) -> Links
+    pub(crate) fn new(alloc: Global) -> Dependants
         ensures { (r : Relation) (n d : Name) → linked r result n d ≡ false }
     {
-        Links {
+        Dependants {
             reach: Index::new(alloc),
             required: RowIndex::new(alloc),
         }

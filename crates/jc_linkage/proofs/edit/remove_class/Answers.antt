@@ -7,7 +7,7 @@ use Rattle.jc_link.specs.Tables.{class_at}
 use Rattle.jc_linkage.specs.inside.Users.{is_name}
 use Rattle.jc_linkage.specs.inside.Stepping.{AreTaken, NoneVacant}
 use Rattle.jc_linkage.proofs.steps.TablesStepped.{none_removed, removed_class, removed_taken}
-use Rattle.jc_linkage.proofs.edit.give_up.Goals as goal
+use Rattle.jc_linkage.proofs.edit.remove_class.Goals as goal
 
 pub returns-clause-classes : goal.returns-clause-classes
 returns-clause-classes c = λ n.
@@ -20,7 +20,7 @@ pub returns-clause-kept : goal.returns-clause-kept
 returns-clause-kept c = λ d.
     let kept = c.args.kept.now in
     let name = c.in-Some.name.now in
-    ap (λ z. map.get z d) c.let_go.ensures.kept ∙ map.get-remove nat_list_cmp_total kept name d
+    ap (λ z. map.get z d) c.remove_entry.ensures.kept ∙ map.get-remove nat_list_cmp_total kept name d
     ∙ ap (λ o. cond (is_name (option_copied o) d) None (map.get kept d)) (sym c.in-Some.is)
 
 pub returns-in_default-clause-taken : goal.returns-in_default-clause-taken

@@ -6,7 +6,7 @@ use Rattle.jc_index.specs.Indexes.{Between, users_of}
 use Rattle.jc_linkage.specs.inside.Kept.{keys_of, linked, names_by}
 use Rattle.jc_linkage.proofs.equations.LinkTests.{between_more}
 use Rattle.jc_linkage.proofs.held.KeptMaps.{by_relation}
-use Rattle.jc_linkage.proofs.links.Links.link_but.Goals as goal
+use Rattle.jc_linkage.proofs.dependants.Dependants.link_but.Goals as goal
 
 pub returns-clause-err : goal.returns-clause-err
 returns-clause-err c =

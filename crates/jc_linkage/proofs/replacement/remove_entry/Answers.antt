@@ -1,7 +1,7 @@
 use Rattle.std.proofs.Common.{Some, None, sym, ◌∙◌}
 use Rattle.jc_linkage.proofs.equations.LinkTests.{none_out, same_out}
 use Rattle.jc_linkage.proofs.held.KeptMaps.{held_at}
-use Rattle.jc_linkage.proofs.replacement.let_go.Goals as goal
+use Rattle.jc_linkage.proofs.replacement.remove_entry.Goals as goal
 
 pub returns-in-Some-clause-linked : goal.returns-in-Some-clause-linked
 returns-in-Some-clause-linked c = λ r n d.
