@@ -20,6 +20,9 @@ use jc_classes::{Facts, Key, Member, Standing};
 use jc_file::AccessFlag;
 use std::alloc::Global;
 
+/// Most slots have fewer bytes.
+const ROOM: usize = 128;
+
 /// A method that subclasses may override.
 #[derive(Clone, Copy)]
 struct Entry {
@@ -372,7 +375,7 @@ fn slot_of(
 fn slot_name(alloc: Global, in_package: Option<&[u8]>, key: Key) -> Result<Vec<u8>, NoMemory>
     ensures { IfOk result (λ slot. slot.items ≡ name_in (option_copied in_package.entry) (key_lent key.entry)) }
 {
-    let mut slot = Vec::new(alloc);
+    let mut slot = Vec::with_capacity(alloc, ROOM)?;
     match in_package {
         None => slot.push(0)?,
         Some(package) => {
