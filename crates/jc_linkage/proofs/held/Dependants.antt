@@ -13,9 +13,9 @@ use Rattle.jc_linkage.specs.inside.Kept.{KeptMap, names_kept}
 use Rattle.jc_linkage.specs.inside.Kept.Relation.{Reaches}
 use Rattle.jc_linkage.proofs.held.Places.{kept_by, some_by}
 
-pub dependants : (a : Linkage) (kept : KeptMap) (dependants : Dependants) → IsHeld a.classes a.prefixes kept dependants → (n : Name) (users : List Name)
+pub are_dependants : (a : Linkage) (kept : KeptMap) (dependants : Dependants) → IsHeld a.classes a.prefixes kept dependants → (n : Name) (users : List Name)
     → users ≡ users_of dependants.reach n → IsStrictlySortedBy name_cmp (users_of dependants.reach n) → Lists users (λ d. (given a d ≡ true) × Reach (world_held a) d n)
-dependants a kept dependants held n users is rises = record {
+are_dependants a kept dependants held n users is rises = record {
   rises = subst (IsStrictlySortedBy name_cmp) (sym is) rises;
   sound = λ d e.
       let found = kept_by Reaches (fin.get kept d) n (sym (held.linked Reaches n d) ∙ ap (λ xs. has xs d) (sym is) ∙ e) in
