@@ -8,8 +8,8 @@ ghost use Rattle.jc_classes.specs.Lent.{key_lent, member_lent};
 ghost use Rattle.jc_classes.specs.Worlds.{key_of, methods_of};
 ghost use Rattle.jc_numbered.specs.declared.overriding.Entry.{Entry as EntryValue};
 ghost use Rattle.jc_numbered.specs.inside.Chain.{ExtendsNode};
-ghost use Rattle.jc_numbered.specs.inside.FinalSearches.{Drops, HasMethod, IsPath, IsPut, IsSearch, IsValid, OtherKeysStay, OthersStay, entries_in, last_of};
-ghost use Rattle.jc_numbered.specs.inside.Indexed.{Indexed, good_at, standing_of, superclass_at};
+ghost use Rattle.jc_numbered.specs.inside.FinalSearches.{AddsFinal, AddsFinals, AreFinals, Drops, HasMethod, IsFinalName, IsPath, IsPut, IsSearch, IsValid, OtherKeysStay, OthersStay, entries_in, last_of};
+ghost use Rattle.jc_numbered.specs.inside.Indexed.{good_at, standing_of, superclass_at};
 ghost use Rattle.jc_numbered.specs.inside.Overriding.{TellsFinal, nearer, overridable_at, slot_of};
 ghost use Rattle.jc_numbered.specs.inside.Shown.{indexed_of};
 ghost use Rattle.jc_numbered.specs.inside.Slots.{ended, escaped, name_in, slot_name};
@@ -41,6 +41,8 @@ struct Entry {
 /// of classes and of their methods, apart from look-up in maps.
 #[derive(Drop)]
 pub struct FinalSearch {
+    /// The names of all FINAL methods that may be overridden. Methods of other names are left out.
+    finals: ByteMap<()>,
     /// A chain of superclasses, the topmost first.
     chain: Vec<usize>,
     /// For each slot, the methods of these classes. After them there may be methods of classes that have left the chain.
@@ -48,14 +50,17 @@ pub struct FinalSearch {
 }
 
 impl FinalSearch {
-    /// Returns a search that has visited no class. Does not allocate.
-    pub fn new(alloc: Global) -> FinalSearch
-        ensures { (count : ℕ) (x : Indexed) → IsSearch count x result }
+    /// Returns a search among these classes that has visited no class.
+    ///
+    /// Returns `NoMemory` only when an allocation fails.
+    pub fn new(alloc: Global, classes: &Classes) -> Result<FinalSearch, NoMemory>
+        ensures { IfOk result (IsSearch (length classes.now.standing.now) (indexed_of classes.now)) }
     {
-        FinalSearch {
+        Ok(FinalSearch {
+            finals: find_finals(alloc, classes)?,
             chain: Vec::new(alloc),
             slots: ByteMap::new(alloc),
-        }
+        })
     }
 
     /// Visits a class that loads: prepares for [`FinalSearch::find`].
@@ -100,7 +105,11 @@ impl FinalSearch {
         ensures told { IfOk result (TellsFinal (indexed_of classes.now) (key_lent key.entry) class) }
         ensures search { OnOk result (IsSearch (length classes.now.standing.now) (indexed_of classes.now) self.new) }
         ensures chain { self.new.chain.items ≡ self.old.chain.items }
+        ensures finals { self.new.finals ≡ self.old.finals }
     {
+        if !self.finals.contains_key(key.name) {
+            return Ok(None);
+        }
         match overridable(classes, class, key) {
             Some(_) => self.find_above(alloc, classes, class, key),
             None => Ok(None),
@@ -120,10 +129,12 @@ impl FinalSearch {
         requires search { IsSearch (length classes.now.standing.now) (indexed_of classes.now) self.old }
         requires ends { last_of self.old.chain.items ≡ superclass_at (indexed_of classes.now) class }
         requires overrides { is_some (overridable_at (indexed_of classes.now) (key_lent key) class) ≡ true }
+        requires among { IsFinalName self.old.finals (key_lent key) }
         ensures told { IfOk result (TellsFinal (indexed_of classes.now) (key_lent key.entry) class) }
         ensures on { IfOk result (λ r. (w : ℕ) → r ≡ Some w → ExtendsNode (indexed_of classes.now) class w) }
         ensures search { OnOk result (IsSearch (length classes.now.standing.now) (indexed_of classes.now) self.new) }
         ensures chain { self.new.chain.items ≡ self.old.chain.items }
+        ensures finals { self.new.finals ≡ self.old.finals }
         ensures others { OnOk result (OtherKeysStay (key_lent key.entry) self.old.slots self.new.slots) }
     {
         let open = slot_name(alloc, None, key)?;
@@ -136,6 +147,7 @@ impl FinalSearch {
     /// Returns the nearest FINAL method among the last method of a slot and those that it overrides.
     fn nearest_in(&mut self, slot: &[u8]) -> Option<usize>
         ensures chain { self.new.chain.items ≡ self.old.chain.items }
+        ensures finals { self.new.finals ≡ self.old.finals }
         ensures others { OthersStay slot.now self.old.slots self.new.slots }
         ensures drops { Drops self.old.chain.items (entries_in self.old.slots slot.now) (entries_in self.new.slots slot.now) }
         ensures nearest { result ≡ option_and_then (λ (e : EntryValue). e.nearest) (last_of (entries_in self.new.slots slot.now)) }
@@ -149,6 +161,7 @@ impl FinalSearch {
     /// it is this class. If neither is in the chain, the chain is empty then.
     fn leave(&mut self, class: usize, above: Option<usize>) -> bool
         ensures slots { self.new.slots ≡ self.old.slots }
+        ensures finals { self.new.finals ≡ self.old.finals }
         ensures chain { (n : ℕ) × (self.new.chain.items ≡ take n self.old.chain.items) }
         ensures ends { result ≡ true → last_of self.new.chain.items ≡ Some class }
         ensures below { result ≡ false → (self.new.chain.items ≡ []) ⊎ (last_of self.new.chain.items ≡ above) }
@@ -213,7 +226,8 @@ impl FinalSearch {
         requires ends { last_of self.old.chain.items ≡ superclass_at (indexed_of classes.now) node }
         ensures search { OnOk result (IsSearch (length classes.now.standing.now) (indexed_of classes.now) self.new) }
         ensures chain { self.new.chain.items ≡ self.old.chain.items }
-        ensures methods { OnOk result ((k : KeyValue) → HasMethod (indexed_of classes.now) self.new.slots node (length self.old.chain.items) k) }
+        ensures finals { self.new.finals ≡ self.old.finals }
+        ensures methods { OnOk result ((k : KeyValue) → HasMethod (indexed_of classes.now) self.old.finals self.new.slots node (length self.old.chain.items) k) }
     {
         for number in 0..facts.method_count() {
             if let Some(method) = facts.own_method(number) {
@@ -237,9 +251,13 @@ impl FinalSearch {
         requires ends { last_of self.old.chain.items ≡ superclass_at (indexed_of classes.now) node }
         ensures search { OnOk result (IsSearch (length classes.now.standing.now) (indexed_of classes.now) self.new) }
         ensures chain { self.new.chain.items ≡ self.old.chain.items }
+        ensures finals { self.new.finals ≡ self.old.finals }
         ensures others { OnOk result (OtherKeysStay (key_lent key.entry) self.old.slots self.new.slots) }
-        ensures method { OnOk result (HasMethod (indexed_of classes.now) self.new.slots node (length self.old.chain.items) (key_lent key.entry)) }
+        ensures method { OnOk result (HasMethod (indexed_of classes.now) self.old.finals self.new.slots node (length self.old.chain.items) (key_lent key.entry)) }
     {
+        if !self.finals.contains_key(key.name) {
+            return Ok(());
+        }
         let Some(method) = overridable(classes, node, key) else {
             return Ok(());
         };
@@ -262,6 +280,7 @@ impl FinalSearch {
     /// Puts a method into a slot, after those of the chain.
     fn put(&mut self, alloc: Global, slot: Vec<u8>, entry: Entry) -> Result<(), NoMemory>
         ensures chain { self.new.chain.items ≡ self.old.chain.items }
+        ensures finals { self.new.finals ≡ self.old.finals }
         ensures put { OnOk result (IsPut self.old.chain.items slot.items entry self.old.slots self.new.slots) }
     {
         if let Some(entries) = self.slots.get_mut(&slot) {
@@ -273,6 +292,41 @@ impl FinalSearch {
         self.slots.insert(slot, entries)?;
         Ok(())
     }
+}
+
+/// Returns the names of the FINAL methods of all classes.
+fn find_finals(alloc: Global, classes: &Classes) -> Result<ByteMap<()>, NoMemory>
+    ensures { IfOk result (AreFinals (length classes.now.standing.now) (indexed_of classes.now)) }
+{
+    let mut finals = ByteMap::new(alloc);
+    for node in 0..classes.len() {
+        if let Standing::Class(facts) = classes.at(node) {
+            add_finals(alloc, &mut finals, facts)?;
+        }
+    }
+    Ok(finals)
+}
+
+/// Adds the names of the FINAL methods of a class.
+fn add_finals(alloc: Global, finals: &mut ByteMap<()>, facts: &Facts) -> Result<(), NoMemory>
+    ensures { OnOk result (AddsFinals facts.now.methods (length facts.now.methods) finals.old finals.new) }
+{
+    for number in 0..facts.method_count() {
+        if let Some(method) = facts.own_method(number) {
+            add_final(alloc, finals, method)?;
+        }
+    }
+    Ok(())
+}
+
+/// Adds the name of a method, if it is FINAL.
+fn add_final(alloc: Global, finals: &mut ByteMap<()>, method: Member) -> Result<(), NoMemory>
+    ensures { OnOk result (AddsFinal (member_lent method.entry) finals.old finals.new) }
+{
+    if method.has(AccessFlag::Final) {
+        finals.insert(Vec::from_slice(alloc, method.name)?, ())?;
+    }
+    Ok(())
 }
 
 /// Removes methods from the end until the last one is of a class in the chain. Does not allocate.

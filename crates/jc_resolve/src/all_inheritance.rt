@@ -27,7 +27,7 @@ pub(crate) fn inheritance_of_all(
     requires nodes { All (λ v. v < length classes.now.standing.now) nodes.now }
     ensures { IfOk result (λ all. TellErrors (indexed_of classes.now) loads.now nodes.now all.items) }
 {
-    let mut search = FinalSearch::new(alloc);
+    let mut search = FinalSearch::new(alloc, classes)?;
     let mut found = find_depth_first(alloc, classes, loads, &mut search)?;
     let mut all = Vec::with_capacity(alloc, nodes.len())?;
     for node in nodes {

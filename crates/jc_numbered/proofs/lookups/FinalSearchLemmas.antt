@@ -13,7 +13,7 @@ use Rattle.std.proofs.lemmas.List.Elements.{Contains-append_left, Contains-push,
 use Rattle.std.proofs.lemmas.List.Sorted.{IsNonDecreasingBy-push, IsNonDecreasingBy-take}
 use Rattle.jc_base.specs.Bytes.{bytes_cmp, same_bytes}
 use Rattle.jc_base.proofs.maps.FiniteMaps.{get-insert, get-insert_same, same_bytes_decides}
-use Rattle.jc_file.specs.AccessFlags.{has, protected, public}
+use Rattle.jc_file.specs.AccessFlags.{final, has, private, protected, public, static}
 use Rattle.jc_classes.specs.Facts.{Key, Member}
 use Rattle.jc_classes.specs.MemberOrder.{key_at}
 use Rattle.jc_classes.specs.MethodLookup.{only_inheritable}
@@ -25,7 +25,7 @@ use Rattle.jc_classes.proofs.worlds.NameTests.{same_is}
 use Rattle.jc_numbered.specs.declared.overriding.Entry.{Entry}
 use Rattle.jc_numbered.specs.declared.overriding.FinalSearch.{FinalSearch}
 use Rattle.jc_numbered.specs.inside.Chain.{ExtendsNode, ExtendsNode as node}
-use Rattle.jc_numbered.specs.inside.FinalSearches.{AreSlots, Drops, HasEntry, HasMethod, IsChain, IsPath, IsPut, IsSearch, IsValid, OtherKeysStay, OthersStay, Slots, entries_at, entries_in, last_of}
+use Rattle.jc_numbered.specs.inside.FinalSearches.{AreSlots, Drops, HasEntry, HasMethod, AddsFinals, AreFinals, IsFinalName, IsChain, IsPath, IsPut, IsSearch, IsValid, OtherKeysStay, OthersStay, Names, Slots, entries_at, entries_in, last_of}
 use Rattle.jc_numbered.specs.inside.Indexed.{Indexed, IsGraph, good_at, standing_of, superclass_at}
 use Rattle.jc_numbered.specs.inside.Overriding.{Fits, TellsNearest, overridable_at, package_at, slot_of}
 use Rattle.jc_numbered.specs.inside.Slots.{Slot, open_slot, package_slot, slot_name}
@@ -238,20 +238,20 @@ of_bytes name other = ⊎_elim
     (λ n. inr (λ e. false≢true (sym n ∙ (same_bytes_decides other name).1 e)))
     (cases_Bool (same_bytes other name))
 
-module _ (x : Indexed) (chain : List ℕ) (slots : Slots) (is : AreSlots x chain slots) where
+module _ (x : Indexed) (finals : Names) (chain : List ℕ) (slots : Slots) (is : AreSlots x finals chain slots) where
   -- the method of a class in the chain is of the chain
   has_valid : (s : Slot) {p v : ℕ} → slice_get chain p ≡ Some v → (h : HasEntry slots s v p) → IsValid chain h.0
   has_valid s e h = ap (slice_get chain) h.3 ∙ e ∙ ap Some (sym h.2)
 
   -- what a slot tells of the nearest superclass in it
-  pub top_of : (count : ℕ) → IsChain count x chain → (c : ℕ) → last_of chain ≡ superclass_at x c → (s : Slot) (left : List Entry)
-      → Drops chain (entries_at slots s) left → TellsTop x c s (option_and_then (λ (e : Entry). e.nearest) (last_of left))
-  top_of count chained c ends s left d = by (last_of left) refl
+  pub top_of : (count : ℕ) → IsChain count x chain → (c : ℕ) → last_of chain ≡ superclass_at x c → (s : Slot) → IsFinalName finals s.key
+      → (left : List Entry) → Drops chain (entries_at slots s) left → TellsTop x c s (option_and_then (λ (e : Entry). e.nearest) (last_of left))
+  top_of count chained c ends s among left d = by (last_of left) refl
     where
       held : {v : ℕ} → IsAbove x c v → Fits x s v → (e : Entry) × Contains left e × (slice_get chain e.place ≡ Some v)
       held {v} u fits =
           let p = on_chain count x chain chained c ends u in
-          let h = is.complete p.0 v p.1 s fits in
+          let h = is.complete p.0 v p.1 s among fits in
           (h.0, d.kept h.0 h.1 (has_valid s p.1 h), ap (slice_get chain) h.3 ∙ p.1)
 
       by : (o : Option Entry) → last_of left ≡ o → TellsTop x c s (option_and_then (λ (e : Entry). e.nearest) o)
@@ -277,7 +277,7 @@ module _ (x : Indexed) (chain : List ℕ) (slots : Slots) (is : AreSlots x chain
           )
 
   -- after a drop in one slot
-  pub after_drop : (name : List ℕ) (new : Slots) → OthersStay name slots new → Drops chain (entries_in slots name) (entries_in new name) → AreSlots x chain new
+  pub after_drop : (name : List ℕ) (new : Slots) → OthersStay name slots new → Drops chain (entries_in slots name) (entries_in new name) → AreSlots x finals chain new
   after_drop name new others d = record {
     sound = λ s e h. is.sound s e (before s h);
     rises = λ s. ⊎_elim
@@ -285,7 +285,7 @@ module _ (x : Indexed) (chain : List ℕ) (slots : Slots) (is : AreSlots x chain
         (dropped_rises chain _ _ d (subst (λ z. IsNonDecreasingBy (λ (e : Entry). e.place) (entries_in slots z)) q (is.rises s))))
         (λ n. subst (IsNonDecreasingBy (λ (e : Entry). e.place)) (sym (others (slot_name s) n)) (is.rises s))
         (of_bytes name (slot_name s));
-    complete = λ p v e s fits. let h = is.complete p v e s fits in (h.0, after s (has_valid s e h) h.1, h.2, h.3);
+    complete = λ p v e s among fits. let h = is.complete p v e s among fits in (h.0, after s (has_valid s e h) h.1, h.2, h.3);
   }
     where
       before : (s : Slot) {e : Entry} → Contains (entries_at new s) e → Contains (entries_at slots s) e
@@ -318,7 +318,7 @@ module _ (x : Indexed) (chain : List ℕ) (slots : Slots) (is : AreSlots x chain
     cases : (s : Slot) → (s ≡ t) ⊎ (slot_name s ≡ slot_name t → ⊥)
     cases s = ⊎_elim (λ q. inl (slot_same s t q)) inr (of_bytes (slot_name t) (slot_name s))
 
-    pub after_put : AreSlots x chain new
+    pub after_put : AreSlots x finals chain new
     after_put = record {
       sound = λ s e h. ⊎_elim
           (λ q. subst (λ z. Fits x z e.node × TellsNearest x z.key e.node e.nearest) (sym q)
@@ -334,7 +334,7 @@ module _ (x : Indexed) (chain : List ℕ) (slots : Slots) (is : AreSlots x chain
           (IsNonDecreasingBy-push (λ (e : Entry). e.place) kept entry (dropped_rises chain _ kept d (is.rises t)) last)))
           (λ n. subst (IsNonDecreasingBy (λ (e : Entry). e.place)) (sym (others (slot_name s) n)) (is.rises s))
           (cases s);
-      complete = λ p v e s f. let h = is.complete p v e s f in (h.0, after s (has_valid s e h) h.1, h.2, h.3);
+      complete = λ p v e s among f. let h = is.complete p v e s among f in (h.0, after s (has_valid s e h) h.1, h.2, h.3);
     }
       where
         after : (s : Slot) {e : Entry} → IsValid chain e → Contains (entries_at slots s) e → Contains (entries_at new s) e
@@ -363,23 +363,28 @@ put_entry chain t old new entry is_put place =
 
 -- ---- a class is appended to the chain
 
-pub push_slots : (x : Indexed) (chain : List ℕ) (slots : Slots) (v : ℕ) → AreSlots x chain slots
-    → ((k : Key) → HasMethod x slots v (length chain) k) → AreSlots x (chain ++ v ∷ []) slots
-push_slots x chain slots v is has = record {
+pub push_slots : (x : Indexed) (finals : Names) (chain : List ℕ) (slots : Slots) (v : ℕ) → AreSlots x finals chain slots
+    → ((k : Key) → HasMethod x finals slots v (length chain) k) → AreSlots x finals (chain ++ v ∷ []) slots
+push_slots x finals chain slots v is has = record {
   sound = is.sound;
   rises = is.rises;
-  complete = λ p w e s f. ⊎_elim
-      (λ h. is.complete p w h s f)
+  complete = λ p w e s among f. ⊎_elim
+      (λ h. is.complete p w h s among f)
       (λ q. subst (λ z. HasEntry slots s w z) (sym q.0) (subst (λ z. HasEntry slots s z (length chain)) (sym q.1)
-      (subst (λ z. HasEntry slots z v (length chain)) (own (subst (Fits x s) q.1 f)).1 (has s.key (subst (Fits x s) q.1 f).0 (subst (Fits x s) q.1 f).1))))
+      (subst (λ z. HasEntry slots z v (length chain)) (own (subst (Fits x s) q.1 f)).1
+      (has s.key among (subst (Fits x s) q.1 f).0 (subst (Fits x s) q.1 f).1))))
       (get_push chain v p e);
 }
   where
     own : {s : Slot} → (f : Fits x s v) → (y : Member) × (slot_of x s.key v f.0 ≡ s)
     own f = (f.0, f.2)
 
-pub cut_slots : (x : Indexed) (chain : List ℕ) (n : ℕ) (slots : Slots) → AreSlots x chain slots → AreSlots x (take n chain) slots
-cut_slots x chain n slots is = record { sound = is.sound; rises = is.rises; complete = λ p v e s f. is.complete p v (get_take n chain p e) s f }
+pub cut_slots : (x : Indexed) (finals : Names) (chain : List ℕ) (n : ℕ) (slots : Slots) → AreSlots x finals chain slots → AreSlots x finals (take n chain) slots
+cut_slots x finals chain n slots is = record {
+  sound = is.sound;
+  rises = is.rises;
+  complete = λ p v e s among f. is.complete p v (get_take n chain p e) s among f;
+}
 
 -- ---- slots in the map
 
@@ -411,23 +416,23 @@ none_drops chain = record { count = 0; is = refl; kept = λ e h v. h; ends = λ 
 abbrev nearest_last : List Entry → Option ℕ
 nearest_last es = option_and_then (λ (e : Entry). e.nearest) (last_of es)
 
-module _ (count : ℕ) (x : Indexed) (chain : List ℕ) (slots : Slots) (is : AreSlots x chain slots) (chained : IsChain count x chain) (c : ℕ)
-    (ends : last_of chain ≡ superclass_at x c) (k : Key) (first second : List ℕ) (first_is : first ≡ slot_name (open_slot k))
+module _ (count : ℕ) (x : Indexed) (finals : Names) (chain : List ℕ) (slots : Slots) (is : AreSlots x finals chain slots) (chained : IsChain count x chain)
+    (c : ℕ) (ends : last_of chain ≡ superclass_at x c) (k : Key) (among : IsFinalName finals k) (first second : List ℕ) (first_is : first ≡ slot_name (open_slot k))
     (second_is : second ≡ slot_name (package_slot (package_at x c) k)) (mid new : Slots)
     (others_mid : OthersStay first slots mid) (drops_mid : Drops chain (entries_in slots first) (entries_in mid first))
     (others_new : OthersStay second mid new) (drops_new : Drops chain (entries_in mid second) (entries_in new second)) where
-  between : AreSlots x chain mid
-  between = after_drop x chain slots is first mid others_mid drops_mid
+  between : AreSlots x finals chain mid
+  between = after_drop x finals chain slots is first mid others_mid drops_mid
 
-  pub after_both : AreSlots x chain new
-  after_both = after_drop x chain mid between second new others_new drops_new
+  pub after_both : AreSlots x finals chain new
+  after_both = after_drop x finals chain mid between second new others_new drops_new
 
   pub told_open : TellsTop x c (open_slot k) (nearest_last (entries_in mid first))
-  told_open = top_of x chain slots is count chained c ends (open_slot k) (entries_in mid first)
+  told_open = top_of x finals chain slots is count chained c ends (open_slot k) among (entries_in mid first)
       (subst (λ z. Drops chain (entries_in slots z) (entries_in mid first)) first_is drops_mid)
 
   pub told_own : TellsTop x c (package_slot (package_at x c) k) (nearest_last (entries_in new second))
-  told_own = top_of x chain mid between count chained c ends (package_slot (package_at x c) k) (entries_in new second)
+  told_own = top_of x finals chain mid between count chained c ends (package_slot (package_at x c) k) among (entries_in new second)
       (subst (λ z. Drops chain (entries_in mid z) (entries_in new second)) second_is drops_new)
 
   pub others_both : OtherKeysStay k slots new
@@ -502,12 +507,12 @@ slot_key x k v y = by (has y.flags public || has y.flags protected)
     by false = refl
 
 -- a method stays in its slot when that of another key is put into its own
-pub method_stays : (x : Indexed) (old new : Slots) (v place : ℕ) (k l : Key) → OtherKeysStay l old new → HasMethod x new v place l
-    → HasMethod x old v place k → HasMethod x new v place k
-method_stays x old new v place k l others own has = ⊎_elim
-    (λ e. subst (HasMethod x new v place) (sym e) own)
-    (λ n. λ y d.
-    let h = has y d in
+pub method_stays : (x : Indexed) (finals : Names) (old new : Slots) (v place : ℕ) (k l : Key) → OtherKeysStay l old new
+    → HasMethod x finals new v place l → HasMethod x finals old v place k → HasMethod x finals new v place k
+method_stays x finals old new v place k l others own has = ⊎_elim
+    (λ e. subst (HasMethod x finals new v place) (sym e) own)
+    (λ n. λ among y d.
+    let h = has among y d in
     (h.0, subst (λ es. Contains es h.0) (sym (others (slot_of x k v y) (λ e. n (sym (slot_key x k v y) ∙ e)))) h.1, h.2, h.3))
     (same_key k l)
 
@@ -552,20 +557,22 @@ no_methods Outside n = refl
 no_methods Absent n = refl
 
 -- a class without methods
-pub no_method : (x : Indexed) (v : ℕ) (k : Key) (slots : Slots) (place : ℕ) → methods_of (standing_of x v) ≡ [] → HasMethod x slots v place k
-no_method x v k slots place e y d = no_some (sym (ap (λ ms. only_inheritable (member ms k)) e) ∙ d)
+pub no_method : (x : Indexed) (finals : Names) (v : ℕ) (k : Key) (slots : Slots) (place : ℕ) → methods_of (standing_of x v) ≡ []
+    → HasMethod x finals slots v place k
+no_method x finals v k slots place e among y d = no_some (sym (ap (λ ms. only_inheritable (member ms k)) e) ∙ d)
 
 pub place_there : {X : Type 0} (xs : List X) (i : ℕ) → slice_get xs i ≡ None → i < length xs → ⊥
 place_there xs i e l = no_some (sym e ∙ (get_some xs i l).1)
 
 -- a search that has visited no class
-pub no_search : (count : ℕ) (x : Indexed) (f : FinalSearch) → f.chain.items ≡ [] → f.slots ≡ map.empty → IsSearch count x f
-no_search count x f chain slots = record {
+pub no_search : (count : ℕ) (x : Indexed) (f : FinalSearch) → AreFinals count x f.finals → f.chain.items ≡ [] → f.slots ≡ map.empty → IsSearch count x f
+no_search count x f finals chain slots = record {
+  finals = finals;
   chain = subst (IsChain count x) (sym chain) (no_chain count x);
   slots = record {
     sound = λ s e h. absurd (none s h);
     rises = λ s. subst (IsNonDecreasingBy (λ (e : Entry). e.place)) (sym (no_entries s)) (λ i j d l m. absurd (omega arith));
-    complete = λ p v e s fits. no_some (ap (λ l. slice_get l p) (sym chain) ∙ e);
+    complete = λ p v e s among fits. no_some (ap (λ l. slice_get l p) (sym chain) ∙ e);
   };
 }
   where
@@ -574,3 +581,44 @@ no_search count x f chain slots = record {
 
     none : (s : Slot) {e : Entry} → Contains (entries_at f.slots s) e → ⊥
     none s {e} h = let q = subst (λ l. Contains l e) (no_entries s) h in let l = q.1 in absurd (omega arith)
+
+-- ---- names of FINAL methods
+
+inheritable_is : (o : Option Member) (y : Member) → only_inheritable o ≡ Some y → o ≡ Some y
+inheritable_is None y e = no_some e
+inheritable_is (Some z) y e = by (has z.flags private || has z.flags static) e
+  where
+    by : (b : Bool) → cond b None (Some z) ≡ Some y → Some z ≡ Some y
+    by true e = no_some e
+    by false e = e
+
+-- the method with a key is one of the list
+found_place : (ms : List Member) (k : Key) (y : Member) → member ms k ≡ Some y → (i : ℕ) × (slice_get ms i ≡ Some y) × (y.name ≡ k.name)
+found_place [] k y e = no_some e
+found_place (m ∷ ms) k y e = by (is_at k m) refl e (found_place ms k y)
+  where
+    by : (b : Bool) → is_at k m ≡ b → cond b (Some m) (member ms k) ≡ Some y
+        → (member ms k ≡ Some y → (i : ℕ) × (slice_get ms i ≡ Some y) × (y.name ≡ k.name)) → (i : ℕ) × (slice_get (m ∷ ms) i ≡ Some y) × (y.name ≡ k.name)
+    by true h e on = (0, e, ap (λ (z : Member). z.name) (sym (some_is e)) ∙ same_is _ _ (and_parts _ _ h).0)
+    by false h e on = let w = on e in (suc w.0, w.1, w.2)
+
+-- the names of the FINAL methods of one more class
+pub finals_on : (x : Indexed) (n : ℕ) (old new : Names) → AreFinals n x old → AddsFinals (methods_of (standing_of x n)) (length (methods_of (standing_of x n))) old new
+    → AreFinals (n + 1) x new
+finals_on x n old new are adds v k y l d f = ⊎_elim
+    (λ lower. adds.stay k.name (are v k y lower d f))
+    (λ last.
+    let same : v ≡ n = omega arith in
+    let ms = methods_of (standing_of x n) in
+    let p = found_place ms k y (inheritable_is (member ms k) y (ap (λ z. overridable_at x k z) (sym same) ∙ d)) in
+    ap (map.contains_key new) (sym p.2) ∙ adds.added p.0 y (get_within ms p.0 p.1) p.1 f)
+    (cases_lt v n)
+
+-- a class without methods
+pub finals_none : (x : Indexed) (n : ℕ) (old : Names) → AreFinals n x old → methods_of (standing_of x n) ≡ [] → AreFinals (n + 1) x old
+finals_none x n old are none v k y l d f = ⊎_elim
+    (λ lower. are v k y lower d f)
+    (λ last.
+    let same : v ≡ n = omega arith in
+    no_some (sym (ap (λ z. overridable_at x k z) same ∙ ap (λ ms. only_inheritable (member ms k)) none) ∙ d))
+    (cases_lt v n)

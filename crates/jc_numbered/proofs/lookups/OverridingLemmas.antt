@@ -11,6 +11,8 @@ use Rattle.jc_classes.specs.Overriding.{IsFinalAbove, IsSuperclass, Overrides, O
 use Rattle.jc_classes.specs.Overriding.{Overrides as overrides}
 use Rattle.jc_classes.specs.Worlds.{Extends, World, member, methods_of, superclass_of, Extends as extends}
 use Rattle.jc_classes.proofs.worlds.NameTests.{same_is, same_self}
+use Rattle.std.specs.FinMap as map
+use Rattle.jc_numbered.specs.inside.FinalSearches.{AreFinals, Names}
 use Rattle.jc_numbered.specs.inside.Chain.{ExtendsNode, ExtendsNode as node}
 use Rattle.jc_numbered.specs.inside.Indexed.{Indexed, IsGraph, IsIndexed, good_at, indexed_name, rank_at, standing_of, superclass_at}
 use Rattle.jc_numbered.specs.inside.Overriding.{Fits, IsFinalFrom, IsNearestFrom, TellsFinal, TellsNearest, nearer, overridable_at, package_at, slot_of}
@@ -446,6 +448,14 @@ module _ (count : ℕ) (x : Indexed) (graph : IsGraph count x) where
             declares : (m : World) {b a : Name} → Overrides m k b a → (y : Member) × (overridable m k b ≡ Some y)
             declares m (overrides.directly {x = y} u d f o) = (y, d)
             declares m (overrides.through p q) = declares m p
+
+    -- no method of this name is FINAL
+    pub never_final : (finals : Names) → AreFinals count x finals → map.contains_key finals k.name ≡ false → TellsFinal x k c None
+    never_final finals all none m index a f =
+        let w = above_numbered m index c class (up m k f.overrides) in
+        let l = above_within w.1 in
+        let d = sym (overridable_is m index k w.0 l) ∙ ap (overridable m k) w.2 ∙ f.declared in
+        false≢true (sym none ∙ all w.0 k f.method l d f.final)
 
     pub nearest_itself : (y : Member) → overridable_at x k c ≡ Some y → has y.flags final ≡ true → TellsNearest x k c (Some c)
     nearest_itself y d f = (

@@ -8,6 +8,7 @@ use Rattle.std.specs.List.Sorted.{IsNonDecreasingBy}
 use Rattle.std.specs.declared.alloc.Global.{Global}
 use Rattle.std.specs.declared.vec.Vec.{Vec}
 use Rattle.jc_base.specs.Bytes.{bytes_cmp}
+use Rattle.jc_file.specs.AccessFlags.{final, has}
 use Rattle.jc_classes.specs.Facts.{Key, Member}
 use Rattle.jc_numbered.specs.declared.overriding.Entry.{Entry}
 use Rattle.jc_numbered.specs.declared.overriding.FinalSearch.{FinalSearch}
@@ -77,18 +78,43 @@ pub record IsPut (chain : List ℕ) (name : List ℕ) (entry : Entry) (old new :
 abbrev pub OtherKeysStay : Key → (old new : Slots) → Type 0
 OtherKeysStay k old new = (s : Slot) → s.key ≢ k → entries_at new s ≡ entries_at old s
 
+-- ---- names of FINAL methods
+
+abbrev pub Names : Type 0
+Names = map.FinMap bytes_cmp (Unit {0})
+
+-- a method of this name may be FINAL
+abbrev pub IsFinalName : (finals : Names) → Key → Type 0
+IsFinalName finals k = map.contains_key finals k.name ≡ true
+
+-- the names of all FINAL methods that may be overridden, and perhaps others
+abbrev pub AreFinals : (count : ℕ) → Indexed → (finals : Names) → Type 0
+AreFinals count x finals = (v : ℕ) (k : Key) (y : Member) → v < count → overridable_at x k v ≡ Some y → has y.flags final ≡ true → IsFinalName finals k
+
+-- the names stay, and that of the method is added if it is FINAL
+pub record AddsFinal (y : Member) (old new : Names) : Type 0 where
+  pub stay : (name : List ℕ) → map.contains_key old name ≡ true → map.contains_key new name ≡ true
+  pub added : has y.flags final ≡ true → map.contains_key new y.name ≡ true
+
+-- this for each of the first methods of a list
+pub record AddsFinals (ms : List Member) (count : ℕ) (old new : Names) : Type 0 where
+  pub stay : (name : List ℕ) → map.contains_key old name ≡ true → map.contains_key new name ≡ true
+  pub added : (i : ℕ) (y : Member) → i < count → slice_get ms i ≡ Some y → has y.flags final ≡ true → map.contains_key new y.name ≡ true
+
 -- ---- the search
 
--- the slots have the methods of the chain that may be overridden, and perhaps others at their ends
-pub record AreSlots (x : Indexed) (chain : List ℕ) (slots : Slots) : Type 0 where
+-- the slots have the methods of the chain that may be overridden and whose names are among `finals`, and perhaps others at
+-- their ends
+pub record AreSlots (x : Indexed) (finals : Names) (chain : List ℕ) (slots : Slots) : Type 0 where
   pub sound : (s : Slot) (e : Entry) → Contains (entries_at slots s) e → Fits x s e.node × TellsNearest x s.key e.node e.nearest
   pub rises : (s : Slot) → IsNonDecreasingBy (λ (e : Entry). e.place) (entries_at slots s)
-  pub complete : (p v : ℕ) → slice_get chain p ≡ Some v → (s : Slot) → Fits x s v → HasEntry slots s v p
+  pub complete : (p v : ℕ) → slice_get chain p ≡ Some v → (s : Slot) → IsFinalName finals s.key → Fits x s v → HasEntry slots s v p
 
 pub record IsSearch (count : ℕ) (x : Indexed) (f : FinalSearch) : Type 0 where
+  pub finals : AreFinals count x f.finals
   pub chain : IsChain count x f.chain.items
-  pub slots : AreSlots x f.chain.items f.slots
+  pub slots : AreSlots x f.finals f.chain.items f.slots
 
--- the method of the node with this key, if it may be overridden, is in its slot
-abbrev pub HasMethod : Indexed → Slots → (node place : ℕ) → Key → Type 0
-HasMethod x slots node place k = (y : Member) → overridable_at x k node ≡ Some y → HasEntry slots (slot_of x k node y) node place
+-- the method of the node with this key, if it may be overridden and its name is among `finals`, is in its slot
+abbrev pub HasMethod : Indexed → (finals : Names) → Slots → (node place : ℕ) → Key → Type 0
+HasMethod x finals slots node place k = IsFinalName finals k → (y : Member) → overridable_at x k node ≡ Some y → HasEntry slots (slot_of x k node y) node place

@@ -6,9 +6,6 @@ use Rattle.jc_resolve.specs.inside.Inheritance.{TellErrors}
 use Rattle.jc_resolve.proofs.lookups.InheritanceLemmas.{one_told}
 use Rattle.jc_resolve.proofs.all_inheritance.inheritance_of_all.Goals as goal
 
-pub find_depth_first-requires-clause-search : goal.find_depth_first-requires-clause-search
-find_depth_first-requires-clause-search c = c.new-search.ensures (length c.args.classes.now.standing.now) (indexed_of c.args.classes.now)
-
 pub loop-node-preserved : goal.loop-node-preserved
 loop-node-preserved c =
     let x = indexed_of c.args.classes.now in

@@ -3,7 +3,7 @@ use Rattle.std.proofs.lemmas.Result.{on_ok_weaker}
 use Rattle.jc_file.specs.AccessFlags.{final, has}
 use Rattle.jc_classes.specs.Lent.{key_lent, member_lent}
 use Rattle.jc_numbered.specs.declared.overriding.Entry.{Entry}
-use Rattle.jc_numbered.specs.inside.FinalSearches.{AreSlots, HasEntry, IsChain, IsPut}
+use Rattle.jc_numbered.specs.inside.FinalSearches.{AreFinals, AreSlots, HasEntry, IsChain, IsPut}
 use Rattle.jc_numbered.specs.inside.Overriding.{TellsNearest, overridable_at, slot_of}
 use Rattle.jc_numbered.specs.inside.Shown.{indexed_of}
 use Rattle.jc_numbered.specs.inside.Slots.{slot_name}
@@ -38,10 +38,11 @@ returns-clause-search c =
     let place : c.len-place.result ≡ length f.chain.items = c.len-place.ensures ∙ (let q = f.chain.ok in omega arith) in
     on_ok_weaker c.put.result
     (λ (p : IsPut f.chain.items c.in_ok-slot.slot.items entry f.slots new.slots). record {
+      finals = subst (AreFinals count x) (sym c.put.ensures.finals) is.finals;
       chain = subst (IsChain count x) (sym c.put.ensures.chain) is.chain;
-      slots = subst (λ z. AreSlots x z new.slots) (sym c.put.ensures.chain)
-          (after_put x f.chain.items f.slots is.slots t new.slots entry (subst (λ z. IsPut f.chain.items z entry f.slots new.slots) c.in_ok-slot.ensures p)
-          place (fits_own x k v y declared) (tells_own x k v y c.if-has.nearest tells));
+      slots = subst (λ z. AreSlots x z new.chain.items new.slots) (sym c.put.ensures.finals) (subst (λ z. AreSlots x f.finals z new.slots) (sym c.put.ensures.chain)
+          (after_put x f.finals f.chain.items f.slots is.slots t new.slots entry (subst (λ z. IsPut f.chain.items z entry f.slots new.slots) c.in_ok-slot.ensures p)
+          place (fits_own x k v y declared) (tells_own x k v y c.if-has.nearest tells)));
     })
     c.put.ensures.put
 
@@ -73,7 +74,7 @@ returns-clause-method c =
     let declared : overridable_at x k v ≡ Some y = sym c.in-Some.ensures in
     let place : c.len-place.result ≡ length f.chain.items = c.len-place.ensures ∙ (let q = f.chain.ok in omega arith) in
     on_ok_weaker c.put.result
-    (λ (p : IsPut f.chain.items c.in_ok-slot.slot.items entry f.slots new.slots). λ z d.
+    (λ (p : IsPut f.chain.items c.in_ok-slot.slot.items entry f.slots new.slots). λ among z d.
     subst (λ n. HasEntry new.slots (slot_of x k v z) v n) (ap length c.in_ok-above.ensures.chain)
     (subst (λ w. HasEntry new.slots (slot_of x k v w) v (length f.chain.items)) (some_is (sym declared ∙ d))
     (put_entry f.chain.items t f.slots new.slots entry (subst (λ b. IsPut f.chain.items b entry f.slots new.slots) c.in_ok-slot.ensures p) place)))

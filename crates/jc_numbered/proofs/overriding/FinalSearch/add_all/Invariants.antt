@@ -8,5 +8,6 @@ abbrev pub invariant-loop-number : goal.invariant-loop-number
 invariant-loop-number l = record {
   search : IsSearch (length l.classes.standing.now) (indexed_of l.classes) l.self;
   chain : l.self.chain.items ≡ l.fn.self.chain.items;
-  methods : (i : ℕ) → i < l.number → HasMethod (indexed_of l.classes) l.self.slots l.node (length l.fn.self.chain.items) (key_at l.facts.methods i);
+  finals : l.self.finals ≡ l.fn.self.finals;
+  methods : (i : ℕ) → i < l.number → HasMethod (indexed_of l.classes) l.fn.self.finals l.self.slots l.node (length l.fn.self.chain.items) (key_at l.facts.methods i);
 }
