@@ -70,6 +70,7 @@ FIGURES = (
     *hostile_figures("members_below_a_chain", "check", False),
     *hostile_figures("few_references_each_below_a_chain", "check", True),
     *hostile_figures("few_references_each_below_a_chain", "session", True),
+    *hostile_figures("methods_of_a_chain", "check --errors", True),
     *hostile_figures("code_faults", "check", True),
     *hostile_figures("members_of_a_long_missing_name", "check", False),
     *hostile_figures("members_of_a_long_missing_name", "session", False),
