@@ -242,15 +242,21 @@ def with_methods(name, parent, count, flags=PUBLIC | NATIVE):
     return class_file(pool, name, parent=parent, methods=[(flags, pool.text(b"m%d" % at), descriptor, []) for at in range(count)])
 
 
+def final_methods(count):
+    """Returns a file with FINAL methods m0, m1, .., which no class of the tree inherits."""
+    return {"F.class": with_methods(b"F", OBJECT, count, PUBLIC | NATIVE | FINAL)}
+
+
 def methods_of_a_chain():
-    """A chain of classes whose methods override those of all their superclasses."""
-    return {f"{number}.class": with_methods(b"C%d" % number, b"C%d" % (number - 1) if number else OBJECT, 250) for number in range(2000)}
+    """A chain of classes whose methods override those of all their superclasses. A class beside it has FINAL ones."""
+    files = {f"{number}.class": with_methods(b"C%d" % number, b"C%d" % (number - 1) if number else OBJECT, 250) for number in range(2000)}
+    return files | final_methods(250)
 
 
 def methods_below_a_chain():
-    """Classes with one method each, below a chain of superclasses without methods."""
+    """Classes with one method each, below a chain of superclasses without methods. A class beside it has a FINAL one."""
     files = {f"{number}.class": plain(b"C%d" % number, parent=b"C%d" % (number - 1) if number else OBJECT) for number in range(30000)}
-    return files | {f"L{number}.class": with_methods(b"L%d" % number, b"C29999", 1) for number in range(30000)}
+    return files | final_methods(1) | {f"L{number}.class": with_methods(b"L%d" % number, b"C29999", 1) for number in range(30000)}
 
 
 def below_one_final_class():
