@@ -264,7 +264,7 @@ def below_one_final_class():
     pool = Pool()
     name, descriptor = pool.text(b"m0"), pool.text(b"()V")
     top = class_file(pool, b"A", flags=PUBLIC | SUPER | FINAL, methods=[(PUBLIC | FINAL | NATIVE, name, descriptor, [])])
-    return {"A.class": top} | {f"{number}.class": with_methods(b"C%d" % number, b"A", 1) for number in range(60000)}
+    return {"A.class": top} | {f"{number}.class": with_methods(b"C%d" % number, b"A", 1) for number in range(30000)}
 
 
 def references_below_interfaces():
