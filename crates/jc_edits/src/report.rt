@@ -212,7 +212,6 @@ impl Report {
     }
 }
 
-/// Returns the path of an edit, and the new bytes of the file there.
 /// Returns whether an edit adds a file.
 fn is_add(edit: &LentEdit<'_>) -> bool
     ensures { result ≡ is_add (change_lent edit.now) }
@@ -220,6 +219,7 @@ fn is_add(edit: &LentEdit<'_>) -> bool
     matches!(edit, LentEdit::Add(..))
 }
 
+/// Returns the path of an edit, and the new bytes of the file there.
 fn parts_of<'a>(edit: LentEdit<'a>) -> (&'a [u8], Option<Vec<u8>>)
     ensures path { result.0.now ≡ path_of (change_lent edit.entry) }
     ensures bytes { bytes_held result.1 ≡ bytes_of (change_lent edit.entry) }

@@ -36,12 +36,11 @@ struct Entry {
 
 /// A search for FINAL methods that the methods of classes override.
 ///
-/// It knows the methods of the superclasses of the class that was visited last. If each class is visited after its
-/// superclass and before any class that is not below this superclass, all visits together take time linear in the number
-/// of classes and of their methods, apart from look-up in maps.
+/// It knows the methods of the superclasses of the class that was visited last. In the order of [`crate::depth_first`],
+/// all visits together take time linear in the number of classes and of their methods, apart from look-up in maps.
 #[derive(Drop)]
 pub struct FinalSearch {
-    /// The names of all FINAL methods that may be overridden. Methods of other names are left out.
+    /// The names of all FINAL methods. Methods of other names are left out.
     finals: ByteMap<()>,
     /// A chain of superclasses, the topmost first.
     chain: Vec<usize>,

@@ -17,6 +17,10 @@ impl<'w, W: Output> TextWriter<'w, W> {
     pub fn shown(&mut self, text: &[u8])
         ensures { Sends W.written W.failures self.old self.new (shown text.now) }
     {
+        // After a failed write nothing more is written, so no text is read.
+        if self.has_failed() {
+            return;
+        }
         if are_plain(text) {
             self.text(text);
         } else {
@@ -30,9 +34,6 @@ impl<'w, W: Output> TextWriter<'w, W> {
     fn shown_escaped(&mut self, text: &[u8])
         ensures { Sends W.written W.failures self.old self.new (shown text.now) }
     {
-        if self.has_failed() {
-            return;
-        }
         if check_units(text).is_ok() {
             self.units(text);
         } else {

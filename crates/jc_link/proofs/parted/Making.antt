@@ -53,7 +53,7 @@ part_made m d ns st supertypes h class ring how found errors faults wrong own_st
       links = links ∙ ap (λ n. links_of n (standing_at h class) found) name ∙ ap (λ s. links_of d s found) here;
     }
 
--- what is told of the errors of inheritance of some classes by numbers
+-- the errors of inheritance of some classes, by their numbers
 pub inheritance_made : (m : World) (ns : List Name) (st : List Stands) (supertypes : List (List ℕ)) (h : Numbered) (classes : List ℕ)
     (es : List InheritanceErrors) → st ≡ map m ns → h ≡ record { names = ns; standing = st; supertypes = supertypes }
     → ((k : World) → Agrees k h → AreInherited k (map (name_at h.names) classes) es) → AreInherited m (map (name_at ns) classes) es

@@ -41,7 +41,7 @@ pub record IsPath (count : ℕ) (x : Indexed) (node : ℕ) (path : List ℕ) (ab
 abbrev pub Slots : Type 0
 Slots = map.FinMap bytes_cmp (Vec Entry Global)
 
--- the methods of the slot that these bytes stand for
+-- the methods of the slot with this name
 abbrev pub entries_in : Slots → List ℕ → List Entry
 entries_in slots name = option_map_or (λ v. v.items) (map.get slots name) []
 

@@ -29,6 +29,6 @@ abbrev pub name_in : Option Name → Key → List ℕ
 name_in None k = 0 ∷ key_name k
 name_in (Some p) k = 1 ∷ ended p ++ key_name k
 
--- the bytes that stand for a slot. Different slots have different bytes
+-- the name of a slot, as bytes. Different slots have different names
 abbrev pub slot_name : Slot → List ℕ
 slot_name s = name_in s.in_package s.key

@@ -1,10 +1,7 @@
 use Rattle.std.proofs.Common.{sym, ◌∙◌}
-use Rattle.jc_text.proofs.Sending.{◌⟫◌, sends_dropped, sends_equal}
+use Rattle.jc_text.proofs.Sending.{◌⟫◌, sends_equal}
 use Rattle.jc_text.proofs.texts.PlainRuns.{shown_spelled, shown_unspelled}
 use Rattle.jc_text.proofs.text_writer.TextWriter.shown_escaped.Goals as goal
-
-pub returns-then-has_failed : goal.returns-then-has_failed
-returns-then-has_failed g c = sends_dropped (sym c.has_failed.ensures ∙ c.if-has_failed.true)
 
 pub returns-then-is_ok : goal.returns-then-is_ok
 returns-then-is_ok g c =
