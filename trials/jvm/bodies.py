@@ -8,8 +8,8 @@ methods of few names and random flags. The trial needs a java of version 17 or l
 
 The machine makes an object of each class that is neither ABSTRACT nor an interface. It calls on it each ABSTRACT method of the
 class and its supertypes, by invokeinterface or invokevirtual, in a class of the package of the method's class. A call that
-throws AbstractMethodError or IncompatibleClassChangeError has no body, and one that returns has a body. The judge must say the
-same of each call, and which of the errors is thrown. The trial explains other outcomes only if it finds the reason in the world:
+throws AbstractMethodError or IncompatibleClassChangeError has no body, and one that returns has a body. The judge must agree
+on each call, and on which of the errors is thrown. The trial explains other outcomes only if it finds the reason in the world:
 
 - `several bodies`: several default methods are left. By SE 8, 6.5, and in HotSpot 25 this is an IncompatibleClassChangeError, in
   HotSpot 17 an AbstractMethodError;
