@@ -12,7 +12,7 @@
 # dist/MANIFEST describes dist/x86_64-linux/jclink. crates/jclink/out/MANIFEST describes the checkout's own build.
 
 # Raised when the program's output or its statuses change.
-version=1.4
+version=1.5
 platform=x86_64-linux
 released=$top/dist/$platform/jclink
 built=$top/crates/jclink/out/jclink

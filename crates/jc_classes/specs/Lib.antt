@@ -21,6 +21,7 @@ pub mod Overriding
 pub mod Parts
 pub mod Resolution
 pub mod ResolvedDescriptors
+pub mod Selection
 pub mod UsedConstants
 pub mod UserLaws
 pub mod Users

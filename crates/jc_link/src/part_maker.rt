@@ -7,6 +7,7 @@ ghost use Rattle.jc_classes.specs.Inheritance.{AreInherited};
 ghost use Rattle.jc_classes.specs.NameLists.{Lists};
 ghost use Rattle.jc_classes.specs.Numbers.{name_at};
 ghost use Rattle.jc_classes.specs.Parts.{IsPart, Reach};
+ghost use Rattle.jc_classes.specs.Selection.{EachUnimplemented, IsNamed};
 ghost use Rattle.jc_classes.specs.Worlds.{World};
 ghost use Rattle.jc_link.specs.Closures.{facts_standing};
 ghost use Rattle.jc_link.specs.Graphs.{IsIn};
@@ -20,7 +21,7 @@ use jc_base::NoMemory;
 use jc_classes::{Facts, Numbers};
 use jc_graph::{Seen, mark_above};
 use jc_index::PackedNames;
-use jc_resolve::{Hierarchy, InheritanceErrors};
+use jc_resolve::{Hierarchy, InheritanceErrors, Unimplemented};
 use std::alloc::Global;
 use std::marker::Model;
 
@@ -99,6 +100,16 @@ impl<'g, 't> PartMaker<'g, 't> {
         inheritance_in(alloc, self.graph, &self.hierarchy)
     }
 
+    /// Finds the ABSTRACT methods for which each class of the graph has no body, in the order of the classes (JVMS 6.5).
+    ///
+    /// Returns `NoMemory` when an allocation fails, and when the lists of all classes have more than 2,097,152 entries.
+    /// Classes with the same methods share a list.
+    pub fn unimplemented(&self, alloc: Global) -> Result<Unimplemented<'t>, NoMemory>
+        ensures { (m : World) → IsIn m self.now → IsNamed m → IfOk result (EachUnimplemented m self.now.classes) }
+    {
+        unimplemented_in(alloc, self.graph, &self.hierarchy)
+    }
+
     /// Returns the names that the class at a place reaches, in ascending order.
     ///
     /// Returns `NoMemory` when an allocation fails, and when the names have more than 4,294,967,295 bytes together.
@@ -153,6 +164,18 @@ fn inheritance_in(
     ensures { (m : World) → IsIn m graph.now → IfOk result (λ es. AreInherited m graph.now.classes es.items) }
 {
     hierarchy.inheritance_errors(alloc, graph.classes.as_slice())
+}
+
+/// Finds the ABSTRACT methods for which the classes of a graph have no body, over its hierarchy.
+fn unimplemented_in<'t>(
+    alloc: Global,
+    graph: &ClassGraph<'t>,
+    hierarchy: &Hierarchy<'_, 't>,
+) -> Result<Unimplemented<'t>, NoMemory>
+    requires { IsHierarchyOf graph.now hierarchy.now }
+    ensures { (m : World) → IsIn m graph.now → IsNamed m → IfOk result (EachUnimplemented m graph.now.classes) }
+{
+    hierarchy.unimplemented(alloc, graph.classes.as_slice())
 }
 
 /// Returns the working memory that was kept, or allocates it.

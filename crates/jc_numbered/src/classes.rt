@@ -111,7 +111,7 @@ impl<'c, 't> Classes<'c, 't> {
     }
 
     /// Returns whether two nodes are in one package.
-    pub(crate) fn are_together(&self, node: usize, other: usize) -> bool
+    pub fn are_together(&self, node: usize, other: usize) -> bool
         ensures { result ≡ same_package (indexed_of self.now) node other }
     {
         same(self.package(node), self.package(other))
@@ -158,7 +158,7 @@ impl<'c, 't> Classes<'c, 't> {
     }
 
     /// Returns whether a node is an interface.
-    pub(crate) fn is_interface(&self, node: usize) -> bool
+    pub fn is_interface(&self, node: usize) -> bool
         requires { node < length self.now.standing.now }
         ensures { result ≡ is_interface_at (indexed_of self.now) node }
     {

@@ -22,7 +22,7 @@ pub use above::Above;
 pub use access::{AccessTarget, can_use};
 pub use classes::{Classes, FoundMember};
 pub use loads::{Load, can_see, judge_each};
-pub use overriding::FinalSearch;
+pub use overriding::{FinalSearch, key_of, overridable};
 pub use packages::package_ends;
 pub use picks::{candidates, is_pick, lowest};
 pub use subclasses::depth_first;

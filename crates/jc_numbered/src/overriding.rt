@@ -385,7 +385,7 @@ fn nearer(classes: &Classes, one: Option<usize>, other: Option<usize>) -> Option
 }
 
 /// Returns the method of this name and descriptor that a class declares, if it is neither STATIC nor PRIVATE.
-fn overridable<'a>(classes: &'a Classes, node: usize, key: Key) -> Option<Member<'a>>
+pub fn overridable<'a>(classes: &'a Classes, node: usize, key: Key) -> Option<Member<'a>>
     requires { node < length classes.now.standing.now }
     ensures { option_map member_lent result ≡ overridable_at (indexed_of classes.now) (key_lent key.entry) node }
 {
@@ -398,7 +398,7 @@ fn overridable<'a>(classes: &'a Classes, node: usize, key: Key) -> Option<Member
 }
 
 /// Returns the name and the descriptor of a method.
-fn key_of(method: Member<'_>) -> Key<'_>
+pub fn key_of(method: Member<'_>) -> Key<'_>
     ensures { key_lent result ≡ key_of (member_lent method.entry) }
 {
     Key {

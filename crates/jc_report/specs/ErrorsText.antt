@@ -1,5 +1,5 @@
 -- The text of the errors of a report: one line for each.
-use Rattle.std.specs.Prelude.{ℕ, Bool, true, false, ◌==◌, ◌+◌, ◌||◌, ◌&&◌, not, cond, List, [], ◌∷◌, ◌++◌, length, find, Option, Some, None, codes, decimal, option_map, slice_get, unwrap_or}
+use Rattle.std.specs.Prelude.{ℕ, Bool, true, false, ◌==◌, ◌+◌, ◌||◌, ◌&&◌, not, cond, List, [], ◌∷◌, ◌++◌, length, drop, find, Option, Some, None, codes, decimal, option_map, slice_get, slice_index_or, unwrap_or}
 use Rattle.std.specs.Borrow.{Bor}
 use Rattle.std.specs.List.{flat_map, list_any}
 use Rattle.std.specs.Option.{option_map_or}
@@ -124,8 +124,15 @@ final_superclass_error f = of_class f.name (codes "extends FINAL " ++ shown (unw
 abbrev pub overridden_error : Name → Inherited → List ℕ
 overridden_error name i = member_text name i.key ++ codes ": overrides FINAL " ++ member_text i.home i.key ++ codes "\n"
 
-abbrev pub inheritance_errors : Facts → InheritanceErrors → List ℕ
-inheritance_errors f e = cond e.extends_final (final_superclass_error f) [] ++ flat_map (overridden_error f.name) e.overridden
+-- the class has no body for the ABSTRACT method
+abbrev pub unimplemented_error : Name → Inherited → List ℕ
+unimplemented_error name i = of_class name (codes "no body for " ++ member_text i.home i.key ++ codes "\n")
+
+abbrev pub inheritance_errors : Facts → InheritanceErrors → List Inherited → List ℕ
+inheritance_errors f e methods =
+    cond e.extends_final (final_superclass_error f) []
+    ++ flat_map (overridden_error f.name) e.overridden
+    ++ flat_map (unimplemented_error f.name) methods
 
 -- ---- references that do not resolve
 
@@ -169,24 +176,29 @@ answer_errors used_only f number (r ∷ rs) (a ∷ answers) =
 
 -- ---- all of a report
 
--- the lines of a class in the order of the lines of its part; the errors of inheritance are before the references
-unfoldable pub part_errors : (used_only : Bool) → Facts → Part → InheritanceErrors → List ℕ
-part_errors used_only f p e =
+-- the lines of a class in the order of the lines of its part; the errors of inheritance and the methods without a body are
+-- before the references
+unfoldable pub part_errors : (used_only : Bool) → Facts → Part → InheritanceErrors → List Inherited → List ℕ
+part_errors used_only f p e methods =
     load_error f.name p.load
     ++ flat_map (λ fault. of_class f.name (format_line fault)) p.format_faults
     ++ flat_map (code_error f) p.code_faults
     ++ flat_map (link_error f) p.links
-    ++ inheritance_errors f e
+    ++ inheritance_errors f e methods
     ++ answer_errors used_only f 0 f.references p.answers
 
-abbrev pub class_errors : Asked → Class → InheritanceErrors → List ℕ
-class_errors asked c e = cond (is_asked asked (name_of c)) (part_errors asked.used_only c.facts c.part e) []
+abbrev pub class_errors : Asked → Class → InheritanceErrors → List Inherited → List ℕ
+class_errors asked c e methods = cond (is_asked asked (name_of c)) (part_errors asked.used_only c.facts c.part e methods) []
 
--- the lines of each class, with its errors of inheritance
-abbrev pub classes_errors : Asked → List Class → List InheritanceErrors → List ℕ
-classes_errors asked [] es = []
-classes_errors asked (c ∷ cs) [] = []
-classes_errors asked (c ∷ cs) (e ∷ es) = class_errors asked c e ++ classes_errors asked cs es
+-- the first list, or no methods
+abbrev pub first_methods : List (List Inherited) → List Inherited
+first_methods ls = slice_index_or ls 0 []
+
+-- the lines of each class, with its errors of inheritance and the methods for which it has no body
+abbrev pub classes_errors : Asked → List Class → List InheritanceErrors → List (List Inherited) → List ℕ
+classes_errors asked [] es ls = []
+classes_errors asked (c ∷ cs) [] ls = []
+classes_errors asked (c ∷ cs) (e ∷ es) ls = class_errors asked c e (first_methods ls) ++ classes_errors asked cs es (drop 1 ls)
 
 -- an unreadable file that is asked for
 abbrev pub is_wrong_file : Asked → FileRow → Bool
@@ -198,7 +210,7 @@ file_error asked row = cond (is_wrong_file asked row) (row_text row) []
 
 -- the whole text of the errors that are asked for
 unfoldable pub errors_text : Asked → TreeErrors → List ℕ
-errors_text asked e = flat_map (file_error asked) e.report.files ++ classes_errors asked e.report.classes e.inheritance
+errors_text asked e = flat_map (file_error asked) e.report.files ++ classes_errors asked e.report.classes e.inheritance e.unimplemented
 
 -- ---- whether there are any
 
@@ -221,12 +233,13 @@ is_wrong_class asked c = is_asked asked (name_of c) && is_wrong_listed asked.use
 abbrev pub is_wrong_among : Asked → Report → Bool
 is_wrong_among asked r = list_any (is_wrong_file asked) r.files || list_any (is_wrong_class asked) r.classes
 
--- whether a class that is asked for has an error of inheritance
-abbrev pub has_inheritance_error : Asked → List Class → List InheritanceErrors → Bool
-has_inheritance_error asked [] es = false
-has_inheritance_error asked (c ∷ cs) [] = false
-has_inheritance_error asked (c ∷ cs) (e ∷ es) = (is_asked asked (name_of c) && is_any e) || has_inheritance_error asked cs es
+-- whether a class that is asked for has an error of inheritance, or no body for a method
+abbrev pub has_inheritance_error : Asked → List Class → List InheritanceErrors → List (List Inherited) → Bool
+has_inheritance_error asked [] es ls = false
+has_inheritance_error asked (c ∷ cs) [] ls = false
+has_inheritance_error asked (c ∷ cs) (e ∷ es) ls =
+    (is_asked asked (name_of c) && is_any e (first_methods ls)) || has_inheritance_error asked cs es (drop 1 ls)
 
--- whether a file or a class that is asked for is wrong, or such a class has an error of inheritance
+-- whether a file or a class that is asked for is wrong, or such a class has an error of inheritance or no body for a method
 abbrev pub has_error_among : Asked → TreeErrors → Bool
-has_error_among asked e = is_wrong_among asked e.report || has_inheritance_error asked e.report.classes e.inheritance
+has_error_among asked e = is_wrong_among asked e.report || has_inheritance_error asked e.report.classes e.inheritance e.unimplemented

@@ -13,7 +13,7 @@ abbrev pub ReportIsOne : Type 0
 ReportIsOne = (f : Files) (prefixes : List Name) (r s : Report) → IsReport f prefixes r → IsReport f prefixes s → r ≡ s
 
 -- the text of the errors that are asked for is empty if and only if there are none. There is one if a file or class
--- that is asked for is wrong, or such a class has an error of inheritance
+-- that is asked for is wrong, or such a class has an error of inheritance or no body for a method
 abbrev pub ErrorsAreTold : Type 0
 ErrorsAreTold =
     (f : Files) (prefixes : List Name) (asked : Asked) (e : TreeErrors) → IsTreeErrors f prefixes e

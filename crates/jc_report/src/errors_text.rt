@@ -1,6 +1,6 @@
 //! The text of the errors of a tree: one line for each.
 
-ghost use Rattle.std.specs.Prelude.{◌≡◌, ◌++◌, codes, map, OnErr, OnOk};
+ghost use Rattle.std.specs.Prelude.{◌≡◌, ◌++◌, [], codes, map, slice_index_or, OnErr, OnOk};
 ghost use Rattle.std.specs.Io.KnownBytes.{Appends};
 ghost use Rattle.std.specs.List.{flat_map};
 ghost use Rattle.jc_base.specs.Device.{CountsFault, WritesFront};
@@ -25,7 +25,7 @@ use jc_classes::Facts;
 use jc_file::Fault;
 use jc_link::Part;
 use jc_list::write_format_line;
-use jc_resolve::{InheritanceErrors, Loading};
+use jc_resolve::{InheritanceErrors, Loading, Unimplemented};
 use jc_text::TextWriter;
 
 /// Writes one line for each error that is asked for.
@@ -36,7 +36,7 @@ use jc_text::TextWriter;
 /// - its load error or its format faults,
 /// - its code faults, by method,
 /// - its instructions that do not link, by method and offset,
-/// - its FINAL superclass, and the FINAL methods that it overrides,
+/// - its FINAL superclass, the FINAL methods that it overrides, and the ABSTRACT methods for which it has no body,
 /// - its references that do not resolve, by index.
 ///
 /// If the output fails, it has a beginning of this text.
@@ -59,7 +59,13 @@ fn write_each<W: Output>(text: &mut TextWriter<'_, W>, errors: &TreeErrors<'_>, 
 {
     let report = errors.report();
     write_files(text, report.files(), asked);
-    write_classes(text, report.classes(), errors.inheritance(), asked);
+    write_classes(
+        text,
+        report.classes(),
+        errors.inheritance(),
+        errors.unimplemented(),
+        asked,
+    );
 }
 
 fn write_files<W: Output>(text: &mut TextWriter<'_, W>, files: &[FileRow<'_>], asked: Asked<'_>)
@@ -80,38 +86,49 @@ fn write_file<W: Output>(text: &mut TextWriter<'_, W>, row: &FileRow<'_>, asked:
     }
 }
 
-/// Writes the errors of classes, each with its errors of inheritance.
+/// Writes the errors of classes, each with its errors of inheritance and the methods for which it has no body.
 fn write_classes<W: Output>(
     text: &mut TextWriter<'_, W>,
     classes: &[Class<'_>],
     inheritance: &[InheritanceErrors],
+    unimplemented: &Unimplemented<'_>,
     asked: Asked<'_>,
 )
-    ensures { Sends W.written W.failures text.old text.new (classes_errors (asked_lent asked.entry) classes.now inheritance.now) }
+    ensures { Sends W.written W.failures text.old text.new (classes_errors (asked_lent asked.entry) classes.now inheritance.now unimplemented.now) }
 {
     for place in 0..inheritance.len() {
         match classes.get(place) {
-            Some(class) => write_class(text, class, &inheritance[place], asked),
+            Some(class) => write_class(
+                text,
+                class,
+                &inheritance[place],
+                unimplemented,
+                place,
+                asked,
+            ),
             None => return,
         }
     }
 }
 
-/// Writes the errors of a class if it is asked for.
+/// Writes the errors of the class at a place if it is asked for.
 fn write_class<W: Output>(
     text: &mut TextWriter<'_, W>,
     class: &Class<'_>,
     inheritance: &InheritanceErrors,
+    unimplemented: &Unimplemented<'_>,
+    place: usize,
     asked: Asked<'_>,
 )
-    ensures { Sends W.written W.failures text.old text.new (class_errors (asked_lent asked.entry) class.now inheritance.now) }
+    ensures { Sends W.written W.failures text.old text.new (class_errors (asked_lent asked.entry) class.now inheritance.now (slice_index_or unimplemented.now place [])) }
 {
     if is_asked(asked, class.facts().name()) {
         write_part_errors(
             text,
-            class.facts(),
-            class.part(),
+            class,
             inheritance,
+            unimplemented,
+            place,
             asked.used_only,
         );
     }
@@ -119,18 +136,22 @@ fn write_class<W: Output>(
 
 fn write_part_errors<W: Output>(
     text: &mut TextWriter<'_, W>,
-    facts: &Facts,
-    part: &Part,
+    class: &Class<'_>,
     inheritance: &InheritanceErrors,
+    unimplemented: &Unimplemented<'_>,
+    place: usize,
     used_only: bool,
 )
-    ensures { Sends W.written W.failures text.old text.new (part_errors used_only facts.now part.now inheritance.now) }
+    ensures { Sends W.written W.failures text.old text.new
+        (part_errors used_only class.now.facts class.now.part inheritance.now (slice_index_or unimplemented.now place [])) }
 {
+    let facts = class.facts();
+    let part = class.part();
     write_load_error(text, facts.name(), part.load());
     write_format_errors(text, facts.name(), part.format_faults());
     write_code_errors(text, facts, part.code_faults());
     write_link_errors(text, facts, part.links());
-    write_inheritance_errors(text, facts, inheritance);
+    write_inheritance_errors(text, facts, inheritance, unimplemented, place);
     write_answer_errors(text, facts, part.answers(), used_only);
 }
 

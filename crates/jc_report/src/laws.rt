@@ -22,7 +22,7 @@ pub fn report_is_one()
 /// States when the text of the errors that are asked for is empty.
 ///
 /// - It is empty exactly if nothing that is asked for is wrong, and no class that is asked for has an error of
-///   inheritance.
+///   inheritance or no body for a method.
 /// - If all errors are asked for, something is wrong exactly if the report is wrong.
 pub fn errors_are_told()
     ensures told { ErrorsAreTold }

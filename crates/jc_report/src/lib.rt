@@ -2,8 +2,8 @@
 //!
 //! A [`Tree`] keeps the facts of the files that are added to it, but not their bytes. [`TreeReport`] has the state of each
 //! file and the part of each class: how it loads, its faults, and what its references resolve to. It also has the circular
-//! classes, and the rows that the tree provides and requires. [`TreeErrors`] adds the errors of inheritance, which a report
-//! does not have. `write_report` and `write_errors` print them.
+//! classes, and the rows that the tree provides and requires. [`TreeErrors`] adds what a report does not have: the errors of
+//! inheritance, and the ABSTRACT methods for which classes have no body. `write_report` and `write_errors` print them.
 //!
 //! `Circular` and `Provided` are the iterators over the names of the circular classes and over the provided rows, of a tree
 //! or of a session. A [`ClassIterator`] gives them the classes.

@@ -1,4 +1,5 @@
 pub mod Answers
 pub mod Linked
+pub mod Methods
 pub mod Numbered
 pub mod inside

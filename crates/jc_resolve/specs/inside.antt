@@ -1,3 +1,4 @@
+pub mod AbstractMethods
 pub mod Answered
 pub mod Chain
 pub mod Entries
@@ -15,5 +16,7 @@ pub mod Numbers
 pub mod Picks
 pub mod Resolved
 pub mod Rooms
+pub mod Selection
 pub mod Shows
 pub mod Sites
+pub mod Unimplemented

@@ -11,6 +11,7 @@ ghost use Rattle.jc_classes.specs.Numbers.{name_at};
 ghost use Rattle.jc_classes.specs.Worlds.{World, Above};
 ghost use Rattle.jc_resolve.specs.Answers.{loading_of};
 ghost use Rattle.jc_numbered.specs.inside.Shown.{indexed_of};
+ghost use Rattle.jc_classes.specs.Selection.{EachUnimplemented, IsNamed};
 ghost use Rattle.jc_resolve.specs.Numbered.{links_at, node_name, numbered, references_at};
 ghost use Rattle.jc_resolve.specs.Numbered.{Agrees, IsClosed, NumberReferences, TellsAnswers};
 ghost use Rattle.jc_resolve.specs.inside.Resolved.{loading_of as loading_at};
@@ -20,6 +21,7 @@ use crate::all_inheritance::inheritance_of_all;
 use crate::inheritance::InheritanceErrors;
 use crate::linked::Linked;
 use crate::loaded::load_classes;
+use crate::unimplemented::{Unimplemented, find_unimplemented};
 use crate::workspace::Workspace;
 use jc_base::NoMemory;
 use jc_classes::{LinkageError, Numbers, Standing};
@@ -167,5 +169,23 @@ impl<'c, 't> Hierarchy<'c, 't> {
             → AreInherited m (map (node_name self.now) nodes.now) es.items) }
     {
         inheritance_of_all(alloc, &self.classes, self.loads.as_slice(), nodes)
+    }
+
+    /// Finds the ABSTRACT methods for which each of some classes has no body, in the order of their numbers in `nodes`
+    /// (JVMS 6.5). A class that is ABSTRACT, an interface, or below an outside name has none.
+    ///
+    /// Takes time linear in the number of all classes and their methods, apart from look-up, if no class inherits many
+    /// such methods. Returns `NoMemory` when an allocation fails, and when the lists of all classes have more than
+    /// 2,097,152 entries.
+    pub fn unimplemented(
+        &self,
+        alloc: Global,
+        nodes: &[usize],
+    ) -> Result<Unimplemented<'t>, NoMemory>
+        requires { All (λ v. v < length self.now.names) nodes.now }
+        ensures { IfOk result (λ u. (m : World) → Agrees m self.now → IsNamed m
+            → EachUnimplemented m (map (node_name self.now) nodes.now) u) }
+    {
+        find_unimplemented(alloc, &self.classes, self.loads.as_slice(), nodes)
     }
 }

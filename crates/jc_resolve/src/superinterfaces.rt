@@ -48,7 +48,12 @@ fn is_only(classes: &Classes, covered: &Seen, nodes: &[usize], key: Key, first: 
 }
 
 /// Returns the node that is the only pick.
-fn sole_pick(classes: &Classes, covered: &Seen, nodes: &[usize], key: Key) -> Option<usize>
+pub(crate) fn sole_pick(
+    classes: &Classes,
+    covered: &Seen,
+    nodes: &[usize],
+    key: Key,
+) -> Option<usize>
     requires nodes { All (λ v. v < length classes.now.standing.now) nodes.now }
     requires covered { length covered.now.flags ≡ length classes.now.standing.now }
     ensures { TellsSole (is_pick (indexed_of classes.now) (key_lent key.entry) covered.now.flags) nodes.now result }

@@ -1,5 +1,7 @@
 -- What is told of a class by numbers is its part.
-use Rattle.std.proofs.Common.{◌≡◌, ℕ, ◌<◌, List, [], length, map, sym, ap, subst, ◌∙◌, Bool}
+use Rattle.std.proofs.Common.{◌≡◌, ℕ, ◌<◌, List, [], length, map, sym, ap, arith, subst, ◌∙◌, Bool}
+use Rattle.std.specs.List.{All}
+use Rattle.std.proofs.lemmas.List.Elements.{All-weaker}
 use Rattle.std.proofs.lemmas.Bool.{false≢true}
 use Rattle.std.proofs.lemmas.List.{get_or-map}
 use Rattle.std.specs.Bool.{Decides}
@@ -7,14 +9,16 @@ use Rattle.jc_code.specs.declared.code_fault.CodeFault.{CodeFault}
 use Rattle.jc_file.specs.declared.fault.Fault.{Fault}
 use Rattle.jc_classes.specs.Names.{Name}
 use Rattle.jc_classes.specs.Numbers.{name_at}
-use Rattle.jc_classes.specs.Inheritance.{AreInherited, InheritanceErrors}
 use Rattle.jc_classes.specs.LinkErrors.{LinkError, links_of}
 use Rattle.jc_classes.specs.Loading.{Load, Loading}
 use Rattle.jc_classes.specs.Parts.{AreAnswers, IsPart}
 use Rattle.jc_classes.specs.Resolution.{Answer}
 use Rattle.jc_classes.specs.Worlds.{Above, Stands, World, references_of, format_faults_of, code_faults_of}
 use Rattle.jc_classes.specs.Worlds.Stands.{Absent}
-use Rattle.jc_resolve.specs.Numbered.{Numbered, Agrees, TellsAnswers, standing_at}
+use Rattle.jc_resolve.specs.Numbered.{Numbered, Agrees, TellsAnswers, node_name, standing_at}
+use Rattle.jc_link.specs.Graphs.{ClassGraph, IsIn}
+use Rattle.jc_link.specs.declared.graph.ClassGraph.TheInside.{Inside}
+use Rattle.jc_link.specs.inside.GraphShown.{IsHierarchyOf, IsWhole, graph_shown}
 use Rattle.jc_link.specs.inside.TheClass.{TellsCircular}
 use Rattle.jc_link.specs.inside.Gathering.{stand_at}
 
@@ -53,10 +57,20 @@ part_made m d ns st supertypes h class ring how found errors faults wrong own_st
       links = links ∙ ap (λ n. links_of n (standing_at h class) found) name ∙ ap (λ s. links_of d s found) here;
     }
 
--- the errors of inheritance of some classes, by their numbers
-pub inheritance_made : (m : World) (ns : List Name) (st : List Stands) (supertypes : List (List ℕ)) (h : Numbered) (classes : List ℕ)
-    (es : List InheritanceErrors) → st ≡ map m ns → h ≡ record { names = ns; standing = st; supertypes = supertypes }
-    → ((k : World) → Agrees k h → AreInherited k (map (name_at h.names) classes) es) → AreInherited m (map (name_at ns) classes) es
-inheritance_made m ns st supertypes h classes es all is tells =
-    subst (λ (z : Numbered). AreInherited m (map (name_at z.names) classes) es) is
-    (tells m (subst (Agrees m) (sym is) (agrees m ns st all supertypes)))
+-- the numbers of the classes of a graph are numbers of its hierarchy
+pub classes_within : (g : ClassGraph) (h : Numbered) (a : Inside) (nodes : List ℕ) → IsHierarchyOf g h → graph_shown a ≡ g
+    → nodes ≡ a.classes.items → IsWhole a → All (λ v. v < length h.names) nodes
+classes_within g h a nodes hierarchy shown same whole =
+    let names = ap (λ (z : Numbered). length z.names) hierarchy.is ∙ ap (λ (z : ClassGraph). length z.names) (sym shown) in
+    subst (All (λ v. v < length h.names)) (sym same)
+    (All-weaker (λ v. v < length a.names) (λ v. v < length h.names) (λ v l. omega (arith, l, names)) a.classes.items whole.referred.classes_in)
+
+-- what is said of the numbered classes of a graph, over the names of these classes
+pub told_in : (P : World → List Name → Type 0) (m : World) (g : ClassGraph) (h : Numbered) (classes nodes : List ℕ)
+    → IsHierarchyOf g h → map (name_at g.names) classes ≡ g.classes → nodes ≡ classes → IsIn m g
+    → ((k : World) → Agrees k h → P k (map (node_name h) nodes)) → P m g.classes
+told_in P m g h classes nodes hierarchy shown same lies tells =
+    subst (P m) shown
+    (subst (λ numbers. P m (map (name_at g.names) numbers)) same
+    (subst (λ (z : Numbered). P m (map (name_at z.names) nodes)) hierarchy.is
+    (tells m (subst (Agrees m) (sym hierarchy.is) (agrees m g.names g.stands lies hierarchy.supertypes)))))

@@ -28,15 +28,15 @@ no_some e = absurd cc
 -- ---- superclasses
 
 module _ (m : World) where
-  weaken : {a c : Name} → IsSuperclass m a c → Extends m a c
+  pub weaken : {a c : Name} → IsSuperclass m a c → Extends m a c
   weaken q = extends.through q.1 q.2
 
-  joined : {a b c : Name} → Extends m a b → IsSuperclass m b c → IsSuperclass m a c
+  pub joined : {a b c : Name} → Extends m a b → IsSuperclass m b c → IsSuperclass m a c
   joined extends.itself q = q
   joined (extends.through {s = s} h r) q = (s, h, weaken (joined r q))
 
 module _ (m : World) (k : Key) where
-  up : {c a : Name} → Overrides m k c a → IsSuperclass m c a
+  pub up : {c a : Name} → Overrides m k c a → IsSuperclass m c a
   up (overrides.directly u x y o) = u
   up (overrides.through p q) = joined m (weaken m (up p)) (up q)
 

@@ -17,7 +17,7 @@ some_is e = cc
 no_some : {X : Type 0} {x : X} → None ≡ Some x → ⊥
 no_some e = cc
 
-both_true : (a b : Bool) → (a && b) ≡ true → (a ≡ true) × (b ≡ true)
+pub both_true : (a b : Bool) → (a && b) ≡ true → (a ≡ true) × (b ≡ true)
 both_true true b e = (refl, e)
 both_true false b e = absurd cc
 

@@ -30,19 +30,19 @@ pub record Loadable (m : World) (n : Name) : Type 0 where
   pub record_is : m n ≡ stands.Class class
   pub each : LoadEach m n (direct_supertypes class) loading.Loaded
 
-loaded_inv : {m : World} {n : Name} {a : Loading} → defs.Load m n a → a ≡ loading.Loaded → Loadable m n
+pub loaded_inv : {m : World} {n : Name} {a : Loading} → defs.Load m n a → a ≡ loading.Loaded → Loadable m n
 loaded_inv (load.missing e) q = absurd cc
 loaded_inv (load.outside e) q = absurd cc
 loaded_inv (load.faulty e o) q = absurd cc
 loaded_inv (load.round e o a) q = absurd cc
 loaded_inv {m} {n} (load.through {r = r} e o not l) q = record { not_above = not; class = r; record_is = e; each = subst (LoadEach m n (direct_supertypes r)) q l }
 
-outside_inv : {m : World} {n : Name} {a : Loading} → defs.Load m n a → a ≡ loading.Outside → (m n ≡ stands.Outside) ⊎ Loadable m n
-outside_inv (load.missing e) q = absurd cc
-outside_inv (load.outside e) q = inl e
-outside_inv (load.faulty e o) q = absurd cc
-outside_inv (load.round e o a) q = absurd cc
-outside_inv (load.through {r = r} e o not l) q = absurd (never l q)
+pub outside_only : {m : World} {n : Name} {a : Loading} → defs.Load m n a → a ≡ loading.Outside → m n ≡ stands.Outside
+outside_only (load.missing e) q = absurd cc
+outside_only (load.outside e) q = e
+outside_only (load.faulty e o) q = absurd cc
+outside_only (load.round e o a) q = absurd cc
+outside_only (load.through {r = r} e o not l) q = absurd (never l q)
   where
     no_out : (m : World) (n : Name) (p : Supertype) (a : Loading) → judged_supertype m n p a ≡ Some loading.Outside → ⊥
     no_out m n p loading.Loaded e = by (can_see n p.name (m p.name)) (same_bool (is_interface (m p.name)) p.is_class) e
@@ -59,12 +59,15 @@ outside_inv (load.through {r = r} e o not l) q = absurd (never l q)
     never {m} {n} (each.stops {p = p} {a = a} {b = b} l e) q = no_out m n p a (e ∙ ap Some q)
     never (each.passes l e rest) q = never rest q
 
+outside_inv : {m : World} {n : Name} {a : Loading} → defs.Load m n a → a ≡ loading.Outside → (m n ≡ stands.Outside) ⊎ Loadable m n
+outside_inv h q = inl (outside_only h q)
+
 good_of : (m : World) (n : Name) (p : Supertype) (a : Loading) → judged_supertype m n p a ≡ None → (a ≡ loading.Loaded) ⊎ (a ≡ loading.Outside)
 good_of m n p loading.Loaded e = inl refl
 good_of m n p loading.Outside e = inr refl
 good_of m n p (loading.Fails f x) e = absurd cc
 
-not_loaded : (m : World) (n : Name) (p : Supertype) (a : Loading) → judged_supertype m n p a ≡ Some loading.Loaded → ⊥
+pub not_loaded : (m : World) (n : Name) (p : Supertype) (a : Loading) → judged_supertype m n p a ≡ Some loading.Loaded → ⊥
 not_loaded m n p loading.Loaded e = by (can_see n p.name (m p.name)) (same_bool (is_interface (m p.name)) p.is_class) e
   where
     by : (s t : Bool) → cond s (cond t (Some (loading.Fails LinkageError.Incompatible p.name)) None) (Some (loading.Fails LinkageError.IllegalAccess p.name)) ≡ Some loading.Loaded → ⊥

@@ -14,7 +14,7 @@ pub returns-in-None : goal.returns-in-None
 returns-in-None g c =
     let n = c.loop-place.place in
     let at : slice_get c.args.classes.now n ≡ None = grind (arith, gets, c.in-None.ensures.lookup) in
-    all_sent c.loop-place.invariant (errors_past (asked_lent c.args.asked) c.args.classes.now (drop n c.args.inheritance.now) n at)
+    all_sent c.loop-place.invariant (errors_past (asked_lent c.args.asked) c.args.classes.now (drop n c.args.inheritance.now) (drop n c.args.unimplemented.now) n at)
 
 pub loop-place-preserved : goal.loop-place-preserved
 loop-place-preserved g c =
@@ -22,16 +22,18 @@ loop-place-preserved g c =
     let asked = asked_lent c.args.asked in
     let cs = c.args.classes.now in
     let es = c.args.inheritance.now in
+    let ls = c.args.unimplemented.now in
     let e = c.index-inheritance-place.result in
     let at : slice_get cs n ≡ Some c.in-Some.class.now = grind (arith, gets, c.in-Some.ensures.lookup) in
     let next : drop n es ≡ e ∷ drop (n + 1) es = drop_more es n e c.loop-place-test.true ∙ ap (λ x. x ∷ drop (n + 1) es) (sym c.index-inheritance-place.is) in
     part_sent c.loop-place.invariant
-    (ap (classes_errors asked (drop n cs)) next ∙ errors_next asked cs (drop (n + 1) es) n c.in-Some.class.now e at)
+    (ap (λ left. classes_errors asked (drop n cs) left (drop n ls)) next ∙ errors_next asked cs (drop (n + 1) es) ls n c.in-Some.class.now e at)
     c.write_class.ensures
 
 pub returns : goal.returns
 returns g c =
     let n = c.loop-place.place in
     all_sent c.loop-place.invariant
-    (ap (classes_errors (asked_lent c.args.asked) (drop n c.args.classes.now)) (drop_all n c.args.inheritance.now c.loop-place-test.false)
-    ∙ no_more (asked_lent c.args.asked) (drop n c.args.classes.now))
+    (ap (λ left. classes_errors (asked_lent c.args.asked) (drop n c.args.classes.now) left (drop n c.args.unimplemented.now))
+    (drop_all n c.args.inheritance.now c.loop-place-test.false)
+    ∙ no_more (asked_lent c.args.asked) (drop n c.args.classes.now) (drop n c.args.unimplemented.now))

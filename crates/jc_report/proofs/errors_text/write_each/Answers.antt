@@ -10,6 +10,8 @@ returns g c =
     let asked = asked_lent c.args.asked in
     sends_equal (ap (flat_map (file_error asked)) (c.files.ensures ∙ ap (λ r. r.files) c.report-report.ensures)) c.write_files.ensures
     ⟫ sends_equal
-    (ap (λ cs. classes_errors asked cs c.inheritance.result.now) (c.classes.ensures.by_name ∙ ap (λ r. r.classes) c.report-report.ensures)
-    ∙ ap (classes_errors asked c.args.errors.now.report.classes) c.inheritance.ensures)
+    (ap (λ cs. classes_errors asked cs c.inheritance.result.now c.unimplemented.result.now)
+    (c.classes.ensures.by_name ∙ ap (λ r. r.classes) c.report-report.ensures)
+    ∙ ap (λ es. classes_errors asked c.args.errors.now.report.classes es c.unimplemented.result.now) c.inheritance.ensures
+    ∙ ap (classes_errors asked c.args.errors.now.report.classes c.args.errors.now.inheritance) c.unimplemented.ensures)
     c.write_classes.ensures

@@ -12,11 +12,12 @@ returns-then-has_error c =
     let asked = asked_lent c.args.asked in
     let cs = c.args.classes.now in
     let es = c.args.inheritance.now in
+    let ls = c.args.unimplemented.now in
     let e = c.index-inheritance-place.result in
     let at : slice_get cs n ≡ Some c.in-Some.class.now = grind (arith, gets, c.in-Some.ensures.lookup) in
     let next : drop n es ≡ e ∷ drop (n + 1) es = drop_more es n e c.loop-place-test.true ∙ ap (λ x. x ∷ drop (n + 1) es) (sym c.index-inheritance-place.is) in
-    sym (c.loop-place.invariant ∙ ap (has_inheritance_error asked (drop n cs)) next ∙ any_next asked cs (drop (n + 1) es) n c.in-Some.class.now e at
-    ∙ ap (λ b. b || has_inheritance_error asked (drop (n + 1) cs) (drop (n + 1) es)) (sym c.has_error.ensures ∙ c.if-has_error.true))
+    sym (c.loop-place.invariant ∙ ap (λ left. has_inheritance_error asked (drop n cs) left (drop n ls)) next ∙ any_next asked cs (drop (n + 1) es) ls n c.in-Some.class.now e at
+    ∙ ap (λ b. b || has_inheritance_error asked (drop (n + 1) cs) (drop (n + 1) es) (drop (n + 1) ls)) (sym c.has_error.ensures ∙ c.if-has_error.true))
 
 pub loop-place-preserved : goal.loop-place-preserved
 loop-place-preserved c =
@@ -24,21 +25,23 @@ loop-place-preserved c =
     let asked = asked_lent c.args.asked in
     let cs = c.args.classes.now in
     let es = c.args.inheritance.now in
+    let ls = c.args.unimplemented.now in
     let e = c.index-inheritance-place.result in
     let at : slice_get cs n ≡ Some c.in-Some.class.now = grind (arith, gets, c.in-Some.ensures.lookup) in
     let next : drop n es ≡ e ∷ drop (n + 1) es = drop_more es n e c.loop-place-test.true ∙ ap (λ x. x ∷ drop (n + 1) es) (sym c.index-inheritance-place.is) in
-    c.loop-place.invariant ∙ ap (has_inheritance_error asked (drop n cs)) next ∙ any_next asked cs (drop (n + 1) es) n c.in-Some.class.now e at
-    ∙ ap (λ b. b || has_inheritance_error asked (drop (n + 1) cs) (drop (n + 1) es)) (sym c.has_error.ensures ∙ c.if-has_error.false)
+    c.loop-place.invariant ∙ ap (λ left. has_inheritance_error asked (drop n cs) left (drop n ls)) next ∙ any_next asked cs (drop (n + 1) es) ls n c.in-Some.class.now e at
+    ∙ ap (λ b. b || has_inheritance_error asked (drop (n + 1) cs) (drop (n + 1) es) (drop (n + 1) ls)) (sym c.has_error.ensures ∙ c.if-has_error.false)
 
 pub returns-in-None : goal.returns-in-None
 returns-in-None c =
     let n = c.loop-place.place in
     let at : slice_get c.args.classes.now n ≡ None = grind (arith, gets, c.in-None.ensures.lookup) in
-    sym (c.loop-place.invariant ∙ any_past (asked_lent c.args.asked) c.args.classes.now (drop n c.args.inheritance.now) n at)
+    sym (c.loop-place.invariant ∙ any_past (asked_lent c.args.asked) c.args.classes.now (drop n c.args.inheritance.now) (drop n c.args.unimplemented.now) n at)
 
 pub returns : goal.returns
 returns c =
     let n = c.loop-place.place in
     sym (c.loop-place.invariant
-    ∙ ap (has_inheritance_error (asked_lent c.args.asked) (drop n c.args.classes.now)) (drop_all n c.args.inheritance.now c.loop-place-test.false)
-    ∙ none_more (asked_lent c.args.asked) (drop n c.args.classes.now))
+    ∙ ap (λ left. has_inheritance_error (asked_lent c.args.asked) (drop n c.args.classes.now) left (drop n c.args.unimplemented.now))
+    (drop_all n c.args.inheritance.now c.loop-place-test.false)
+    ∙ none_more (asked_lent c.args.asked) (drop n c.args.classes.now) (drop n c.args.unimplemented.now))

@@ -1,4 +1,4 @@
-use Rattle.std.proofs.Common.{◌≡◌, ◌∙◌, None, Some, ap, sym, ⊎_elim}
+use Rattle.std.proofs.Common.{◌≡◌, ◌∙◌, None, Some, sym, ⊎_elim}
 use Rattle.jc_file.proofs.keys.NumberedTexts.{set_cases}
 use Rattle.jc_resolve.proofs.all_inheritance.take_or_find.Goals as goal
 
