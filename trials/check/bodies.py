@@ -3,7 +3,7 @@
 It is written from JVMS SE 8, 5.4.5 and 6.5, invokevirtual and invokeinterface. A World is that of trials/link/judge.py. A key is
 the name and the descriptor of a method. The owner of a method is the class or interface that declares it.
 
-without_body(world, name) yields the owner and the key of each line of a class, and line(name, owner, key) returns the text.
+without_body(world, name) returns the owner and the key of each line of a class, and line(name, owner, key) returns the text.
 abstract_methods(world, name) returns the methods that can lack a body. selected(world, name, owner, key) returns what a call of
 one selects, and has_body(world, name, owner, key) whether this is a body. lines_match(world, name) compares lines and calls.
 """
@@ -38,7 +38,8 @@ def is_declared(world, owner, key, passed_over):
 
 
 def is_abstract(world, owner, key):
-    return bool((world.overridable(owner, key) or 0) & ABSTRACT)
+    """Returns whether a class declares an ABSTRACT method with this key that instructions can call: not `<clinit>` (2.9)."""
+    return bool((world.overridable(owner, key) or 0) & ABSTRACT) and key[0] != b"<clinit>"
 
 
 def overrides(world, lower, owner, key):
@@ -72,14 +73,15 @@ def in_interfaces(world, classes, interfaces, key):
 
 
 def without_body(world, name):
-    """Yields the lines of a class in order: for each key, the least owner of a method without a body."""
+    """Returns the lines of a class in order: the methods of classes, and for each key that of the interface with the least name."""
     if not is_judged(world, name):
-        return
+        return []
     classes, interfaces = classes_of(world, name), interfaces_of(world, name)
-    for key in sorted({method[:2] for owner in classes + interfaces for method in world.records[owner].methods}):
-        found = in_classes(world, classes, key) + in_interfaces(world, classes, interfaces, key)
-        if found:
-            yield min(found), key
+    found = []
+    for key in {method[:2] for owner in classes + interfaces for method in world.records[owner].methods}:
+        owners = in_classes(world, classes, key) + sorted(in_interfaces(world, classes, interfaces, key))[:1]
+        found += [(owner, key) for owner in owners]
+    return sorted(found, key=lambda method: (method[1], method[0]))
 
 
 def line(name, owner, key):
@@ -122,8 +124,11 @@ def has_body(world, name, owner, key):
 
 
 def lines_match(world, name):
-    """Returns whether a class has a line for a key exactly if an ABSTRACT method with this key has no body."""
+    """Returns whether the lines of a class are the ABSTRACT methods that calls select, and one for each key if they select none."""
+    lines = without_body(world, name)
     if not is_judged(world, name):
-        return not any(without_body(world, name))
-    calls = {key for owner, key in abstract_methods(world, name) if not has_body(world, name, owner, key)}
-    return [key for _, key in without_body(world, name)] == sorted(calls)
+        return not lines
+    homes = {(selected(world, name, owner, key), key) for owner, key in abstract_methods(world, name)
+             if not has_body(world, name, owner, key)}
+    interfaces = interfaces_of(world, name)
+    return {(None if owner in interfaces else owner, key) for owner, key in lines} == homes and len(lines) == len(homes)

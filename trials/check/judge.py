@@ -17,7 +17,7 @@ sys.dont_write_bytecode = True
 sys.path.insert(0, str(pathlib.Path(__file__).resolve().parent.parent))
 import common
 
-links, reader = common.load("link/judge.py"), common.load("parse/reader.py")
+bodies, links, reader = common.load("check/bodies.py"), common.load("link/judge.py"), common.load("parse/reader.py")
 
 STANDARD = (b"java/", b"javax/")
 CLASS, FIELD, METHOD = 7, 9, 10
@@ -132,6 +132,7 @@ class Report:
             is_answer = lambda line: line.startswith("  #")
             yield from (self.errors_of(name, line)[0] for line in lines if not is_answer(line))
             yield from self.inheritance(name)
+            yield from (bodies.line(name, *method) for method in bodies.without_body(self.world, name))
             for line in filter(is_answer, lines):
                 if name in self.loaded and next(answers)[1][0] == "error":
                     text, is_marked = self.errors_of(name, line)

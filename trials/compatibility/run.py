@@ -40,7 +40,7 @@ DOCUMENT = common.TOP / "docs" / "COMPATIBILITY.md"
 PARTS = ("both", "old", "new", "client", "beside", "main")
 MACHINE = ["java", "-XX:TieredStopAtLevel=1", "-XX:+UseSerialGC"]
 THROWN = re.compile(r'^(?:Exception in thread "main"|Caused by:) ([\w.$]+)', re.M)
-ERROR = re.compile(r"error (\d [A-Z]\w+) .*?( \(unused\))?$|(?:extends|overrides) FINAL(?= )")
+ERROR = re.compile(r"error (\d [A-Z]\w+) .*?( \(unused\))?$|(?:extends|overrides) FINAL(?= )|no body(?= for )")
 MAIN = "package {0};\nimport {0}.lib.*;\npublic class Main {{\n    public static void main(String[] arguments) throws Exception {{\n{1}\n    }}\n}}\n"
 # The headings of the document's tables, each with its columns.
 TABLES = {

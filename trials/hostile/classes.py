@@ -267,6 +267,30 @@ def below_one_final_class():
     return {"A.class": top} | {f"{number}.class": with_methods(b"C%d" % number, b"A", 1) for number in range(30000)}
 
 
+def abstract_methods_of_a_chain():
+    """A chain of classes whose ABSTRACT methods override those of all their superclasses."""
+    flags = PUBLIC | ABSTRACT
+    return {f"{number}.class": with_methods(b"C%d" % number, b"C%d" % (number - 1) if number else OBJECT, 250, flags) for number in range(2000)}
+
+
+def no_body_in_a_chain():
+    """A chain of classes without methods, below one with an ABSTRACT method."""
+    files = {f"{number}.class": plain(b"C%d" % number, parent=b"C%d" % (number - 1) if number else b"A") for number in range(30000)}
+    return files | {"A.class": with_methods(b"A", OBJECT, 1, PUBLIC | ABSTRACT)}
+
+
+def interfaces_below_a_chain():
+    """Classes that implement an interface with a method, below a chain of superclasses without methods."""
+    pool = Pool()
+    method = (PUBLIC | ABSTRACT, pool.text(b"m0"), pool.text(b"()V"), [])
+    files = {"I.class": class_file(pool, b"I", flags=PUBLIC | INTERFACE | ABSTRACT, methods=[method])}
+    files |= {f"{number}.class": plain(b"C%d" % number, parent=b"C%d" % (number - 1) if number else OBJECT) for number in range(10000)}
+    for number in range(10000):
+        leaf = Pool()
+        files[f"L{number}.class"] = class_file(leaf, b"L%d" % number, parent=b"C9999", interfaces=[leaf.of_class(b"I")])
+    return files
+
+
 def references_below_interfaces():
     """References that are searched in all of many superinterfaces and found nowhere."""
     many = Pool()
@@ -482,7 +506,8 @@ def format_faults():
 KINDS = [methods_of_one_name, few_methods_of_one_name, fields_and_references, references_to_one_member, constants_of_one_missing_class, calls_of_method_handles,
          provided_by_a_long_name, an_interface_many_times, an_interface_by_many_constants, references_below_a_chain,
          references_below_a_shorter_chain, references_to_the_first_of_a_chain, members_below_a_chain,
-         few_references_each_below_a_chain, methods_of_a_chain, methods_below_a_chain, below_one_final_class, references_below_interfaces,
+         few_references_each_below_a_chain, methods_of_a_chain, methods_below_a_chain, below_one_final_class,
+         abstract_methods_of_a_chain, no_body_in_a_chain, interfaces_below_a_chain, references_below_interfaces,
          interfaces_that_give_one_method, packages_of_long_names, members_of_a_long_missing_name, one_signature, one_descriptor, one_array_type,
          one_array_type_and_a_fault, one_interface_method, method_types_of_one_descriptor, call_sites_of_one_descriptor,
          calls_of_method_handles_of_one_descriptor, handles_of_one_descriptor, arrays_of_a_class_in_a_descriptor,

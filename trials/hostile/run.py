@@ -35,9 +35,10 @@ READ = 1 << 30
 ROOM = 12 << 30
 # A session stores the reach of each class. In a chain, that is half the square of its length. Shorter chains have own kinds.
 NO_SESSION = {"references_below_a_chain", "references_to_the_first_of_a_chain", "members_below_a_chain", "methods_of_a_chain",
-              "methods_below_a_chain"}
-# The kinds that the search for errors of inheritance is for. Only `check --errors` makes it.
-INHERITANCE = {"methods_of_a_chain", "methods_below_a_chain", "below_one_final_class"}
+              "methods_below_a_chain", "abstract_methods_of_a_chain", "no_body_in_a_chain", "interfaces_below_a_chain"}
+# The kinds that the search for errors of inheritance and methods without a body is for. Only `check --errors` makes it.
+INHERITANCE = {"methods_of_a_chain", "methods_below_a_chain", "below_one_final_class", "abstract_methods_of_a_chain",
+               "no_body_in_a_chain", "interfaces_below_a_chain"}
 
 
 def read_from(pipe):

@@ -4,7 +4,7 @@
  *     world FOLDER
  *     CLASS: made                                or
  *     CLASS: abstract                            or
- *     CLASS: ERROR MESSAGE                       of loading or linking it
+ *     CLASS: ERROR MESSAGE                       of loading or linking it, or the classes in descriptors
  *     CLASS OWNER.METHOD:DESCRIPTOR returned     or
  *     CLASS OWNER.METHOD:DESCRIPTOR ERROR MESSAGE
  *
@@ -61,6 +61,7 @@ public final class Call {
 
     private static void call(ClassLoader loader, String name) throws Exception {
         Object object;
+        List<Method> methods;
         try {
             Class<?> type = Class.forName(name.replace('/', '.'), false, loader);
             if (Modifier.isAbstract(type.getModifiers())) {
@@ -68,19 +69,30 @@ public final class Call {
                 return;
             }
             object = made(type);
+            methods = abstractMethods(loader, type);
         } catch (Throwable thrown) {
             OUT.println(name + ": " + text(thrown));
             return;
         }
         OUT.println(name + ": made");
-        for (Class<?> owner : withSupertypes(object.getClass())) {
+        for (Method method : methods) {
+            String member = method.getName() + ":" + typeOf(method).toMethodDescriptorString();
+            String owner = method.getDeclaringClass().getName().replace('.', '/');
+            OUT.println(name + " " + owner + "." + member + " " + outcome(loader, method, object));
+        }
+    }
+
+    /** Returns the abstract methods of a class and its supertypes. Reflection also loads the classes in their descriptors. */
+    private static List<Method> abstractMethods(ClassLoader loader, Class<?> type) {
+        List<Method> found = new ArrayList<>();
+        for (Class<?> owner : withSupertypes(type)) {
             for (Method method : owner.getDeclaredMethods()) {
                 if (owner.getClassLoader() == loader && Modifier.isAbstract(method.getModifiers())) {
-                    String member = method.getName() + ":" + typeOf(method).toMethodDescriptorString();
-                    OUT.println(name + " " + owner.getName().replace('.', '/') + "." + member + " " + outcome(loader, method, object));
+                    found.add(method);
                 }
             }
         }
+        return found;
     }
 
     /** Makes an object without a constructor. By reflection, since the compiler warns of sun.misc.Unsafe. */

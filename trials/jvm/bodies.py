@@ -1,10 +1,14 @@
 #!/usr/bin/env python3
-"""Compares the methods without a body that the plain judge of trials/check finds with what a virtual machine calls.
+"""Compares the methods without a body that jclink and the plain judge of trials/check find with what a virtual machine calls.
 
-Usage: bodies.py [--worlds N] [--seed N] [--show N] [--java PATH]
+Usage: bodies.py [TREE..] [--worlds N] [--seed N] [--judge] [--show N] [--java PATH]
 
 The worlds are those of trials/check/bodies_rows.py and N random ones: a few classes and interfaces in three packages, with
-methods of few names and random flags. The trial needs a java of version 17 or later (Call.java), and only Python besides.
+methods of few names and random flags. A TREE is a folder of class files, each at the path of its name. Its world has classes
+with the same supertypes and methods, which return at once. The trial needs a java of version 17 or later (Call.java).
+
+The lines of `jclink check --errors` for the world, or for the tree itself, must be those of the judge. With --judge jclink is not
+run.
 
 The machine makes an object of each class that is neither ABSTRACT nor an interface. It calls on it each ABSTRACT method of the
 class and its supertypes, by invokeinterface or invokevirtual, in a class of the package of the method's class. A call that
@@ -40,7 +44,7 @@ links = bodies.links
 
 FLAGS = ["-Xverify:all", "-XX:TieredStopAtLevel=1", "-XX:+UseSerialGC", "-XX:+SuppressFatalErrorMessage"]
 SOURCE = pathlib.Path(__file__).resolve().parent / "Call.java"
-PUBLIC, PRIVATE, PROTECTED, STATIC, INTERFACE, ABSTRACT = 1, 2, 4, 8, 0x200, 0x400
+PUBLIC, PRIVATE, PROTECTED, STATIC, SYNCHRONIZED, NATIVE, INTERFACE, ABSTRACT = 1, 2, 4, 8, 0x20, 0x100, 0x200, 0x400
 NAMES = [folder + letter for folder in (b"", b"p/", b"q/") for letter in (b"A", b"B", b"C", b"D")]
 KEYS = [(b"m", b"()V"), (b"n", b"()V"), (b"m", b"(I)V")]
 # Methods of java/lang/Object, one of them PROTECTED.
@@ -48,6 +52,8 @@ OF_OBJECT = [(b"hashCode", b"()I"), (b"finalize", b"()V")]
 # Flags of methods, the frequent ones several times.
 OF_CLASS = [PUBLIC] * 4 + [PROTECTED, 0, 0, 0, PUBLIC | ABSTRACT, PROTECTED | ABSTRACT, ABSTRACT, ABSTRACT, PRIVATE, PUBLIC | STATIC]
 OF_INTERFACE = [PUBLIC | ABSTRACT] * 4 + [PUBLIC] * 4 + [PUBLIC | STATIC, PRIVATE, PRIVATE | STATIC]
+# The code that returns zero or null, by the first character of a result's type.
+CODES = {b"V": b"\xb1", b"J": b"\x09\xad", b"F": b"\x0b\xae", b"D": b"\x0e\xaf", b"L": b"\x01\xb0", b"[": b"\x01\xb0"}
 # The opcodes that load a parameter from a local variable, each with the slots of the parameter, and those that return a result.
 LOADS = {b"J": (22, 2), b"F": (23, 1), b"D": (24, 2), b"L": (25, 1), b"[": (25, 1)}
 RETURNS = {b"J": 173, b"F": 174, b"D": 175, b"L": 176, b"[": 176, b"V": 177}
@@ -64,8 +70,8 @@ def code_of(pool, code, max_stack, max_locals):
 
 def method_of(pool, key, flags):
     """Returns a method that returns at once, or an ABSTRACT one."""
-    code = b"\x03\xac" if key[1].endswith(b"I") else b"\xb1"
-    return flags, *map(pool.text, key), [] if flags & ABSTRACT else [code_of(pool, code, 1, 2)]
+    code = CODES.get(key[1].rpartition(b")")[2][:1], b"\x03\xac")
+    return flags, *map(pool.text, key), [] if flags & ABSTRACT else [code_of(pool, code, 2, 255)]
 
 
 def class_of(rng, name, is_interface, parent, interfaces):
@@ -90,6 +96,42 @@ def make_world(rng):
     return found
 
 
+# ---- trees
+
+def without_code(data):
+    """Returns a class with the supertypes and methods of a class file. The methods return at once. It has no initializers."""
+    file, pool = links.rules.ClassFile(data), makes.Pool()
+    methods = [(file.text(one.name), file.text(one.descriptor), one.flags & ~(SYNCHRONIZED | NATIVE)) for one in file.methods]
+    return makes.class_file(pool, file.class_text(file.this), file.flags, file.class_text(file.parent),
+                            [pool.of_class(file.class_text(index)) for index in file.interfaces],
+                            methods=[method_of(pool, method[:2], method[2]) for method in methods if not method[0].startswith(b"<")])
+
+
+def read(tree):
+    """Returns the classes of the world of a tree by the paths of their files."""
+    return {str(path.relative_to(tree)).encode(): without_code(path.read_bytes()) for path in sorted(tree.rglob("*.class"))
+            if path.name not in ("module-info.class", "package-info.class")}
+
+
+# ---- the program's side
+
+def lines_of(folder):
+    """Returns the lines of `jclink check --errors` for methods without a body."""
+    done = subprocess.run([common.JCLINK, "check", "--errors", folder], capture_output=True, text=True, check=False)
+    if done.returncode > 1:
+        sys.exit(f"jclink check: status {done.returncode}, {done.stderr}")
+    return [line for line in done.stdout.splitlines() if ": no body for " in line]
+
+
+def compare_lines(options, world, folder):
+    """Returns whether jclink has the lines of the judge, and the lines that only one side has."""
+    ours = [] if options.judge else lines_of(folder)
+    owed = [bodies.line(name, *method) for name in sorted(world.given) for method in bodies.without_body(world, name)]
+    if options.judge or ours == owed:
+        return f"lines, {'not compared' if options.judge else 'agree'}", ""
+    return "lines, differ", f"only jclink: {sorted(set(ours) - set(owed))[:3]}, only the judge: {sorted(set(owed) - set(ours))[:3]}"
+
+
 # ---- the machine's side
 
 def caller_of(world, owner):
@@ -109,10 +151,21 @@ def caller_of(world, owner):
     return makes.class_file(pool, owner + b"Caller", methods=methods)
 
 
+def named_in_descriptors(record):
+    """Yields the names of classes in the descriptors of a class's methods."""
+    for _, descriptor, _ in record.methods:
+        yield from re.findall(rb"L([^;]*);", descriptor)
+
+
 def write(folder, files, world):
-    """Writes the classes of a world at the paths of their names, of several files that of the least path, and their callers."""
+    """Writes the classes of a world at the paths of their names, of several files that of the least path, and their callers.
+
+    Beside the callers are empty classes for names that only descriptors need: reflection loads them.
+    """
     classes = {links.Record(data).name: data for _, data in sorted(files.items(), reverse=True)}
-    callers = {owner + b"Caller": caller_of(world, owner) for owner in classes}
+    needed = {name for record in world.given.values() for name in named_in_descriptors(record)} - set(classes)
+    callers = {name: makes.plain(name) for name in needed if not name.startswith(b"java/")}
+    callers |= {owner + b"Caller": caller_of(world, owner) for owner in classes}
     for kind, those in (("classes", classes), ("callers", callers)):
         for name, data in those.items():
             path = folder / kind / (name.decode() + ".class")
@@ -228,22 +281,26 @@ def compare(world, machine):
 
 def main():
     parser = argparse.ArgumentParser()
+    parser.add_argument("trees", nargs="*", type=pathlib.Path)
     parser.add_argument("--worlds", type=int, default=0)
     parser.add_argument("--seed", type=int, default=1)
+    parser.add_argument("--judge", action="store_true")
     parser.add_argument("--show", type=int, default=3)
     parser.add_argument("--java", default="java")
     options = parser.parse_args()
     rng, counts, examples = random.Random(options.seed), {}, {}
-    trees = [("worlds of bodies_rows.py", files) for _, files, _ in rows.ROWS]
-    trees += [("random worlds", make_world(rng)) for _ in range(options.worlds)]
-    worlds = [(name, files, links.World(list(files.items()), rows.STANDARD)) for name, files in trees]
+    trees = [("worlds of bodies_rows.py", files, None) for _, files, _ in rows.ROWS]
+    trees += [("random worlds", make_world(rng), None) for _ in range(options.worlds)]
+    trees += [(tree.name, read(tree), tree) for tree in options.trees]
+    worlds = [(name, files, links.World(list(files.items()), rows.STANDARD), tree) for name, files, tree in trees]
     worlds = [one for one in worlds if is_writable(one[2])]
     with common.Workplace() as work:
-        for at, (_, files, world) in enumerate(worlds):
+        for at, (_, files, world, _) in enumerate(worlds):
             write(work / str(at), files, world)
         machine = outcomes(options, [str(work / str(at)) for at in range(len(worlds))])
-        for at, (name, _, world) in enumerate(worlds):
-            for sort, text in compare(world, machine[str(work / str(at))]):
+        for at, (name, _, world, tree) in enumerate(worlds):
+            lines = compare_lines(options, world, tree or work / str(at) / "classes")
+            for sort, text in [lines, *compare(world, machine[str(work / str(at))])]:
                 counts.setdefault(name, collections.Counter())[sort] += 1
                 shown = examples.setdefault((name, sort), [])
                 shown += [f"world {at}: {text}"] if len(shown) < options.show else []

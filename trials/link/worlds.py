@@ -125,7 +125,7 @@ def class_file(name, flags, parent, interfaces, fields, methods, references, maj
     for members in (fields, methods):
         tables += struct.pack(">H", len(members))
         for number, (bits, member, descriptor) in enumerate(members):
-            body = members is methods and not bits & (NATIVE | ABSTRACT)
+            body = members is methods and (member == b"<clinit>" or not bits & (NATIVE | ABSTRACT))
             code = code_of(pool, (codes or {}).get(number, [])) if body else b""
             tables += struct.pack(">HHHH", bits, pool.utf8(member), pool.utf8(descriptor), int(body)) + code
     for reference in references:
